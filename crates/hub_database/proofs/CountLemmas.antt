@@ -28,7 +28,7 @@ and_true false = refl
 -- whether there is an edit
 abbrev any_of : List Edit → Bool
 any_of [] = false
-any_of (e ∷ es) = true
+any_of (edit ∷ edits) = true
 
 pub text_turned : (a b : List ℕ) → bytes_eq a b ≡ bytes_eq b a
 text_turned a b =
@@ -38,49 +38,52 @@ text_turned a b =
     ]
 
 -- a document is edited where it has an edit
-edited_by : (q : List ℕ) (J : List Edit) → is_edited q J ≡ any_of (edits_of J q)
+edited_by : (q : List ℕ) (journal : List Edit) → is_edited q journal ≡ any_of (edits_of journal q)
 edited_by q [] = refl
-edited_by q (e ∷ J) =
-    ap (λ b. b || is_edited q J) (text_turned q e.id) ∙ from (bytes_eq e.id q) (edited_by q J)
+edited_by q (edit ∷ journal) =
+    ap (λ b. b || is_edited q journal) (text_turned q edit.id)
+    ∙ from (bytes_eq edit.id q) (edited_by q journal)
   where
-    from : (b : Bool) → is_edited q J ≡ any_of (edits_of J q)
-        → (b || is_edited q J) ≡ any_of (if b then (e ∷ edits_of J q) else edits_of J q)
+    from : (b : Bool) → is_edited q journal ≡ any_of (edits_of journal q)
+        → (b || is_edited q journal) ≡ any_of (if b then (edit ∷ edits_of journal q) else edits_of journal q)
     from true h = refl
     from false h = h
 
-pub edited_none : (q : List ℕ) (J : List Edit) → edits_of J q ≡ [] → is_edited q J ≡ false
-edited_none q J h = edited_by q J ∙ ap any_of h
+pub edited_none : (q : List ℕ) (journal : List Edit) → edits_of journal q ≡ [] → is_edited q journal ≡ false
+edited_none q journal h = edited_by q journal ∙ ap any_of h
 
-pub edited_some : (q : List ℕ) (J : List Edit) → 1 ≤ length (edits_of J q) → is_edited q J ≡ true
-edited_some q J h = edited_by q J ∙ from (edits_of J q) h
+pub edited_some : (q : List ℕ) (journal : List Edit) → 1 ≤ length (edits_of journal q)
+    → is_edited q journal ≡ true
+edited_some q journal h = edited_by q journal ∙ from (edits_of journal q) h
   where
-    from : (es : List Edit) → 1 ≤ length es → any_of es ≡ true
+    from : (edits : List Edit) → 1 ≤ length edits → any_of edits ≡ true
     from [] h = absurd (omega arith)
-    from (e ∷ es) h = refl
+    from (e ∷ edits) h = refl
 
 -- how many current rows have an id that passes the test
 abbrev rows_of : (List ℕ → Bool) → List Current → ℕ
-rows_of P cs = count_by (λ c. P c.id) cs
+rows_of P rows = count_by (λ c. P c.id) rows
 
-one_more : (P : List ℕ → Bool) (c : Current) (cs : List Current)
-    → rows_of P (c ∷ cs) ≡ rows_of P cs + one_if (P c.id)
-one_more P c cs = sum_by-cons (λ (c : Current). if P c.id then 1 else 0) c cs ∙ from (P c.id)
+one_more : (P : List ℕ → Bool) (row : Current) (rows : List Current)
+    → rows_of P (row ∷ rows) ≡ rows_of P rows + one_if (P row.id)
+one_more P row rows = sum_by-cons (λ (row : Current). if P row.id then 1 else 0) row rows ∙ from (P row.id)
   where
-    from : (b : Bool) → (if b then 1 else 0) + rows_of P cs ≡ rows_of P cs + one_if b
+    from : (b : Bool) → (if b then 1 else 0) + rows_of P rows ≡ rows_of P rows + one_if b
     from true = omega arith
     from false = omega arith
 
-step : (P : List ℕ → Bool) (n : ℕ) (e : Edit) (J : List Edit)
-    → rows_of P (current_from n (e ∷ J))
-    ≡ rows_of P (current_from (n + 1) J) + one_if (not (is_edited e.id J) && P e.id)
-step P n e J = from (is_edited e.id J)
+step : (P : List ℕ → Bool) (n : ℕ) (edit : Edit) (journal : List Edit)
+    → rows_of P (current_from n (edit ∷ journal))
+    ≡ rows_of P (current_from (n + 1) journal) + one_if (not (is_edited edit.id journal) && P edit.id)
+step P n edit journal = from (is_edited edit.id journal)
   where
     from : (b : Bool)
         → rows_of P
-        (if b then current_from (n + 1) J else (record { seq = n; id = e.id } ∷ current_from (n + 1) J))
-        ≡ rows_of P (current_from (n + 1) J) + one_if (not b && P e.id)
+        (if b then current_from (n + 1) journal else
+        (record { seq = n; id = edit.id } ∷ current_from (n + 1) journal))
+        ≡ rows_of P (current_from (n + 1) journal) + one_if (not b && P edit.id)
     from true = omega arith
-    from false = one_more P (record { seq = n; id = e.id }) (current_from (n + 1) J)
+    from false = one_more P (record { seq = n; id = edit.id }) (current_from (n + 1) journal)
 
 -- another test, that says otherwise of one document alone
 same_sums : (a b : ℕ) (k p q : Bool) → a + one_if (k && q) ≡ b + one_if (k && p)
@@ -88,25 +91,26 @@ same_sums : (a b : ℕ) (k p q : Bool) → a + one_if (k && q) ≡ b + one_if (k
 same_sums a b true p q h = omega arith
 same_sums a b false p q h = omega arith
 
-swap : (P Q : List ℕ → Bool) (q : List ℕ) → ((i : List ℕ) → i ≢ q → P i ≡ Q i) → (n : ℕ) (J : List Edit)
-    → rows_of P (current_from n J) + one_if (is_edited q J && Q q)
-    ≡ rows_of Q (current_from n J) + one_if (is_edited q J && P q)
+swap : (P Q : List ℕ → Bool) (q : List ℕ) → ((i : List ℕ) → i ≢ q → P i ≡ Q i) → (n : ℕ) (journal : List Edit)
+    → rows_of P (current_from n journal) + one_if (is_edited q journal && Q q)
+    ≡ rows_of Q (current_from n journal) + one_if (is_edited q journal && P q)
 swap P Q q same n [] = refl
-swap P Q q same n (e ∷ J) =
-    rw (step P n e J, step Q n e J) (from (same_text q e.id) (swap P Q q same (n + 1) J))
+swap P Q q same n (edit ∷ journal) =
+    rw (step P n edit journal, step Q n edit journal)
+    (from (same_text q edit.id) (swap P Q q same (n + 1) journal))
   where
-    from : (q ≡ e.id) ⊎ (q ≢ e.id)
-        → rows_of P (current_from (n + 1) J) + one_if (is_edited q J && Q q)
-        ≡ rows_of Q (current_from (n + 1) J) + one_if (is_edited q J && P q)
-        → rows_of P (current_from (n + 1) J) + one_if (not (is_edited e.id J) && P e.id)
-        + one_if ((bytes_eq q e.id || is_edited q J) && Q q)
-        ≡ rows_of Q (current_from (n + 1) J) + one_if (not (is_edited e.id J) && Q e.id)
-        + one_if ((bytes_eq q e.id || is_edited q J) && P q)
+    from : (q ≡ edit.id) ⊎ (q ≢ edit.id)
+        → rows_of P (current_from (n + 1) journal) + one_if (is_edited q journal && Q q)
+        ≡ rows_of Q (current_from (n + 1) journal) + one_if (is_edited q journal && P q)
+        → rows_of P (current_from (n + 1) journal) + one_if (not (is_edited edit.id journal) && P edit.id)
+        + one_if ((bytes_eq q edit.id || is_edited q journal) && Q q)
+        ≡ rows_of Q (current_from (n + 1) journal) + one_if (not (is_edited edit.id journal) && Q edit.id)
+        + one_if ((bytes_eq q edit.id || is_edited q journal) && P q)
     from (inl t) h =
         rw (← t, text_same q q refl)
-        (same_sums (rows_of P (current_from (n + 1) J)) (rows_of Q (current_from (n + 1) J))
-        (is_edited q J) (P q) (Q q) h)
-    from (inr d) h = rw (text_apart q e.id d, same e.id (λ t. d (sym t))) (omega arith)
+        (same_sums (rows_of P (current_from (n + 1) journal)) (rows_of Q (current_from (n + 1) journal))
+        (is_edited q journal) (P q) (Q q) h)
+    from (inr d) h = rw (text_apart q edit.id d, same edit.id (λ t. d (sym t))) (omega arith)
 
 -- one edit more
 push_sums : (a b : ℕ) (k p : Bool) → a + one_if (k && p) ≡ b + one_if p
@@ -114,108 +118,127 @@ push_sums : (a b : ℕ) (k p : Bool) → a + one_if (k && p) ≡ b + one_if p
 push_sums a b true p h = omega arith
 push_sums a b false p h = omega arith
 
-push : (P : List ℕ → Bool) (n : ℕ) (J : List Edit) (e : Edit)
-    → rows_of P (current_from n (J ++ e ∷ [])) + one_if (is_edited e.id J && P e.id)
-    ≡ rows_of P (current_from n J) + one_if (P e.id)
-push P n [] e = omega (arith, one_more P (record { seq = n; id = e.id }) [])
-push P n (f ∷ J) e =
-    rw (step P n f (J ++ e ∷ []), step P n f J, list_any-append (λ (g : Edit). bytes_eq f.id g.id) J (e ∷ []))
-    (from (same_text e.id f.id) (push P (n + 1) J e))
+push : (P : List ℕ → Bool) (n : ℕ) (journal : List Edit) (edit : Edit)
+    → rows_of P (current_from n (journal ++ edit ∷ [])) + one_if (is_edited edit.id journal && P edit.id)
+    ≡ rows_of P (current_from n journal) + one_if (P edit.id)
+push P n [] edit = omega (arith, one_more P (record { seq = n; id = edit.id }) [])
+push P n (other ∷ journal) edit =
+    rw (
+      step P n other (journal ++ edit ∷ []),
+      step P n other journal,
+      list_any-append (λ (g : Edit). bytes_eq other.id g.id) journal (edit ∷ []),
+    )
+    (from (same_text edit.id other.id) (push P (n + 1) journal edit))
   where
-    from : (e.id ≡ f.id) ⊎ (e.id ≢ f.id)
-        → rows_of P (current_from (n + 1) (J ++ e ∷ [])) + one_if (is_edited e.id J && P e.id)
-        ≡ rows_of P (current_from (n + 1) J) + one_if (P e.id)
-        → rows_of P (current_from (n + 1) (J ++ e ∷ []))
-        + one_if (not (is_edited f.id J || (bytes_eq f.id e.id || false)) && P f.id)
-        + one_if ((bytes_eq e.id f.id || is_edited e.id J) && P e.id)
-        ≡ rows_of P (current_from (n + 1) J) + one_if (not (is_edited f.id J) && P f.id) + one_if (P e.id)
+    from : (edit.id ≡ other.id) ⊎ (edit.id ≢ other.id)
+        → rows_of P (current_from (n + 1) (journal ++ edit ∷ [])) + one_if
+        (is_edited edit.id journal && P edit.id)
+        ≡ rows_of P (current_from (n + 1) journal) + one_if (P edit.id)
+        → rows_of P (current_from (n + 1) (journal ++ edit ∷ []))
+        + one_if (not (is_edited other.id journal || (bytes_eq other.id edit.id || false)) && P other.id)
+        + one_if ((bytes_eq edit.id other.id || is_edited edit.id journal) && P edit.id)
+        ≡ rows_of P (current_from (n + 1) journal) + one_if
+        (not (is_edited other.id journal) && P other.id) + one_if (P edit.id)
     from (inl t) h =
-        rw (← t, text_same e.id e.id refl, or_right (is_edited e.id J) true refl)
-        (push_sums (rows_of P (current_from (n + 1) (J ++ e ∷ []))) (rows_of P (current_from (n + 1) J))
-        (is_edited e.id J) (P e.id) h)
+        rw (← t, text_same edit.id edit.id refl, or_right (is_edited edit.id journal) true refl)
+        (push_sums (rows_of P (current_from (n + 1) (journal ++ edit ∷ [])))
+        (rows_of P (current_from (n + 1) journal))
+        (is_edited edit.id journal) (P edit.id) h)
     from (inr d) h =
-        rw (text_apart e.id f.id d, text_apart f.id e.id (λ t. d (sym t)), or_none (is_edited f.id J))
+        rw (
+          text_apart edit.id other.id d,
+          text_apart other.id edit.id (λ t. d (sym t)),
+          or_none (is_edited other.id journal),
+        )
         (omega arith)
 
-all_of : (cs : List Current) → rows_of (λ i. true) cs ≡ length cs
+all_of : (rows : List Current) → rows_of (λ i. true) rows ≡ length rows
 all_of [] = refl
-all_of (c ∷ cs) = omega (arith, one_more (λ i. true) c cs, all_of cs)
+all_of (row ∷ rows) = omega (arith, one_more (λ i. true) row rows, all_of rows)
 
 -- how many documents there are, with one edit more
-pub documents_more : (J : List Edit) (e : Edit)
-    → length (current (J ++ e ∷ [])) + one_if (is_edited e.id J) ≡ length (current J) + 1
-documents_more J e =
+pub documents_more : (journal : List Edit) (edit : Edit)
+    → length (current (journal ++ edit ∷ [])) + one_if (is_edited edit.id journal) ≡ length
+    (current journal) + 1
+documents_more journal edit =
     omega (
       arith,
-      push (λ i. true) 1 J e,
-      all_of (current (J ++ e ∷ [])),
-      all_of (current J),
-      ap one_if (and_true (is_edited e.id J)),
+      push (λ i. true) 1 journal edit,
+      all_of (current (journal ++ edit ∷ [])),
+      all_of (current journal),
+      ap one_if (and_true (is_edited edit.id journal)),
     )
 
 abbrev deleted : List Edit → List ℕ → Bool
-deleted J i = is_deleted (leaves_of J i)
+deleted journal i = is_deleted (leaves_of journal i)
 
-deleted_if_edited : (J : List Edit) (q : List ℕ) → (is_edited q J && deleted J q) ≡ deleted J q
-deleted_if_edited J q = ap (λ b. b && deleted J q) (edited_by q J) ∙ from (edits_of J q)
+deleted_if_edited : (journal : List Edit) (q : List ℕ)
+    → (is_edited q journal && deleted journal q) ≡ deleted journal q
+deleted_if_edited journal q =
+    ap (λ b. b && deleted journal q) (edited_by q journal) ∙ from (edits_of journal q)
   where
-    from : (es : List Edit)
-        → (any_of es && is_deleted (best_first (leaves_among es es)))
-        ≡ is_deleted (best_first (leaves_among es es))
+    from : (edits : List Edit)
+        → (any_of edits && is_deleted (best_first (leaves_among edits edits)))
+        ≡ is_deleted (best_first (leaves_among edits edits))
     from [] = refl
-    from (e ∷ es) = refl
+    from (e ∷ edits) = refl
 
-others_stay : (J : List Edit) (e : Edit) (i : List ℕ) → i ≢ e.id → deleted J i ≡ deleted (J ++ e ∷ []) i
-others_stay J e i n =
+others_stay : (journal : List Edit) (edit : Edit) (i : List ℕ) → i ≢ edit.id
+    → deleted journal i ≡ deleted (journal ++ edit ∷ []) i
+others_stay journal edit i n =
     ap (λ es. is_deleted (best_first (leaves_among es es)))
-    (sym (filter-append (λ (f : Edit). bytes_eq f.id i) J (e ∷ [])
-    ∙ (ap (λ b. edits_of J i ++ (if b then (e ∷ []) else [])) (text_apart e.id i (λ t. n (sym t)))
-    ∙ append-nil (edits_of J i))))
+    (sym (filter-append (λ (other : Edit). bytes_eq other.id i) journal (edit ∷ [])
+    ∙ (ap (λ b. edits_of journal i ++ (if b then (edit ∷ []) else [])) (text_apart edit.id i (λ t. n (sym t)))
+    ∙ append-nil (edits_of journal i))))
 
 -- how many have a deleted winner, with one edit more
-pub deleted_more : (J : List Edit) (e : Edit)
-    → deleted_in (J ++ e ∷ []) + one_if (is_deleted (leaves_of J e.id))
-    ≡ deleted_in J + one_if (is_deleted (leaves_of (J ++ e ∷ []) e.id))
-deleted_more J e =
+pub deleted_more : (journal : List Edit) (edit : Edit)
+    → deleted_in (journal ++ edit ∷ []) + one_if (is_deleted (leaves_of journal edit.id))
+    ≡ deleted_in journal + one_if (is_deleted (leaves_of (journal ++ edit ∷ []) edit.id))
+deleted_more journal edit =
     omega (
       arith,
-      push (deleted (J ++ e ∷ [])) 1 J e,
-      swap (deleted J) (deleted (J ++ e ∷ [])) e.id (others_stay J e) 1 J,
-      ap one_if (deleted_if_edited J e.id),
+      push (deleted (journal ++ edit ∷ [])) 1 journal edit,
+      swap (deleted journal) (deleted (journal ++ edit ∷ [])) edit.id (others_stay journal edit) 1 journal,
+      ap one_if (deleted_if_edited journal edit.id),
     )
 
 -- a document with a deleted winner is counted
-pub deleted_some : (J : List Edit) (q : List ℕ) → one_if (is_deleted (leaves_of J q)) ≤ deleted_in J
-deleted_some J q =
+pub deleted_some : (journal : List Edit) (q : List ℕ)
+    → one_if (is_deleted (leaves_of journal q)) ≤ deleted_in journal
+deleted_some journal q =
     omega (
       arith,
-      swap (deleted J) (λ i. not (bytes_eq i q) && deleted J i) q
-          (λ i n. sym (ap (λ b. not b && deleted J i) (text_apart i q n))) 1 J,
+      swap (deleted journal) (λ i. not (bytes_eq i q) && deleted journal i) q
+          (λ i n. sym (ap (λ b. not b && deleted journal i) (text_apart i q n))) 1 journal,
       ap one_if
-          (ap (λ b. is_edited q J && (not b && deleted J q)) (text_same q q refl)
-          ∙ and_false (is_edited q J)),
-      ap one_if (deleted_if_edited J q),
+          (ap (λ b. is_edited q journal && (not b && deleted journal q)) (text_same q q refl)
+          ∙ and_false (is_edited q journal)),
+      ap one_if (deleted_if_edited journal q),
     )
 
-pub deleted_few : (J : List Edit) → deleted_in J ≤ length (current J)
-deleted_few J = count_by-le-length (λ (c : Current). deleted J c.id) (current J)
+pub deleted_few : (journal : List Edit) → deleted_in journal ≤ length (current journal)
+deleted_few journal = count_by-le-length (λ (row : Current). deleted journal row.id) (current journal)
 
 -- the other documents are counted by what is left
-left_of : (p : Current → Bool) (cs : List Current) → count_by (λ c. not (p c)) cs + count_by p cs ≡ length cs
+left_of : (p : Current → Bool) (rows : List Current)
+    → count_by (λ row. not (p row)) rows + count_by p rows ≡ length rows
 left_of p [] = refl
-left_of p (c ∷ cs) =
+left_of p (row ∷ rows) =
     rw (
-      sum_by-cons (λ (c : Current). if not (p c) then 1 else 0) c cs,
-      sum_by-cons (λ (c : Current). if p c then 1 else 0) c cs,
+      sum_by-cons (λ (row : Current). if not (p row) then 1 else 0) row rows,
+      sum_by-cons (λ (row : Current). if p row then 1 else 0) row rows,
     )
-    (from (p c) (left_of p cs))
+    (from (p row) (left_of p rows))
   where
-    from : (b : Bool) → count_by (λ c. not (p c)) cs + count_by p cs ≡ length cs
-        → ((if not b then 1 else 0) + count_by (λ c. not (p c)) cs) + ((if b then 1 else 0) + count_by p cs)
-        ≡ length (c ∷ cs)
+    from : (b : Bool) → count_by (λ row. not (p row)) rows + count_by p rows ≡ length rows
+        → ((if not b then 1 else 0) + count_by (λ row. not (p row)) rows) +
+        ((if b then 1 else 0) + count_by p rows)
+        ≡ length (row ∷ rows)
     from true h = omega arith
     from false h = omega arith
 
-pub live_in : (J : List Edit)
-    → count_by (λ c. not (is_deleted (leaves_of J c.id))) (current J) + deleted_in J ≡ length (current J)
-live_in J = left_of (λ (c : Current). deleted J c.id) (current J)
+pub live_in : (journal : List Edit)
+    → count_by (λ row. not (is_deleted (leaves_of journal row.id)))
+    (current journal) + deleted_in journal ≡ length (current journal)
+live_in journal = left_of (λ (row : Current). deleted journal row.id) (current journal)

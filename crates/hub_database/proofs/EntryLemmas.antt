@@ -15,21 +15,22 @@ use Rattle.hub_database.proofs.RowLemmas.{get_default, document_of}
 -- the edit that an entry stands for
 pub edit_found : (limit : ℕ) (numbers : List ℕ → Option ℕ) (documents : List Document) (entries : List Entry)
     → IsFiled limit numbers (files documents) entries → (k : ℕ) (x : Entry) → slice_get entries k ≡ Some x
-    → (d : Document) → d ≡ get_or documents x.document d
-    → option_map (named d.id) (slice_get d.tree.edits x.revision)
+    → (document : Document) → document ≡ get_or documents x.document document
+    → option_map (named document.id) (slice_get document.tree.edits x.revision)
     ≡ slice_get (journal_of (files documents) entries) k
-edit_found limit numbers documents entries st k x here d is =
-    let at : slice_get documents x.document ≡ Some d =
-    document_of limit numbers documents entries st k x here d is in
-    let filed_so : slice_get (files documents) x.document ≡ Some (filed d) =
+edit_found limit numbers documents entries st k x here document is =
+    let at : slice_get documents x.document ≡ Some document =
+    document_of limit numbers documents entries st k x here document is in
+    let filed_so : slice_get (files documents) x.document ≡ Some (filed document) =
     slice_get-map filed documents x.document ∙ ap (option_map filed) at in
     let w = st.within k x here in
-    let same : w.0 ≡ filed d = same_Some w.0 (filed d) (sym w.1 ∙ filed_so) in
-    let low : x.revision < length d.tree.edits =
+    let same : w.0 ≡ filed document = same_Some w.0 (filed document) (sym w.1 ∙ filed_so) in
+    let low : x.revision < length document.tree.edits =
     subst (λ (z : Filed). x.revision < length z.edits) same w.2 in
-    let there : slice_get d.tree.edits x.revision ≡ Some (get_or d.tree.edits x.revision no_edit) =
-    get_default d.tree.edits d.tree.edits x.revision no_edit refl low in
-    ap (option_map (named d.id)) there
+    let there : slice_get document.tree.edits x.revision ≡ Some
+    (get_or document.tree.edits x.revision no_edit) =
+    get_default document.tree.edits document.tree.edits x.revision no_edit refl low in
+    ap (option_map (named document.id)) there
     ∙ (sym (ap (λ o. Some (edit_in o x.revision)) filed_so)
     ∙ sym (slice_get-map (edit_at (files documents)) entries k
     ∙ ap (option_map (edit_at (files documents))) here))
@@ -37,25 +38,27 @@ edit_found limit numbers documents entries st k x here d is =
 -- what is lent of it, with its document's id
 module _ {A : Type 0} (id : List ℕ) (rev : A → Revision) (deleted : A → Bool)
     (body : A → List ℕ) (x : A) where
-  pub bare_lent : (o : Option Edit) → Some (tip (rev x) (deleted x) (body x)) ≡ option_map tip_of o
+  pub bare_lent : (maybe_edit : Option Edit)
+      → Some (tip (rev x) (deleted x) (body x)) ≡ option_map tip_of maybe_edit
       → Some (bare_doc id (rev x) (deleted x) (body x))
-      ≡ option_map (doc_shown false) (option_map (named id) o)
+      ≡ option_map (doc_shown false) (option_map (named id) maybe_edit)
   bare_lent None e = absurd (none-some (tip (rev x) (deleted x) (body x)) (sym e))
-  bare_lent (Some f) e =
-      let same : tip (rev x) (deleted x) (body x) ≡ tip_of f = same_Some _ _ e in
+  bare_lent (Some edit) e =
+      let same : tip (rev x) (deleted x) (body x) ≡ tip_of edit = same_Some _ _ e in
       ap (λ (t : Tip).
       Some (record { id = id; rev = t.rev; path = None; deleted = t.deleted; body = t.body })) same
 
-pub path_lent : (id : List ℕ) (path : Option (List Revision)) (o : Option Edit)
-    → Some path ≡ option_map (λ e. Some e.path) o
-    → Some path ≡ option_map (λ e. Some e.path) (option_map (named id) o)
+pub path_lent : (id : List ℕ) (path : Option (List Revision)) (maybe_edit : Option Edit)
+    → Some path ≡ option_map (λ e. Some e.path) maybe_edit
+    → Some path ≡ option_map (λ e. Some e.path) (option_map (named id) maybe_edit)
 path_lent id path None e = absurd (none-some path (sym e))
-path_lent id path (Some f) e = e
+path_lent id path (Some edit) e = e
 
-pub none_lent : (id : List ℕ) (o : Option Edit) → None ≡ option_map tip_of o → option_map (named id) o ≡ None
+pub none_lent : (id : List ℕ) (maybe_edit : Option Edit) → None ≡ option_map tip_of maybe_edit
+    → option_map (named id) maybe_edit ≡ None
 none_lent id None e = refl
-none_lent id (Some f) e = absurd (none-some (tip_of f) e)
+none_lent id (Some edit) e = absurd (none-some (tip_of edit) e)
 
 -- of a sequence
-pub at_sequence : (J : List Edit) (seq k : ℕ) → seq ≡ suc k → entry_at J seq ≡ slice_get J k
-at_sequence J seq k e = ap (entry_at J) e
+pub at_sequence : (journal : List Edit) (seq k : ℕ) → seq ≡ suc k → entry_at journal seq ≡ slice_get journal k
+at_sequence journal seq k e = ap (entry_at journal) e

@@ -69,88 +69,92 @@ contains_most (Some limit) xs x h = contains_take (max 1 limit) xs x h
 
 -- the rows from the last down
 abbrev pub falling_all : List Edit → List Current
-falling_all J = reverse (current J)
+falling_all journal = reverse (current journal)
 
 -- those below a place that pass a test
 abbrev pub below : (Current → Bool) → ℕ → List Current → List Current
-below q place rows = filter (λ (c : Current). nat_lt c.seq place && q c) rows
+below q place rows = filter (λ (row : Current). nat_lt row.seq place && q row) rows
 
 module _ (q : Current → Bool) where
   -- of rows that fall, a step finds the first below a place, and what is left lies below that
-  step_some : (rows : List Current) (place : ℕ) (c : Current)
+  step_some : (rows : List Current) (place : ℕ) (row : Current)
       → AllPairs (λ (a b : Current). b.seq < a.seq) rows
-      → find (λ (c : Current). nat_lt c.seq place) rows ≡ Some c
-      → below q place rows ≡ (if q c then (c ∷ below q c.seq rows) else below q c.seq rows)
-  step_some [] place c falls e = absurd (none-some c e)
-  step_some (x ∷ rows) place c falls e =
-      elim (cases_Bool (nat_lt x.seq place)) [
-        | inl t ↦ here t (same_Some x c (rw t at e))
+      → find (λ (row : Current). nat_lt row.seq place) rows ≡ Some row
+      → below q place rows ≡ (if q row then (row ∷ below q row.seq rows) else below q row.seq rows)
+  step_some [] place row falls e = absurd (none-some row e)
+  step_some (other ∷ rows) place row falls e =
+      elim (cases_Bool (nat_lt other.seq place)) [
+        | inl t ↦ here t (same_Some other row (rw t at e))
         | inr f ↦
             there f (rw f at e)
-            (step_some rows place c (of_tail (λ (a b : Current). b.seq < a.seq) x rows falls) (rw f at e))
+            (step_some rows place row (of_tail (λ (a b : Current). b.seq < a.seq) other rows falls)
+            (rw f at e))
       ]
     where
-      lower : (d : Current) → Contains rows d → d.seq < x.seq
+      lower : (d : Current) → Contains rows d → d.seq < other.seq
       lower d h =
-          All-contains (λ (d : Current). d.seq < x.seq) rows d
-          (of_head (λ (a b : Current). b.seq < a.seq) x rows falls) h
+          All-contains (λ (d : Current). d.seq < other.seq) rows d
+          (of_head (λ (a b : Current). b.seq < a.seq) other rows falls) h
 
       not_itself : (n : ℕ) → nat_lt n n ≡ false
       not_itself n = le-ltb n n (omega arith)
 
-      here : nat_lt x.seq place ≡ true → x ≡ c
-          → below q place (x ∷ rows)
-          ≡ (if q c then (c ∷ below q c.seq (x ∷ rows)) else below q c.seq (x ∷ rows))
+      here : nat_lt other.seq place ≡ true → other ≡ row
+          → below q place (other ∷ rows)
+          ≡ (if q row then (row ∷ below q row.seq (other ∷ rows)) else below q row.seq (other ∷ rows))
       here t s =
-          let high : x.seq < place = ltb-true x.seq place t in
-          let rest : below q place rows ≡ below q x.seq rows =
+          let high : other.seq < place = ltb-true other.seq place t in
+          let rest : below q place rows ≡ below q other.seq rows =
           filter_agree (λ (d : Current). nat_lt d.seq place && q d)
-          (λ (d : Current). nat_lt d.seq x.seq && q d) rows
+          (λ (d : Current). nat_lt d.seq other.seq && q d) rows
           (λ d h.
           let l = lower d h in
-          ap (λ b. b && q d) (lt-ltb d.seq place (omega (arith, l, high)) ∙ sym (lt-ltb d.seq x.seq l))) in
-          let own : below q x.seq (x ∷ rows) ≡ below q x.seq rows =
-          ap (λ b. if b && q x then (x ∷ below q x.seq rows) else below q x.seq rows) (not_itself x.seq) in
-          ap (λ b. if b && q x then (x ∷ below q place rows) else below q place rows) t
-          ∙ (ap (λ (ys : List Current). if q x then (x ∷ ys) else ys) (rest ∙ sym own)
-          ∙ ap (λ (z : Current). if q z then (z ∷ below q z.seq (x ∷ rows)) else below q z.seq (x ∷ rows)) s)
+          ap (λ b. b && q d) (lt-ltb d.seq place (omega (arith, l, high)) ∙ sym (lt-ltb d.seq other.seq l)))
+          in
+          let own : below q other.seq (other ∷ rows) ≡ below q other.seq rows =
+          ap (λ b. if b && q other then (other ∷ below q other.seq rows) else below q other.seq rows)
+          (not_itself other.seq) in
+          ap (λ b. if b && q other then (other ∷ below q place rows) else below q place rows) t
+          ∙ (ap (λ (ys : List Current). if q other then (other ∷ ys) else ys) (rest ∙ sym own)
+          ∙ ap (λ (z : Current). if q z then (z ∷ below q z.seq (other ∷ rows)) else
+          below q z.seq (other ∷ rows)) s)
 
-      there : nat_lt x.seq place ≡ false → find (λ (c : Current). nat_lt c.seq place) rows ≡ Some c
-          → below q place rows ≡ (if q c then (c ∷ below q c.seq rows) else below q c.seq rows)
-          → below q place (x ∷ rows)
-          ≡ (if q c then (c ∷ below q c.seq (x ∷ rows)) else below q c.seq (x ∷ rows))
+      there : nat_lt other.seq place ≡ false → find (λ (row : Current). nat_lt row.seq place) rows ≡ Some row
+          → below q place rows ≡ (if q row then (row ∷ below q row.seq rows) else below q row.seq rows)
+          → below q place (other ∷ rows)
+          ≡ (if q row then (row ∷ below q row.seq (other ∷ rows)) else below q row.seq (other ∷ rows))
       there f found rest =
-          let l = lower c (find_is (λ (c : Current). nat_lt c.seq place) rows c found).1 in
-          let own : below q c.seq (x ∷ rows) ≡ below q c.seq rows =
-          ap (λ b. if b && q x then (x ∷ below q c.seq rows) else below q c.seq rows)
-          (le-ltb x.seq c.seq (omega (arith, l))) in
-          ap (λ b. if b && q x then (x ∷ below q place rows) else below q place rows) f
-          ∙ (rest ∙ ap (λ (ys : List Current). if q c then (c ∷ ys) else ys) (sym own))
+          let l = lower row (find_is (λ (row : Current). nat_lt row.seq place) rows row found).1 in
+          let own : below q row.seq (other ∷ rows) ≡ below q row.seq rows =
+          ap (λ b. if b && q other then (other ∷ below q row.seq rows) else below q row.seq rows)
+          (le-ltb other.seq row.seq (omega (arith, l))) in
+          ap (λ b. if b && q other then (other ∷ below q place rows) else below q place rows) f
+          ∙ (rest ∙ ap (λ (ys : List Current). if q row then (row ∷ ys) else ys) (sym own))
 
   -- where it finds none, none is left
-  step_none : (rows : List Current) (place : ℕ) → find (λ (c : Current). nat_lt c.seq place) rows ≡ None
-      → below q place rows ≡ []
+  step_none : (rows : List Current) (place : ℕ)
+      → find (λ (other : Current). nat_lt other.seq place) rows ≡ None → below q place rows ≡ []
   step_none [] place e = refl
-  step_none (x ∷ rows) place e =
-      elim (cases_Bool (nat_lt x.seq place)) [
-        | inl t ↦ absurd (none-some x (sym (rw t at e)))
+  step_none (row ∷ rows) place e =
+      elim (cases_Bool (nat_lt row.seq place)) [
+        | inl t ↦ absurd (none-some row (sym (rw t at e)))
         | inr f ↦
-            ap (λ b. if b && q x then (x ∷ below q place rows) else below q place rows) f
+            ap (λ b. if b && q row then (row ∷ below q place rows) else below q place rows) f
             ∙ step_none rows place (rw f at e)
       ]
 
 -- a row that passes, and lies above where the feed begins
 abbrev pub is_shown : Params → ℕ → Current → Bool
-is_shown asked since c = nat_lt since c.seq && passes asked.filter c.id
+is_shown asked since row = nat_lt since row.seq && passes asked.filter row.id
 
-current_few : (n : ℕ) (J : List Edit) → length (current_from n J) ≤ length J
+current_few : (n : ℕ) (journal : List Edit) → length (current_from n journal) ≤ length journal
 current_few n [] = omega arith
-current_few n (e ∷ J) = from (is_edited e.id J) (current_few (n + 1) J)
+current_few n (edit ∷ journal) = from (is_edited edit.id journal) (current_few (n + 1) journal)
   where
-    from : (b : Bool) → length (current_from (n + 1) J) ≤ length J
-        → length (if b then current_from (n + 1) J
-        else (record { seq = n; id = e.id } ∷ current_from (n + 1) J))
-        ≤ length (e ∷ J)
+    from : (b : Bool) → length (current_from (n + 1) journal) ≤ length journal
+        → length (if b then current_from (n + 1) journal
+        else (record { seq = n; id = edit.id } ∷ current_from (n + 1) journal))
+        ≤ length (edit ∷ journal)
     from true h = omega (arith, h)
     from false h = omega (arith, h)
 
@@ -159,45 +163,47 @@ take_all n [] h = take_nothing n
 take_all zero (x ∷ xs) h = absurd (omega arith)
 take_all (suc n) (x ∷ xs) h = ap (λ ys. x ∷ ys) (take_all n xs (omega arith))
 
-module _ (J : List Edit) (asked : Params) (since : ℕ) where
+module _ (journal : List Edit) (asked : Params) (since : ℕ) where
   abbrev pub show : Current → ChangeRow
-  show c = row_of J asked.style asked.include_docs c
+  show row = row_of journal asked.style asked.include_docs row
 
   abbrev pub left : ℕ → List Current
-  left place = below (is_shown asked since) place (falling_all J)
+  left place = below (is_shown asked since) place (falling_all journal)
 
   -- what is shown in all
   abbrev pub all_shown : ℕ → List ChangeRow
-  all_shown most = map show (take most (filter (is_shown asked since) (falling_all J)))
+  all_shown most = map show (take most (filter (is_shown asked since) (falling_all journal)))
 
-  falls : AllPairs (λ (a b : Current). b.seq < a.seq) (falling_all J)
-  falls = pairs_reverse (λ (a b : Current). a.seq < b.seq) (current J) (rows_rise J)
+  falls : AllPairs (λ (row other : Current). other.seq < row.seq) (falling_all journal)
+  falls = pairs_reverse (λ (row other : Current). row.seq < other.seq) (current journal) (rows_rise journal)
 
   -- at the beginning all is left
-  pub begins : (most place : ℕ) → place ≡ length J + 1
+  pub begins : (most place : ℕ) → place ≡ length journal + 1
       → all_shown most ≡ [] ++ map show (take (most - 0) (left place))
   begins most place e =
       let whole : most ≡ most - 0 = omega arith in
       ap (λ cs. map show (take most cs))
-      (filter_agree (is_shown asked since) (λ (c : Current). nat_lt c.seq place && is_shown asked since c)
-      (falling_all J) (λ c h.
-      let w = rows_below J c (contains_reverse (current J) c h) in
-      sym (ap (λ b. b && is_shown asked since c) (lt-ltb c.seq place (omega (arith, w, e))))))
+      (filter_agree (is_shown asked since)
+      (λ (row : Current). nat_lt row.seq place && is_shown asked since row)
+      (falling_all journal) (λ row h.
+      let w = rows_below journal row (contains_reverse (current journal) row h) in
+      sym (ap (λ b. b && is_shown asked since row) (lt-ltb row.seq place (omega (arith, w, e))))))
       ∙ ap (λ n. map show (take n (left place))) whole
 
   module _ (place : ℕ) (c : Current)
-      (found : Some c ≡ find (λ (c : Current). nat_lt c.seq place) (falling_all J)) where
+      (found : Some c ≡ find (λ (c : Current). nat_lt c.seq place) (falling_all journal)) where
     pub goes_down : c.seq < place
     goes_down =
-        ltb-true c.seq place (find_is (λ (c : Current). nat_lt c.seq place) (falling_all J) c (sym found)).0
+        ltb-true c.seq place (find_is (λ (c : Current). nat_lt c.seq place) (falling_all journal) c
+        (sym found)).0
 
-    pub is_current : Contains (current J) c
+    pub is_current : Contains (current journal) c
     is_current =
-        contains_reverse (current J) c
-        (find_is (λ (c : Current). nat_lt c.seq place) (falling_all J) c (sym found)).1
+        contains_reverse (current journal) c
+        (find_is (λ (c : Current). nat_lt c.seq place) (falling_all journal) c (sym found)).1
 
     step : left place ≡ (if is_shown asked since c then (c ∷ left c.seq) else left c.seq)
-    step = step_some (is_shown asked since) (falling_all J) place c falls (sym found)
+    step = step_some (is_shown asked since) (falling_all journal) place c falls (sym found)
 
     -- a row that does not pass
     pub passed_by : since < c.seq → passes asked.filter c.id ≡ false → left place ≡ left c.seq
@@ -220,7 +226,7 @@ module _ (J : List Edit) (asked : Params) (since : ℕ) where
         ∙ (ap (λ b. if b then (c ∷ left c.seq) else left c.seq)
         (ap (λ b. b && passes asked.filter c.id) (le-ltb since c.seq h))
         ∙ filter_nothing (λ (d : Current). nat_lt d.seq c.seq && is_shown asked since d)
-        (falling_all J) (λ d m. low d))
+        (falling_all journal) (λ d m. low d))
       where
         low : (d : Current) → (nat_lt d.seq c.seq && (nat_lt since d.seq && passes asked.filter d.id)) ≡ false
         low d = elim (cases_Bool (nat_lt d.seq c.seq)) [
@@ -232,9 +238,9 @@ module _ (J : List Edit) (asked : Params) (since : ℕ) where
         ]
 
   -- no row is left
-  pub none_left : (place : ℕ) → None ≡ find (λ (c : Current). nat_lt c.seq place) (falling_all J)
+  pub none_left : (place : ℕ) → None ≡ find (λ (row : Current). nat_lt row.seq place) (falling_all journal)
       → left place ≡ []
-  none_left place e = step_none (is_shown asked since) (falling_all J) place (sym e)
+  none_left place e = step_none (is_shown asked since) (falling_all journal) place (sym e)
 
   take_none : (n : ℕ) → map show (take n []) ≡ []
   take_none zero = refl
@@ -280,206 +286,213 @@ module _ (J : List Edit) (asked : Params) (since : ℕ) where
   more_than_none (x ∷ rows) row more e = absurd (cc)
 
   -- a row that is taken up while there are too few is one of those that are shown
-  row_shown : (most : ℕ) (rows : List ChangeRow) (place : ℕ) (c : Current) → length rows < most
+  row_shown : (most : ℕ) (rows : List ChangeRow) (place : ℕ) (row : Current) → length rows < most
       → all_shown most ≡ rows ++ map show (take (most - length rows) (left place))
-      → left place ≡ c ∷ left c.seq → ¬ (all_shown most ≡ [])
-  row_shown most rows place c few h e = λ none.
+      → left place ≡ row ∷ left row.seq → ¬ (all_shown most ≡ [])
+  row_shown most rows place row few h e = λ none.
       let one : most - length rows ≡ suc (most - length rows - 1) = omega (arith, few) in
-      more_than_none rows (show c) (map show (take (most - length rows - 1) (left c.seq)))
-      (ap (λ n. rows ++ map show (take n (c ∷ left c.seq))) (sym one)
+      more_than_none rows (show row) (map show (take (most - length rows - 1) (left row.seq)))
+      (ap (λ n. rows ++ map show (take n (row ∷ left row.seq))) (sym one)
       ∙ (ap (λ cs. rows ++ map show (take (most - length rows) cs)) (sym e) ∙ (sym h ∙ none)))
 
   -- what is shown in all is the answer
-  pub shown_all : all_shown (most_of asked.limit (length J)) ≡ map show (falling_rows J asked since)
+  pub shown_all : all_shown (most_of asked.limit (length journal)) ≡ map show
+      (falling_rows journal asked since)
   shown_all =
       ap (map show)
-      (ap (take (most_of asked.limit (length J))) (filter_reverse (is_shown asked since) (current J))
-      ∙ from asked.limit)
+      (ap (take (most_of asked.limit (length journal)))
+      (filter_reverse (is_shown asked since) (current journal)) ∙ from asked.limit)
     where
-      few : length (reverse (filter (is_shown asked since) (current J))) ≤ length J
+      few : length (reverse (filter (is_shown asked since) (current journal))) ≤ length journal
       few =
           omega (
             arith,
-            length-reverse (filter (is_shown asked since) (current J)),
-            count_filter (is_shown asked since) (current J),
-            current_few 1 J,
+            length-reverse (filter (is_shown asked since) (current journal)),
+            count_filter (is_shown asked since) (current journal),
+            current_few 1 journal,
           )
 
       from : (limit : Option ℕ)
-          → take (most_of limit (length J)) (reverse (filter (is_shown asked since) (current J)))
-          ≡ at_most limit (reverse (filter (is_shown asked since) (current J)))
-      from None = take_all (length J) (reverse (filter (is_shown asked since) (current J))) few
+          → take (most_of limit (length journal)) (reverse (filter (is_shown asked since) (current journal)))
+          ≡ at_most limit (reverse (filter (is_shown asked since) (current journal)))
+      from None = take_all (length journal) (reverse (filter (is_shown asked since) (current journal))) few
       from (Some limit) = refl
 
   -- so where a row is taken up the answer has one
-  pub row_due : (most : ℕ) (rows : List ChangeRow) (place : ℕ) (c : Current)
-      → most ≡ most_of asked.limit (length J) → length rows < most
+  pub row_due : (most : ℕ) (rows : List ChangeRow) (place : ℕ) (row : Current)
+      → most ≡ most_of asked.limit (length journal) → length rows < most
       → all_shown most ≡ rows ++ map show (take (most - length rows) (left place))
-      → left place ≡ c ∷ left c.seq
-      → ¬ (falling_rows J asked since ≡ [])
-  row_due most rows place c is few h e =
-      λ none. row_shown most rows place c few h e (ap all_shown is ∙ (shown_all ∙ ap (map show) none))
+      → left place ≡ row ∷ left row.seq
+      → ¬ (falling_rows journal asked since ≡ [])
+  row_due most rows place row is few h e =
+      λ none. row_shown most rows place row few h e (ap all_shown is ∙ (shown_all ∙ ap (map show) none))
 
-  nothing_shown : (cs : List Current) → map show cs ≡ [] → cs ≡ []
+  nothing_shown : (rows : List Current) → map show rows ≡ [] → rows ≡ []
   nothing_shown [] e = refl
-  nothing_shown (c ∷ cs) e = absurd (cc)
+  nothing_shown (row ∷ rows) e = absurd (cc)
 
   -- and has one where one is due
-  pub answer_some : (life : ℕ) → since ≡ since_of asked.since (length J) life
-      → ¬ (falling_rows J asked since ≡ [])
-      → ¬ ((descending J life asked).rows ≡ [])
+  pub answer_some : (life : ℕ) → since ≡ since_of asked.since (length journal) life
+      → ¬ (falling_rows journal asked since ≡ [])
+      → ¬ ((descending journal life asked).rows ≡ [])
   answer_some life begin some =
-      λ e. some (nothing_shown (falling_rows J asked since)
-      (ap (λ n. map (row_of J asked.style asked.include_docs) (falling_rows J asked n)) begin ∙ e))
+      λ e. some (nothing_shown (falling_rows journal asked since)
+      (ap (λ n. map (row_of journal asked.style asked.include_docs) (falling_rows journal asked n)) begin
+      ∙ e))
 
   -- and lies above where the feed begins
-  pub rows_above : (c : Current) → Contains (falling_rows J asked since) c → since < c.seq
-  rows_above c h =
+  pub rows_above : (row : Current) → Contains (falling_rows journal asked since) row → since < row.seq
+  rows_above row h =
       let i =
-      filter_in (is_shown asked since) (current J) c
-      (contains_reverse (filter (is_shown asked since) (current J)) c
-      (contains_most asked.limit (reverse (filter (is_shown asked since) (current J))) c h)) in
-      ltb-true since c.seq (and_parts (nat_lt since c.seq) (passes asked.filter c.id) i.1).0
+      filter_in (is_shown asked since) (current journal) row
+      (contains_reverse (filter (is_shown asked since) (current journal)) row
+      (contains_most asked.limit (reverse (filter (is_shown asked since) (current journal))) row h)) in
+      ltb-true since row.seq (and_parts (nat_lt since row.seq) (passes asked.filter row.id) i.1).0
 
   -- the lowest row that is shown
-  lowest_shown : (cs : List Current) → lowest_row since (map show cs) ≡ lowest since cs
+  lowest_shown : (rows : List Current) → lowest_row since (map show rows) ≡ lowest since rows
   lowest_shown [] = refl
-  lowest_shown (c ∷ []) = refl
-  lowest_shown (c ∷ d ∷ cs) = lowest_shown (d ∷ cs)
+  lowest_shown (row ∷ []) = refl
+  lowest_shown (row ∷ other ∷ rows) = lowest_shown (other ∷ rows)
 
-  lowest_high : (cs : List Current) → ((c : Current) → Contains cs c → since < c.seq)
-      → since ≤ lowest since cs
+  lowest_high : (rows : List Current) → ((row : Current) → Contains rows row → since < row.seq)
+      → since ≤ lowest since rows
   lowest_high [] h = omega arith
-  lowest_high (c ∷ []) h = let l = h c (contains_here c []) in omega (arith, l)
-  lowest_high (c ∷ d ∷ cs) h = lowest_high (d ∷ cs) (λ e m. h e (contains_there c e (d ∷ cs) m))
+  lowest_high (row ∷ []) h = let l = h row (contains_here row []) in omega (arith, l)
+  lowest_high (row ∷ other ∷ rows) h =
+      lowest_high (other ∷ rows) (λ e m. h e (contains_there row e (other ∷ rows) m))
 
-  module _ (rows : List ChangeRow) (last : ℕ) (all : rows ≡ map show (falling_rows J asked since))
+  module _ (rows : List ChangeRow) (last : ℕ) (all : rows ≡ map show (falling_rows journal asked since))
       (low : last ≡ lowest_row since rows) where
-    last_is : last ≡ lowest since (falling_rows J asked since)
-    last_is = low ∙ (ap (lowest_row since) all ∙ lowest_shown (falling_rows J asked since))
+    last_is : last ≡ lowest since (falling_rows journal asked since)
+    last_is = low ∙ (ap (lowest_row since) all ∙ lowest_shown (falling_rows journal asked since))
 
     pub last_high : since ≤ last
-    last_high = let l = lowest_high (falling_rows J asked since) rows_above in omega (arith, l, last_is)
+    last_high = let l = lowest_high (falling_rows journal asked since) rows_above in omega (arith, l, last_is)
 
     -- the whole answer
     pub answer_is : (life count : ℕ)
-        → count ≡ count_by (λ (c : Current). nat_lt since c.seq && nat_lt c.seq last) (current J)
-        → since ≡ since_of asked.since (length J) life
+        → count ≡ count_by (λ (c : Current). nat_lt since c.seq && nat_lt c.seq last) (current journal)
+        → since ≡ since_of asked.since (length journal) life
         → ◌≡◌ {A = Descending} (record { rows = rows; last_seq = last; pending = count; life = life })
-        (descending J life asked)
+        (descending journal life asked)
     answer_is life count many begin =
         ap (λ (n : ℕ). record { rows = rows; last_seq = last; pending = n; life = life }) many
         ∙ (ap (λ (n : ℕ). record {
           rows = rows;
           last_seq = n;
-          pending = count_by (λ (c : Current). nat_lt since c.seq && nat_lt c.seq n) (current J);
+          pending = count_by (λ (c : Current). nat_lt since c.seq && nat_lt c.seq n) (current journal);
           life = life;
         }) last_is
         ∙ (ap (λ (rs : List ChangeRow). record {
           rows = rs;
-          last_seq = lowest since (falling_rows J asked since);
+          last_seq = lowest since (falling_rows journal asked since);
           pending =
               count_by (λ (c : Current).
-              nat_lt since c.seq && nat_lt c.seq (lowest since (falling_rows J asked since))) (current J);
+              nat_lt since c.seq && nat_lt c.seq (lowest since (falling_rows journal asked since)))
+              (current journal);
           life = life;
         }) all
-        ∙ ap (λ (n : ℕ). falling J life asked n (falling_rows J asked n)) begin))
+        ∙ ap (λ (n : ℕ). falling journal life asked n (falling_rows journal asked n)) begin))
 
 -- the last of falling rows is the lowest
-pub lowest_last : (since : ℕ) (rows : List ChangeRow) (k : ℕ) (r : ChangeRow) → k ≡ length rows - 1
-    → Some r ≡ slice_get rows k → r.seq ≡ lowest_row since rows
-lowest_last since [] k r e g = absurd (none-some r (sym g))
-lowest_last since (x ∷ []) zero r e g = ap (λ (z : ChangeRow). z.seq) (same_Some r x g)
-lowest_last since (x ∷ []) (suc k) r e g = absurd (omega arith)
-lowest_last since (x ∷ y ∷ rows) zero r e g = absurd (omega arith)
-lowest_last since (x ∷ y ∷ rows) (suc k) r e g = lowest_last since (y ∷ rows) k r (omega arith) g
+pub lowest_last : (since : ℕ) (rows : List ChangeRow) (k : ℕ) (row : ChangeRow) → k ≡ length rows - 1
+    → Some row ≡ slice_get rows k → row.seq ≡ lowest_row since rows
+lowest_last since [] k row e g = absurd (none-some row (sym g))
+lowest_last since (other ∷ []) zero row e g = ap (λ (z : ChangeRow). z.seq) (same_Some row other g)
+lowest_last since (other ∷ []) (suc k) row e g = absurd (omega arith)
+lowest_last since (other ∷ y ∷ rows) zero row e g = absurd (omega arith)
+lowest_last since (other ∷ y ∷ rows) (suc k) row e g = lowest_last since (y ∷ rows) k row (omega arith) g
 
 -- how many rows lie between two places
 abbrev one : Bool → ℕ
 one b = if b then 1 else 0
 
 module _ (p q : Current → Bool) where
-  few_count : ((c : Current) → one (p c) ≤ one (q c)) → (xs : List Current) → count_by p xs ≤ count_by q xs
+  few_count : ((other : Current) → one (p other) ≤ one (q other)) → (rows : List Current)
+      → count_by p rows ≤ count_by q rows
   few_count h [] = omega arith
-  few_count h (x ∷ xs) =
-      let rest = few_count h xs in
-      let here = h x in
+  few_count h (row ∷ rows) =
+      let rest = few_count h rows in
+      let here = h row in
       omega (
         arith,
         rest,
         here,
-        sum_by-cons (λ (c : Current). one (p c)) x xs,
-        sum_by-cons (λ (c : Current). one (q c)) x xs,
+        sum_by-cons (λ (other : Current). one (p other)) row rows,
+        sum_by-cons (λ (other : Current). one (q other)) row rows,
       )
 
-  split_count : (r : Current → Bool) → ((c : Current) → one (p c) ≡ one (q c) + one (r c))
-      → (xs : List Current) → count_by p xs ≡ count_by q xs + count_by r xs
+  split_count : (r : Current → Bool) → ((other : Current) → one (p other) ≡ one (q other) + one (r other))
+      → (rows : List Current) → count_by p rows ≡ count_by q rows + count_by r rows
   split_count r h [] = omega arith
-  split_count r h (x ∷ xs) =
-      let rest = split_count r h xs in
-      let here = h x in
+  split_count r h (row ∷ rows) =
+      let rest = split_count r h rows in
+      let here = h row in
       omega (
         arith,
         rest,
         here,
-        sum_by-cons (λ (c : Current). one (p c)) x xs,
-        sum_by-cons (λ (c : Current). one (q c)) x xs,
-        sum_by-cons (λ (c : Current). one (r c)) x xs,
+        sum_by-cons (λ (other : Current). one (p other)) row rows,
+        sum_by-cons (λ (other : Current). one (q other)) row rows,
+        sum_by-cons (λ (other : Current). one (r other)) row rows,
       )
 
 module _ (since low : ℕ) where
   abbrev is_between : Current → Bool
-  is_between c = nat_lt since c.seq && nat_lt c.seq low
+  is_between row = nat_lt since row.seq && nat_lt row.seq low
 
   -- where there is none between
-  none_between : since ≡ low → (c : Current) → is_between c ≡ false
-  none_between e c = elim (cases_Bool (nat_lt since c.seq)) [
+  none_between : since ≡ low → (row : Current) → is_between row ≡ false
+  none_between e row = elim (cases_Bool (nat_lt since row.seq)) [
     | inl t ↦
-        ap (λ b. b && nat_lt c.seq low) t
-        ∙ le-ltb c.seq low (let l : since < c.seq = ltb-true since c.seq t in omega (arith, l, e))
-    | inr f ↦ ap (λ b. b && nat_lt c.seq low) f
+        ap (λ b. b && nat_lt row.seq low) t
+        ∙ le-ltb row.seq low (let l : since < row.seq = ltb-true since row.seq t in omega (arith, l, e))
+    | inr f ↦ ap (λ b. b && nat_lt row.seq low) f
   ]
 
-  parts : since < low → (c : Current)
-      → one (nat_lt since c.seq) ≡ one (is_between c) + one (nat_lt (low - 1) c.seq)
-  parts h c = elim (cases_Bool (nat_lt c.seq low)) [
+  parts : since < low → (row : Current)
+      → one (nat_lt since row.seq) ≡ one (is_between row) + one (nat_lt (low - 1) row.seq)
+  parts h row = elim (cases_Bool (nat_lt row.seq low)) [
     | inl t ↦
-        let l : c.seq < low = ltb-true c.seq low t in
-        rw (t, le-ltb (low - 1) c.seq (omega (arith, l))) (under (nat_lt since c.seq))
+        let l : row.seq < low = ltb-true row.seq low t in
+        rw (t, le-ltb (low - 1) row.seq (omega (arith, l))) (under (nat_lt since row.seq))
     | inr f ↦
-        let l : low ≤ c.seq = ltb-false c.seq low f in
-        rw (f, lt-ltb (low - 1) c.seq (omega (arith, l, h)), lt-ltb since c.seq (omega (arith, l, h))) refl
+        let l : low ≤ row.seq = ltb-false row.seq low f in
+        rw (f, lt-ltb (low - 1) row.seq (omega (arith, l, h)), lt-ltb since row.seq (omega (arith, l, h)))
+        refl
   ]
     where
       under : (b : Bool) → one b ≡ one (b && true) + 0
       under true = refl
       under false = refl
 
-  pub between : (xs : List Current) → since ≤ low
-      → pending xs since - pending xs (low - 1) ≡ count_by is_between xs
-  between xs h = elim (cases_Bool (nat_lt since low)) [
+  pub between : (rows : List Current) → since ≤ low
+      → pending rows since - pending rows (low - 1) ≡ count_by is_between rows
+  between rows h = elim (cases_Bool (nat_lt since low)) [
     | inl t ↦
         let s =
-        split_count (λ (c : Current). nat_lt since c.seq) is_between (λ (c : Current). nat_lt (low - 1) c.seq)
-        (parts (ltb-true since low t)) xs in
+        split_count (λ (row : Current). nat_lt since row.seq) is_between
+        (λ (row : Current). nat_lt (low - 1) row.seq)
+        (parts (ltb-true since low t)) rows in
         omega (arith, s)
     | inr f ↦ let e : since ≡ low = let l : low ≤ since = ltb-false since low f in omega (arith, l, h) in
-        let none : count_by is_between xs ≡ 0 = count_nothing xs (none_between e) in
+        let none : count_by is_between rows ≡ 0 = count_nothing rows (none_between e) in
         let few =
-        few_count (λ (c : Current). nat_lt since c.seq)
-        (λ (c : Current). nat_lt (low - 1) c.seq) (lower e) xs in
+        few_count (λ (row : Current). nat_lt since row.seq)
+        (λ (row : Current). nat_lt (low - 1) row.seq) (lower e) rows in
         omega (arith, none, few)
   ]
     where
-      count_nothing : (xs : List Current) → ((c : Current) → is_between c ≡ false)
-          → count_by is_between xs ≡ 0
-      count_nothing xs h =
-          sym (length-filter is_between xs) ∙ ap length (filter_nothing is_between xs (λ c m. h c))
+      count_nothing : (rows : List Current) → ((row : Current) → is_between row ≡ false)
+          → count_by is_between rows ≡ 0
+      count_nothing rows h =
+          sym (length-filter is_between rows) ∙ ap length (filter_nothing is_between rows (λ row m. h row))
 
-      lower : since ≡ low → (c : Current) → one (nat_lt since c.seq) ≤ one (nat_lt (low - 1) c.seq)
-      lower e c = elim (cases_Bool (nat_lt since c.seq)) [
+      lower : since ≡ low → (row : Current) → one (nat_lt since row.seq) ≤ one (nat_lt (low - 1) row.seq)
+      lower e row = elim (cases_Bool (nat_lt since row.seq)) [
         | inl t ↦
-            let l : since < c.seq = ltb-true since c.seq t in
-            rw (t, lt-ltb (low - 1) c.seq (omega (arith, l, e))) (omega arith)
+            let l : since < row.seq = ltb-true since row.seq t in
+            rw (t, lt-ltb (low - 1) row.seq (omega (arith, l, e))) (omega arith)
         | inr f ↦ rw f (omega arith)
       ]

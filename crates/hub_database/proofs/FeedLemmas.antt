@@ -29,77 +29,84 @@ use Rattle.hub_database.specs.Edits as edits
 use Rattle.hub_database.specs.Hosting.{hosted_of}
 
 -- a write takes no edit away
-adds_grow : (limit : ℕ) (J : List Edit) (e : Edit) → length J ≤ length (adds limit J e).journal
-adds_grow limit J e = from (nat_le limit (length J))
+adds_grow : (limit : ℕ) (journal : List Edit) (edit : Edit)
+    → length journal ≤ length (adds limit journal edit).journal
+adds_grow limit journal edit = from (nat_le limit (length journal))
   where
     from : (b : Bool)
-        → length J ≤ length (if b then refuses J fault.SequenceFull
+        → length journal ≤ length (if b then refuses journal fault.SequenceFull
         else record {
-          outcome = outcome.Stored (unwrap_or (head_of e) (record { generation = 0; hash = [] }));
-          journal = J ++ e ∷ [];
+          outcome = outcome.Stored (unwrap_or (head_of edit) (record { generation = 0; hash = [] }));
+          journal = journal ++ edit ∷ [];
         }).journal
     from true = omega arith
-    from false = omega (arith, length_push J e)
+    from false = omega (arith, length_push journal edit)
 
-merges_grow : (limit : ℕ) (J : List Edit) (e : Edit) → length J ≤ length (merges limit J e).journal
-merges_grow limit J e = from (is_head_known J e.id e.path) (is_acceptable J e)
+merges_grow : (limit : ℕ) (journal : List Edit) (edit : Edit)
+    → length journal ≤ length (merges limit journal edit).journal
+merges_grow limit journal edit = from (is_head_known journal edit.id edit.path) (is_acceptable journal edit)
   where
     from : (known acceptable : Bool)
-        → length J ≤ length (if known then record { outcome = outcome.Known; journal = J }
-        else if acceptable then adds limit J e else refuses J fault.Contradicts).journal
+        → length journal ≤ length (if known then record { outcome = outcome.Known; journal = journal }
+        else if acceptable then adds limit journal edit else refuses journal fault.Contradicts).journal
     from true acceptable = omega arith
-    from false true = adds_grow limit J e
+    from false true = adds_grow limit journal edit
     from false false = omega arith
 
-makes_grow : (limit : ℕ) (J : List Edit) (d : Draft) (o : Option (List Revision))
-    → length J ≤ length (makes_on limit J d o).journal
-makes_grow limit J d None = omega arith
-makes_grow limit J d (Some path) =
-    from (nat_le 65535 (generation_of (parent_of path))) (is_known J d.id (made d (parent_of path)))
+makes_grow : (limit : ℕ) (journal : List Edit) (draft : Draft) (o : Option (List Revision))
+    → length journal ≤ length (makes_on limit journal draft o).journal
+makes_grow limit journal draft None = omega arith
+makes_grow limit journal draft (Some path) =
+    from (nat_le 65535 (generation_of (parent_of path)))
+    (is_known journal draft.id (made draft (parent_of path)))
   where
     from : (last known : Bool)
-        → length J ≤ length (if last then refuses J fault.GenerationLimit
-        else if known then refuses J fault.Conflict else adds limit J (edit_of d path)).journal
+        → length journal ≤ length (if last then refuses journal fault.GenerationLimit
+        else if known then refuses journal fault.Conflict else
+        adds limit journal (edit_of draft path)).journal
     from true known = omega arith
     from false true = omega arith
-    from false false = adds_grow limit J (edit_of d path)
+    from false false = adds_grow limit journal (edit_of draft path)
 
-pub write_grows : (new_edits : Bool) (limit : ℕ) (J : List Edit) (doc : Doc) (o : Outcome Revision)
-    (K : List Edit) → stores_doc new_edits limit J doc ≡ record { outcome = o; journal = K }
-    → length J ≤ length K
-write_grows new_edits limit J doc o K h =
-    subst (λ (s : Stores). length J ≤ length s.journal) h (from new_edits)
+pub write_grows : (new_edits : Bool) (limit : ℕ) (journal : List Edit) (doc : Doc) (o : Outcome Revision)
+    (other_journal : List Edit)
+    → stores_doc new_edits limit journal doc ≡ record { outcome = o; journal = other_journal }
+    → length journal ≤ length other_journal
+write_grows new_edits limit journal doc o other_journal h =
+    subst (λ (stores : Stores). length journal ≤ length stores.journal) h (from new_edits)
   where
-    from : (b : Bool) → length J ≤ length (stores_doc b limit J doc).journal
-    from true = makes_grow limit J (draft_of doc) (extended J doc.id (leaves_of J doc.id) doc.rev)
-    from false = merges_grow limit J (edits.edit_of doc)
+    from : (b : Bool) → length journal ≤ length (stores_doc b limit journal doc).journal
+    from true =
+        makes_grow limit journal (draft_of doc) (extended journal doc.id (leaves_of journal doc.id) doc.rev)
+    from false = merges_grow limit journal (edits.edit_of doc)
 
 -- a write changes the journal alone
-pub contents_stay : (J : List Edit) {l l' : List Local} {m m' : Limits} {n n' : ℕ} → l ≡ l' → m ≡ m' → n ≡ n'
-    → ◌≡◌ {A = Contents} (record { journal = J; locals = l; limits = m; life = n })
-    (record { journal = J; locals = l'; limits = m'; life = n' })
-contents_stay J a d e = rw (a, d, e) refl
+pub contents_stay : (journal : List Edit) {l l' : List Local} {m m' : Limits} {n n' : ℕ} → l ≡ l' → m ≡ m'
+    → n ≡ n' → ◌≡◌ {A = Contents} (record { journal = journal; locals = l; limits = m; life = n })
+    (record { journal = journal; locals = l'; limits = m'; life = n' })
+contents_stay journal a d e = rw (a, d, e) refl
 
 -- a deleted database refuses each document
-pub all_refused : {A : Type 0} (store : List Edit → A → Stores) (J : List Edit) (xs : List A)
-    → stores_all store true J xs
-    ≡ record { outcomes = replicate (length xs) (outcome.Refused fault.Deleted); journal = J }
-all_refused store J [] = refl
-all_refused store J (x ∷ xs) =
-    ap (λ (s : StoresAll). record { outcomes = outcome.Refused fault.Deleted ∷ s.outcomes; journal = J })
-    (all_refused store J xs)
+pub all_refused : {A : Type 0} (store : List Edit → A → Stores) (journal : List Edit) (xs : List A)
+    → stores_all store true journal xs
+    ≡ record { outcomes = replicate (length xs) (outcome.Refused fault.Deleted); journal = journal }
+all_refused store journal [] = refl
+all_refused store journal (x ∷ xs) =
+    ap (λ (s : StoresAll). record
+    { outcomes = outcome.Refused fault.Deleted ∷ s.outcomes; journal = journal })
+    (all_refused store journal xs)
 
-pub refused_batch : (new_edits deleted : Bool) (limit : ℕ) (J : List Edit) (docs : List Doc) (n : ℕ)
+pub refused_batch : (new_edits deleted : Bool) (limit : ℕ) (journal : List Edit) (docs : List Doc) (n : ℕ)
     (replies : List (Outcome Revision)) → deleted ≡ true → n ≡ length docs
     → replies ≡ replicate n (outcome.Refused fault.Deleted)
-    → writes new_edits deleted limit J (take (length replies) docs)
-    ≡ record { outcomes = replies; journal = J }
-refused_batch new_edits deleted limit J docs n replies t e r =
+    → writes new_edits deleted limit journal (take (length replies) docs)
+    ≡ record { outcomes = replies; journal = journal }
+refused_batch new_edits deleted limit journal docs n replies t e r =
     rw (t, r, length-replicate {A = Outcome Revision} n (outcome.Refused fault.Deleted), e, take-length docs)
-    (all_refused (stores_doc new_edits limit) J docs)
+    (all_refused (stores_doc new_edits limit) journal docs)
 
-item_given : (show : Current → ChangeRow) (rows : List Current) (d : Due) (item : Item ChangeRow)
-    → Give item ≡ next_of show rows d → item_of show rows d ≡ Some item
+item_given : (show : Current → ChangeRow) (rows : List Current) (due : Due) (item : Item ChangeRow)
+    → Give item ≡ next_of show rows due → item_of show rows due ≡ Some item
 item_given show rows (DueRow c) item e = cc
 item_given show rows (DueEnd last_seq) item e = cc
 item_given show rows DueNothing item e = absurd (cc)
@@ -110,8 +117,8 @@ pub gives_due : (db : Database) (id : ℕ) (item : Item ChangeRow) → Give item
     → item_due (hosted_of db) id ≡ Some item
 gives_due db id item e = from (entry_in id db.feeds) e
   where
-    from : (o : Option Feed) → Give item ≡ answer_of (hosted_of db) o
-        → option_and_then (change_due db.journal) o ≡ Some item
+    from : (maybe_feed : Option Feed) → Give item ≡ answer_of (hosted_of db) maybe_feed
+        → option_and_then (change_due db.journal) maybe_feed ≡ Some item
     from None e = absurd (cc)
     from (Some f) e =
         item_given (row_of db.journal f.params.style f.params.include_docs) (current db.journal)

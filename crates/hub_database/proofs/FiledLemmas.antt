@@ -21,25 +21,26 @@ use Rattle.hub_index.proofs.ListLemmas.{get_push, get_push_other, maps_agree, te
 -- the document is there with these edits, or not at all
 abbrev pub Was : (List ℕ → Option ℕ) → List Filed → List ℕ → ℕ → List Edit → Type 0
 Was numbers documents id k edits =
-    ((numbers id ≡ Some k) × ((d : Filed) × (slice_get documents k ≡ Some d) × (d.edits ≡ edits))) ⊎
+    ((numbers id ≡ Some k) × ((filed : Filed) × (slice_get documents k ≡ Some filed) × (filed.edits ≡ edits)))
+    ⊎
     ((numbers id ≡ None) × (slice_get documents k ≡ None) × (edits ≡ []))
 
 module _ (limit : ℕ) (numbers : List ℕ → Option ℕ) (documents : List Filed) (entries : List Entry)
     (st : IsFiled limit numbers documents entries) (id : List ℕ) (k : ℕ) (edits : List Edit)
     (was : Was numbers documents id k edits) where
   -- the document at k has the id and the edits
-  pub at_k : (d : Filed) → slice_get documents k ≡ Some d → (d.id ≡ id) × (d.edits ≡ edits)
-  at_k d g = ⊎_elim
+  pub at_k : (filed : Filed) → slice_get documents k ≡ Some filed → (filed.id ≡ id) × (filed.edits ≡ edits)
+  at_k filed g = ⊎_elim
       (λ w.
       let f = st.found id k w.0 in (
-        ap (λ (z : Filed). z.id) (same_Some d f.0 (sym g ∙ f.1)) ∙ f.2,
-        ap (λ (z : Filed). z.edits) (same_Some d w.1.0 (sym g ∙ w.1.1)) ∙ w.1.2,
+        ap (λ (other : Filed). other.id) (same_Some filed f.0 (sym g ∙ f.1)) ∙ f.2,
+        ap (λ (other : Filed). other.edits) (same_Some filed w.1.0 (sym g ∙ w.1.1)) ∙ w.1.2,
       ))
-      (λ w. absurd (none-some d (sym w.1 ∙ g))) was
+      (λ w. absurd (none-some filed (sym w.1 ∙ g))) was
 
-  pub apart : (j : ℕ) (d : Filed) → slice_get documents j ≡ Some d → j ≢ k → d.id ≢ id
-  apart j d g n e =
-      let own : numbers id ≡ Some j = sym (ap numbers e) ∙ st.own j d g in
+  pub apart : (j : ℕ) (filed : Filed) → slice_get documents j ≡ Some filed → j ≢ k → filed.id ≢ id
+  apart j filed g n e =
+      let own : numbers id ≡ Some j = sym (ap numbers e) ∙ st.own j filed g in
       ⊎_elim (λ w. n (same_Some j k (sym own ∙ w.0))) (λ w. none-some j (sym w.0 ∙ own)) was
 
   pub kept_of : edits_of (journal_of documents entries) id ≡ map (named id) edits

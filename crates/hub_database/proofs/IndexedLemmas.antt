@@ -17,17 +17,18 @@ use Rattle.hub_database.proofs.FiledLemmas.{Was, at_k, apart}
 
 -- the document of a number that has an id
 pub document_at : (documents : List Filed) (k : ℕ) (p : List ℕ × ℕ) → latest_at documents k ≡ Some p
-    → (d : Filed) × (slice_get documents k ≡ Some d) × (latest_of d ≡ p)
+    → (filed : Filed) × (slice_get documents k ≡ Some filed) × (latest_of filed ≡ p)
 document_at documents k p is = from (slice_get documents k) refl is
   where
-    from : (o : Option Filed) → slice_get documents k ≡ o → option_map latest_of o ≡ Some p
-        → (d : Filed) × (slice_get documents k ≡ Some d) × (latest_of d ≡ p)
+    from : (maybe_filed : Option Filed) → slice_get documents k ≡ maybe_filed
+        → option_map latest_of maybe_filed ≡ Some p
+        → (filed : Filed) × (slice_get documents k ≡ Some filed) × (latest_of filed ≡ p)
     from None e q = absurd (none-some p q)
-    from (Some d) e q = (d, e, same_Some (latest_of d) p q)
+    from (Some filed) e q = (filed, e, same_Some (latest_of filed) p q)
 
 -- a row lies at an entry
 pub rows_below : (documents : List Filed) (entries : List Entry) (index : List (ℕ × ℕ))
-    → IsIndexed documents entries index → All (λ (r : ℕ × ℕ). r.0 < length entries + 1) index
+    → IsIndexed documents entries index → All (λ (row : ℕ × ℕ). row.0 < length entries + 1) index
 rows_below documents entries index ix k d low =
     let within = rows_within (latest_at documents) (journal_of documents entries) index ix k d low in
     omega (arith, within, length-map entries (edit_at documents))
@@ -36,12 +37,12 @@ rows_below documents entries index ix k d low =
 module _ (limit : ℕ) (numbers : List ℕ → Option ℕ) (documents : List Filed) (entries : List Entry)
     (index : List (ℕ × ℕ)) (st : IsFiled limit numbers documents entries)
     (ix : IsIndexed documents entries index)
-    (id : List ℕ) (k : ℕ) (edits : List Edit) (was : Was numbers documents id k edits) (e : Edit)
+    (id : List ℕ) (k : ℕ) (edits : List Edit) (was : Was numbers documents id k edits) (edit : Edit)
     (documents' : List Filed) (entries' : List Entry)
     (at : slice_get documents' k
-    ≡ Some (record { id = id; latest = length entries + 1; edits = edits ++ e ∷ [] }))
+    ≡ Some (record { id = id; latest = length entries + 1; edits = edits ++ edit ∷ [] }))
     (other : (j : ℕ) → j ≢ k → slice_get documents' j ≡ slice_get documents j)
-    (more : journal_of documents' entries' ≡ journal_of documents entries ++ named id e ∷ []) where
+    (more : journal_of documents' entries' ≡ journal_of documents entries ++ named id edit ∷ []) where
   own : (p : List ℕ × ℕ) → latest_at documents k ≡ Some p → p.0 ≡ id
   own p is =
       let d = document_at documents k p is in
@@ -59,6 +60,6 @@ module _ (limit : ℕ) (numbers : List ℕ → Option ℕ) (documents : List Fil
       let last : length entries + 1 ≡ length (journal_of documents entries) + 1 =
       omega (arith, length-map entries (edit_at documents)) in
       subst (λ J. indexed.IsIndexed (latest_at documents') J (moved index k (length entries + 1))) (sym more)
-      (indexed_more (latest_at documents) (journal_of documents entries) index ix (named id e) k
+      (indexed_more (latest_at documents) (journal_of documents entries) index ix (named id edit) k
       (length entries + 1) last own others_apart (latest_at documents') (ap (option_map latest_of) at)
       (λ j n. ap (option_map latest_of) (other j n)))

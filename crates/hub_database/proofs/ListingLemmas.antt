@@ -123,78 +123,82 @@ module _ {A B : Type 0} where
       from (Some y) i (inr k) later = contains_there y b (filter_map h xs) (later k)
 
 -- the sequences that pass rise
-pub passing_rises : (shows : Filter) (J : List Edit) → AllPairs (λ m n. m < n) (passing shows J)
-passing_rises shows J =
-    pairs_map (λ m n. m < n) (λ (c : Current). c.seq)
-    (filter (λ (c : Current). passes shows c.id) (current J))
-    (AllPairs-filter (λ (c d : Current). c.seq < d.seq) (λ (c : Current). passes shows c.id) (current J)
-    (rows_rise J))
+pub passing_rises : (shows : Filter) (journal : List Edit) → AllPairs (λ m n. m < n) (passing shows journal)
+passing_rises shows journal =
+    pairs_map (λ m n. m < n) (λ (row : Current). row.seq)
+    (filter (λ (row : Current). passes shows row.id) (current journal))
+    (AllPairs-filter (λ (row other : Current). row.seq < other.seq) (λ (row : Current). passes shows row.id)
+    (current journal)
+    (rows_rise journal))
 
 -- those of listed documents are the sequences of their rows
-row_found : (J : List Edit) (id : List ℕ) (n : ℕ) → seq_of_row J id ≡ Some n
-    → (c : Current) × Contains (current J) c × (c.id ≡ id) × (c.seq ≡ n)
-row_found J id n e = from (first_listed 0 None (id ∷ []) (current J)) refl e
+row_found : (journal : List Edit) (id : List ℕ) (n : ℕ) → seq_of_row journal id ≡ Some n
+    → (row : Current) × Contains (current journal) row × (row.id ≡ id) × (row.seq ≡ n)
+row_found journal id n e = from (first_listed 0 None (id ∷ []) (current journal)) refl e
   where
-    from : (o : Option Current) → first_listed 0 None (id ∷ []) (current J) ≡ o
-        → option_map (λ (c : Current). c.seq) o ≡ Some n
-        → (c : Current) × Contains (current J) c × (c.id ≡ id) × (c.seq ≡ n)
+    from : (maybe_row : Option Current) → first_listed 0 None (id ∷ []) (current journal) ≡ maybe_row
+        → option_map (λ (row : Current). row.seq) maybe_row ≡ Some n
+        → (row : Current) × Contains (current journal) row × (row.id ≡ id) × (row.seq ≡ n)
     from None i k = absurd (none-some n k)
-    from (Some c) i k =
-        let f = find_is _ (current J) c i in
-        (c, f.1, (one_parts 0 None id c f.0).1, same_Some c.seq n k)
+    from (Some row) i k =
+        let f = find_is _ (current journal) row i in
+        (row, f.1, (one_parts 0 None id row f.0).1, same_Some row.seq n k)
 
-row_there : (J : List Edit) (c : Current) → Contains (current J) c → seq_of_row J c.id ≡ Some c.seq
-row_there J c h =
-    let w = current_within 1 J c h in
-    let low : nat_lt 0 c.seq ≡ true = lt-ltb 0 c.seq (omega (arith, w.0)) in
-    sym (next_ahead J c.id c.seq 0 None h (rw low refl))
+row_there : (journal : List Edit) (row : Current) → Contains (current journal) row
+    → seq_of_row journal row.id ≡ Some row.seq
+row_there journal row h =
+    let w = current_within 1 journal row h in
+    let low : nat_lt 0 row.seq ≡ true = lt-ltb 0 row.seq (omega (arith, w.0)) in
+    sym (next_ahead journal row.id row.seq 0 None h (rw low refl))
 
-found_passing : (J : List Edit) (ids : List (List ℕ)) (n : ℕ) → Contains (filter_map (seq_of_row J) ids) n
-    → Contains (passing (DocIds ids) J) n
-found_passing J ids n h =
-    let i = in_some (seq_of_row J) ids n h in
-    let r = row_found J i.0 n i.2 in
+found_passing : (journal : List Edit) (ids : List (List ℕ)) (n : ℕ)
+    → Contains (filter_map (seq_of_row journal) ids) n → Contains (passing (DocIds ids) journal) n
+found_passing journal ids n h =
+    let i = in_some (seq_of_row journal) ids n h in
+    let r = row_found journal i.0 n i.2 in
     let listed : list_any (bytes_eq r.0.id) ids ≡ true =
     at_any (bytes_eq r.0.id) ids i.0 i.1 ((bytes_eq-Decides r.0.id i.0).1 r.2) in
-    let kept = in_filter (λ (c : Current). passes (DocIds ids) c.id) (current J) r.0 r.1 listed in
-    subst (Contains (passing (DocIds ids) J)) r.3
-    (contains_map (λ (c : Current). c.seq)
-    (filter (λ (c : Current). passes (DocIds ids) c.id) (current J)) r.0 kept)
+    let kept = in_filter (λ (row : Current). passes (DocIds ids) row.id) (current journal) r.0 r.1 listed in
+    subst (Contains (passing (DocIds ids) journal)) r.3
+    (contains_map (λ (row : Current). row.seq)
+    (filter (λ (row : Current). passes (DocIds ids) row.id) (current journal)) r.0 kept)
 
-passing_found : (J : List Edit) (ids : List (List ℕ)) (n : ℕ) → Contains (passing (DocIds ids) J) n
-    → Contains (filter_map (seq_of_row J) ids) n
-passing_found J ids n h =
-    let i = in_map (λ (c : Current). c.seq)
-    (filter (λ (c : Current). passes (DocIds ids) c.id) (current J)) n h in
-    let kept = filter_in (λ (c : Current). passes (DocIds ids) c.id) (current J) i.0 i.1 in
+passing_found : (journal : List Edit) (ids : List (List ℕ)) (n : ℕ)
+    → Contains (passing (DocIds ids) journal) n → Contains (filter_map (seq_of_row journal) ids) n
+passing_found journal ids n h =
+    let i = in_map (λ (row : Current). row.seq)
+    (filter (λ (row : Current). passes (DocIds ids) row.id) (current journal)) n h in
+    let kept = filter_in (λ (row : Current). passes (DocIds ids) row.id) (current journal) i.0 i.1 in
     let listed = any_at (bytes_eq i.0.id) ids kept.1 in
     let same : i.0.id ≡ listed.0 = (bytes_eq-Decides i.0.id listed.0).0 listed.2 in
-    some_in (seq_of_row J) ids listed.0 n listed.1
-    (ap (seq_of_row J) (sym same) ∙ (row_there J i.0 kept.0 ∙ ap Some i.2))
+    some_in (seq_of_row journal) ids listed.0 n listed.1
+    (ap (seq_of_row journal) (sym same) ∙ (row_there journal i.0 kept.0 ∙ ap Some i.2))
 
 -- what is found of the ids, in order and each once, is what passes
-pub arranged : (J : List Edit) (ids : List (List ℕ)) (found list : List ℕ)
-    → found ≡ filter_map (seq_of_row J) ids → AllPairs (λ m n. m < n) list
+pub arranged : (journal : List Edit) (ids : List (List ℕ)) (found list : List ℕ)
+    → found ≡ filter_map (seq_of_row journal) ids → AllPairs (λ m n. m < n) list
     → ((n : ℕ) → Contains found n → Contains list n) → ((n : ℕ) → Contains list n → Contains found n)
-    → list ≡ passing (DocIds ids) J
-arranged J ids found list is rise keeps adds =
-    same_rising list (passing (DocIds ids) J) rise (passing_rises (DocIds ids) J)
-    (λ n h. found_passing J ids n (subst (λ l. Contains l n) is (adds n h)))
-    (λ n h. keeps n (subst (λ l. Contains l n) (sym is) (passing_found J ids n h)))
+    → list ≡ passing (DocIds ids) journal
+arranged journal ids found list is rise keeps adds =
+    same_rising list (passing (DocIds ids) journal) rise (passing_rises (DocIds ids) journal)
+    (λ n h. found_passing journal ids n (subst (λ l. Contains l n) is (adds n h)))
+    (λ n h. keeps n (subst (λ l. Contains l n) (sym is) (passing_found journal ids n h)))
 
 -- one document more
-pub gathered : (J : List Edit) (texts : List (String Global)) (i : ℕ) (d : String Global) → i < length texts
-    → (found : List ℕ) (seq : Option ℕ) → found ≡ filter_map (seq_of_row J) (map string_bytes (take i texts))
-    → seq ≡ seq_of_row J (string_bytes (get_or texts i d))
-    → found ++ cons_option seq [] ≡ filter_map (seq_of_row J) (map string_bytes (take (i + 1) texts))
-gathered J texts i d low found seq before here =
+pub gathered : (journal : List Edit) (texts : List (String Global)) (i : ℕ) (d : String Global)
+    → i < length texts
+    → (found : List ℕ) (seq : Option ℕ)
+    → found ≡ filter_map (seq_of_row journal) (map string_bytes (take i texts))
+    → seq ≡ seq_of_row journal (string_bytes (get_or texts i d))
+    → found ++ cons_option seq [] ≡ filter_map (seq_of_row journal) (map string_bytes (take (i + 1) texts))
+gathered journal texts i d low found seq before here =
     let ids = map string_bytes (take i texts) in
     let id = string_bytes (get_or texts i d) in
     let more : map string_bytes (take (i + 1) texts) ≡ ids ++ id ∷ [] =
     ap (map string_bytes) (take_more texts i d low)
     ∙ map-append string_bytes (take i texts) (get_or texts i d ∷ []) in
     rw (before, here) (sym
-    (ap (filter_map (seq_of_row J)) more ∙ filter_map-append (seq_of_row J) ids (id ∷ [])))
+    (ap (filter_map (seq_of_row journal)) more ∙ filter_map-append (seq_of_row journal) ids (id ∷ [])))
 
 -- numbers that rise are parted by a place
 pub parted : (xs : List ℕ) (place : ℕ) → AllPairs (λ m n. m < n) xs → IsPartitionedBy (λ n. nat_le n place) xs
@@ -256,26 +260,26 @@ taken_at place bound xs at o rise point got =
     ap (taken place bound) (copied_at xs at o got) ∙ searched place bound xs at rise point
 
 -- that of a feed's passing rows is the first in its reach
-reach_taken : (f : Feed) (rows : List Current)
-    → find (is_between f.place f.bound)
-    (map (λ (c : Current). c.seq) (filter (λ (c : Current). passes f.params.filter c.id) rows))
-    ≡ option_map (λ (c : Current). c.seq) (find (is_in_reach f) rows)
-reach_taken f [] = refl
-reach_taken f (c ∷ rows) =
-    elim (cases_Bool (passes f.params.filter c.id)) [
-      | inl p ↦ elim (cases_Bool (nat_lt f.place c.seq)) [
-        | inl a ↦ elim (cases_Bool (is_within f.bound c.seq)) [
+reach_taken : (feed : Feed) (rows : List Current)
+    → find (is_between feed.place feed.bound)
+    (map (λ (row : Current). row.seq) (filter (λ (row : Current). passes feed.params.filter row.id) rows))
+    ≡ option_map (λ (row : Current). row.seq) (find (is_in_reach feed) rows)
+reach_taken feed [] = refl
+reach_taken feed (row ∷ rows) =
+    elim (cases_Bool (passes feed.params.filter row.id)) [
+      | inl p ↦ elim (cases_Bool (nat_lt feed.place row.seq)) [
+        | inl a ↦ elim (cases_Bool (is_within feed.bound row.seq)) [
           | inl b ↦ rw (p, a, b) refl
-          | inr b ↦ rw (p, a, b) (reach_taken f rows)
+          | inr b ↦ rw (p, a, b) (reach_taken feed rows)
         ]
-        | inr a ↦ rw (p, a) (reach_taken f rows)
+        | inr a ↦ rw (p, a) (reach_taken feed rows)
       ]
-      | inr p ↦ elim (cases_Bool (nat_lt f.place c.seq)) [
-        | inl a ↦ elim (cases_Bool (is_within f.bound c.seq)) [
-          | inl b ↦ rw (p, a, b) (reach_taken f rows)
-          | inr b ↦ rw (p, a, b) (reach_taken f rows)
+      | inr p ↦ elim (cases_Bool (nat_lt feed.place row.seq)) [
+        | inl a ↦ elim (cases_Bool (is_within feed.bound row.seq)) [
+          | inl b ↦ rw (p, a, b) (reach_taken feed rows)
+          | inr b ↦ rw (p, a, b) (reach_taken feed rows)
         ]
-        | inr a ↦ rw (p, a) (reach_taken f rows)
+        | inr a ↦ rw (p, a) (reach_taken feed rows)
       ]
     ]
 
@@ -285,37 +289,42 @@ listed_is Everything ids e = absurd (cc)
 listed_is (DocIds listed) ids e = ap DocIds (sym (same_Some ids listed e))
 listed_is Design ids e = absurd (cc)
 
-pub first_is : (f : Feed) (J : List Edit) (ids : List (List ℕ)) (place : ℕ) (bound : Option ℕ)
+pub first_is : (feed : Feed) (journal : List Edit) (ids : List (List ℕ)) (place : ℕ) (bound : Option ℕ)
     (rows : List ℕ) (first : Option ℕ)
-    → Some ids ≡ listed_in f.params.filter → place ≡ f.place → bound ≡ f.bound → rows ≡ passing (DocIds ids) J
-    → first ≡ find (λ n. nat_lt place n && is_within bound n) rows → IsFirst first (current J) (Some f)
-first_is f J ids place bound rows first lists p b r is waits =
+    → Some ids ≡ listed_in feed.params.filter → place ≡ feed.place → bound ≡ feed.bound
+    → rows ≡ passing (DocIds ids) journal
+    → first ≡ find (λ n. nat_lt place n && is_within bound n) rows
+    → IsFirst first (current journal) (Some feed)
+first_is feed journal ids place bound rows first lists p b r is waits =
     is ∙ (ap (λ z. find (λ n. nat_lt z n && is_within bound n) rows) p
-    ∙ (ap (λ z. find (λ n. nat_lt f.place n && is_within z n) rows) b
-    ∙ (ap (find (is_between f.place f.bound))
-    (r ∙ ap (λ z. passing z J) (sym (listed_is f.params.filter ids lists)))
-    ∙ reach_taken f (current J))))
+    ∙ (ap (λ z. find (λ n. nat_lt feed.place n && is_within z n) rows) b
+    ∙ (ap (find (is_between feed.place feed.bound))
+    (r ∙ ap (λ z. passing z journal) (sym (listed_is feed.params.filter ids lists)))
+    ∙ reach_taken feed (current journal))))
 
 -- each feed that is there, of those whose numbers were given, was there before and asks for the same
 abbrev AskTheSame : ℕ → List (ℕ × Feed) → List (ℕ × Feed) → Type 0
 AskTheSame next old new =
     (q : ℕ) → q < next
-    → IfSome (entry_in q new) (λ g. (f : Feed) × (entry_in q old ≡ Some f) × (g.params ≡ f.params))
+    → IfSome (entry_in q new) (λ g. (feed : Feed) × (entry_in q old ≡ Some feed) × (g.params ≡ feed.params))
 
-one_stays : (e : Option Feed) → IfSome e (λ g. (f : Feed) × (e ≡ Some f) × (g.params ≡ f.params))
+one_stays : (maybe_feed : Option Feed)
+    → IfSome maybe_feed (λ g. (feed : Feed) × (maybe_feed ≡ Some feed) × (g.params ≡ feed.params))
 one_stays None = tt
-one_stays (Some f) = (f, refl, refl)
+one_stays (Some feed) = (feed, refl, refl)
 
-one_changes : (change : Feed → Feed) → ((f : Feed) → (change f).params ≡ f.params) → (e : Option Feed)
-    → IfSome (option_map change e) (λ g. (f : Feed) × (e ≡ Some f) × (g.params ≡ f.params))
+one_changes : (change : Feed → Feed) → ((feed : Feed) → (change feed).params ≡ feed.params)
+    → (maybe_feed : Option Feed)
+    → IfSome (option_map change maybe_feed)
+    (λ g. (feed : Feed) × (maybe_feed ≡ Some feed) × (g.params ≡ feed.params))
 one_changes change keeps None = tt
-one_changes change keeps (Some f) = (f, refl, keeps f)
+one_changes change keeps (Some feed) = (feed, refl, keeps feed)
 
 all_stay : (next : ℕ) (feeds : List (ℕ × Feed)) → AskTheSame next feeds feeds
 all_stay next feeds q low = one_stays (entry_in q feeds)
 
 pub one_asks : (id next : ℕ) (change : Feed → Feed) (feeds : List (ℕ × Feed))
-    → ((f : Feed) → (change f).params ≡ f.params) → AskTheSame next feeds (changed id change feeds)
+    → ((feed : Feed) → (change feed).params ≡ feed.params) → AskTheSame next feeds (changed id change feeds)
 one_asks id next change feeds keeps q low =
     elim (same_number q id) [
       | inl e ↦ rw (e, own_changed id change feeds) (one_changes change keeps (entry_in id feeds))
@@ -334,10 +343,10 @@ pub one_comes : (next : ℕ) (new : Feed) (feeds : List (ℕ × Feed))
 one_comes next new feeds q low =
     rw (other_added next new q (λ e. omega (arith, low, e)) feeds) (one_stays (entry_in q feeds))
 
-ends_asking : (f : Feed) → (end f).params ≡ f.params
-ends_asking f = from (is_open f.status)
+ends_asking : (feed : Feed) → (end feed).params ≡ feed.params
+ends_asking feed = from (is_open feed.status)
   where
-    from : (b : Bool) → (if b then record f { status = Ending } else f).params ≡ f.params
+    from : (b : Bool) → (if b then record feed { status = Ending } else feed).params ≡ feed.params
     from true = refl
     from false = refl
 
@@ -349,16 +358,16 @@ pub all_end : (next : ℕ) (feeds : List (ℕ × Feed)) → AskTheSame next feed
 all_end next feeds q low = rw (end_in q feeds) (one_changes end ends_asking (entry_in q feeds))
 
 -- a feed that hands, or whose time is over, asks for the same
-hands_asking : (d : Due) (f : Feed) (len : ℕ) → (after_due f d len).params ≡ f.params
-hands_asking (DueRow c) f len = refl
-hands_asking (DueEnd last_seq) f len = refl
-hands_asking DueNothing f len = refl
-hands_asking DueGone f len = refl
+hands_asking : (due : Due) (feed : Feed) (len : ℕ) → (after_due feed due len).params ≡ feed.params
+hands_asking (DueRow c) feed len = refl
+hands_asking (DueEnd last_seq) feed len = refl
+hands_asking DueNothing feed len = refl
+hands_asking DueGone feed len = refl
 
-pub expires_asking : (f : Feed) → (expire f).params ≡ f.params
-expires_asking f = from (is_open f.status && waits f.params.mode)
+pub expires_asking : (feed : Feed) → (expire feed).params ≡ feed.params
+expires_asking feed = from (is_open feed.status && waits feed.params.mode)
   where
-    from : (b : Bool) → (if b then record f { status = Ending } else f).params ≡ f.params
+    from : (b : Bool) → (if b then record feed { status = Ending } else feed).params ≡ feed.params
     from true = refl
     from false = refl
 
@@ -369,45 +378,48 @@ answers_asking id next len Nothing feeds = one_asks id next (λ f. after_nothing
 answers_asking id next len Gone feeds = all_stay next feeds
 
 -- then the rows that are kept of one go on to be its
-module _ (J : List Edit) (old new : List (ℕ × Feed)) (next next' : ℕ) (later : next ≤ next')
+module _ (journal : List Edit) (old new : List (ℕ × Feed)) (next next' : ℕ) (later : next ≤ next')
     (same : AskTheSame next old new) (listing : Listing) where
   given_on : (o : Option ℕ) → IfSome o (λ n. n < next) → IfSome o (λ n. n < next')
   given_on None h = tt
   given_on (Some n) h = omega (arith, h, later)
 
   rows_on : (o : Option ℕ) → IfSome o (λ n. n < next)
-      → IfSome o (λ n. IfSome (entry_in n old) (λ f. listing.rows.items ≡ passing f.params.filter J))
-      → IfSome o (λ n. IfSome (entry_in n new) (λ f. listing.rows.items ≡ passing f.params.filter J))
+      → IfSome o (λ n. IfSome (entry_in n old)
+      (λ feed. listing.rows.items ≡ passing feed.params.filter journal))
+      → IfSome o (λ n. IfSome (entry_in n new)
+      (λ feed. listing.rows.items ≡ passing feed.params.filter journal))
   rows_on None given h = tt
   rows_on (Some n) given h = from (entry_in n new) (same n given)
     where
-      from : (e : Option Feed)
-          → IfSome e (λ g. (f : Feed) × (entry_in n old ≡ Some f) × (g.params ≡ f.params))
-          → IfSome e (λ g. listing.rows.items ≡ passing g.params.filter J)
+      from : (maybe_feed : Option Feed)
+          → IfSome maybe_feed (λ g. (feed : Feed) × (entry_in n old ≡ Some feed) × (g.params ≡ feed.params))
+          → IfSome maybe_feed (λ g. listing.rows.items ≡ passing g.params.filter journal)
       from None k = tt
-      from (Some g) (f, is, asks) = (rw is at h) ∙ ap (λ (p : Params). passing p.filter J) (sym asks)
+      from (Some g) (feed, is, asks) =
+          (rw is at h) ∙ ap (λ (params : Params). passing params.filter journal) (sym asks)
 
-  pub kept_on : IsListing J old next listing → IsListing J new next' listing
+  pub kept_on : IsListing journal old next listing → IsListing journal new next' listing
   kept_on x = record { given = given_on listing.feed x.given; rows = rows_on listing.feed x.given x.rows }
 
 -- so do those of feeds of which one answered
-pub answer_kept : {R : Type 0} (J : List Edit) (len : ℕ) (rows : List Current)
+pub answer_kept : {R : Type 0} (journal : List Edit) (len : ℕ) (rows : List Current)
     (shown : Style → Bool → Current → R)
     (old new : FeedList) (id : ℕ) (answer : Next R) (listing : Listing)
     → new ≡ feeds_of (behind_answer (over len rows shown old) id answer)
-    → IsListing J old.feeds old.next listing → IsListing J new.feeds new.next listing
-answer_kept J len rows shown old new id answer listing is x =
-    subst (λ (z : FeedList). IsListing J z.feeds z.next listing) (sym is)
-    (kept_on J old.feeds (feeds_behind id len answer old.feeds) old.next old.next (omega arith)
+    → IsListing journal old.feeds old.next listing → IsListing journal new.feeds new.next listing
+answer_kept journal len rows shown old new id answer listing is x =
+    subst (λ (list : FeedList). IsListing journal list.feeds list.next listing) (sym is)
+    (kept_on journal old.feeds (feeds_behind id len answer old.feeds) old.next old.next (omega arith)
     (answers_asking id old.next len answer old.feeds) listing x)
 
 -- or handed what was due to it
-pub handed_kept : {R : Type 0} (J : List Edit) (len : ℕ) (rows : List Current)
+pub handed_kept : {R : Type 0} (journal : List Edit) (len : ℕ) (rows : List Current)
     (shown : Style → Bool → Current → R)
     (old new : FeedList) (id : ℕ) (listing : Listing) → new ≡ feeds_of (handed (over len rows shown old) id)
-    → IsListing J old.feeds old.next listing → IsListing J new.feeds new.next listing
-handed_kept J len rows shown old new id listing is x =
+    → IsListing journal old.feeds old.next listing → IsListing journal new.feeds new.next listing
+handed_kept journal len rows shown old new id listing is x =
     let change : Feed → Feed = λ f. after_due f (due rows f) len in
-    subst (λ (z : FeedList). IsListing J z.feeds z.next listing) (sym is)
-    (kept_on J old.feeds (changed id change old.feeds) old.next old.next (omega arith)
+    subst (λ (list : FeedList). IsListing journal list.feeds list.next listing) (sym is)
+    (kept_on journal old.feeds (changed id change old.feeds) old.next old.next (omega arith)
     (one_asks id old.next change old.feeds (λ f. hands_asking (due rows f) f len)) listing x)

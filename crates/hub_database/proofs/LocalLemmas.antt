@@ -19,7 +19,7 @@ use Rattle.hub_database.proofs.CountLemmas.{text_turned}
 
 -- a local document with its id
 abbrev pub kept_as : List ℕ → code.Local → Local
-kept_as id l = record { id = id; count = l.count; body = l.body }
+kept_as id local = record { id = id; count = local.count; body = local.body }
 
 abbrev pub entry_as : {Y : Type 0} → (String Y × code.Local) → Local
 entry_as e = kept_as (string_bytes e.0) e.1
@@ -34,7 +34,7 @@ kept_behind id (Some l) = refl
 -- the one that a look finds
 pub found_in : {Y : Type 0} (id : List ℕ) (es : List (String Y × code.Local))
     → option_map (kept_as id) (lookup (is_at (λ k. slice_cmp nat_cmp id (string_bytes k))) es)
-    ≡ find (λ (l : Local). bytes_eq l.id id) (map entry_as es)
+    ≡ find (λ (local : Local). bytes_eq local.id id) (map entry_as es)
 found_in id [] = refl
 found_in id (e ∷ es) =
     ap (λ b. option_map (kept_as id)
@@ -44,31 +44,33 @@ found_in id (e ∷ es) =
   where
     from : (b : Bool) → bytes_eq (string_bytes e.0) id ≡ b
         → option_map (kept_as id) (lookup (is_at (λ k. slice_cmp nat_cmp id (string_bytes k))) es)
-        ≡ find (λ (l : Local). bytes_eq l.id id) (map entry_as es)
+        ≡ find (λ (local : Local). bytes_eq local.id id) (map entry_as es)
         → option_map (kept_as id)
         (if b then Some e.1 else lookup (is_at (λ k. slice_cmp nat_cmp id (string_bytes k))) es)
-        ≡ (if b then Some (entry_as e) else find (λ (l : Local). bytes_eq l.id id) (map entry_as es))
+        ≡ (if b then Some (entry_as e) else find (λ (local : Local). bytes_eq local.id id) (map entry_as es))
     from true t h =
         ap (λ (i : List ℕ). Some (kept_as i e.1)) (sym ((bytes_eq-Decides (string_bytes e.0) id).0 t))
     from false t h = h
 
 -- the list with one put in
-pub put_in : {Y : Type 0} (es : List (String Y × code.Local)) (key : String Y) (l : code.Local)
-    → map entry_as (insert_entry string_cmp es key l)
-    ≡ put_local (kept_as (string_bytes key) l) (map entry_as es)
-put_in [] key l = refl
-put_in (e ∷ es) key l = from (slice_cmp nat_cmp (string_bytes key) (string_bytes e.0)) refl (put_in es key l)
+pub put_in : {Y : Type 0} (es : List (String Y × code.Local)) (key : String Y) (local : code.Local)
+    → map entry_as (insert_entry string_cmp es key local)
+    ≡ put_local (kept_as (string_bytes key) local) (map entry_as es)
+put_in [] key local = refl
+put_in (e ∷ es) key local =
+    from (slice_cmp nat_cmp (string_bytes key) (string_bytes e.0)) refl (put_in es key local)
   where
-    from : (o : Ordering) → slice_cmp nat_cmp (string_bytes key) (string_bytes e.0) ≡ o
-        → map entry_as (insert_entry string_cmp es key l)
-        ≡ put_local (kept_as (string_bytes key) l) (map entry_as es)
+    from : (ordering : Ordering) → slice_cmp nat_cmp (string_bytes key) (string_bytes e.0) ≡ ordering
+        → map entry_as (insert_entry string_cmp es key local)
+        ≡ put_local (kept_as (string_bytes key) local) (map entry_as es)
         → map entry_as
-        (match_ordering o ((key, l) ∷ e ∷ es) ((e.0, l) ∷ es) (e ∷ insert_entry string_cmp es key l))
-        ≡ put_at o (kept_as (string_bytes key) l) (entry_as e) (map entry_as es)
-        (put_local (kept_as (string_bytes key) l) (map entry_as es))
+        (match_ordering ordering ((key, local) ∷ e ∷ es) ((e.0, local) ∷ es)
+        (e ∷ insert_entry string_cmp es key local))
+        ≡ put_at ordering (kept_as (string_bytes key) local) (entry_as e) (map entry_as es)
+        (put_local (kept_as (string_bytes key) local) (map entry_as es))
     from Less t h = refl
     from Equal t h =
-        ap (λ (i : List ℕ). kept_as i l ∷ map entry_as es)
+        ap (λ (i : List ℕ). kept_as i local ∷ map entry_as es)
         (sym ((bytes_eq-Decides (string_bytes key) (string_bytes e.0)).0
         (sym (is_eq-slice_cmp (string_bytes key) (string_bytes e.0)) ∙ ap is_eq t)))
-    from Greater t h = ap (λ (ls : List Local). entry_as e ∷ ls) h
+    from Greater t h = ap (λ (locals : List Local). entry_as e ∷ locals) h

@@ -37,7 +37,8 @@ use Rattle.hub_database.proofs.NamedLemmas.{known_named, extended_named}
 head_known : (edits : List Edit) (path : List Revision) → HasKnownHead edits path
     → is_head_known edits [] path ≡ true
 head_known edits [] (r, i, k) = absurd i
-head_known edits (x ∷ path) (r, i, k) = is_known_from edits [] x (subst (λ z. IsKnown edits [] z) (sym i) k)
+head_known edits (revision ∷ path) (r, i, k) =
+    is_known_from edits [] revision (subst (λ z. IsKnown edits [] z) (sym i) k)
 
 head_new : (edits : List Edit) (path : List Revision) → ¬ HasKnownHead edits path
     → is_head_known edits [] path ≡ false
@@ -46,142 +47,149 @@ head_new edits path n = elim (cases_Bool (is_head_known edits [] path)) [
   | inr t ↦ t
 ]
 
-not_acceptable : (edits : List Edit) (e : Edit) → IsRevTree edits → ¬ IsAcceptable edits e
-    → is_acceptable edits e ≡ false
-not_acceptable edits e tree n = elim (cases_Bool (is_acceptable edits e)) [
-  | inl t ↦ absurd (n (acceptable_is edits e tree.legal t))
+not_acceptable : (edits : List Edit) (edit : Edit) → IsRevTree edits → ¬ IsAcceptable edits edit
+    → is_acceptable edits edit ≡ false
+not_acceptable edits edit tree n = elim (cases_Bool (is_acceptable edits edit)) [
+  | inl t ↦ absurd (n (acceptable_is edits edit tree.legal t))
   | inr t ↦ t
 ]
 
 -- a document's edits in the journal are those of its tree, with its id
-module _ (J : List Edit) (id : List ℕ) (edits : List Edit) (kept : edits_of J id ≡ map (named id) edits)
+module _ (journal : List Edit) (id : List ℕ) (edits : List Edit)
+    (kept : edits_of journal id ≡ map (named id) edits)
     (one : edits_of edits [] ≡ edits) where
-  same_head : (path : List Revision) → is_head_known J id path ≡ is_head_known edits [] path
+  same_head : (path : List Revision) → is_head_known journal id path ≡ is_head_known edits [] path
   same_head [] = refl
-  same_head (r ∷ path) = known_named J id edits kept one r
+  same_head (revision ∷ path) = known_named journal id edits kept one revision
 
   same_agrees : (path : List Revision)
-      → list_all (λ (f : Edit). agrees path f.path) (edits_of J id)
-      ≡ list_all (λ (f : Edit). agrees path f.path) (edits_of edits [])
+      → list_all (λ (edit : Edit). agrees path edit.path) (edits_of journal id)
+      ≡ list_all (λ (edit : Edit). agrees path edit.path) (edits_of edits [])
   same_agrees path =
-      ap (λ es. list_all (λ (f : Edit). agrees path f.path) es) kept
-      ∙ (list_all-map (λ (f : Edit). agrees path f.path) (named id) edits
-      ∙ sym (ap (λ es. list_all (λ (f : Edit). agrees path f.path) es) one))
+      ap (λ es. list_all (λ (edit : Edit). agrees path edit.path) es) kept
+      ∙ (list_all-map (λ (edit : Edit). agrees path edit.path) (named id) edits
+      ∙ sym (ap (λ es. list_all (λ (edit : Edit). agrees path edit.path) es) one))
 
   same_acceptable : (path : List Revision) (deleted : Bool) (body : List ℕ)
-      → is_acceptable J (named id (nameless path deleted body))
+      → is_acceptable journal (named id (nameless path deleted body))
       ≡ is_acceptable edits (nameless path deleted body)
   same_acceptable path deleted body =
-      ap (λ b. is_history path && (not b && list_all (λ (f : Edit). agrees path f.path) (edits_of J id)))
+      ap (λ b. is_history path &&
+      (not b && list_all (λ (edit : Edit). agrees path edit.path) (edits_of journal id)))
       (same_head path)
       ∙ ap (λ b. is_history path && (not (is_head_known edits [] path) && b)) (same_agrees path)
 
   -- what the tree can take may be stored in the journal
-  pub acceptable_in : (e : Edit) → IsLegal J → e.id ≡ [] → IsAcceptable edits e → IsAcceptable J (named id e)
-  acceptable_in e legal none ok =
-      let same : nameless e.path e.deleted e.body ≡ e =
-      ap (λ (i : List ℕ). record { id = i; path = e.path; deleted = e.deleted; body = e.body }) (sym none) in
-      acceptable_is J (named id e) legal
-      (same_acceptable e.path e.deleted e.body
-      ∙ (ap (is_acceptable edits) same ∙ is_acceptable_from edits e ok))
+  pub acceptable_in : (edit : Edit) → IsLegal journal → edit.id ≡ [] → IsAcceptable edits edit
+      → IsAcceptable journal (named id edit)
+  acceptable_in edit legal none ok =
+      let same : nameless edit.path edit.deleted edit.body ≡ edit =
+      ap (λ (i : List ℕ). record { id = i; path = edit.path; deleted = edit.deleted; body = edit.body })
+      (sym none) in
+      acceptable_is journal (named id edit) legal
+      (same_acceptable edit.path edit.deleted edit.body
+      ∙ (ap (is_acceptable edits) same ∙ is_acceptable_from edits edit ok))
 
   -- what takes memory on the tree takes it in the journal
-  pub needs_in : (origin : Origin) (deleted : Bool) (body : List ℕ) → IsLegal J
-      → NeedsRoomFrom edits [] origin deleted body → NeedsRoomFrom J id origin deleted body
+  pub needs_in : (origin : Origin) (deleted : Bool) (body : List ℕ) → IsLegal journal
+      → NeedsRoomFrom edits [] origin deleted body → NeedsRoomFrom journal id origin deleted body
   needs_in (Elsewhere path) deleted body legal ok = acceptable_in (nameless path deleted body) legal refl ok
   needs_in (Here rev) deleted body legal (path, on, low) =
-      (path, extended_named J id edits kept one rev ∙ on, low)
+      (path, extended_named journal id edits kept one rev ∙ on, low)
 
   -- an answer with the journal after it, by what a look says
   abbrev said : Looked → Stores
-  said l = record { outcome = outcome_of l; journal = journal_after l id J }
+  said looked = record { outcome = outcome_of looked; journal = journal_after looked id journal }
 
   -- an edit is added where the journal is not full
   abbrev added : Bool → Edit → Stores
-  added full e =
-      if full then refuses J fault.SequenceFull
+  added full edit =
+      if full then refuses journal fault.SequenceFull
       else record {
-        outcome = outcome.Stored (unwrap_or (head_of e) (record { generation = 0; hash = [] }));
-        journal = J ++ e ∷ [];
+        outcome = outcome.Stored (unwrap_or (head_of edit) (record { generation = 0; hash = [] }));
+        journal = journal ++ edit ∷ [];
       }
 
-  adds_by : (full : Bool) (e : Edit) → added full (named id e) ≡ said (unless_full full (Ready e))
-  adds_by true e = refl
-  adds_by false e = refl
+  adds_by : (full : Bool) (edit : Edit) → added full (named id edit) ≡ said (unless_full full (Ready edit))
+  adds_by true edit = refl
+  adds_by false edit = refl
 
   -- an edit with its history
-  merged : (full known good : Bool) (e : Edit)
-      → (if known then record { outcome = outcome.Known; journal = J }
-      else if good then added full (named id e) else refuses J fault.Contradicts)
-      ≡ said (unless_full full (look_by e known good))
-  merged true true good e = refl
-  merged false true good e = refl
-  merged full false true e = adds_by full e
-  merged true false false e = refl
-  merged false false false e = refl
+  merged : (full known good : Bool) (edit : Edit)
+      → (if known then record { outcome = outcome.Known; journal = journal }
+      else if good then added full (named id edit) else refuses journal fault.Contradicts)
+      ≡ said (unless_full full (look_by edit known good))
+  merged true true good edit = refl
+  merged false true good edit = refl
+  merged full false true edit = adds_by full edit
+  merged true false false edit = refl
+  merged false false false edit = refl
 
   -- an edit that is made here, on a path
-  made_on : (full last known : Bool) (e : Edit)
-      → (if last then refuses J fault.GenerationLimit
-      else if known then refuses J fault.Conflict else added full (named id e))
+  made_on : (full last known : Bool) (edit : Edit)
+      → (if last then refuses journal fault.GenerationLimit
+      else if known then refuses journal fault.Conflict else added full (named id edit))
       ≡ said (unless_full full
       (look_made (if last then Err edit_fault.GenerationLimit
-      else (if known then Err edit_fault.Conflict else Ok e))))
-  made_on true true known e = refl
-  made_on false true known e = refl
-  made_on true false true e = refl
-  made_on false false true e = refl
-  made_on full false false e = adds_by full e
+      else (if known then Err edit_fault.Conflict else Ok edit))))
+  made_on true true known edit = refl
+  made_on false true known edit = refl
+  made_on true false true edit = refl
+  made_on false false true edit = refl
+  made_on full false false edit = adds_by full edit
 
-  module _ (limit : ℕ) (full : Bool) (is : nat_le limit (length J) ≡ full) where
+  module _ (limit : ℕ) (full : Bool) (is : nat_le limit (length journal) ≡ full) where
     made_by : (d : Draft) → d.id ≡ id → (o : Option (List Revision))
-        → makes_on limit J d o ≡ said (unless_full full (look_made (extends_path edits d o)))
+        → makes_on limit journal d o ≡ said (unless_full full (look_made (extends_path edits d o)))
     made_by d this None = from full
       where
-        from : (full : Bool) → refuses J fault.Conflict ≡ said (unless_full full (Refused fault.Conflict))
+        from : (full : Bool) → refuses journal fault.Conflict ≡ said
+            (unless_full full (Refused fault.Conflict))
         from true = refl
         from false = refl
     made_by d this (Some path) =
-        ap (λ b. if nat_le 65535 (generation_of (parent_of path)) then refuses J fault.GenerationLimit
-        else if is_known J d.id (made d (parent_of path)) then refuses J fault.Conflict
+        ap (λ b. if nat_le 65535 (generation_of (parent_of path)) then refuses journal fault.GenerationLimit
+        else if is_known journal d.id (made d (parent_of path)) then refuses journal fault.Conflict
         else added b (draft_edit d path)) is
-        ∙ (ap (λ i. if nat_le 65535 (generation_of (parent_of path)) then refuses J fault.GenerationLimit
-        else if is_known J i (made d (parent_of path)) then refuses J fault.Conflict
+        ∙ (ap (λ i. if nat_le 65535 (generation_of (parent_of path)) then
+        refuses journal fault.GenerationLimit
+        else if is_known journal i (made d (parent_of path)) then refuses journal fault.Conflict
         else added full (named i (nameless (made d (parent_of path) ∷ path) d.deleted d.body))) this
-        ∙ (ap (λ b. if nat_le 65535 (generation_of (parent_of path)) then refuses J fault.GenerationLimit
-        else if b then refuses J fault.Conflict
+        ∙ (ap (λ b. if nat_le 65535 (generation_of (parent_of path)) then
+        refuses journal fault.GenerationLimit
+        else if b then refuses journal fault.Conflict
         else added full (named id (nameless (made d (parent_of path) ∷ path) d.deleted d.body)))
-        (known_named J id edits kept one (made d (parent_of path)))
+        (known_named journal id edits kept one (made d (parent_of path)))
         ∙ made_on full
         (nat_le 65535 (generation_of (parent_of path))) (is_known edits [] (made d (parent_of path)))
         (nameless (made d (parent_of path) ∷ path) d.deleted d.body)))
 
     from_origin : (origin : Origin) (deleted : Bool) (body : List ℕ)
-        → stores_from limit J id origin deleted body
+        → stores_from limit journal id origin deleted body
         ≡ said (unless_full full (look_from id edits origin deleted body))
     from_origin (Elsewhere path) deleted body =
-        ap (λ b. if b then record { outcome = outcome.Known; journal = J }
-        else if is_acceptable J (named id (nameless path deleted body))
-        then added (nat_le limit (length J)) (named id (nameless path deleted body))
-        else refuses J fault.Contradicts) (same_head path)
-        ∙ (ap (λ b. if is_head_known edits [] path then record { outcome = outcome.Known; journal = J }
-        else if b then added (nat_le limit (length J)) (named id (nameless path deleted body))
-        else refuses J fault.Contradicts)
+        ap (λ b. if b then record { outcome = outcome.Known; journal = journal }
+        else if is_acceptable journal (named id (nameless path deleted body))
+        then added (nat_le limit (length journal)) (named id (nameless path deleted body))
+        else refuses journal fault.Contradicts) (same_head path)
+        ∙ (ap (λ b. if is_head_known edits [] path then record { outcome = outcome.Known; journal = journal }
+        else if b then added (nat_le limit (length journal)) (named id (nameless path deleted body))
+        else refuses journal fault.Contradicts)
         (same_acceptable path deleted body)
-        ∙ (ap (λ b. if is_head_known edits [] path then record { outcome = outcome.Known; journal = J }
+        ∙ (ap (λ b. if is_head_known edits [] path then record { outcome = outcome.Known; journal = journal }
         else if is_acceptable edits (nameless path deleted body)
         then added b (named id (nameless path deleted body))
-        else refuses J fault.Contradicts) is
+        else refuses journal fault.Contradicts) is
         ∙ merged full (is_head_known edits [] path) (is_acceptable edits (nameless path deleted body))
         (nameless path deleted body)))
     from_origin (Here rev) deleted body =
-        ap (makes_on limit J (draft id rev deleted body)) (extended_named J id edits kept one rev)
+        ap (makes_on limit journal (draft id rev deleted body)) (extended_named journal id edits kept one rev)
         ∙ made_by (draft id rev deleted body) refl (extended edits [] (leaves_of edits []) rev)
 
     -- storing it answers what the tree's look says
-    pub stores_by : (edit : Incoming) → stores_edit limit J id edit ≡ record {
+    pub stores_by : (edit : Incoming) → stores_edit limit journal id edit ≡ record {
       outcome = outcome_of (unless_full full (look_at id edits edit));
-      journal = journal_after (unless_full full (look_at id edits edit)) id J;
+      journal = journal_after (unless_full full (look_at id edits edit)) id journal;
     }
     stores_by edit = from_origin edit.origin edit.deleted edit.body
 
@@ -193,10 +201,10 @@ looks_known id edits path deleted body h =
     (head_known edits path h))
 
 pub looks_ready : (id : List ℕ) (edits : List Edit) (path : List Revision) (deleted : Bool)
-    (body : List ℕ) (e : Edit)
-    → ¬ HasKnownHead edits path → e ≡ nameless path deleted body → IsAcceptable edits e
-    → Ready e ≡ look_from id edits (Elsewhere path) deleted body
-looks_ready id edits path deleted body e new same ok =
+    (body : List ℕ) (edit : Edit)
+    → ¬ HasKnownHead edits path → edit ≡ nameless path deleted body → IsAcceptable edits edit
+    → Ready edit ≡ look_from id edits (Elsewhere path) deleted body
+looks_ready id edits path deleted body edit new same ok =
     ap Ready same
     ∙ sym (ap (λ b. look_by (nameless path deleted body) b (is_acceptable edits (nameless path deleted body)))
     (head_new edits path new)
@@ -213,96 +221,111 @@ looks_bad id edits path deleted body tree new bad =
     (not_acceptable edits (nameless path deleted body) tree bad))
 
 -- an edit that is made here is never known before
-made_unknown : (limit : ℕ) (J : List Edit) (d : Draft) (K : List Edit)
-    → makes limit J d ≡ record { outcome = outcome.Known; journal = K } → ⊥
-made_unknown limit J d K h =
-    path_of (extended J d.id (leaves_of J d.id) d.rev) (ap (λ (s : Stores). s.outcome) h)
+made_unknown : (limit : ℕ) (journal : List Edit) (draft : Draft) (other_journal : List Edit)
+    → makes limit journal draft ≡ record { outcome = outcome.Known; journal = other_journal } → ⊥
+made_unknown limit journal draft other_journal h =
+    path_of (extended journal draft.id (leaves_of journal draft.id) draft.rev)
+    (ap (λ (stores : Stores). stores.outcome) h)
   where
-    from : (last known full : Bool) (f : Edit)
-        → (if last then refuses J fault.GenerationLimit
-        else if known then refuses J fault.Conflict
-        else if full then refuses J fault.SequenceFull
+    from : (last known full : Bool) (edit : Edit)
+        → (if last then refuses journal fault.GenerationLimit
+        else if known then refuses journal fault.Conflict
+        else if full then refuses journal fault.SequenceFull
         else record {
-          outcome = outcome.Stored (unwrap_or (head_of f) (record { generation = 0; hash = [] }));
-          journal = J ++ f ∷ [];
+          outcome = outcome.Stored (unwrap_or (head_of edit) (record { generation = 0; hash = [] }));
+          journal = journal ++ edit ∷ [];
         }).outcome
         ≡ outcome.Known
         → ⊥
-    from true known full f h = absurd (cc)
-    from false true full f h = absurd (cc)
-    from false false true f h = absurd (cc)
-    from false false false f h = absurd (cc)
+    from true known full edit h = absurd (cc)
+    from false true full edit h = absurd (cc)
+    from false false true edit h = absurd (cc)
+    from false false false edit h = absurd (cc)
 
-    path_of : (o : Option (List Revision)) → (makes_on limit J d o).outcome ≡ outcome.Known → ⊥
+    path_of : (o : Option (List Revision)) → (makes_on limit journal draft o).outcome ≡ outcome.Known → ⊥
     path_of None h = absurd (cc)
     path_of (Some path) h =
-        from (nat_le 65535 (generation_of (parent_of path))) (is_known J d.id (made d (parent_of path)))
-        (nat_le limit (length J)) (draft_edit d path) h
+        from (nat_le 65535 (generation_of (parent_of path)))
+        (is_known journal draft.id (made draft (parent_of path)))
+        (nat_le limit (length journal)) (draft_edit draft path) h
 
 -- what one edit that is made answers
-pub made_reply : (limit : ℕ) (J : List Edit) (d : Draft) (o : Outcome Revision) (K : List Edit)
-    → makes limit J d ≡ record { outcome = o; journal = K }
-    → IfOk (reply_of o) (λ r. makes limit J d ≡ record { outcome = outcome.Stored r; journal = K })
-    × IfErr (reply_of o) (λ e. (K ≡ J)
-    × ((e ≡ db_fault.NoMemory) ⊎ ((f : Fault) × (e ≡ db_fault.Refused f) × (makes limit J d ≡ refuses J f))))
-made_reply limit J d (outcome.Stored r) K h = (h, tt)
-made_reply limit J d outcome.Known K h = absurd (made_unknown limit J d K h)
-made_reply limit J d (outcome.Refused f) K h =
-    let same : K ≡ J = refused_stays (extended J d.id (leaves_of J d.id) d.rev) h in (
+pub made_reply : (limit : ℕ) (journal : List Edit) (draft : Draft) (o : Outcome Revision)
+    (other_journal : List Edit) → makes limit journal draft ≡ record { outcome = o; journal = other_journal }
+    → IfOk (reply_of o) (λ r.
+    makes limit journal draft ≡ record { outcome = outcome.Stored r; journal = other_journal })
+    × IfErr (reply_of o) (λ edit. (other_journal ≡ journal)
+    × ((edit ≡ db_fault.NoMemory)
+    ⊎ ((f : Fault) × (edit ≡ db_fault.Refused f) × (makes limit journal draft ≡ refuses journal f))))
+made_reply limit journal draft (outcome.Stored r) other_journal h = (h, tt)
+made_reply limit journal draft outcome.Known other_journal h =
+    absurd (made_unknown limit journal draft other_journal h)
+made_reply limit journal draft (outcome.Refused f) other_journal h =
+    let same : other_journal ≡ journal = refused_stays
+    (extended journal draft.id (leaves_of journal draft.id) draft.rev) h in (
       tt,
       (
         same,
-        inr (f, refl, h ∙ ap (λ (L : List Edit). record { outcome = outcome.Refused f; journal = L }) same),
+        inr (
+          f,
+          refl,
+          h ∙ ap (λ (edits : List Edit). record { outcome = outcome.Refused f; journal = edits })
+              same,
+        ),
       ),
     )
   where
-    from : (last known full : Bool) (e : Edit)
-        → (if last then refuses J fault.GenerationLimit
-        else if known then refuses J fault.Conflict
-        else if full then refuses J fault.SequenceFull
+    from : (last known full : Bool) (edit : Edit)
+        → (if last then refuses journal fault.GenerationLimit
+        else if known then refuses journal fault.Conflict
+        else if full then refuses journal fault.SequenceFull
         else record {
-          outcome = outcome.Stored (unwrap_or (head_of e) (record { generation = 0; hash = [] }));
-          journal = J ++ e ∷ [];
+          outcome = outcome.Stored (unwrap_or (head_of edit) (record { generation = 0; hash = [] }));
+          journal = journal ++ edit ∷ [];
         })
-        ≡ record { outcome = outcome.Refused f; journal = K }
-        → K ≡ J
-    from true known full e h = sym (ap (λ (s : Stores). s.journal) h)
-    from false true full e h = sym (ap (λ (s : Stores). s.journal) h)
-    from false false true e h = sym (ap (λ (s : Stores). s.journal) h)
-    from false false false e h =
-        let no : outcome.Stored (unwrap_or (head_of e) (record { generation = 0; hash = [] }))
+        ≡ record { outcome = outcome.Refused f; journal = other_journal }
+        → other_journal ≡ journal
+    from true known full edit h = sym (ap (λ (stores : Stores). stores.journal) h)
+    from false true full edit h = sym (ap (λ (stores : Stores). stores.journal) h)
+    from false false true edit h = sym (ap (λ (stores : Stores). stores.journal) h)
+    from false false false edit h =
+        let no : outcome.Stored (unwrap_or (head_of edit) (record { generation = 0; hash = [] }))
         ≡ outcome.Refused f =
-        ap (λ (s : Stores). s.outcome) h in
+        ap (λ (stores : Stores). stores.outcome) h in
         absurd (cc)
 
     refused_stays : (o : Option (List Revision))
-        → makes_on limit J d o ≡ record { outcome = outcome.Refused f; journal = K } → K ≡ J
-    refused_stays None h = sym (ap (λ (s : Stores). s.journal) h)
+        → makes_on limit journal draft o ≡ record { outcome = outcome.Refused f; journal = other_journal }
+        → other_journal ≡ journal
+    refused_stays None h = sym (ap (λ (stores : Stores). stores.journal) h)
     refused_stays (Some path) h =
-        from (nat_le 65535 (generation_of (parent_of path))) (is_known J d.id (made d (parent_of path)))
-        (nat_le limit (length J)) (draft_edit d path) h
+        from (nat_le 65535 (generation_of (parent_of path)))
+        (is_known journal draft.id (made draft (parent_of path)))
+        (nat_le limit (length journal)) (draft_edit draft path) h
 
 -- one document more is stored after the others
 module _ {A : Type 0} (store : List Edit → A → Stores) where
-  all_push : (J : List Edit) (xs : List A) (x : A)
-      → stores_all store false J (xs ++ x ∷ []) ≡ record {
+  all_push : (journal : List Edit) (xs : List A) (x : A)
+      → stores_all store false journal (xs ++ x ∷ []) ≡ record {
         outcomes =
-            (stores_all store false J xs).outcomes
-            ++ (store (stores_all store false J xs).journal x).outcome ∷ [];
-        journal = (store (stores_all store false J xs).journal x).journal;
+            (stores_all store false journal xs).outcomes
+            ++ (store (stores_all store false journal xs).journal x).outcome ∷ [];
+        journal = (store (stores_all store false journal xs).journal x).journal;
       }
-  all_push J [] x = refl
-  all_push J (y ∷ xs) x =
-      ap (λ (s : StoresAll). record { outcomes = (store J y).outcome ∷ s.outcomes; journal = s.journal })
-      (all_push (store J y).journal xs x)
+  all_push journal [] x = refl
+  all_push journal (y ∷ xs) x =
+      ap (λ (s : StoresAll). record
+      { outcomes = (store journal y).outcome ∷ s.outcomes; journal = s.journal })
+      (all_push (store journal y).journal xs x)
 
-  pub stores_more : (J : List Edit) (xs : List A) (x : A) (os : List (Outcome Revision)) (K : List Edit)
-      (o : Outcome Revision) (L : List Edit)
-      → stores_all store false J xs ≡ record { outcomes = os; journal = K }
-      → store K x ≡ record { outcome = o; journal = L }
-      → stores_all store false J (xs ++ x ∷ []) ≡ record { outcomes = os ++ o ∷ []; journal = L }
-  stores_more J xs x os K o L h k =
-      all_push J xs x
+  pub stores_more : (journal : List Edit) (xs : List A) (x : A) (os : List (Outcome Revision))
+      (other_journal : List Edit)
+      (o : Outcome Revision) (edits : List Edit)
+      → stores_all store false journal xs ≡ record { outcomes = os; journal = other_journal }
+      → store other_journal x ≡ record { outcome = o; journal = edits }
+      → stores_all store false journal (xs ++ x ∷ []) ≡ record { outcomes = os ++ o ∷ []; journal = edits }
+  stores_more journal xs x os other_journal o edits h k =
+      all_push journal xs x
       ∙ (ap (λ (s : StoresAll). record {
         outcomes = s.outcomes ++ (store s.journal x).outcome ∷ [];
         journal = (store s.journal x).journal;

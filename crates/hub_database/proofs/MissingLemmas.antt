@@ -17,97 +17,113 @@ use Rattle.hub_database.proofs.ShownLemmas.{leaves_same, no_leaves}
 
 -- a difference, where these are missing
 abbrev chosen : List ℕ → List Revision → List Revision → Option Diff
-chosen id ns os =
-    if nat_lt 0 (length ns) then Some (record { id = id; missing = ns; possible_ancestors = os }) else None
+chosen id revisions others =
+    if nat_lt 0 (length revisions) then
+    Some (record { id = id; missing = revisions; possible_ancestors = others }) else None
 
-chosen_some : (id : List ℕ) (ns os : List Revision) → ns ≢ []
-    → Some (record { id = id; missing = ns; possible_ancestors = os }) ≡ chosen id ns os
-chosen_some id [] os some = absurd (some refl)
-chosen_some id (n ∷ ns) os some =
-    let long : nat_lt 0 (length (n ∷ ns)) ≡ true = lt-ltb 0 (length (n ∷ ns)) (omega arith) in
+chosen_some : (id : List ℕ) (others revisions : List Revision) → others ≢ []
+    → Some (record { id = id; missing = others; possible_ancestors = revisions }) ≡ chosen id others revisions
+chosen_some id [] revisions some = absurd (some refl)
+chosen_some id (revision ∷ others) revisions some =
+    let long : nat_lt 0 (length (revision ∷ others)) ≡ true = lt-ltb 0 (length (revision ∷ others))
+    (omega arith) in
     sym (ap (λ (b : Bool).
-    if b then Some (record { id = id; missing = n ∷ ns; possible_ancestors = os }) else None) long)
+    if b then Some (record { id = id; missing = revision ∷ others; possible_ancestors = revisions }) else
+    None) long)
 
-chosen_not : (id : List ℕ) (ns os : List Revision) → ns ≢ [] → ¬ (chosen id ns os ≡ None)
-chosen_not id ns os some = λ e. absurd (let never = chosen_some id ns os some ∙ e in cc)
+chosen_not : (id : List ℕ) (revisions others : List Revision) → revisions ≢ []
+    → ¬ (chosen id revisions others ≡ None)
+chosen_not id revisions others some = λ e. absurd (let never = chosen_some id revisions others some ∙ e in cc)
 
 -- what a test for an empty list says
-pub none_of : (rs : List Revision) → true ≡ (length rs == 0) → rs ≡ []
+pub none_of : (revisions : List Revision) → true ≡ (length revisions == 0) → revisions ≡ []
 none_of [] e = refl
-none_of (r ∷ rs) e =
-    let z : length (r ∷ rs) ≡ 0 = eqb-true (length (r ∷ rs)) 0 (sym e) in absurd (omega (arith, z))
+none_of (revision ∷ revisions) e =
+    let z : length (revision ∷ revisions) ≡ 0 = eqb-true (length (revision ∷ revisions)) 0 (sym e) in
+    absurd (omega (arith, z))
 
-pub some_of : (rs : List Revision) → false ≡ (length rs == 0) → rs ≢ []
+pub some_of : (revisions : List Revision) → false ≡ (length revisions == 0) → revisions ≢ []
 some_of [] e = absurd (cc)
-some_of (r ∷ rs) e = λ n. absurd (cc)
+some_of (revision ∷ revisions) e = λ n. absurd (cc)
 
 -- what a document that is asked for misses
-module _ (J : List Edit) (id : List ℕ) (d : Document) (f : IsFound J id d) where
-  missing_same : (rs : List Revision) → missing d.tree.edits [] rs ≡ missing J id rs
+module _ (journal : List Edit) (id : List ℕ) (document : Document) (f : IsFound journal id document) where
+  missing_same : (revisions : List Revision)
+      → missing document.tree.edits [] revisions ≡ missing journal id revisions
   missing_same [] = refl
-  missing_same (r ∷ rs) =
-      ap (λ b. if not b then (r ∷ missing d.tree.edits [] rs) else missing d.tree.edits [] rs)
-      (sym (known_named J id d.tree.edits f.kept f.one r))
-      ∙ ap (λ ms. if not (is_known J id r) then (r ∷ ms) else ms) (missing_same rs)
+  missing_same (revision ∷ revisions) =
+      ap (λ b. if not b then (revision ∷ missing document.tree.edits [] revisions) else
+      missing document.tree.edits [] revisions)
+      (sym (known_named journal id document.tree.edits f.kept f.one revision))
+      ∙ ap (λ ms. if not (is_known journal id revision) then (revision ∷ ms) else ms) (missing_same revisions)
 
-  ancestors_same : (rs : List Revision) → possible_ancestors d.tree.edits [] rs ≡ possible_ancestors J id rs
-  ancestors_same rs =
-      ap (λ ms. filter (λ r. nat_lt r.generation (highest ms)) (revisions_of (leaves_of d.tree.edits [])))
-      (missing_same rs)
-      ∙ ap (filter (λ r. nat_lt r.generation (highest (missing J id rs)))) (leaves_same J id d f)
+  ancestors_same : (revisions : List Revision)
+      → possible_ancestors document.tree.edits [] revisions ≡ possible_ancestors journal id revisions
+  ancestors_same revisions =
+      ap (λ ms. filter (λ r. nat_lt r.generation (highest ms))
+      (revisions_of (leaves_of document.tree.edits [])))
+      (missing_same revisions)
+      ∙ ap (filter (λ r. nat_lt r.generation (highest (missing journal id revisions))))
+      (leaves_same journal id document f)
 
   -- nothing
-  pub whole_found : (rs ms : List Revision) → ms ≡ missing d.tree.edits [] rs → ms ≡ []
-      → None ≡ wanted_diff J (record { id = id; revs = rs })
-  whole_found rs ms is none =
-      ap (λ ns. chosen id ns (possible_ancestors J id rs)) (sym none ∙ (is ∙ missing_same rs))
+  pub whole_found : (revisions others : List Revision) → others ≡ missing document.tree.edits [] revisions
+      → others ≡ [] → None ≡ wanted_diff journal (record { id = id; revs = revisions })
+  whole_found revisions others is none =
+      ap (λ ns. chosen id ns (possible_ancestors journal id revisions))
+      (sym none ∙ (is ∙ missing_same revisions))
 
   -- something
-  pub diff_found : (rs ms ancestors : List Revision)
-      → ms ≡ missing d.tree.edits [] rs → ancestors ≡ possible_ancestors d.tree.edits [] rs → ms ≢ []
-      → Some (record { id = id; missing = ms; possible_ancestors = ancestors })
-      ≡ wanted_diff J (record { id = id; revs = rs })
-  diff_found rs ms ancestors is same some =
-      chosen_some id ms ancestors some
-      ∙ (ap (chosen id ms) (same ∙ ancestors_same rs)
-      ∙ ap (λ ns. chosen id ns (possible_ancestors J id rs)) (is ∙ missing_same rs))
+  pub diff_found : (revisions others ancestors : List Revision)
+      → others ≡ missing document.tree.edits [] revisions
+      → ancestors ≡ possible_ancestors document.tree.edits [] revisions → others ≢ []
+      → Some (record { id = id; missing = others; possible_ancestors = ancestors })
+      ≡ wanted_diff journal (record { id = id; revs = revisions })
+  diff_found revisions others ancestors is same some =
+      chosen_some id others ancestors some
+      ∙ (ap (chosen id others) (same ∙ ancestors_same revisions)
+      ∙ ap (λ ns. chosen id ns (possible_ancestors journal id revisions)) (is ∙ missing_same revisions))
 
   -- where a revision is missing, there is a difference
-  pub some_wanted : (rs : List Revision) → ¬ (missing d.tree.edits [] rs ≡ [])
-      → ¬ (wanted_diff J (record { id = id; revs = rs }) ≡ None)
-  some_wanted rs some =
-      chosen_not id (missing J id rs) (possible_ancestors J id rs) (λ e. some (missing_same rs ∙ e))
+  pub some_wanted : (revisions : List Revision) → ¬ (missing document.tree.edits [] revisions ≡ [])
+      → ¬ (wanted_diff journal (record { id = id; revs = revisions }) ≡ None)
+  some_wanted revisions some =
+      chosen_not id (missing journal id revisions) (possible_ancestors journal id revisions)
+      (λ e. some (missing_same revisions ∙ e))
 
 -- of an unknown document all are missing
-module _ (J : List Edit) (id : List ℕ) (none : edits_of J id ≡ []) where
-  all_missing : (rs : List Revision) → missing J id rs ≡ rs
+module _ (journal : List Edit) (id : List ℕ) (none : edits_of journal id ≡ []) where
+  all_missing : (revisions : List Revision) → missing journal id revisions ≡ revisions
   all_missing [] = refl
-  all_missing (r ∷ rs) =
+  all_missing (revision ∷ revisions) =
       ap (λ es.
-      if not (list_any (λ (e : Edit). names e.path r) es) then (r ∷ missing J id rs) else missing J id rs)
+      if not (list_any (λ (edit : Edit). names edit.path revision) es) then
+      (revision ∷ missing journal id revisions) else missing journal id revisions)
       none
-      ∙ ap (λ ms. r ∷ ms) (all_missing rs)
+      ∙ ap (λ ms. revision ∷ ms) (all_missing revisions)
 
-  pub unknown_diff : (rs ancestors : List Revision) → ancestors ≡ [] → rs ≢ []
-      → Some (record { id = id; missing = rs; possible_ancestors = ancestors })
-      ≡ wanted_diff J (record { id = id; revs = rs })
-  unknown_diff rs ancestors empty some =
-      chosen_some id rs ancestors some
-      ∙ (ap (chosen id rs)
+  pub unknown_diff : (revisions ancestors : List Revision) → ancestors ≡ [] → revisions ≢ []
+      → Some (record { id = id; missing = revisions; possible_ancestors = ancestors })
+      ≡ wanted_diff journal (record { id = id; revs = revisions })
+  unknown_diff revisions ancestors empty some =
+      chosen_some id revisions ancestors some
+      ∙ (ap (chosen id revisions)
       (empty
       ∙ ap (λ ls.
-      filter (λ (s : Revision). nat_lt s.generation (highest (missing J id rs))) (revisions_of ls))
-      (sym (no_leaves J id none)))
-      ∙ ap (λ ns. chosen id ns (possible_ancestors J id rs)) (sym (all_missing rs)))
+      filter (λ (revision : Revision). nat_lt revision.generation (highest (missing journal id revisions)))
+      (revisions_of ls))
+      (sym (no_leaves journal id none)))
+      ∙ ap (λ ns. chosen id ns (possible_ancestors journal id revisions)) (sym (all_missing revisions)))
 
 -- the differences, after one more document that misses nothing
-pub diffs_none : (J : List Edit) (before : List Asked) (a : Asked) → None ≡ wanted_diff J a
-    → diffs J (before ++ a ∷ []) ≡ diffs J before
-diffs_none J [] a e = from (is_wanted (diff_of J a)) e
+pub diffs_none : (journal : List Edit) (before : List Asked) (asked : Asked)
+    → None ≡ wanted_diff journal asked → diffs journal (before ++ asked ∷ []) ≡ diffs journal before
+diffs_none journal [] asked e = from (is_wanted (diff_of journal asked)) e
   where
-    from : (b : Bool) → None ≡ (if b then Some (diff_of J a) else None)
-        → (if b then (diff_of J a ∷ []) else []) ≡ []
+    from : (b : Bool) → None ≡ (if b then Some (diff_of journal asked) else None)
+        → (if b then (diff_of journal asked ∷ []) else []) ≡ []
     from true h = absurd (cc)
     from false h = refl
-diffs_none J (x ∷ before) a e =
-    ap (λ ds. if is_wanted (diff_of J x) then (diff_of J x ∷ ds) else ds) (diffs_none J before a e)
+diffs_none journal (other ∷ before) asked e =
+    ap (λ ds. if is_wanted (diff_of journal other) then (diff_of journal other ∷ ds) else ds)
+    (diffs_none journal before asked e)

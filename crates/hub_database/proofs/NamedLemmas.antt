@@ -16,85 +16,94 @@ use Rattle.hub_revtree.proofs.BranchLemmas.{any_map}
 
 -- a leaf, its edit with this id
 abbrev pub renamed : List ℕ → Leaf → Leaf
-renamed id l = record { rev = l.rev; edit = named id l.edit }
+renamed id leaf = record { rev = leaf.rev; edit = named id leaf.edit }
 
-with_named : (id : List ℕ) (es : List Edit) (e : Edit) (path : List Revision) (ls : List Leaf)
-    → with_leaf (map (named id) es) (named id e) path (map (renamed id) ls)
-    ≡ map (renamed id) (with_leaf es e path ls)
-with_named id es e [] ls = refl
-with_named id es e (r ∷ older) ls =
+with_named : (id : List ℕ) (edits : List Edit) (edit : Edit) (path : List Revision) (leaves : List Leaf)
+    → with_leaf (map (named id) edits) (named id edit) path (map (renamed id) leaves)
+    ≡ map (renamed id) (with_leaf edits edit path leaves)
+with_named id edits edit [] leaves = refl
+with_named id edits edit (revision ∷ older) leaves =
     ap (λ b.
-    if b then map (renamed id) ls else (renamed id (record { rev = r; edit = e }) ∷ map (renamed id) ls))
-    (any_map (is_behind_head r) (named id) es)
-    ∙ from (list_any (is_behind_head r) es)
+    if b then map (renamed id) leaves else
+    (renamed id (record { rev = revision; edit = edit }) ∷ map (renamed id) leaves))
+    (any_map (is_behind_head revision) (named id) edits)
+    ∙ from (list_any (is_behind_head revision) edits)
   where
     from : (b : Bool)
-        → (if b then map (renamed id) ls
-        else (renamed id (record { rev = r; edit = e }) ∷ map (renamed id) ls))
-        ≡ map (renamed id) (if b then ls else (record { rev = r; edit = e } ∷ ls))
+        → (if b then map (renamed id) leaves
+        else (renamed id (record { rev = revision; edit = edit }) ∷ map (renamed id) leaves))
+        ≡ map (renamed id) (if b then leaves else (record { rev = revision; edit = edit } ∷ leaves))
     from true = refl
     from false = refl
 
-pub among_named : (id : List ℕ) (es fs : List Edit)
-    → leaves_among (map (named id) es) (map (named id) fs) ≡ map (renamed id) (leaves_among es fs)
-among_named id es [] = refl
-among_named id es (e ∷ fs) =
-    ap (with_leaf (map (named id) es) (named id e) e.path) (among_named id es fs)
-    ∙ with_named id es e e.path (leaves_among es fs)
+pub among_named : (id : List ℕ) (edits others : List Edit)
+    → leaves_among (map (named id) edits) (map (named id) others) ≡ map (renamed id)
+    (leaves_among edits others)
+among_named id edits [] = refl
+among_named id edits (edit ∷ others) =
+    ap (with_leaf (map (named id) edits) (named id edit) edit.path) (among_named id edits others)
+    ∙ with_named id edits edit edit.path (leaves_among edits others)
 
-placed_named : (id : List ℕ) (l : Leaf) (ls : List Leaf)
-    → placed (renamed id l) (map (renamed id) ls) ≡ map (renamed id) (placed l ls)
-placed_named id l [] = refl
-placed_named id l (m ∷ ms) = from (comes_before l m) (placed_named id l ms)
+placed_named : (id : List ℕ) (leaf : Leaf) (others : List Leaf)
+    → placed (renamed id leaf) (map (renamed id) others) ≡ map (renamed id) (placed leaf others)
+placed_named id leaf [] = refl
+placed_named id leaf (other ∷ leaves) = from (comes_before leaf other) (placed_named id leaf leaves)
   where
-    from : (b : Bool) → placed (renamed id l) (map (renamed id) ms) ≡ map (renamed id) (placed l ms)
-        → (if b then (renamed id l ∷ renamed id m ∷ map (renamed id) ms)
-        else (renamed id m ∷ placed (renamed id l) (map (renamed id) ms)))
-        ≡ map (renamed id) (if b then (l ∷ m ∷ ms) else (m ∷ placed l ms))
+    from : (b : Bool) → placed (renamed id leaf) (map (renamed id) leaves) ≡ map (renamed id)
+        (placed leaf leaves) → (if b then (renamed id leaf ∷ renamed id other ∷ map (renamed id) leaves)
+        else (renamed id other ∷ placed (renamed id leaf) (map (renamed id) leaves)))
+        ≡ map (renamed id) (if b then (leaf ∷ other ∷ leaves) else (other ∷ placed leaf leaves))
     from true h = refl
-    from false h = ap (λ ns. renamed id m ∷ ns) h
+    from false h = ap (λ ns. renamed id other ∷ ns) h
 
-pub best_named : (id : List ℕ) (ls : List Leaf)
-    → best_first (map (renamed id) ls) ≡ map (renamed id) (best_first ls)
+pub best_named : (id : List ℕ) (leaves : List Leaf)
+    → best_first (map (renamed id) leaves) ≡ map (renamed id) (best_first leaves)
 best_named id [] = refl
-best_named id (l ∷ ls) = ap (placed (renamed id l)) (best_named id ls) ∙ placed_named id l (best_first ls)
+best_named id (leaf ∷ leaves) =
+    ap (placed (renamed id leaf)) (best_named id leaves) ∙ placed_named id leaf (best_first leaves)
 
-pub revisions_named : (id : List ℕ) (ls : List Leaf) → revisions_of (map (renamed id) ls) ≡ revisions_of ls
+pub revisions_named : (id : List ℕ) (leaves : List Leaf)
+    → revisions_of (map (renamed id) leaves) ≡ revisions_of leaves
 revisions_named id [] = refl
-revisions_named id (l ∷ ls) = ap (λ rs. l.rev ∷ rs) (revisions_named id ls)
+revisions_named id (leaf ∷ leaves) = ap (λ rs. leaf.rev ∷ rs) (revisions_named id leaves)
 
-pub deleted_named : (id : List ℕ) (ls : List Leaf) → is_deleted (map (renamed id) ls) ≡ is_deleted ls
+pub deleted_named : (id : List ℕ) (leaves : List Leaf)
+    → is_deleted (map (renamed id) leaves) ≡ is_deleted leaves
 deleted_named id [] = refl
-deleted_named id (l ∷ ls) = refl
+deleted_named id (leaf ∷ leaves) = refl
 
-behind_named : (id : List ℕ) (r : Revision) (es : List Edit)
-    → behind_in r (map (named id) es) ≡ behind_in r es
-behind_named id r [] = refl
-behind_named id r (e ∷ es) = ap (option_or (behind r e.path)) (behind_named id r es)
+behind_named : (id : List ℕ) (revision : Revision) (edits : List Edit)
+    → behind_in revision (map (named id) edits) ≡ behind_in revision edits
+behind_named id revision [] = refl
+behind_named id revision (edit ∷ edits) =
+    ap (option_or (behind revision edit.path)) (behind_named id revision edits)
 
-line_step : (id : List ℕ) (es : List Edit) (n : ℕ) (o : Option Revision)
-    → line (map (named id) es) n o ≡ line es n o
-line_step id es zero o = refl
-line_step id es (suc n) None = refl
-line_step id es (suc n) (Some r) =
-    ap (λ o. r ∷ line (map (named id) es) n o) (behind_named id r es)
-    ∙ ap (λ rs. r ∷ rs) (line_step id es n (behind_in r es))
+line_step : (id : List ℕ) (edits : List Edit) (n : ℕ) (maybe_revision : Option Revision)
+    → line (map (named id) edits) n maybe_revision ≡ line edits n maybe_revision
+line_step id edits zero maybe_revision = refl
+line_step id edits (suc n) None = refl
+line_step id edits (suc n) (Some revision) =
+    ap (λ maybe_revision. revision ∷ line (map (named id) edits) n maybe_revision)
+    (behind_named id revision edits)
+    ∙ ap (λ rs. revision ∷ rs) (line_step id edits n (behind_in revision edits))
 
-find_named : (id : List ℕ) (r : Revision) (es : List Edit)
-    → find (is_head r) (map (named id) es) ≡ option_map (named id) (find (is_head r) es)
-find_named id r [] = refl
-find_named id r (e ∷ es) = from (is_first r e.path) (find_named id r es)
+find_named : (id : List ℕ) (revision : Revision) (edits : List Edit)
+    → find (is_head revision) (map (named id) edits) ≡ option_map (named id) (find (is_head revision) edits)
+find_named id revision [] = refl
+find_named id revision (edit ∷ edits) = from (is_first revision edit.path) (find_named id revision edits)
   where
-    from : (b : Bool) → find (is_head r) (map (named id) es) ≡ option_map (named id) (find (is_head r) es)
-        → (if b then Some (named id e) else find (is_head r) (map (named id) es))
-        ≡ option_map (named id) (if b then Some e else find (is_head r) es)
+    from : (b : Bool) → find (is_head revision) (map (named id) edits) ≡ option_map (named id)
+        (find (is_head revision) edits)
+        → (if b then Some (named id edit) else find (is_head revision) (map (named id) edits))
+        ≡ option_map (named id) (if b then Some edit else find (is_head revision) edits)
     from true h = refl
     from false h = h
 
-module _ (J : List Edit) (id : List ℕ) (edits : List Edit) (kept : edits_of J id ≡ map (named id) edits)
+module _ (journal : List Edit) (id : List ℕ) (edits : List Edit)
+    (kept : edits_of journal id ≡ map (named id) edits)
     (one : edits_of edits [] ≡ edits) where
   -- the leaves
-  pub leaves_named : leaves_of J id ≡ map (renamed id) (leaves_of edits [])
+  pub leaves_named : leaves_of journal id ≡ map (renamed id) (leaves_of edits [])
   leaves_named =
       ap (λ es. best_first (leaves_among es es)) kept
       ∙ (ap best_first (among_named id edits edits)
@@ -102,49 +111,58 @@ module _ (J : List Edit) (id : List ℕ) (edits : List Edit) (kept : edits_of J 
       ∙ ap (λ es. map (renamed id) (best_first (leaves_among es es))) (sym one)))
 
   -- whether a revision is known
-  pub known_named : (r : Revision) → is_known J id r ≡ is_known edits [] r
-  known_named r =
-      ap (λ es. list_any (λ (e : Edit). names e.path r) es) kept
-      ∙ (any_map (λ (e : Edit). names e.path r) (named id) edits
-      ∙ sym (ap (λ es. list_any (λ (e : Edit). names e.path r) es) one))
+  pub known_named : (revision : Revision) → is_known journal id revision ≡ is_known edits [] revision
+  known_named revision =
+      ap (λ es. list_any (λ (edit : Edit). names edit.path revision) es) kept
+      ∙ (any_map (λ (edit : Edit). names edit.path revision) (named id) edits
+      ∙ sym (ap (λ es. list_any (λ (edit : Edit). names edit.path revision) es) one))
 
   -- all that stands behind a revision
-  pub line_named : (r : Revision) → line_of J id r ≡ line_of edits [] r
-  line_named r =
-      ap (λ es. line es r.generation (Some r)) kept
-      ∙ (line_step id edits r.generation (Some r) ∙ ap (λ es. line es r.generation (Some r)) (sym one))
+  pub line_named : (revision : Revision) → line_of journal id revision ≡ line_of edits [] revision
+  line_named revision =
+      ap (λ es. line es revision.generation (Some revision)) kept
+      ∙ (line_step id edits revision.generation (Some revision)
+      ∙ ap (λ es. line es revision.generation (Some revision)) (sym one))
 
   -- the edit that a revision heads
-  pub head_named : (r : Revision)
-      → find (is_head r) (edits_of J id) ≡ option_map (named id) (find (is_head r) (edits_of edits []))
-  head_named r =
-      ap (find (is_head r)) kept
-      ∙ (find_named id r edits ∙ ap (λ es. option_map (named id) (find (is_head r) es)) (sym one))
+  pub head_named : (revision : Revision)
+      → find (is_head revision) (edits_of journal id) ≡ option_map (named id)
+      (find (is_head revision) (edits_of edits []))
+  head_named revision =
+      ap (find (is_head revision)) kept
+      ∙ (find_named id revision edits
+      ∙ ap (λ es. option_map (named id) (find (is_head revision) es)) (sym one))
 
   -- what is shown of a revision
-  pub shown_named : (r : Revision) → shown J id r ≡ option_map (named id) (shown edits [] r)
-  shown_named r = ap (shown_of J id r) (head_named r) ∙ from (find (is_head r) (edits_of edits []))
+  pub shown_named : (revision : Revision)
+      → shown journal id revision ≡ option_map (named id) (shown edits [] revision)
+  shown_named revision =
+      ap (shown_of journal id revision) (head_named revision)
+      ∙ from (find (is_head revision) (edits_of edits []))
     where
-      from : (o : Option Edit)
-          → shown_of J id r (option_map (named id) o) ≡ option_map (named id) (shown_of edits [] r o)
+      from : (maybe_edit : Option Edit)
+          → shown_of journal id revision (option_map (named id) maybe_edit) ≡ option_map (named id)
+          (shown_of edits [] revision maybe_edit)
       from None = refl
       from (Some e) =
           ap (λ (path : List Revision).
-          Some (record { id = id; path = path; deleted = e.deleted; body = e.body })) (line_named r)
+          Some (record { id = id; path = path; deleted = e.deleted; body = e.body })) (line_named revision)
 
   -- the path that a new edit extends
   pub extended_named : (rev : Option Revision)
-      → extended J id (leaves_of J id) rev ≡ extended edits [] (leaves_of edits []) rev
-  extended_named rev = ap (λ ls. extended J id ls rev) leaves_named ∙ from rev (leaves_of edits [])
+      → extended journal id (leaves_of journal id) rev ≡ extended edits [] (leaves_of edits []) rev
+  extended_named rev =
+      ap (λ leaves. extended journal id leaves rev) leaves_named ∙ from rev (leaves_of edits [])
     where
-      chosen : (b : Bool) (r : Revision)
-          → (if b then Some (line_of J id r) else None) ≡ (if b then Some (line_of edits [] r) else None)
-      chosen b r = ap (λ (path : List Revision). if b then Some path else None) (line_named r)
+      chosen : (b : Bool) (revision : Revision)
+          → (if b then Some (line_of journal id revision) else None) ≡
+          (if b then Some (line_of edits [] revision) else None)
+      chosen b revision = ap (λ (path : List Revision). if b then Some path else None) (line_named revision)
 
-      from : (rev : Option Revision) (ls : List Leaf)
-          → extended J id (map (renamed id) ls) rev ≡ extended edits [] ls rev
-      from (Some r) ls =
-          ap (λ rs. if names rs r then Some (line_of J id r) else None) (revisions_named id ls)
-          ∙ chosen (names (revisions_of ls) r) r
+      from : (rev : Option Revision) (leaves : List Leaf)
+          → extended journal id (map (renamed id) leaves) rev ≡ extended edits [] leaves rev
+      from (Some revision) leaves =
+          ap (λ rs. if names rs revision then Some (line_of journal id revision) else None)
+          (revisions_named id leaves) ∙ chosen (names (revisions_of leaves) revision) revision
       from None [] = refl
       from None (winner ∷ others) = chosen winner.edit.deleted winner.rev

@@ -13,19 +13,20 @@ use Rattle.hub_database.specs.declared.document.Looked.{Looked}
 use Rattle.hub_database.specs.declared.document.Looked.TheVariants.{Ready}
 
 -- a look that says that an edit with its history is to be stored says that of the edit itself
-by_is : (e0 e : Edit) (known acceptable full : Bool)
-    → Ready e ≡ unless_full full (look_by e0 known acceptable) → e ≡ e0
-by_is e0 e known acceptable full h = grind (arith, common_steps)
+by_is : (e0 edit : Edit) (known acceptable full : Bool)
+    → Ready edit ≡ unless_full full (look_by e0 known acceptable) → edit ≡ e0
+by_is e0 edit known acceptable full h = grind (arith, common_steps)
 
 -- one that says it of an edit that is made here has a path for it, and a generation
-made_has : (edits : List Edit) (d : Draft) (e : Edit) (o : Option (List Revision)) (full : Bool)
-    → Ready e ≡ unless_full full (look_made (extends_path edits d o))
+made_has : (edits : List Edit) (draft : Draft) (edit : Edit) (o : Option (List Revision)) (full : Bool)
+    → Ready edit ≡ unless_full full (look_made (extends_path edits draft o))
     → (path : List Revision) × (o ≡ Some path) × (generation_of (parent_of path) < 65535)
-made_has edits d e o full h = grind (arith, nat_tests, common_steps)
+made_has edits draft edit o full h = grind (arith, nat_tests, common_steps)
 
 -- a full journal takes nothing
-pub not_full : (full : Bool) (l : Looked) (e : Edit) → Ready e ≡ unless_full full l → full ≡ false
-not_full full l e h = grind (arith, common_steps)
+pub not_full : (full : Bool) (looked : Looked) (edit : Edit) → Ready edit ≡ unless_full full looked
+    → full ≡ false
+not_full full looked edit h = grind (arith, common_steps)
 
 needs : (id : List ℕ) (edits : List Edit) (full : Bool) (edit : Incoming) (e : Edit)
     → IsStorable edits (Ready e) → Ready e ≡ unless_full full (look_at id edits edit)

@@ -29,16 +29,16 @@ use Rattle.hub_database.specs.Store.{filed, files}
 use Rattle.hub_database.proofs.IndexedLemmas.{document_at}
 use Rattle.hub_database.proofs.NamedLemmas.{renamed, leaves_named, revisions_named, deleted_named}
 
-changes_named : (style : Style) (id : List ℕ) (ls : List Leaf)
-    → changes_of style (map (renamed id) ls) ≡ changes_of style ls
-changes_named MainOnly id ls = ap (take 1) (revisions_named id ls)
-changes_named AllDocs id ls = revisions_named id ls
+changes_named : (style : Style) (id : List ℕ) (leaves : List Leaf)
+    → changes_of style (map (renamed id) leaves) ≡ changes_of style leaves
+changes_named MainOnly id leaves = ap (take 1) (revisions_named id leaves)
+changes_named AllDocs id leaves = revisions_named id leaves
 
-doc_named : (include_docs : Bool) (id : List ℕ) (ls : List Leaf)
-    → doc_of include_docs (map (renamed id) ls) ≡ doc_of include_docs ls
-doc_named false id ls = refl
+doc_named : (include_docs : Bool) (id : List ℕ) (leaves : List Leaf)
+    → doc_of include_docs (map (renamed id) leaves) ≡ doc_of include_docs leaves
+doc_named false id leaves = refl
 doc_named true id [] = refl
-doc_named true id (l ∷ ls) = refl
+doc_named true id (leaf ∷ leaves) = refl
 
 -- the row at this sequence of a document of this id and these edits, where so many edits are seen
 abbrev row_as : ℕ → List ℕ → List Edit → Style → Bool → ℕ → ChangeRow
@@ -52,15 +52,15 @@ row_as seq id edits style include_docs seen = record {
 }
 
 -- a document's row, by its tree
-row_by : (J : List Edit) (style : Style) (include_docs : Bool) (c : Current) (edits : List Edit)
-    → edits_of J c.id ≡ map (named c.id) edits → IsRevTree edits
-    → row_of J style include_docs c ≡ row_as c.seq c.id edits style include_docs (length J)
-row_by J style include_docs c edits kept tree =
+row_by : (journal : List Edit) (style : Style) (include_docs : Bool) (row : Current) (edits : List Edit)
+    → edits_of journal row.id ≡ map (named row.id) edits → IsRevTree edits
+    → row_of journal style include_docs row ≡ row_as row.seq row.id edits style include_docs (length journal)
+row_by journal style include_docs row edits kept tree =
     rw (
-      leaves_named J c.id edits kept tree.one,
-      changes_named style c.id (leaves_of edits []),
-      deleted_named c.id (leaves_of edits []),
-      doc_named include_docs c.id (leaves_of edits []),
+      leaves_named journal row.id edits kept tree.one,
+      changes_named style row.id (leaves_of edits []),
+      deleted_named row.id (leaves_of edits []),
+      doc_named include_docs row.id (leaves_of edits []),
     ) refl
 
 -- the row that the journal's entry at a current row's sequence leads to
@@ -72,43 +72,44 @@ module _ (limit : ℕ) (numbers : List ℕ → Option ℕ) (documents : List Doc
       let w = st.within i x (at_place entries i x low is) in
       omega (arith, slice_get_within (files documents) x.document w.0 w.1, length-map documents filed)
 
-  row_at : (c : Current) → Contains (current (journal_of (files documents) entries)) c → (i : ℕ) (x : Entry)
-      → c.seq ≡ i + 1 → slice_get entries i ≡ Some x → (d : Document)
-      → slice_get documents x.document ≡ Some d → IsRevTree d.tree.edits
+  row_at : (row : Current) → Contains (current (journal_of (files documents) entries)) row
+      → (i : ℕ) (x : Entry) → row.seq ≡ i + 1 → slice_get entries i ≡ Some x → (document : Document)
+      → slice_get documents x.document ≡ Some document → IsRevTree document.tree.edits
       → (style : Style) (include_docs : Bool)
-      → row_of (journal_of (files documents) entries) style include_docs c
-      ≡ row_as c.seq d.id d.tree.edits style include_docs (length (journal_of (files documents) entries))
-  row_at c h i x s here d at tree style include_docs =
-      let there : slice_get (files documents) x.document ≡ Some (filed d) =
+      → row_of (journal_of (files documents) entries) style include_docs row
+      ≡ row_as row.seq document.id document.tree.edits style include_docs
+      (length (journal_of (files documents) entries))
+  row_at row h i x s here document at tree style include_docs =
+      let there : slice_get (files documents) x.document ≡ Some (filed document) =
       slice_get-map filed documents x.document ∙ ap (option_map filed) at in
       let edit : slice_get (journal_of (files documents) entries) i ≡ Some (edit_at (files documents) x) =
       slice_get-map (edit_at (files documents)) entries i
       ∙ ap (option_map (edit_at (files documents))) here in
       let J = journal_of (files documents) entries in
-      let own = current_edit J c h i s in
+      let own = current_edit J row h i s in
       let found : edit_at (files documents) x ≡ own.0 =
       same_Some (edit_at (files documents) x) own.0 (sym edit ∙ own.1) in
-      let same : d.id ≡ c.id =
+      let same : document.id ≡ row.id =
       sym (ap (λ o. (edit_in o x.revision).id) there) ∙ (ap (λ (e : Edit). e.id) found ∙ own.2) in
-      let kept = st.kept x.document (filed d) there in
-      row_by J style include_docs c d.tree.edits
-      (subst (λ q. edits_of J q ≡ map (named q) d.tree.edits) same kept) tree
-      ∙ ap (λ (q : List ℕ). row_as c.seq q d.tree.edits style include_docs (length J)) (sym same)
+      let kept = st.kept x.document (filed document) there in
+      row_by J style include_docs row document.tree.edits
+      (subst (λ q. edits_of J q ≡ map (named q) document.tree.edits) same kept) tree
+      ∙ ap (λ (q : List ℕ). row_as row.seq q document.tree.edits style include_docs (length J)) (sym same)
 
   pub row_answer : (result : Result ChangeRow AllocError) (seq seen i : ℕ) (x : Entry) → seq ≡ i + 1
-      → i < length entries → x ≡ get_or entries i x → (d : Document) → d ≡ get_or documents x.document d
-      → (style : Style) (include_docs : Bool)
-      → IfOk result (λ r. r ≡ row_as seq d.id d.tree.edits style include_docs seen)
-      → OnOk result (IsRevTree d.tree.edits) → seen ≡ length (journal_of (files documents) entries)
+      → i < length entries → x ≡ get_or entries i x → (document : Document)
+      → document ≡ get_or documents x.document document → (style : Style) (include_docs : Bool)
+      → IfOk result (λ r. r ≡ row_as seq document.id document.tree.edits style include_docs seen)
+      → OnOk result (IsRevTree document.tree.edits) → seen ≡ length (journal_of (files documents) entries)
       → IfOk result (λ r. (c : Current) → Contains (current (journal_of (files documents) entries)) c
       → c.seq ≡ seq → r ≡ row_of (journal_of (files documents) entries) style include_docs c)
-  row_answer (Ok r) seq seen i x s low is d at style include_docs row tree all = λ c h e.
+  row_answer (Ok r) seq seen i x s low is document at style include_docs row tree all = λ c h e.
       row
-      ∙ (ap (λ (n : ℕ). row_as n d.id d.tree.edits style include_docs seen) (sym e)
-      ∙ (ap (λ (n : ℕ). row_as c.seq d.id d.tree.edits style include_docs n) all
-      ∙ sym (row_at c h i x (e ∙ s) (at_place entries i x low is) d
-      (at_place documents x.document d (entry_low i x low is) at) tree style include_docs)))
-  row_answer (Err e) seq seen i x s low is d at style include_docs row tree all = tt
+      ∙ (ap (λ (n : ℕ). row_as n document.id document.tree.edits style include_docs seen) (sym e)
+      ∙ (ap (λ (n : ℕ). row_as c.seq document.id document.tree.edits style include_docs n) all
+      ∙ sym (row_at c h i x (e ∙ s) (at_place entries i x low is) document
+      (at_place documents x.document document (entry_low i x low is) at) tree style include_docs)))
+  row_answer (Err e) seq seen i x s low is document at style include_docs row tree all = tt
 
 -- what a step in the index finds
 module _ (documents : List Document) (entries : List Entry) (index : List (ℕ × ℕ))
@@ -119,20 +120,22 @@ module _ (documents : List Document) (entries : List Entry) (index : List (ℕ �
       let d = document_at (files documents) k p is in
       omega (arith, slice_get_within (files documents) k d.0 d.1, length-map documents filed)
 
-  number_there : (k : ℕ) (d : Document) → k < length documents → d ≡ get_or documents k d
-      → latest_at (files documents) k ≡ Some (d.id, d.latest)
-  number_there k d low is =
+  number_there : (k : ℕ) (document : Document) → k < length documents → document ≡ get_or documents k document
+      → latest_at (files documents) k ≡ Some (document.id, document.latest)
+  number_there k document low is =
       ap (option_map latest_of)
-      (slice_get-map filed documents k ∙ ap (option_map filed) (at_place documents k d low is))
+      (slice_get-map filed documents k ∙ ap (option_map filed) (at_place documents k document low is))
 
   -- a document's row lies at its latest edit
-  pub document_row : (k : ℕ) (d : Document) → k < length documents → d ≡ get_or documents k d
-      → Contains (current (journal_of (files documents) entries)) (record { seq = d.latest; id = d.id })
-  document_row k d low is =
-      let at = number_there k d low is in
+  pub document_row : (k : ℕ) (document : Document) → k < length documents
+      → document ≡ get_or documents k document
+      → Contains (current (journal_of (files documents) entries))
+      (record { seq = document.latest; id = document.id })
+  document_row k document low is =
+      let at = number_there k document low is in
       row_there (row_in (latest_at (files documents))) index
       (current (journal_of (files documents) entries)) k
-      d.latest d.id ix.rows (ix.key k (d.id, d.latest) at)
+      document.latest document.id ix.rows (ix.key k (document.id, document.latest) at)
       (λ r e. ap (λ (o : Option (List ℕ × ℕ)). record { seq = r.0; id = id_in o })
       (ap (latest_at (files documents)) e ∙ at))
 
@@ -173,24 +176,26 @@ get_default xs ys i e same low = ap (λ zs. slice_get zs i) (sym same) ∙ slice
 -- the document of an entry
 pub document_of : (limit : ℕ) (numbers : List ℕ → Option ℕ) (documents : List Document) (entries : List Entry)
     → IsFiled limit numbers (files documents) entries → (i : ℕ) (x : Entry) → slice_get entries i ≡ Some x
-    → (d : Document) → d ≡ get_or documents x.document d → slice_get documents x.document ≡ Some d
-document_of limit numbers documents entries st i x here d is =
+    → (document : Document) → document ≡ get_or documents x.document document
+    → slice_get documents x.document ≡ Some document
+document_of limit numbers documents entries st i x here document is =
     let w = st.within i x here in
-    at_place documents x.document d
+    at_place documents x.document document
     (omega (arith, slice_get_within (files documents) x.document w.0 w.1, length-map documents filed)) is
 
 -- the document with an id that has a number
 pub numbered : (limit : ℕ) (numbers : List ℕ → Option ℕ) (documents : List Document) (entries : List Entry)
     → IsFiled limit numbers (files documents) entries → (id : List ℕ) (k : ℕ) → numbers id ≡ Some k
-    → (k < length documents) × ((d : Document) → d ≡ get_or documents k d → d.id ≡ id)
+    → (k < length documents) ×
+    ((document : Document) → document ≡ get_or documents k document → document.id ≡ id)
 numbered limit numbers documents entries st id k e =
     let w = st.found id k e in
     let low : k < length documents =
     omega (arith, slice_get_within (files documents) k w.0 w.1, length-map documents filed) in (
       low,
-      λ d is. ap (λ (f : Filed). f.id)
-          (same_Some (filed d) w.0
-          (sym (slice_get-map filed documents k ∙ ap (option_map filed) (at_place documents k d low is))
-          ∙ w.1))
+      λ document is. ap (λ (f : Filed). f.id)
+          (same_Some (filed document) w.0
+          (sym (slice_get-map filed documents k
+          ∙ ap (option_map filed) (at_place documents k document low is)) ∙ w.1))
           ∙ w.2,
     )

@@ -25,46 +25,48 @@ map_some f [] some = absurd (some refl)
 map_some f (x ∷ xs) some = λ e. absurd (cc)
 
 -- a document that has an edit has a leaf
-leaves_some : (J : List Edit) (id : List ℕ) → IsLegal J → ¬ (edits_of J id ≡ [])
-    → ¬ (revisions_of (leaves_of J id) ≡ [])
-leaves_some J id legal some = from (edits_of J id) refl
+leaves_some : (journal : List Edit) (id : List ℕ) → IsLegal journal → ¬ (edits_of journal id ≡ [])
+    → ¬ (revisions_of (leaves_of journal id) ≡ [])
+leaves_some journal id legal some = from (edits_of journal id) refl
   where
-    from : (es : List Edit) → edits_of J id ≡ es → ¬ (revisions_of (leaves_of J id) ≡ [])
+    from : (edits : List Edit) → edits_of journal id ≡ edits → ¬ (revisions_of (leaves_of journal id) ≡ [])
     from [] q = absurd (some q)
-    from (e ∷ es) q =
-        let own = edits_in J id e (subst (λ z. Contains z e) (sym q) (contains_here e es)) in
-        let first = has_first e.path ((legal_sound J legal).paths e own.0) in
-        let leaf = has_leaf J legal id first.0 (e, own, first_in e.path first.0 first.1) in
-        λ none. contains_none leaf.0 (subst (λ z. Contains z leaf.0) none (is_leaf_from J id leaf.0 leaf.1))
+    from (e ∷ edits) q =
+        let own = edits_in journal id e (subst (λ z. Contains z e) (sym q) (contains_here e edits)) in
+        let first = has_first e.path ((legal_sound journal legal).paths e own.0) in
+        let leaf = has_leaf journal legal id first.0 (e, own, first_in e.path first.0 first.1) in
+        λ none. contains_none leaf.0
+        (subst (λ z. Contains z leaf.0) none (is_leaf_from journal id leaf.0 leaf.1))
 
-module _ (J : List Edit) (id : List ℕ) (d : Document) (f : IsFound J id d) (revs : Bool) where
+module _ (journal : List Edit) (id : List ℕ) (document : Document) (f : IsFound journal id document)
+    (revs : Bool) where
   -- where its tree has an edit a leaf is shown
-  pub edits_open : IsLegal J → ¬ (d.tree.edits ≡ []) → ¬ (open_revs J id All revs ≡ [])
+  pub edits_open : IsLegal journal → ¬ (document.tree.edits ≡ []) → ¬ (open_revs journal id All revs ≡ [])
   edits_open legal some =
-      map_some (open_rev J id revs) (revisions_of (leaves_of J id))
-      (leaves_some J id legal (λ e. map_some (named id) d.tree.edits some (sym f.kept ∙ e)))
+      map_some (open_rev journal id revs) (revisions_of (leaves_of journal id))
+      (leaves_some journal id legal (λ e. map_some (named id) document.tree.edits some (sym f.kept ∙ e)))
 
   -- and where there is a leaf
-  pub leaves_open : (rs : List Revision) → rs ≡ revisions_of (leaves_of d.tree.edits []) → ¬ (rs ≡ [])
-      → ¬ (open_revs J id All revs ≡ [])
-  leaves_open rs same some =
-      map_some (open_rev J id revs) (revisions_of (leaves_of J id))
-      (λ e. some (same ∙ (leaves_same J id d f ∙ e)))
+  pub leaves_open : (revisions : List Revision) → revisions ≡ revisions_of (leaves_of document.tree.edits [])
+      → ¬ (revisions ≡ []) → ¬ (open_revs journal id All revs ≡ [])
+  leaves_open revisions same some =
+      map_some (open_rev journal id revs) (revisions_of (leaves_of journal id))
+      (λ e. some (same ∙ (leaves_same journal id document f ∙ e)))
 
 -- of each revision that is listed something is shown
-pub listed_open : (J : List Edit) (id : List ℕ) (revs : Bool) (rs : List Revision) → ¬ (rs ≡ [])
-    → ¬ (open_revs J id (Listed rs) revs ≡ [])
-listed_open J id revs rs some = map_some (open_rev J id revs) rs some
+pub listed_open : (journal : List Edit) (id : List ℕ) (revs : Bool) (revisions : List Revision)
+    → ¬ (revisions ≡ []) → ¬ (open_revs journal id (Listed revisions) revs ≡ [])
+listed_open journal id revs revisions some = map_some (open_rev journal id revs) revisions some
 
 -- a document that misses something is told of
-pub diffs_some : (J : List Edit) (before later : List Asked) (a : Asked) → ¬ (wanted_diff J a ≡ None)
-    → ¬ (diffs J (before ++ a ∷ later) ≡ [])
-diffs_some J [] later a some = from (is_wanted (diff_of J a)) refl
+pub diffs_some : (journal : List Edit) (before later : List Asked) (asked : Asked)
+    → ¬ (wanted_diff journal asked ≡ None) → ¬ (diffs journal (before ++ asked ∷ later) ≡ [])
+diffs_some journal [] later asked some = from (is_wanted (diff_of journal asked)) refl
   where
-    from : (b : Bool) → is_wanted (diff_of J a) ≡ b → ¬ (diffs J (a ∷ later) ≡ [])
+    from : (b : Bool) → is_wanted (diff_of journal asked) ≡ b → ¬ (diffs journal (asked ∷ later) ≡ [])
     from true q = λ e. absurd (let none = rw q at e in cc)
-    from false q = absurd (some (ap (λ b. if b then Some (diff_of J a) else None) q))
-diffs_some J (x ∷ before) later a some = elim (cases_Bool (is_wanted (diff_of J x))) [
+    from false q = absurd (some (ap (λ b. if b then Some (diff_of journal asked) else None) q))
+diffs_some journal (other ∷ before) later asked some = elim (cases_Bool (is_wanted (diff_of journal other))) [
   | inl q ↦ λ e. absurd (let none = rw q at e in cc)
-  | inr q ↦ λ e. diffs_some J before later a some (rw q at e)
+  | inr q ↦ λ e. diffs_some journal before later asked some (rw q at e)
 ]

@@ -34,253 +34,285 @@ use Rattle.hub_database.proofs.NamedLemmas.{renamed, revisions_named, leaves_nam
 use Rattle.hub_index.proofs.ListLemmas.{at_place}
 use Rattle.hub_database.proofs.StoreLemmas.{number_below}
 
-winner_renamed : (id : List ℕ) (ls : List Leaf) → winner_of (map (renamed id) ls) ≡ winner_of ls
+winner_renamed : (id : List ℕ) (leaves : List Leaf) → winner_of (map (renamed id) leaves) ≡ winner_of leaves
 winner_renamed id [] = refl
-winner_renamed id (l ∷ ls) = refl
+winner_renamed id (leaf ∷ leaves) = refl
 
-module _ (J : List Edit) (id : List ℕ) (d : Document) (f : IsFound J id d) where
+module _ (journal : List Edit) (id : List ℕ) (document : Document) (f : IsFound journal id document) where
   -- the winner
-  pub winner_found : winner_of (leaves_of J id) ≡ winner_of (leaves_of d.tree.edits [])
+  pub winner_found : winner_of (leaves_of journal id) ≡ winner_of (leaves_of document.tree.edits [])
   winner_found =
-      ap winner_of (leaves_named J id d.tree.edits f.kept f.one)
-      ∙ winner_renamed id (leaves_of d.tree.edits [])
+      ap winner_of (leaves_named journal id document.tree.edits f.kept f.one)
+      ∙ winner_renamed id (leaves_of document.tree.edits [])
 
   -- what is shown of a revision
-  pub shown_found : (r : Revision) → shown J id r ≡ shown_in d r
-  shown_found r =
-      shown_named J id d.tree.edits f.kept f.one r
-      ∙ ap (λ i. option_map (named i) (shown d.tree.edits [] r)) (sym f.same)
+  pub shown_found : (revision : Revision) → shown journal id revision ≡ shown_in document revision
+  shown_found revision =
+      shown_named journal id document.tree.edits f.kept f.one revision
+      ∙ ap (λ i. option_map (named i) (shown document.tree.edits [] revision)) (sym f.same)
 
   -- the leaves
-  pub leaves_same : revisions_of (leaves_of d.tree.edits []) ≡ revisions_of (leaves_of J id)
+  pub leaves_same : revisions_of (leaves_of document.tree.edits []) ≡ revisions_of (leaves_of journal id)
   leaves_same =
-      sym (revisions_named id (leaves_of d.tree.edits []))
-      ∙ ap revisions_of (sym (leaves_named J id d.tree.edits f.kept f.one))
+      sym (revisions_named id (leaves_of document.tree.edits []))
+      ∙ ap revisions_of (sym (leaves_named journal id document.tree.edits f.kept f.one))
 
-head_first : (p : List Revision) (r h : Revision) → is_first r p ≡ true → slice_get p 0 ≡ Some h → r ≡ h
-head_first [] r h t e = absurd (cc)
-head_first (x ∷ p) r h t e = same_is r x t ∙ same_Some x h e
+head_first : (revisions : List Revision) (revision other : Revision) → is_first revision revisions ≡ true
+    → slice_get revisions 0 ≡ Some other → revision ≡ other
+head_first [] revision other t e = absurd (cc)
+head_first (x ∷ revisions) revision other t e = same_is revision x t ∙ same_Some x other e
 
 -- what is lent of an edit that is found
-lent : {P : Type 0} (o : Option Edit) (t : Tip) (p : Option (List Revision)) → Some t ≡ option_map tip_of o
-    → Some p ≡ option_map (λ e. Some e.path) o
-    → ((e : Edit) → o ≡ Some e → t ≡ tip_of e → p ≡ Some e.path → P) → P
-lent None t p same on next = absurd (none-some t (sym same))
-lent (Some e) t p same on next = next e refl (same_Some t (tip_of e) same) (same_Some p (Some e.path) on)
+lent : {P : Type 0} (maybe_edit : Option Edit) (tip : Tip) (p : Option (List Revision))
+    → Some tip ≡ option_map tip_of maybe_edit → Some p ≡ option_map (λ edit. Some edit.path) maybe_edit
+    → ((edit : Edit) → maybe_edit ≡ Some edit → tip ≡ tip_of edit → p ≡ Some edit.path → P) → P
+lent None tip p same on next = absurd (none-some tip (sym same))
+lent (Some edit) tip p same on next =
+    next edit refl (same_Some tip (tip_of edit) same) (same_Some p (Some edit.path) on)
 
 -- a document that is copied from the edit that a revision heads
-module _ (d : Document) (r h : Revision) (deleted : Bool) (body : List ℕ) where
+module _ (document : Document) (revision other : Revision) (deleted : Bool) (body : List ℕ) where
   abbrev edits : List Edit
-  edits = d.tree.edits
+  edits = document.tree.edits
 
-  module _ (e : Edit) (found : find (is_head r) (edits_of edits []) ≡ Some e)
-      (same : tip h deleted body ≡ tip_of e)
-      (count : ℕ) (on : option_map (take count) (path_to edits h) ≡ Some e.path) where
-    is : (is_first r e.path ≡ true) × Contains (edits_of edits []) e
-    is = find_is (is_head r) (edits_of edits []) e found
+  module _ (e : Edit) (found : find (is_head revision) (edits_of edits []) ≡ Some e)
+      (same : tip other deleted body ≡ tip_of e)
+      (count : ℕ) (on : option_map (take count) (path_to edits other) ≡ Some e.path) where
+    is : (is_first revision e.path ≡ true) × Contains (edits_of edits []) e
+    is = find_is (is_head revision) (edits_of edits []) e found
 
-    known : is_known edits [] r ≡ true
+    known : is_known edits [] revision ≡ true
     known =
-        at_any (λ (f : Edit). names f.path r) (edits_of edits []) e is.1
-        (is_named e.path r (first_in e.path r (head_is e.path r is.0)))
+        at_any (λ (f : Edit). names f.path revision) (edits_of edits []) e is.1
+        (is_named e.path revision (first_in e.path revision (head_is e.path revision is.0)))
 
-    rev : h ≡ r
-    rev = sym (head_first e.path r h is.0 (sym (ap (λ (t : Tip). t.rev) same)))
+    rev : other ≡ revision
+    rev = sym (head_first e.path revision other is.0 (sym (ap (λ (t : Tip). t.rev) same)))
 
     -- the edit's path is the front of all that stands behind its revision
-    front : take count (line_of edits [] r) ≡ e.path
+    front : take count (line_of edits [] revision) ≡ e.path
     front =
-        same_Some (take count (line_of edits [] r)) e.path
-        (sym (ap (λ b. option_map (take count) (if b then Some (line_of edits [] r) else None)) known)
+        same_Some (take count (line_of edits [] revision)) e.path
+        (sym (ap (λ b. option_map (take count) (if b then Some (line_of edits [] revision) else None)) known)
         ∙ subst (λ z. option_map (take count) (path_to edits z) ≡ Some e.path) rev on)
 
-    first_of_front : (n : ℕ) (p : List Revision) → Some h ≡ slice_get (take n p) 0 → Some h ≡ slice_get p 0
+    first_of_front : (n : ℕ) (p : List Revision) → Some other ≡ slice_get (take n p) 0
+        → Some other ≡ slice_get p 0
     first_of_front zero p t = absurd (cc)
     first_of_front (suc n) [] t = t
     first_of_front (suc n) (x ∷ p) t = t
 
     whole : (revs : Bool)
-        → history_of revs edits r ≡ (if revs then Some (line_of edits [] r) else None)
-    whole true = ap (λ b. if b then Some (line_of edits [] r) else None) known
+        → history_of revs edits revision ≡ (if revs then Some (line_of edits [] revision) else None)
+    whole true = ap (λ b. if b then Some (line_of edits [] revision) else None) known
     whole false = refl
 
-    head : Some h ≡ slice_get (line_of edits [] r) 0
+    head : Some other ≡ slice_get (line_of edits [] revision) 0
     head =
-        first_of_front count (line_of edits [] r)
+        first_of_front count (line_of edits [] revision)
         (ap (λ (t : Tip). t.rev) same ∙ ap (λ (p : List Revision). slice_get p 0) (sym front))
 
-    doc_of_edit : (revs : Bool) (history : Option (List Revision)) → history ≡ history_of revs edits r
-        → Some (record { id = d.id; rev = Some h; path = history; deleted = deleted; body = body })
-        ≡ option_map (doc_shown revs) (shown_in d r)
+    doc_of_edit : (revs : Bool) (history : Option (List Revision)) → history ≡ history_of revs edits revision
+        → Some (record { id = document.id; rev = Some other; path = history; deleted = deleted; body = body })
+        ≡ option_map (doc_shown revs) (shown_in document revision)
     doc_of_edit revs history is_so =
         ap
         (λ (p : Option (List Revision)).
-        Some (record { id = d.id; rev = Some h; path = p; deleted = deleted; body = body }))
+        Some (record { id = document.id; rev = Some other; path = p; deleted = deleted; body = body }))
         (is_so ∙ whole revs)
         ∙ (ap (λ (o : Option Revision). Some (record {
-          id = d.id;
+          id = document.id;
           rev = o;
-          path = if revs then Some (line_of edits [] r) else None;
+          path = if revs then Some (line_of edits [] revision) else None;
           deleted = deleted;
           body = body;
         })) head
         ∙ (ap (λ (t : Tip). Some (record {
-          id = d.id;
-          rev = slice_get (line_of edits [] r) 0;
-          path = if revs then Some (line_of edits [] r) else None;
+          id = document.id;
+          rev = slice_get (line_of edits [] revision) 0;
+          path = if revs then Some (line_of edits [] revision) else None;
           deleted = t.deleted;
           body = t.body;
         })) same
-        ∙ ap (λ o. option_map (doc_shown revs) (option_map (named d.id) (shown_of edits [] r o)))
+        ∙ ap (λ o. option_map (doc_shown revs)
+        (option_map (named document.id) (shown_of edits [] revision o)))
         (sym found)))
 
-  pub doc_found : Some (tip h deleted body) ≡ option_map tip_of (find (is_head r) (edits_of edits []))
-      → (count : ℕ)
-      → Some (option_map (take count) (path_to edits h))
-      ≡ option_map (λ e. Some e.path) (find (is_head r) (edits_of edits []))
-      → (revs : Bool) (history : Option (List Revision)) → history ≡ history_of revs edits r
-      → Some (record { id = d.id; rev = Some h; path = history; deleted = deleted; body = body })
-      ≡ option_map (doc_shown revs) (shown_in d r)
+  pub doc_found : Some (tip other deleted body) ≡ option_map tip_of
+      (find (is_head revision) (edits_of edits [])) → (count : ℕ)
+      → Some (option_map (take count) (path_to edits other))
+      ≡ option_map (λ e. Some e.path) (find (is_head revision) (edits_of edits []))
+      → (revs : Bool) (history : Option (List Revision)) → history ≡ history_of revs edits revision
+      → Some (record { id = document.id; rev = Some other; path = history; deleted = deleted; body = body })
+      ≡ option_map (doc_shown revs) (shown_in document revision)
   doc_found same count on revs history is_so =
-      lent (find (is_head r) (edits_of edits [])) (tip h deleted body)
-      (option_map (take count) (path_to edits h)) same on
+      lent (find (is_head revision) (edits_of edits [])) (tip other deleted body)
+      (option_map (take count) (path_to edits other)) same on
       (λ e found tips path. doc_of_edit e found tips count path revs history is_so)
 
 -- what is shown of a leaf is of the edit that it heads
-module _ (J : List Edit) (id : List ℕ) (legal : IsLegal J) where
-  leaf_shown : (l : Leaf) → Contains (leaves_of J id) l
-      → shown J id l.rev
-      ≡ Some (record { id = id; path = line_of J id l.rev; deleted = l.edit.deleted; body = l.edit.body })
-  leaf_shown l c = ap (shown_of J id l.rev) (leaf_headed J id legal l c)
+module _ (journal : List Edit) (id : List ℕ) (legal : IsLegal journal) where
+  leaf_shown : (leaf : Leaf) → Contains (leaves_of journal id) leaf
+      → shown journal id leaf.rev
+      ≡ Some (record {
+        id = id;
+        path = line_of journal id leaf.rev;
+        deleted = leaf.edit.deleted;
+        body = leaf.edit.body;
+      })
+  leaf_shown leaf c = ap (shown_of journal id leaf.rev) (leaf_headed journal id legal leaf c)
 
   -- a winner that is deleted
-  pub lookup_deleted : (revs : Bool) (w : Winner) → Some w ≡ winner_of (leaves_of J id) → w.deleted ≡ true
-      → looked.Deleted ≡ lookup J id revs
-  lookup_deleted revs w is gone = from (leaves_of J id) is
+  pub lookup_deleted : (revs : Bool) (winner : Winner) → Some winner ≡ winner_of (leaves_of journal id)
+      → winner.deleted ≡ true → looked.Deleted ≡ lookup journal id revs
+  lookup_deleted revs winner is gone = from (leaves_of journal id) is
     where
-      from : (ls : List Leaf) → Some w ≡ winner_of ls → looked.Deleted ≡ lookup_of J id revs ls
+      from : (leaves : List Leaf) → Some winner ≡ winner_of leaves
+          → looked.Deleted ≡ lookup_of journal id revs leaves
       from [] e = absurd (cc)
-      from (l ∷ ls) e =
-          let mark : l.edit.deleted ≡ true = ap (λ (z : Winner). z.deleted) (same_Some _ w (sym e)) ∙ gone in
+      from (l ∷ leaves) e =
+          let mark : l.edit.deleted ≡ true = ap (λ (other : Winner). other.deleted)
+          (same_Some _ winner (sym e)) ∙ gone in
           rw mark refl
 
   -- and one that is not
-  lookup_live : (revs : Bool) (w : Winner) → Some w ≡ winner_of (leaves_of J id) → w.deleted ≡ false
-      → option_map looked.Found (option_map (doc_shown revs) (shown J id w.rev)) ≡ Some (lookup J id revs)
-  lookup_live revs w is live = from (leaves_of J id) refl is
+  lookup_live : (revs : Bool) (winner : Winner) → Some winner ≡ winner_of (leaves_of journal id)
+      → winner.deleted ≡ false
+      → option_map looked.Found (option_map (doc_shown revs) (shown journal id winner.rev)) ≡ Some
+      (lookup journal id revs)
+  lookup_live revs winner is live = from (leaves_of journal id) refl is
     where
-      from : (ls : List Leaf) → leaves_of J id ≡ ls → Some w ≡ winner_of ls
-          → option_map looked.Found (option_map (doc_shown revs) (shown J id w.rev))
-          ≡ Some (lookup_of J id revs ls)
+      from : (leaves : List Leaf) → leaves_of journal id ≡ leaves → Some winner ≡ winner_of leaves
+          → option_map looked.Found (option_map (doc_shown revs) (shown journal id winner.rev))
+          ≡ Some (lookup_of journal id revs leaves)
       from [] q e = absurd (cc)
-      from (l ∷ ls) q e =
-          let same = same_Some _ w (sym e) in
-          let mark : l.edit.deleted ≡ false = ap (λ (z : Winner). z.deleted) same ∙ live in
-          let rev : w.rev ≡ l.rev = sym (ap (λ (z : Winner). z.rev) same) in
-          ap (λ r. option_map looked.Found (option_map (doc_shown revs) (shown J id r))) rev
+      from (l ∷ leaves) q e =
+          let same = same_Some _ winner (sym e) in
+          let mark : l.edit.deleted ≡ false = ap (λ (other : Winner). other.deleted) same ∙ live in
+          let rev : winner.rev ≡ l.rev = sym (ap (λ (other : Winner). other.rev) same) in
+          ap (λ r. option_map looked.Found (option_map (doc_shown revs) (shown journal id r))) rev
           ∙ (ap (λ o. option_map looked.Found (option_map (doc_shown revs) o))
-          (leaf_shown l (subst (λ z. Contains z l) (sym q) (contains_here l ls)))
+          (leaf_shown l (subst (λ other. Contains other l) (sym q) (contains_here l leaves)))
           ∙ ap (λ b. Some (if b then looked.Deleted
           else looked.Found (doc_shown revs
-          (record { id = id; path = line_of J id l.rev; deleted = l.edit.deleted; body = l.edit.body }))))
+          (record {
+            id = id;
+            path = line_of journal id l.rev;
+            deleted = l.edit.deleted;
+            body = l.edit.body;
+          }))))
           (sym mark))
 
   -- it is found
-  lookup_found : (revs : Bool) (w : Winner) → Some w ≡ winner_of (leaves_of J id) → w.deleted ≡ false
-      → HasDocument J id revs
-  lookup_found revs w is live = from (leaves_of J id) is
+  lookup_found : (revs : Bool) (winner : Winner) → Some winner ≡ winner_of (leaves_of journal id)
+      → winner.deleted ≡ false → HasDocument journal id revs
+  lookup_found revs winner is live = from (leaves_of journal id) is
     where
-      from : (ls : List Leaf) → Some w ≡ winner_of ls
-          → (doc : Doc) × (lookup_of J id revs ls ≡ looked.Found doc)
+      from : (leaves : List Leaf) → Some winner ≡ winner_of leaves
+          → (doc : Doc) × (lookup_of journal id revs leaves ≡ looked.Found doc)
       from [] e = absurd (cc)
-      from (l ∷ ls) e =
+      from (l ∷ leaves) e =
           let mark : l.edit.deleted ≡ false =
-          ap (λ (z : Winner). z.deleted) (same_Some _ w (sym e)) ∙ live in (
+          ap (λ (other : Winner). other.deleted) (same_Some _ winner (sym e)) ∙ live in (
             doc_shown revs
-                (record { id = id; path = line_of J id l.rev; deleted = l.edit.deleted; body = l.edit.body }),
+                (record {
+                  id = id;
+                  path = line_of journal id l.rev;
+                  deleted = l.edit.deleted;
+                  body = l.edit.body;
+                }),
             ap (λ b. if b then looked.Deleted
                 else looked.Found (doc_shown revs
                 (record {
                   id = id;
-                  path = line_of J id l.rev;
+                  path = line_of journal id l.rev;
                   deleted = l.edit.deleted;
                   body = l.edit.body;
                 }))) mark,
           )
 
-  module _ (d : Document) (f : IsFound J id d) (revs : Bool) (w : Winner)
+  module _ (d : Document) (f : IsFound journal id d) (revs : Bool) (w : Winner)
       (is : Some w ≡ winner_of (leaves_of d.tree.edits [])) where
-    pub deleted_found : w.deleted ≡ true → looked.Deleted ≡ lookup J id revs
-    deleted_found = lookup_deleted revs w (is ∙ sym (winner_found J id d f))
+    pub deleted_found : w.deleted ≡ true → looked.Deleted ≡ lookup journal id revs
+    deleted_found = lookup_deleted revs w (is ∙ sym (winner_found journal id d f))
 
-    pub is_there : w.deleted ≡ false → HasDocument J id revs
-    is_there = lookup_found revs w (is ∙ sym (winner_found J id d f))
+    pub is_there : w.deleted ≡ false → HasDocument journal id revs
+    is_there = lookup_found revs w (is ∙ sym (winner_found journal id d f))
 
     live : (o : Option Doc) → o ≡ option_map (doc_shown revs) (shown_in d w.rev) → w.deleted ≡ false
-        → option_map looked.Found o ≡ Some (lookup J id revs)
+        → option_map looked.Found o ≡ Some (lookup journal id revs)
     live o e m =
-        ap (option_map looked.Found) (e ∙ ap (option_map (doc_shown revs)) (sym (shown_found J id d f w.rev)))
-        ∙ lookup_live revs w (is ∙ sym (winner_found J id d f)) m
+        ap (option_map looked.Found)
+        (e ∙ ap (option_map (doc_shown revs)) (sym (shown_found journal id d f w.rev)))
+        ∙ lookup_live revs w (is ∙ sym (winner_found journal id d f)) m
 
     pub live_found : (doc : Doc) → Some doc ≡ option_map (doc_shown revs) (shown_in d w.rev)
-        → w.deleted ≡ false → looked.Found doc ≡ lookup J id revs
+        → w.deleted ≡ false → looked.Found doc ≡ lookup journal id revs
     live_found doc e m = same_Some _ _ (live (Some doc) e m)
 
     pub never_none : None ≡ option_map (doc_shown revs) (shown_in d w.rev) → w.deleted ≡ false → ⊥
     never_none e m = none-some _ (live None e m)
 
   -- no winner
-  pub unknown_found : (d : Document) → IsFound J id d → (revs : Bool)
-      → winner_of (leaves_of d.tree.edits []) ≡ None → looked.Unknown ≡ lookup J id revs
-  unknown_found d f revs none = from (leaves_of J id) (winner_found J id d f ∙ none)
+  pub unknown_found : (document : Document) → IsFound journal id document → (revs : Bool)
+      → winner_of (leaves_of document.tree.edits []) ≡ None → looked.Unknown ≡ lookup journal id revs
+  unknown_found document f revs none = from (leaves_of journal id) (winner_found journal id document f ∙ none)
     where
-      from : (ls : List Leaf) → winner_of ls ≡ None → looked.Unknown ≡ lookup_of J id revs ls
+      from : (leaves : List Leaf) → winner_of leaves ≡ None
+          → looked.Unknown ≡ lookup_of journal id revs leaves
       from [] e = refl
-      from (l ∷ ls) e = absurd (cc)
+      from (l ∷ leaves) e = absurd (cc)
 
 -- a document that a number names, in a database whose ids have these numbers
 pub document_found : (limit : ℕ) (numbers : List ℕ → Option ℕ) (documents : List Document)
     (entries : List Entry) → IsFiled limit numbers (files documents) entries → (id : List ℕ) (k : ℕ)
     → numbers id ≡ Some k
-    → (d : Document) → d ≡ get_or documents k d → IsFound (journal_of (files documents) entries) id d
-document_found limit numbers documents entries st id k there d is =
+    → (document : Document) → document ≡ get_or documents k document
+    → IsFound (journal_of (files documents) entries) id document
+document_found limit numbers documents entries st id k there document is =
     let low = number_below limit numbers documents entries st id k there in
-    let at : slice_get (files documents) k ≡ Some (filed d) =
-    slice_get-map filed documents k ∙ ap (option_map filed) (at_place documents k d low is) in
+    let at : slice_get (files documents) k ≡ Some (filed document) =
+    slice_get-map filed documents k ∙ ap (option_map filed) (at_place documents k document low is) in
     let own = st.found id k there in
-    let same : filed d ≡ own.0 = same_Some (filed d) own.0 (sym at ∙ own.1) in
-    let named_so : d.id ≡ id = ap (λ (z : Filed). z.id) same ∙ own.2 in
-    let kept : edits_of (journal_of (files documents) entries) d.id ≡ map (named d.id) d.tree.edits =
-    st.kept k (filed d) at in
+    let same : filed document ≡ own.0 = same_Some (filed document) own.0 (sym at ∙ own.1) in
+    let named_so : document.id ≡ id = ap (λ (z : Filed). z.id) same ∙ own.2 in
+    let kept : edits_of (journal_of (files documents) entries) document.id ≡ map
+    (named document.id) document.tree.edits =
+    st.kept k (filed document) at in
     record {
       same = named_so;
       kept =
-          subst (λ i. edits_of (journal_of (files documents) entries) i ≡ map (named i) d.tree.edits) named_so
+          subst (λ i. edits_of (journal_of (files documents) entries) i ≡ map (named i) document.tree.edits)
+          named_so
           kept;
-      one = st.one k (filed d) at;
+      one = st.one k (filed document) at;
     }
 
 -- each of the revisions that are asked for
-module _ (J : List Edit) (id : List ℕ) (d : Document) (f : IsFound J id d) (revs : Bool) where
-  opened : (rs : List Revision)
-      → map (λ r. open_rev_of revs r (shown_in d r)) rs ≡ map (open_rev J id revs) rs
+module _ (journal : List Edit) (id : List ℕ) (document : Document) (f : IsFound journal id document)
+    (revs : Bool) where
+  opened : (revisions : List Revision)
+      → map (λ revision. open_rev_of revs revision (shown_in document revision)) revisions ≡ map
+      (open_rev journal id revs) revisions
   opened [] = refl
-  opened (r ∷ rs) =
-      ap (λ o. open_rev_of revs r o ∷ map (λ s. open_rev_of revs s (shown_in d s)) rs)
-      (sym (shown_found J id d f r))
-      ∙ ap (λ os. open_rev J id revs r ∷ os) (opened rs)
+  opened (revision ∷ revisions) =
+      ap (λ o. open_rev_of revs revision o ∷ map (λ s. open_rev_of revs s (shown_in document s)) revisions)
+      (sym (shown_found journal id document f revision))
+      ∙ ap (λ os. open_rev journal id revs revision ∷ os) (opened revisions)
 
   -- listed ones
-  pub listed_found : (rs : List Revision)
-      → map (λ r. open_rev_of revs r (shown_in d r)) rs ≡ open_revs J id (Listed rs) revs
-  listed_found rs = opened rs
+  pub listed_found : (revisions : List Revision)
+      → map (λ r. open_rev_of revs r (shown_in document r)) revisions ≡ open_revs journal id
+      (Listed revisions) revs
+  listed_found revisions = opened revisions
 
   -- and the leaves
-  pub all_found : (rs : List Revision) → rs ≡ revisions_of (leaves_of d.tree.edits [])
-      → map (λ r. open_rev_of revs r (shown_in d r)) rs ≡ open_revs J id All revs
-  all_found rs same = opened rs ∙ ap (map (open_rev J id revs)) (same ∙ leaves_same J id d f)
+  pub all_found : (revisions : List Revision) → revisions ≡ revisions_of (leaves_of document.tree.edits [])
+      → map (λ r. open_rev_of revs r (shown_in document r)) revisions ≡ open_revs journal id All revs
+  all_found revisions same =
+      opened revisions ∙ ap (map (open_rev journal id revs)) (same ∙ leaves_same journal id document f)
 
 -- of an unknown document
-module _ (J : List Edit) (id : List ℕ) (none : edits_of J id ≡ []) where
-  pub no_leaves : leaves_of J id ≡ []
+module _ (journal : List Edit) (id : List ℕ) (none : edits_of journal id ≡ []) where
+  pub no_leaves : leaves_of journal id ≡ []
   no_leaves = ap (λ es. best_first (leaves_among es es)) none

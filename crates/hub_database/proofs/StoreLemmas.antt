@@ -54,42 +54,46 @@ pub use Rattle.hub_revtree.proofs.BranchLemmas.{on_err}
 -- stored
 abbrev pub Leaves : ℕ → List Filed → List Entry → List ℕ → Looked → (List ℕ → Option ℕ) → List Filed
     → List Entry → List (ℕ × ℕ) → Type 0
-Leaves limit documents entries id l numbers' documents' entries' index' =
+Leaves limit documents entries id looked numbers' documents' entries' index' =
     IsFiled limit numbers' documents' entries' ×
-    (journal_of documents' entries' ≡ journal_after l id (journal_of documents entries)) × IsIndexed
+    (journal_of documents' entries' ≡ journal_after looked id (journal_of documents entries)) × IsIndexed
     documents' entries' index'
 
 -- what is to be stored finds the journal not full
-room_in : (limit n : ℕ) (l : Looked) (e : Edit) → unless_full (nat_le limit n) l ≡ Ready e → n < limit
-room_in limit n l e h = leb-false limit n (from (nat_le limit n) l h)
+room_in : (limit n : ℕ) (looked : Looked) (edit : Edit) → unless_full (nat_le limit n) looked ≡ Ready edit
+    → n < limit
+room_in limit n looked edit h = leb-false limit n (from (nat_le limit n) looked h)
   where
-    from : (full : Bool) (l : Looked) → unless_full full l ≡ Ready e → full ≡ false
+    from : (full : Bool) (looked : Looked) → unless_full full looked ≡ Ready edit → full ≡ false
     from true Known h = absurd (cc)
     from true (Refused f) h = absurd (cc)
     from true (Ready x) h = absurd (cc)
-    from false l h = refl
+    from false looked h = refl
 
-stays : (J J' : List Edit) (id : List ℕ) → J' ≡ J → (count count' : ℕ) (was is : Bool)
-    → was ≡ is_deleted (leaves_of J id) → is ≡ is_deleted (leaves_of J' id)
-    → count ≡ deleted_in J → count' + one_if was ≡ count + one_if is → count' ≡ deleted_in J'
-stays J J' id same count count' was is w i c h =
+stays : (journal later_journal : List Edit) (id : List ℕ) → later_journal ≡ journal
+    → (count count' : ℕ) (was is : Bool)
+    → was ≡ is_deleted (leaves_of journal id) → is ≡ is_deleted (leaves_of later_journal id)
+    → count ≡ deleted_in journal → count' + one_if was ≡ count + one_if is → count' ≡ deleted_in later_journal
+stays journal later_journal id same count count' was is w i c h =
     let now : is ≡ was = i ∙ (ap (λ K. is_deleted (leaves_of K id)) same ∙ sym w) in
-    let all : deleted_in J' ≡ deleted_in J = ap deleted_in same in
+    let all : deleted_in later_journal ≡ deleted_in journal = ap deleted_in same in
     omega (arith, h, c, all, ap one_if now)
 
 -- the count goes on to be that of the documents with a deleted winner
-counted_on : (J J' : List Edit) (id : List ℕ) (l : Looked) → J' ≡ journal_after l id J
-    → (count count' : ℕ) (was is : Bool) → was ≡ is_deleted (leaves_of J id)
-    → is ≡ is_deleted (leaves_of J' id)
-    → count ≡ deleted_in J → count' + one_if was ≡ count + one_if is → count' ≡ deleted_in J'
-counted_on J J' id Known same count count' was is w i c h = stays J J' id same count count' was is w i c h
-counted_on J J' id (Refused f) same count count' was is w i c h =
-    stays J J' id same count count' was is w i c h
-counted_on J J' id (Ready e) same count count' was is w i c h =
-    let more = deleted_more J (named id e) in
-    let now : is ≡ is_deleted (leaves_of (J ++ named id e ∷ []) id) =
+counted_on : (journal later_journal : List Edit) (id : List ℕ) (looked : Looked)
+    → later_journal ≡ journal_after looked id journal
+    → (count count' : ℕ) (was is : Bool) → was ≡ is_deleted (leaves_of journal id)
+    → is ≡ is_deleted (leaves_of later_journal id)
+    → count ≡ deleted_in journal → count' + one_if was ≡ count + one_if is → count' ≡ deleted_in later_journal
+counted_on journal later_journal id Known same count count' was is w i c h =
+    stays journal later_journal id same count count' was is w i c h
+counted_on journal later_journal id (Refused f) same count count' was is w i c h =
+    stays journal later_journal id same count count' was is w i c h
+counted_on journal later_journal id (Ready e) same count count' was is w i c h =
+    let more = deleted_more journal (named id e) in
+    let now : is ≡ is_deleted (leaves_of (journal ++ named id e ∷ []) id) =
     i ∙ ap (λ K. is_deleted (leaves_of K id)) same in
-    let all : deleted_in J' ≡ deleted_in (J ++ named id e ∷ []) = ap deleted_in same in
+    let all : deleted_in later_journal ≡ deleted_in (journal ++ named id e ∷ []) = ap deleted_in same in
     omega (arith, h, c, more, all, ap one_if w, ap one_if now)
 
 -- where it is stored
@@ -98,206 +102,237 @@ module _ (limit : ℕ) (numbers : List ℕ → Option ℕ) (documents : List Fil
     (ix : IsIndexed documents entries index) (id : List ℕ) (k : ℕ) (edits : List Edit)
     (was : Was numbers documents id k edits)
     (one : edits_of edits [] ≡ edits) where
-  stores : (e : Edit) → IsStorable edits (Ready e) → length entries < limit
+  stores : (edit : Edit) → IsStorable edits (Ready edit) → length entries < limit
       → (numbers' : List ℕ → Option ℕ) (documents' : List Filed)
       → slice_get documents' k
-      ≡ Some (record { id = id; latest = length entries + 1; edits = edits ++ e ∷ [] })
+      ≡ Some (record { id = id; latest = length entries + 1; edits = edits ++ edit ∷ [] })
       → ((j : ℕ) → j ≢ k → slice_get documents' j ≡ slice_get documents j)
       → numbers' id ≡ Some k → ((q : List ℕ) → q ≢ id → numbers' q ≡ numbers q)
-      → ((d : Filed) → slice_get documents k ≡ Some d → length documents' ≡ length documents)
+      → ((filed : Filed) → slice_get documents k ≡ Some filed → length documents' ≡ length documents)
       → (slice_get documents k ≡ None → length documents' ≡ length documents + 1)
-      → Leaves limit documents entries id (Ready e) numbers' documents'
+      → Leaves limit documents entries id (Ready edit) numbers' documents'
       (entries ++ record { document = k; revision = length edits } ∷ []) (moved index k (length entries + 1))
-  stores e s room numbers' documents' at other this rest stay more =
+  stores edit s room numbers' documents' at other this rest stay more =
       let ok =
       acceptable_in (journal_of documents entries) id edits
-      (kept_of limit numbers documents entries st id k edits was) one e st.legal s.0 s.1 in
+      (kept_of limit numbers documents entries st id k edits was) one edit st.legal s.0 s.1 in
       let more_edits =
-      journal_is limit numbers documents entries st id k edits was e ok room numbers' documents' at other this
+      journal_is limit numbers documents entries st id k edits was edit ok room numbers' documents' at other
+      this
       rest stay more in (
-        filed_more limit numbers documents entries st id k edits was e ok room numbers' documents' at other
+        filed_more limit numbers documents entries st id k edits was edit ok room numbers' documents' at other
             this
             rest stay more s.0,
         more_edits,
-        indexed_edit limit numbers documents entries index st ix id k edits was e documents'
+        indexed_edit limit numbers documents entries index st ix id k edits was edit documents'
             (entries ++ record { document = k; revision = length edits } ∷ []) at other more_edits,
       )
 
 -- an edit of a document that is there
 module _ (limit : ℕ) (numbers : List ℕ → Option ℕ) (documents : List Document) (entries : List Entry)
-    (st : IsFiled limit numbers (files documents) entries) (k : ℕ) (d : Document)
-    (at : slice_get documents k ≡ Some d) where
-  pub filed_at : slice_get (files documents) k ≡ Some (filed d)
+    (st : IsFiled limit numbers (files documents) entries) (k : ℕ) (document : Document)
+    (at : slice_get documents k ≡ Some document) where
+  pub filed_at : slice_get (files documents) k ≡ Some (filed document)
   filed_at = slice_get-map filed documents k ∙ ap (option_map filed) at
 
-  same_files : (d' : Document) → filed d' ≡ filed d → files (slice_set documents k d') ≡ files documents
-  same_files d' e =
-      map-set_same filed documents k d' d (e ∙ ap filed (sym (get_or_from_slice_get documents k d d at)))
+  same_files : (other : Document) → filed other ≡ filed document
+      → files (slice_set documents k other) ≡ files documents
+  same_files other e =
+      map-set_same filed documents k other document
+      (e ∙ ap filed (sym (get_or_from_slice_get documents k document document at)))
 
   pub in_range : k < length documents
-  in_range = slice_get_within documents k d at
+  in_range = slice_get_within documents k document at
 
-  kept_at : edits_of (journal_of (files documents) entries) d.id ≡ map (named d.id) d.tree.edits
-  kept_at = st.kept k (filed d) filed_at
+  kept_at : edits_of (journal_of (files documents) entries) document.id ≡ map
+      (named document.id) document.tree.edits
+  kept_at = st.kept k (filed document) filed_at
 
   -- a document has no more edits than the journal
-  pub few_edits : length d.tree.edits ≤ length entries
+  pub few_edits : length document.tree.edits ≤ length entries
   few_edits =
-      let same : length (edits_of (journal_of (files documents) entries) d.id)
-      ≡ length (map (named d.id) d.tree.edits) =
+      let same : length (edits_of (journal_of (files documents) entries) document.id)
+      ≡ length (map (named document.id) document.tree.edits) =
       ap length kept_at in
       omega (
         arith,
         same,
-        length-map d.tree.edits (named d.id),
-        count_filter (λ (e : Edit). bytes_eq e.id d.id) (journal_of (files documents) entries),
+        length-map document.tree.edits (named document.id),
+        count_filter (λ (edit : Edit). bytes_eq edit.id document.id) (journal_of (files documents) entries),
         length-map entries (edit_at (files documents)),
       )
 
   -- its winner is deleted where the tree's is
-  pub mark_at : IsRevTree d.tree.edits
-      → is_deleted (leaves_of d.tree.edits [])
-      ≡ is_deleted (leaves_of (journal_of (files documents) entries) d.id)
+  pub mark_at : IsRevTree document.tree.edits
+      → is_deleted (leaves_of document.tree.edits [])
+      ≡ is_deleted (leaves_of (journal_of (files documents) entries) document.id)
   mark_at tree =
       sym
-      (ap is_deleted (leaves_named (journal_of (files documents) entries) d.id d.tree.edits kept_at tree.one)
-      ∙ deleted_named d.id (leaves_of d.tree.edits []))
+      (ap is_deleted (leaves_named
+      (journal_of (files documents) entries) document.id document.tree.edits kept_at tree.one)
+      ∙ deleted_named document.id (leaves_of document.tree.edits []))
 
   -- so it is counted
-  pub mark_counted : IsRevTree d.tree.edits → (count : ℕ)
+  pub mark_counted : IsRevTree document.tree.edits → (count : ℕ)
       → count ≡ deleted_in (journal_of (files documents) entries)
-      → one_if (is_deleted (leaves_of d.tree.edits [])) ≤ count
+      → one_if (is_deleted (leaves_of document.tree.edits [])) ≤ count
   mark_counted tree count c =
-      omega (arith, c, ap one_if (mark_at tree), deleted_some (journal_of (files documents) entries) d.id)
+      omega (
+        arith,
+        c,
+        ap one_if (mark_at tree),
+        deleted_some (journal_of (files documents) entries) document.id,
+      )
 
   pub unchanged : (index index' : List (ℕ × ℕ)) → IsIndexed (files documents) entries index
-      → (d' : Document) (entries' : List Entry) → filed d' ≡ filed d → entries' ≡ entries → index' ≡ index
-      → IsFiled limit numbers (files (slice_set documents k d')) entries'
-      × (journal_of (files (slice_set documents k d')) entries' ≡ journal_of (files documents) entries)
-      × IsIndexed (files (slice_set documents k d')) entries' index'
-  unchanged index index' ix d' entries' e es is = rw (same_files d' e, es, is) (st, refl, ix)
+      → (other : Document) (entries' : List Entry) → filed other ≡ filed document → entries' ≡ entries
+      → index' ≡ index → IsFiled limit numbers (files (slice_set documents k other)) entries'
+      × (journal_of (files (slice_set documents k other)) entries' ≡ journal_of (files documents) entries)
+      × IsIndexed (files (slice_set documents k other)) entries' index'
+  unchanged index index' ix other entries' e es is = rw (same_files other e, es, is) (st, refl, ix)
 
   -- what takes memory on its tree takes it in the journal
-  pub needs_at : (id : List ℕ) → numbers id ≡ Some k → IsRevTree d.tree.edits → (edit : Incoming)
-      → NeedsRoomFor d.tree.edits [] edit → NeedsRoomFor (journal_of (files documents) entries) id edit
+  pub needs_at : (id : List ℕ) → numbers id ≡ Some k → IsRevTree document.tree.edits → (edit : Incoming)
+      → NeedsRoomFor document.tree.edits [] edit → NeedsRoomFor (journal_of (files documents) entries) id edit
   needs_at id there tree edit n =
       let f = st.found id k there in
-      let this : d.id ≡ id = ap (λ (z : Filed). z.id) (same_Some (filed d) f.0 (sym filed_at ∙ f.1)) ∙ f.2 in
+      let this : document.id ≡ id = ap (λ (z : Filed). z.id)
+      (same_Some (filed document) f.0 (sym filed_at ∙ f.1)) ∙ f.2 in
       subst (λ i. NeedsRoomFor (journal_of (files documents) entries) i edit) this
-      (needs_in (journal_of (files documents) entries) d.id d.tree.edits kept_at tree.one edit.origin
+      (needs_in (journal_of (files documents) entries) document.id document.tree.edits kept_at tree.one
+      edit.origin
       edit.deleted edit.body st.legal n)
 
   leaves_so : (index index' : List (ℕ × ℕ)) → IsIndexed (files documents) entries index
-      → (tree : IsRevTree d.tree.edits) (l : Looked)
-      (room : (e : Edit) → l ≡ Ready e → length entries < limit)
-      (d' : Document) (entries' : List Entry)
-      → IsStorable d.tree.edits l → filed d' ≡ document_after l (setting_of k d entries index)
-      → entries' ≡ entries_after l (setting_of k d entries index)
-      → index' ≡ rows_after l (setting_of k d entries index)
-      → Leaves limit (files documents) entries d.id l numbers (files (slice_set documents k d')) entries'
+      → (tree : IsRevTree document.tree.edits) (looked : Looked)
+      (room : (e : Edit) → looked ≡ Ready e → length entries < limit)
+      (other : Document) (entries' : List Entry)
+      → IsStorable document.tree.edits looked
+      → filed other ≡ document_after looked (setting_of k document entries index)
+      → entries' ≡ entries_after looked (setting_of k document entries index)
+      → index' ≡ rows_after looked (setting_of k document entries index)
+      → Leaves limit (files documents) entries document.id looked numbers
+      (files (slice_set documents k other)) entries'
       index'
-  leaves_so index index' ix tree (Ready x) room d' entries' s e es is =
-      let within : k < length documents = slice_get_within documents k d at in
-      let now : slice_get (files (slice_set documents k d')) k ≡ Some (filed d') =
-      slice_get-map filed (slice_set documents k d') k
-      ∙ ap (option_map filed) (get_set documents k d' within) in
-      rw (es, is) (stores limit numbers (files documents) entries st index ix d.id k d.tree.edits
-      (inl (st.own k (filed d) filed_at, (filed d, filed_at, refl))) tree.one x s (room x refl) numbers
-      (files (slice_set documents k d'))
+  leaves_so index index' ix tree (Ready x) room other entries' s e es is =
+      let within : k < length documents = slice_get_within documents k document at in
+      let now : slice_get (files (slice_set documents k other)) k ≡ Some (filed other) =
+      slice_get-map filed (slice_set documents k other) k
+      ∙ ap (option_map filed) (get_set documents k other within) in
+      rw (es, is) (stores limit numbers
+      (files documents) entries st index ix document.id k document.tree.edits
+      (inl (st.own k (filed document) filed_at, (filed document, filed_at, refl))) tree.one x s
+      (room x refl) numbers
+      (files (slice_set documents k other))
       (now ∙ ap Some e)
-      (λ j n. slice_get-map filed (slice_set documents k d') j
-      ∙ (ap (option_map filed) (get_set_other documents k d' j n) ∙ sym (slice_get-map filed documents j)))
-      (st.own k (filed d) filed_at) (λ q n. refl)
-      (λ f g. let l : length (files (slice_set documents k d')) ≡ length (slice_set documents k d') =
-      length-map (slice_set documents k d') filed in
-      omega (arith, l, length-set documents k d', length-map documents filed))
-      (λ g. absurd (none-some (filed d) (sym g ∙ filed_at))))
-  leaves_so index index' ix tree Known room d' entries' s e es is =
-      rw (same_files d' e, es, is) (st, refl, ix)
-  leaves_so index index' ix tree (Refused fault) room d' entries' s e es is =
-      rw (same_files d' e, es, is) (st, refl, ix)
+      (λ j n. slice_get-map filed (slice_set documents k other) j
+      ∙ (ap (option_map filed) (get_set_other documents k other j n) ∙ sym (slice_get-map filed documents j)))
+      (st.own k (filed document) filed_at) (λ q n. refl)
+      (λ f g. let looked : length (files (slice_set documents k other)) ≡ length
+      (slice_set documents k other) =
+      length-map (slice_set documents k other) filed in
+      omega (arith, looked, length-set documents k other, length-map documents filed))
+      (λ g. absurd (none-some (filed document) (sym g ∙ filed_at))))
+  leaves_so index index' ix tree Known room other entries' s e es is =
+      rw (same_files other e, es, is) (st, refl, ix)
+  leaves_so index index' ix tree (Refused fault) room other entries' s e es is =
+      rw (same_files other e, es, is) (st, refl, ix)
 
   -- what storing it leaves
   pub extended : (index index' : List (ℕ × ℕ)) → IsIndexed (files documents) entries index → (id : List ℕ)
-      → numbers id ≡ Some k → IsRevTree d.tree.edits
-      → (edit : Incoming) (d' : Document) (entries' : List Entry) (o : Outcome Revision)
-      → IsWritten (look_in limit (setting_of k d entries index) edit) (setting_of k d entries index)
-      (setting_of k d' entries' index') o → IsRevTree d'.tree.edits
+      → numbers id ≡ Some k → IsRevTree document.tree.edits
+      → (edit : Incoming) (other : Document) (entries' : List Entry) (o : Outcome Revision)
+      → IsWritten (look_in limit (setting_of k document entries index) edit)
+      (setting_of k document entries index)
+      (setting_of k other entries' index') o → IsRevTree other.tree.edits
       → (count count' : ℕ) → count ≡ deleted_in (journal_of (files documents) entries)
-      → count' + one_if (is_deleted (leaves_of d.tree.edits []))
-      ≡ count + one_if (is_deleted (leaves_of d'.tree.edits []))
-      → IsFiled limit numbers (files (slice_set documents k d')) entries'
+      → count' + one_if (is_deleted (leaves_of document.tree.edits []))
+      ≡ count + one_if (is_deleted (leaves_of other.tree.edits []))
+      → IsFiled limit numbers (files (slice_set documents k other)) entries'
       × (stores_edit limit (journal_of (files documents) entries) id edit
-      ≡ record { outcome = o; journal = journal_of (files (slice_set documents k d')) entries' })
-      × (count' ≡ deleted_in (journal_of (files (slice_set documents k d')) entries'))
-      × IsIndexed (files (slice_set documents k d')) entries' index'
-  extended index index' ix id there tree edit d' entries' o x tree' count count' c h =
-      let l : Looked = unless_full (nat_le limit (length entries)) (look_at d.id d.tree.edits edit) in
+      ≡ record { outcome = o; journal = journal_of (files (slice_set documents k other)) entries' })
+      × (count' ≡ deleted_in (journal_of (files (slice_set documents k other)) entries'))
+      × IsIndexed (files (slice_set documents k other)) entries' index'
+  extended index index' ix id there tree edit other entries' o x tree' count count' c h =
+      let looked : Looked = unless_full (nat_le limit (length entries))
+      (look_at document.id document.tree.edits edit) in
       let left =
-      leaves_so index index' ix tree l
-      (λ e r. room_in limit (length entries) (look_at d.id d.tree.edits edit) e r) d' entries' x.storable
+      leaves_so index index' ix tree looked
+      (λ e r. room_in limit (length entries) (look_at document.id document.tree.edits edit) e r) other
+      entries' x.storable
       x.document x.entries x.rows in
       let full : nat_le limit (length (journal_of (files documents) entries))
       ≡ nat_le limit (length entries) =
       ap (nat_le limit) (length-map entries (edit_at (files documents))) in
       let f = st.found id k there in
-      let this : d.id ≡ id = ap (λ (z : Filed). z.id) (same_Some (filed d) f.0 (sym filed_at ∙ f.1)) ∙ f.2 in
+      let this : document.id ≡ id = ap (λ (z : Filed). z.id)
+      (same_Some (filed document) f.0 (sym filed_at ∙ f.1)) ∙ f.2 in
       let said =
-      stores_by (journal_of (files documents) entries) d.id d.tree.edits kept_at tree.one limit
+      stores_by (journal_of (files documents) entries) document.id document.tree.edits kept_at tree.one limit
       (nat_le limit (length entries)) full edit in
-      let answers : stores_edit limit (journal_of (files documents) entries) d.id edit
-      ≡ record { outcome = o; journal = journal_of (files (slice_set documents k d')) entries' } =
+      let answers : stores_edit limit (journal_of (files documents) entries) document.id edit
+      ≡ record { outcome = o; journal = journal_of (files (slice_set documents k other)) entries' } =
       said
       ∙ (ap (λ (a : Outcome Revision).
-      record { outcome = a; journal = journal_after l d.id (journal_of (files documents) entries) })
+      record {
+        outcome = a;
+        journal = journal_after looked document.id
+            (journal_of (files documents) entries);
+      })
       (sym x.answer)
-      ∙ ap (λ (J : List Edit). record { outcome = o; journal = J }) (sym left.1)) in
-      let now : slice_get (files (slice_set documents k d')) k ≡ Some (filed d') =
-      slice_get-map filed (slice_set documents k d') k
-      ∙ ap (option_map filed) (get_set documents k d' in_range) in
-      let named_now : d'.id ≡ d.id = id_stays l (setting_of k d entries index) (filed d') x.document in
-      let kept_now : edits_of (journal_of (files (slice_set documents k d')) entries') d'.id
-      ≡ map (named d'.id) d'.tree.edits =
-      left.0.kept k (filed d') now in
-      let mark_now : is_deleted (leaves_of d'.tree.edits [])
-      ≡ is_deleted (leaves_of (journal_of (files (slice_set documents k d')) entries') d.id) =
+      ∙ ap (λ (journal : List Edit). record { outcome = o; journal = journal }) (sym left.1)) in
+      let now : slice_get (files (slice_set documents k other)) k ≡ Some (filed other) =
+      slice_get-map filed (slice_set documents k other) k
+      ∙ ap (option_map filed) (get_set documents k other in_range) in
+      let named_now : other.id ≡ document.id = id_stays looked (setting_of k document entries index)
+      (filed other) x.document in
+      let kept_now : edits_of (journal_of (files (slice_set documents k other)) entries') other.id
+      ≡ map (named other.id) other.tree.edits =
+      left.0.kept k (filed other) now in
+      let mark_now : is_deleted (leaves_of other.tree.edits [])
+      ≡ is_deleted (leaves_of (journal_of (files (slice_set documents k other)) entries') document.id) =
       sym
       (ap is_deleted
-      (leaves_named (journal_of (files (slice_set documents k d')) entries') d'.id d'.tree.edits kept_now
+      (leaves_named (journal_of (files (slice_set documents k other)) entries') other.id other.tree.edits
+      kept_now
       tree'.one)
-      ∙ deleted_named d'.id (leaves_of d'.tree.edits []))
-      ∙ ap (λ (i : List ℕ). is_deleted (leaves_of (journal_of (files (slice_set documents k d')) entries') i))
+      ∙ deleted_named other.id (leaves_of other.tree.edits []))
+      ∙ ap (λ (i : List ℕ). is_deleted
+      (leaves_of (journal_of (files (slice_set documents k other)) entries') i))
       named_now in (
         left.0,
         subst (λ i. stores_edit limit (journal_of (files documents) entries) i edit
-            ≡ record { outcome = o; journal = journal_of (files (slice_set documents k d')) entries' })
+            ≡ record { outcome = o; journal = journal_of (files (slice_set documents k other)) entries' })
             this answers,
         counted_on (journal_of (files documents) entries)
-            (journal_of (files (slice_set documents k d')) entries')
-            d.id l left.1 count count' (is_deleted (leaves_of d.tree.edits []))
-            (is_deleted (leaves_of d'.tree.edits [])) (mark_at tree) mark_now c h,
+            (journal_of (files (slice_set documents k other)) entries')
+            document.id looked left.1 count count' (is_deleted (leaves_of document.tree.edits []))
+            (is_deleted (leaves_of other.tree.edits [])) (mark_at tree) mark_now c h,
         left.2,
       )
     where
-      id_stays : (l : Looked) (s : Setting) (g : Filed) → g ≡ document_after l s → g.id ≡ s.document.id
-      id_stays Known s g e = ap (λ (z : Filed). z.id) e
-      id_stays (Refused fault) s g e = ap (λ (z : Filed). z.id) e
-      id_stays (Ready x) s g e = ap (λ (z : Filed). z.id) e
+      id_stays : (looked : Looked) (setting : Setting) (g : Filed) → g ≡ document_after looked setting
+          → g.id ≡ setting.document.id
+      id_stays Known setting g e = ap (λ (z : Filed). z.id) e
+      id_stays (Refused fault) setting g e = ap (λ (z : Filed). z.id) e
+      id_stays (Ready x) setting g e = ap (λ (z : Filed). z.id) e
 
 -- the first edit of a document
 module _ (old : Store) (st : IsStore old) (ix : HasRows old) (id : List ℕ)
     (absent : number_by old id ≡ None) where
-  inserted : (l : Looked) (room : (e : Edit) → l ≡ Ready e → length old.journal.items < old.limits.journal)
+  inserted : (looked : Looked)
+      (room : (edit : Edit) → looked ≡ Ready edit → length old.journal.items < old.limits.journal)
       (numbers' : List ℕ → Option ℕ) (documents' : List Document) (entries' : List Entry)
       (index' : List (ℕ × ℕ))
-      → IsStorable [] l
-      → files documents' ≡ documents_after l (first_setting id old) (files old.documents.items)
-      → entries' ≡ entries_after l (first_setting id old)
-      → ((q : List ℕ) → numbers' q ≡ numbers_after l id (length old.documents.items) (number_by old) q)
-      → index' ≡ rows_after l (first_setting id old)
-      → Leaves old.limits.journal (files old.documents.items) old.journal.items id l numbers'
+      → IsStorable [] looked
+      → files documents' ≡ documents_after looked (first_setting id old) (files old.documents.items)
+      → entries' ≡ entries_after looked (first_setting id old)
+      → ((q : List ℕ) → numbers' q ≡ numbers_after looked id (length old.documents.items) (number_by old) q)
+      → index' ≡ rows_after looked (first_setting id old)
+      → Leaves old.limits.journal (files old.documents.items) old.journal.items id looked numbers'
       (files documents') entries' index'
-  inserted l room numbers' documents' entries' index' s fs es ns is = rw (fs, es, is) (at l s room ns)
+  inserted looked room numbers' documents' entries' index' s fs es ns is =
+      rw (fs, es, is) (at looked s room ns)
     where
       many_files : length (files old.documents.items) ≡ length old.documents.items
       many_files = length-map old.documents.items filed
@@ -306,26 +341,28 @@ module _ (old : Store) (st : IsStore old) (ix : HasRows old) (id : List ℕ)
       past =
           slice_get_past (files old.documents.items) (length old.documents.items) (omega (arith, many_files))
 
-      at : (l : Looked) → IsStorable [] l
-          → ((e : Edit) → l ≡ Ready e → length old.journal.items < old.limits.journal)
-          → ((q : List ℕ) → numbers' q ≡ numbers_after l id (length old.documents.items) (number_by old) q)
-          → Leaves old.limits.journal (files old.documents.items) old.journal.items id l numbers'
-          (documents_after l (first_setting id old) (files old.documents.items))
-          (entries_after l (first_setting id old)) (rows_after l (first_setting id old))
-      at (Ready e) s room ns =
-          let new : Filed = record { id = id; latest = length old.journal.items + 1; edits = e ∷ [] } in
+      at : (looked : Looked) → IsStorable [] looked
+          → ((edit : Edit) → looked ≡ Ready edit → length old.journal.items < old.limits.journal)
+          → ((q : List ℕ) → numbers' q ≡ numbers_after looked id (length old.documents.items)
+          (number_by old) q)
+          → Leaves old.limits.journal (files old.documents.items) old.journal.items id looked numbers'
+          (documents_after looked (first_setting id old) (files old.documents.items))
+          (entries_after looked (first_setting id old)) (rows_after looked (first_setting id old))
+      at (Ready edit) s room ns =
+          let new : Filed = record { id = id; latest = length old.journal.items + 1; edits = edit ∷ [] } in
           stores old.limits.journal (number_by old) (files old.documents.items) old.journal.items st.filed
-          old.index ix id (length old.documents.items) [] (inr (absent, past, refl)) refl e s (room e refl)
+          old.index ix id (length old.documents.items) [] (inr (absent, past, refl)) refl edit s
+          (room edit refl)
           numbers' (files old.documents.items ++ new ∷ [])
           (subst (λ n. slice_get (files old.documents.items ++ new ∷ []) n ≡ Some new) many_files
           (get_push (files old.documents.items) new))
-          (λ j n. get_push_other (files old.documents.items) new j (λ e. n (e ∙ many_files)))
+          (λ j n. get_push_other (files old.documents.items) new j (λ edit. n (edit ∙ many_files)))
           (ns id
           ∙ ap (λ b. if b then Some (length old.documents.items) else number_by old id)
           (text_same id id refl))
           (λ q n. ns q
           ∙ ap (λ b. if b then Some (length old.documents.items) else number_by old q)
-          (text_apart id q (λ e. n (sym e))))
+          (text_apart id q (λ edit. n (sym edit))))
           (λ d g. absurd (none-some d (sym past ∙ g))) (λ g. length_push (files old.documents.items) new)
       at Known s room ns =
           let same : numbers' ≡ number_by old = λ i q. ns q i in (
@@ -343,52 +380,55 @@ module _ (old : Store) (st : IsStore old) (ix : HasRows old) (id : List ℕ)
           )
 
 -- the count after it
-first_counted : (J J' : List Edit) (id : List ℕ) (l : Looked) (s : Setting) (count count' : ℕ)
-    → s.document ≡ unwritten id → J' ≡ journal_after l id J → edits_of J id ≡ [] → IsStorable [] l
-    → count ≡ deleted_in J
-    → count' ≡ count + one_if (is_deleted (leaves_of (document_after l s).edits [])) → count' ≡ deleted_in J'
-first_counted J J' id Known s count count' first same none storable c h =
+first_counted : (journal later_journal : List Edit) (id : List ℕ) (looked : Looked) (setting : Setting)
+    (count count' : ℕ)
+    → setting.document ≡ unwritten id → later_journal ≡ journal_after looked id journal
+    → edits_of journal id ≡ [] → IsStorable [] looked → count ≡ deleted_in journal
+    → count' ≡ count + one_if (is_deleted (leaves_of (document_after looked setting).edits []))
+    → count' ≡ deleted_in later_journal
+first_counted journal later_journal id Known setting count count' first same none storable c h =
     omega (
       arith,
       h,
       c,
       ap deleted_in same,
-      ap (λ (z : Filed). one_if (is_deleted (leaves_of z.edits []))) first,
+      ap (λ (filed : Filed). one_if (is_deleted (leaves_of filed.edits []))) first,
     )
-first_counted J J' id (Refused f) s count count' first same none storable c h =
+first_counted journal later_journal id (Refused edit) setting count count' first same none storable c h =
     omega (
       arith,
       h,
       c,
       ap deleted_in same,
-      ap (λ (z : Filed). one_if (is_deleted (leaves_of z.edits []))) first,
+      ap (λ (filed : Filed). one_if (is_deleted (leaves_of filed.edits []))) first,
     )
-first_counted J J' id (Ready e) s count count' first same none storable c h =
+first_counted journal later_journal id (Ready e) setting count count' first same none storable c h =
     let one : edits_of (e ∷ []) [] ≡ e ∷ [] =
     ap (λ b. if b then (e ∷ []) else []) (text_same e.id [] storable.0) in
-    let kept : edits_of (J ++ named id e ∷ []) id ≡ map (named id) (e ∷ []) =
-    filter-append (λ (f : Edit). bytes_eq f.id id) J (named id e ∷ [])
+    let kept : edits_of (journal ++ named id e ∷ []) id ≡ map (named id) (e ∷ []) =
+    filter-append (λ (edit : Edit). bytes_eq edit.id id) journal (named id e ∷ [])
     ∙ (ap (λ es. es ++ (if bytes_eq id id then (named id e ∷ []) else [])) none
     ∙ ap (λ b. if b then (named id e ∷ []) else []) (text_same id id refl)) in
-    let now : is_deleted (leaves_of (e ∷ []) []) ≡ is_deleted (leaves_of (J ++ named id e ∷ []) id) =
+    let now : is_deleted (leaves_of (e ∷ []) []) ≡ is_deleted (leaves_of (journal ++ named id e ∷ []) id) =
     sym
-    (ap is_deleted (leaves_named (J ++ named id e ∷ []) id (e ∷ []) kept one)
+    (ap is_deleted (leaves_named (journal ++ named id e ∷ []) id (e ∷ []) kept one)
     ∙ deleted_named id (leaves_of (e ∷ []) [])) in
-    let before : false ≡ is_deleted (leaves_of J id) =
+    let before : false ≡ is_deleted (leaves_of journal id) =
     sym (ap (λ es. is_deleted (best_first (leaves_among es es))) none) in
-    let only : one_if (is_deleted (leaves_of (s.document.edits ++ e ∷ []) []))
+    let only : one_if (is_deleted (leaves_of (setting.document.edits ++ e ∷ []) []))
     ≡ one_if (is_deleted (leaves_of (e ∷ []) [])) =
-    ap (λ (z : Filed). one_if (is_deleted (leaves_of (z.edits ++ e ∷ []) []))) first in
-    counted_on J J' id (Ready e) same count count' false (is_deleted (leaves_of (e ∷ []) [])) before
+    ap (λ (filed : Filed). one_if (is_deleted (leaves_of (filed.edits ++ e ∷ []) []))) first in
+    counted_on journal later_journal id (Ready e) same count count' false
+    (is_deleted (leaves_of (e ∷ []) [])) before
     (now ∙ ap (λ K. is_deleted (leaves_of K id)) (sym same)) c (omega (arith, h, only))
 
 -- what a new document brings, one by one
 pub first_stored : (id : List ℕ) (edit : Incoming) (old new : Store) (none d : Filed) (look : Looked)
-    (e : Edit) (r : Revision) (number : ℕ)
+    (e : Edit) (revision : Revision) (number : ℕ)
     → none ≡ unwritten id
     → look
     ≡ unless_full (nat_le old.limits.journal (length old.journal.items)) (look_at none.id none.edits edit)
-    → look ≡ Ready e → IsStorable none.edits look → head_of e ≡ Some r
+    → look ≡ Ready e → IsStorable none.edits look → head_of e ≡ Some revision
     → d ≡ record { id = none.id; latest = length old.journal.items + 1; edits = none.edits ++ e ∷ [] }
     → number ≡ length old.documents.items
     → files new.documents.items ≡ files old.documents.items ++ d ∷ []
@@ -398,8 +438,9 @@ pub first_stored : (id : List ℕ) (edit : Incoming) (old new : Store) (none d :
     → IsOrder (ids_in old ++ id ∷ []) new.numbers
     → new.deleted ≡ old.deleted + one_if (is_deleted (leaves_of d.edits []))
     → new.index ≡ moved old.index number (length old.journal.items + 1)
-    → IsInserted id (look_in old.limits.journal (first_setting id old) edit) old new (outcome.Stored r)
-first_stored id edit old new none d look e r number first looked ready storable head now place fs js order
+    → IsInserted id (look_in old.limits.journal (first_setting id old) edit) old new (outcome.Stored revision)
+first_stored id edit old new none d look e revision number first looked ready storable head now place fs js
+    order
     absent ns sorted count rows =
     let more : ids_in new ≡ ids_in old ++ id ∷ [] =
     ap ids_of fs
@@ -488,7 +529,7 @@ inserted_so old new st counted ix id absent edit o x stay =
       said
           ∙ (ap (λ (a : Outcome Revision).
           record { outcome = a; journal = journal_after l id (edits_of_store old) }) (sym x.answer)
-          ∙ ap (λ (J : List Edit). record { outcome = o; journal = J }) (sym left.1)),
+          ∙ ap (λ (journal : List Edit). record { outcome = o; journal = journal }) (sym left.1)),
       first_counted (edits_of_store old) (edits_of_store new) id l (first_setting id old) old.deleted
           new.deleted
           refl left.1 none x.storable counted x.deleted,
@@ -539,12 +580,13 @@ number_below limit numbers documents entries st id k there =
 -- and the document is there
 pub document_there : (store : Store) → IsStore store → (id : List ℕ) (k : ℕ)
     → number_by store id ≡ Some k
-    → (d : Document) → d ≡ get_or store.documents.items k d → slice_get store.documents.items k ≡ Some d
-document_there store st id k there d is =
+    → (document : Document) → document ≡ get_or store.documents.items k document
+    → slice_get store.documents.items k ≡ Some document
+document_there store st id k there document is =
     let numbers = number_by store in
     let low =
     number_below store.limits.journal numbers store.documents.items store.journal.items st.filed id k there in
-    at_place store.documents.items k d low is
+    at_place store.documents.items k document low is
 
 -- what follows from what holds of an error
 pub err_then : {T E P Q : Type 0} (result : Result T E) → (P → Q) → OnErr result P → OnErr result Q
@@ -569,29 +611,31 @@ no_row store ix =
 -- ---- the ids of a store
 
 -- a document that keeps its id
-pub ids_stay : (documents : List Document) (k : ℕ) (d d' : Document) → slice_get documents k ≡ Some d
-    → d'.id ≡ d.id → ids_of (files (slice_set documents k d')) ≡ ids_of (files documents)
-ids_stay documents k d d' at same =
-    map-map (λ (z : Filed). z.id) filed (slice_set documents k d')
-    ∙ (map-set_same (λ (z : Document). z.id) documents k d' d
-    (same ∙ ap (λ (z : Document). z.id) (sym (get_or_from_slice_get documents k d d at)))
+pub ids_stay : (documents : List Document) (k : ℕ) (document other : Document)
+    → slice_get documents k ≡ Some document
+    → other.id ≡ document.id → ids_of (files (slice_set documents k other)) ≡ ids_of (files documents)
+ids_stay documents k document other at same =
+    map-map (λ (z : Filed). z.id) filed (slice_set documents k other)
+    ∙ (map-set_same (λ (z : Document). z.id) documents k other document
+    (same ∙ ap (λ (z : Document). z.id) (sym (get_or_from_slice_get documents k document document at)))
     ∙ sym (map-map (λ (z : Filed). z.id) filed documents))
 
 -- an edit that is written keeps its document's id
-pub id_kept : (l : Looked) (k : ℕ) (d d' : Document) (entries : List Entry) (index : List (ℕ × ℕ))
-    → filed d' ≡ document_after l (setting_of k d entries index) → d'.id ≡ d.id
-id_kept Known k d d' entries index e = ap (λ (z : Filed). z.id) e
-id_kept (Refused fault) k d d' entries index e = ap (λ (z : Filed). z.id) e
-id_kept (Ready x) k d d' entries index e = ap (λ (z : Filed). z.id) e
+pub id_kept : (looked : Looked) (k : ℕ) (document other : Document) (entries : List Entry)
+    (index : List (ℕ × ℕ))
+    → filed other ≡ document_after looked (setting_of k document entries index) → other.id ≡ document.id
+id_kept Known k document other entries index e = ap (λ (z : Filed). z.id) e
+id_kept (Refused fault) k document other entries index e = ap (λ (z : Filed). z.id) e
+id_kept (Ready x) k document other entries index e = ap (λ (z : Filed). z.id) e
 
 -- a store one of whose documents changed, and kept its id
-pub store_stays : (old new : Store) (k : ℕ) (d d' : Document) → IsStore old
-    → slice_get old.documents.items k ≡ Some d → d'.id ≡ d.id
-    → new.documents.items ≡ slice_set old.documents.items k d' → new.numbers ≡ old.numbers
+pub store_stays : (old new : Store) (k : ℕ) (document other : Document) → IsStore old
+    → slice_get old.documents.items k ≡ Some document → other.id ≡ document.id
+    → new.documents.items ≡ slice_set old.documents.items k other → new.numbers ≡ old.numbers
     → IsFiled new.limits.journal (number_by old) (files new.documents.items) new.journal.items → IsStore new
-store_stays old new k d d' st at same documents numbers filed_now =
+store_stays old new k document other st at same documents numbers filed_now =
     let ids : ids_in new ≡ ids_in old =
-    ap (λ ds. ids_of (files ds)) documents ∙ ids_stay old.documents.items k d d' at same in
+    ap (λ ds. ids_of (files ds)) documents ∙ ids_stay old.documents.items k document other at same in
     let each : (q : List ℕ) → number_by new q ≡ number_by old q =
     λ q. ap (λ z. number_in z new.numbers q) ids ∙ ap (λ l. number_in (ids_in old) l q) numbers in
     let found : number_by new ≡ number_by old = λ i q. each q i in
@@ -603,13 +647,13 @@ store_stays old new k d d' st at same documents numbers filed_now =
     }
 
 -- the id of the document of a number
-pub id_here : (documents : List Document) (k : ℕ) (d : Document) → k < length documents
-    → d ≡ get_or documents k d → d.id ≡ id_at (ids_of (files documents)) k
-id_here documents k d low is =
+pub id_here : (documents : List Document) (k : ℕ) (document : Document) → k < length documents
+    → document ≡ get_or documents k document → document.id ≡ id_at (ids_of (files documents)) k
+id_here documents k document low is =
     let within : k < length (files documents) = omega (arith, length-map documents filed) in
     sym
-    (get_or-map (λ (z : Filed). z.id) (files documents) k (filed d) [] within
-    ∙ (ap (λ (z : Filed). z.id) (get_or-map filed documents k d (filed d) low)
+    (get_or-map (λ (z : Filed). z.id) (files documents) k (filed document) [] within
+    ∙ (ap (λ (z : Filed). z.id) (get_or-map filed documents k document (filed document) low)
     ∙ ap (λ (z : Document). z.id) (sym is)))
 
 -- a number whose document has an id is the number of that id
@@ -617,23 +661,24 @@ pub number_has : (store : Store) → IsStore store → (id : List ℕ) (k : ℕ)
     → id_at (ids_in store) k ≡ id → number_by store id ≡ Some k
 number_has store is id k low here =
     let documents = files store.documents.items in
-    let within : k < length documents = omega (arith, length-map documents (λ (z : Filed). z.id)) in
+    let within : k < length documents = omega (arith, length-map documents (λ (filed : Filed). filed.id)) in
     let d : Filed = get_or documents k (unwritten []) in
     let named : d.id ≡ id =
-    sym (get_or-map (λ (z : Filed). z.id) documents k (unwritten []) [] within) ∙ here in
+    sym (get_or-map (λ (filed : Filed). filed.id) documents k (unwritten []) [] within) ∙ here in
     ap (number_by store) (sym named) ∙ is.filed.own k d (slice_get-get_or documents k (unwritten []) within)
 
 -- the row of a new document, taken back
 pub row_taken : (rows : List (ℕ × ℕ)) (number seq : ℕ) → seq_of number rows ≡ None
-    → All (λ (r : ℕ × ℕ). r.0 < seq) rows
-    → filter (λ (r : ℕ × ℕ). not (nat_eq r.0 seq)) (moved rows number seq) ≡ rows
+    → All (λ (row : ℕ × ℕ). row.0 < seq) rows
+    → filter (λ (row : ℕ × ℕ). not (nat_eq row.0 seq)) (moved rows number seq) ≡ rows
 row_taken rows number seq none above =
-    let p : ℕ × ℕ → Bool = λ r. not (nat_eq r.0 seq) in
+    let p : ℕ × ℕ → Bool = λ row. not (nat_eq row.0 seq) in
     ap (filter p) (sym (moved_new number rows seq none))
     ∙ (filter-append p rows ((seq, number) ∷ [])
     ∙ (ap (λ b. filter p rows ++ (if not b then ((seq, number) ∷ []) else [])) (eq-eqb seq seq refl)
     ∙ (append-nil (filter p rows)
-    ∙ filter_keeps p rows (λ k d l. ap not (ne_eqb (get_or rows k d).0 seq (λ e. below k d l e))))))
+    ∙ filter_keeps p rows (λ k other_row l.
+    ap not (ne_eqb (get_or rows k other_row).0 seq (λ e. below k other_row l e))))))
   where
-    below : (k : ℕ) (d : ℕ × ℕ) → k < length rows → (get_or rows k d).0 ≡ seq → ⊥
-    below k d l e = let low = above k d l in omega (arith, e, low)
+    below : (k : ℕ) (other_row : ℕ × ℕ) → k < length rows → (get_or rows k other_row).0 ≡ seq → ⊥
+    below k other_row l e = let low = above k other_row l in omega (arith, e, low)

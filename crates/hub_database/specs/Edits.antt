@@ -24,32 +24,33 @@ draft_of doc = record { id = doc.id; rev = doc.rev; deleted = doc.deleted; body 
 -- what storing a document answers, and the journal after it: as a new edit, or as one that another database
 -- made
 abbrev pub stores_doc : Bool → ℕ → List Edit → Doc → Stores
-stores_doc new_edits limit J doc =
-    if new_edits then makes limit J (draft_of doc) else merges limit J (edit_of doc)
+stores_doc new_edits limit journal doc =
+    if new_edits then makes limit journal (draft_of doc) else merges limit journal (edit_of doc)
 
 -- documents one after the other, in a database that stands or was deleted
 abbrev pub writes : Bool → Bool → ℕ → List Edit → List Doc → StoresAll
-writes new_edits deleted limit J docs = stores_all (stores_doc new_edits limit) deleted J docs
+writes new_edits deleted limit journal docs = stores_all (stores_doc new_edits limit) deleted journal docs
 
 -- one document as a new edit
 abbrev pub makes_one : Bool → ℕ → List Edit → Doc → Stores
-makes_one deleted limit J doc = if deleted then refuses J fault.Deleted else makes limit J (draft_of doc)
+makes_one deleted limit journal doc =
+    if deleted then refuses journal fault.Deleted else makes limit journal (draft_of doc)
 
 -- Storing the document takes memory: an edit of another database that may be stored; one that is made here
 -- once it has a leaf and a generation left. A document whose revision is known, that contradicts, or that
 -- names no leaf needs none.
 abbrev pub NeedsRoom : Bool → List Edit → Doc → Type 0
-NeedsRoom true J doc = HasNextRevision J (draft_of doc)
-NeedsRoom false J doc = IsAcceptable J (edit_of doc)
+NeedsRoom true journal doc = HasNextRevision journal (draft_of doc)
+NeedsRoom false journal doc = IsAcceptable journal (edit_of doc)
 
 -- A batch stopped at this place: the database stands, and the document there, after those before it made up
 -- this journal, needed room. Of five documents with a known one in the middle a batch may stop at 0, 1, 3 or
 -- 4, and never at 2.
-pub record StopsAt (new_edits deleted : Bool) (J : List Edit) (at : ℕ) (docs : List Doc) : Type 0 where
+pub record StopsAt (new_edits deleted : Bool) (journal : List Edit) (at : ℕ) (docs : List Doc) : Type 0 where
   pub stands : deleted ≡ false
   pub doc : Doc
   pub there : slice_get docs at ≡ Some doc
-  pub needs : NeedsRoom new_edits J doc
+  pub needs : NeedsRoom new_edits journal doc
 
 -- what a call answers whose one edit came so: as an edit that is made is never known before, Known is told as
 -- a conflict

@@ -13,11 +13,11 @@ pub record Filed : Type 0 where
 
 -- the documents' ids, by number
 abbrev pub ids_of : List Filed → List (List ℕ)
-ids_of documents = map (λ (d : Filed). d.id) documents
+ids_of documents = map (λ (filed : Filed). filed.id) documents
 
 -- the edit with this id
 abbrev pub named : List ℕ → Edit → Edit
-named id e = record { id = id; path = e.path; deleted = e.deleted; body = e.body }
+named id edit = record { id = id; path = edit.path; deleted = edit.deleted; body = edit.body }
 
 abbrev pub no_edit : Edit
 no_edit = record { id = []; path = []; deleted = false; body = [] }
@@ -39,16 +39,17 @@ journal_of documents entries = map (edit_at documents) entries
 pub record IsFiled (limit : ℕ) (numbers : List ℕ
     → Option ℕ) (documents : List Filed) (entries : List Entry) : Type 0 where
   pub found : (id : List ℕ) (k : ℕ) → numbers id ≡ Some k
-      → (d : Filed) × (slice_get documents k ≡ Some d) × (d.id ≡ id)
-  pub own : (k : ℕ) (d : Filed) → slice_get documents k ≡ Some d → numbers d.id ≡ Some k
-  pub kept : (k : ℕ) (d : Filed) → slice_get documents k ≡ Some d
-      → edits_of (journal_of documents entries) d.id ≡ map (named d.id) d.edits
+      → (filed : Filed) × (slice_get documents k ≡ Some filed) × (filed.id ≡ id)
+  pub own : (k : ℕ) (filed : Filed) → slice_get documents k ≡ Some filed → numbers filed.id ≡ Some k
+  pub kept : (k : ℕ) (filed : Filed) → slice_get documents k ≡ Some filed
+      → edits_of (journal_of documents entries) filed.id ≡ map (named filed.id) filed.edits
   pub others : (id : List ℕ) → numbers id ≡ None → edits_of (journal_of documents entries) id ≡ []
   pub within : (i : ℕ) (x : Entry) → slice_get entries i ≡ Some x
-      → (d : Filed) × (slice_get documents x.document ≡ Some d) × (x.revision < length d.edits)
+      → (filed : Filed) × (slice_get documents x.document ≡ Some filed) × (x.revision < length filed.edits)
   pub legal : IsLegal (journal_of documents entries)
   pub count : length entries ≤ limit
   pub fewer : length documents ≤ length entries
-  pub one : (k : ℕ) (d : Filed) → slice_get documents k ≡ Some d → edits_of d.edits [] ≡ d.edits
-  pub some : (k : ℕ) (d : Filed) → slice_get documents k ≡ Some d → 1 ≤ length d.edits
+  pub one : (k : ℕ) (filed : Filed) → slice_get documents k ≡ Some filed
+      → edits_of filed.edits [] ≡ filed.edits
+  pub some : (k : ℕ) (filed : Filed) → slice_get documents k ≡ Some filed → 1 ≤ length filed.edits
   pub each : length documents ≡ length (current (journal_of documents entries))

@@ -9,19 +9,19 @@ use Rattle.hub_database.specs.declared.document.Document.{Document}
 use Rattle.hub_database.specs.Filed.{named}
 
 -- the document has the id, and its tree the journal's edits of it, their id left out
-pub record IsFound (J : List Edit) (id : List ℕ) (d : Document) : Type 0 where
-  pub same : d.id ≡ id
-  pub kept : edits_of J id ≡ map (named id) d.tree.edits
-  pub one : edits_of d.tree.edits [] ≡ d.tree.edits
+pub record IsFound (journal : List Edit) (id : List ℕ) (document : Document) : Type 0 where
+  pub same : document.id ≡ id
+  pub kept : edits_of journal id ≡ map (named id) document.tree.edits
+  pub one : edits_of document.tree.edits [] ≡ document.tree.edits
 
 -- what a document shows of a revision
 abbrev pub shown_in : Document → Revision → Option Edit
-shown_in d r = option_map (named d.id) (shown d.tree.edits [] r)
+shown_in document revision = option_map (named document.id) (shown document.tree.edits [] revision)
 
 -- what a document that is asked for misses, where that is anything
 abbrev pub wanted_diff : List Edit → Asked → Option Diff
-wanted_diff J a = if is_wanted (diff_of J a) then Some (diff_of J a) else None
+wanted_diff journal asked = if is_wanted (diff_of journal asked) then Some (diff_of journal asked) else None
 
 -- a known revision and all that stands behind it, where that is asked for
 abbrev pub history_of : Bool → List Edit → Revision → Option (List Revision)
-history_of revs edits r = if revs then path_to edits r else None
+history_of revs edits revision = if revs then path_to edits revision else None

@@ -8,7 +8,7 @@ use Rattle.hub_feed.specs.Handing as handing
 
 -- the list fits the feed while this is the journal, and that is one that a database can have
 abbrev pub IsFitting : List Edit → Feed → List ChangeItem → Type 0
-IsFitting J f items = handing.IsFitting change_rows IsLegal J f items
+IsFitting journal feed items = handing.IsFitting change_rows IsLegal journal feed items
 
 -- the list is rightly handed, by these parameters and above this sequence, for some journal that a database
 -- can have, some place and some bound

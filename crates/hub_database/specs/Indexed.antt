@@ -6,7 +6,7 @@ use Rattle.hub_database.specs.Filed.{Filed, journal_of}
 
 -- a document's id, with the sequence of its latest edit
 abbrev pub latest_of : Filed → List ℕ × ℕ
-latest_of d = (d.id, d.latest)
+latest_of filed = (filed.id, filed.latest)
 
 -- those of the document of this number, if there is one
 abbrev pub latest_at : List Filed → ℕ → Option (List ℕ × ℕ)

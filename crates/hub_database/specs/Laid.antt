@@ -6,5 +6,6 @@ use Rattle.hub_model.specs.Journal.{Edit}
 use Rattle.hub_model.proofs.Rows.{current_within}
 
 -- it is no later than the last
-pub rows_below : (J : List Edit) (c : Current) → Contains (current J) c → c.seq ≤ length J
-rows_below J c h = let w = current_within 1 J c h in omega (arith, w.1)
+pub rows_below : (journal : List Edit) (row : Current) → Contains (current journal) row
+    → row.seq ≤ length journal
+rows_below journal row h = let w = current_within 1 journal row h in omega (arith, w.1)

@@ -16,18 +16,19 @@ local_of locals id = find (λ l. bytes_eq l.id id) locals
 -- how often it will have been written, with one more
 abbrev pub next_count : Option Local → ℕ
 next_count None = 1
-next_count (Some l) = l.count + 1
+next_count (Some local) = local.count + 1
 
 -- a local document put before, in the place of, or behind another and those after it
 abbrev pub put_at : Ordering → Local → Local → List Local → List Local → List Local
-put_at Less l m ms rest = l ∷ m ∷ ms
-put_at Equal l m ms rest = l ∷ ms
-put_at Greater l m ms rest = m ∷ rest
+put_at Less other local locals rest = other ∷ local ∷ locals
+put_at Equal other local locals rest = other ∷ locals
+put_at Greater other local locals rest = local ∷ rest
 
 -- the local documents with this one, in the place of the one of its id if there is one
 abbrev pub put_local : Local → List Local → List Local
-put_local l [] = l ∷ []
-put_local l (m ∷ ms) = put_at (slice_cmp nat_cmp l.id m.id) l m ms (put_local l ms)
+put_local other [] = other ∷ []
+put_local other (local ∷ locals) =
+    put_at (slice_cmp nat_cmp other.id local.id) other local locals (put_local other locals)
 
 -- a document as it is kept once it is written
 abbrev pub written : List Local → LocalDoc → Local

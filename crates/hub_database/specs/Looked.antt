@@ -26,19 +26,20 @@ use Rattle.hub_database.specs.declared.document.Looked.TheVariants.{Known, Refus
 -- what storing an edit of the document answers, and the journal after it: an edit that comes with its history
 -- is merged, and one that is made here gets its revision
 abbrev pub stores_from : ℕ → List Edit → List ℕ → Origin → Bool → List ℕ → Stores
-stores_from limit J id (Elsewhere path) deleted body = merges limit J (named id (nameless path deleted body))
-stores_from limit J id (Here rev) deleted body = makes limit J (draft id rev deleted body)
+stores_from limit journal id (Elsewhere path) deleted body =
+    merges limit journal (named id (nameless path deleted body))
+stores_from limit journal id (Here rev) deleted body = makes limit journal (draft id rev deleted body)
 
 -- what storing an incoming edit of the document answers, and the journal after it
 abbrev pub stores_edit : ℕ → List Edit → List ℕ → Incoming → Stores
-stores_edit limit J id edit = stores_from limit J id edit.origin edit.deleted edit.body
+stores_edit limit journal id edit = stores_from limit journal id edit.origin edit.deleted edit.body
 
 -- ---- looks
 
 -- what is said of an edit with its history, by whether its head is known, and whether the edits may take it
 abbrev pub look_by : Edit → Bool → Bool → Looked
-look_by e known acceptable =
-    if known then Known else if acceptable then Ready e else Refused fault.Contradicts
+look_by edit known acceptable =
+    if known then Known else if acceptable then Ready edit else Refused fault.Contradicts
 
 -- what is said of an edit that is made here: what it becomes, or why it becomes none
 abbrev pub look_made : Result Edit EditFault → Looked
@@ -61,27 +62,28 @@ look_at id edits edit = look_from id edits edit.origin edit.deleted edit.body
 -- and what is refused keeps its reason
 abbrev pub unless_full : Bool → Looked → Looked
 unless_full true (Ready e) = Refused fault.SequenceFull
-unless_full full l = l
+unless_full full looked = looked
 
 -- an edit that is to be stored may stand after these edits, its id left out
 abbrev pub IsStorable : List Edit → Looked → Type 0
 IsStorable edits (Ready e) = (e.id ≡ []) × IsAcceptable edits e
-IsStorable edits l = Unit {0}
+IsStorable edits looked = Unit {0}
 
 -- a tree with room for so many revisions has room for an edit that is to be stored
 abbrev pub HasRoom : ℕ → Looked → Type 0
 HasRoom room (Ready e) = length e.path ≤ room
-HasRoom room l = Unit {0}
+HasRoom room looked = Unit {0}
 
 -- storing an edit of the document takes memory: one with its history may be stored, and one that is made here
 -- has a leaf to extend and a generation left
 abbrev pub NeedsRoomFrom : List Edit → List ℕ → Origin → Bool → List ℕ → Type 0
-NeedsRoomFrom J id (Elsewhere path) deleted body = IsAcceptable J (named id (nameless path deleted body))
-NeedsRoomFrom J id (Here rev) deleted body = HasNextRevision J (draft id rev deleted body)
+NeedsRoomFrom journal id (Elsewhere path) deleted body =
+    IsAcceptable journal (named id (nameless path deleted body))
+NeedsRoomFrom journal id (Here rev) deleted body = HasNextRevision journal (draft id rev deleted body)
 
 -- storing an incoming edit of the document takes memory
 abbrev pub NeedsRoomFor : List Edit → List ℕ → Incoming → Type 0
-NeedsRoomFor J id edit = NeedsRoomFrom J id edit.origin edit.deleted edit.body
+NeedsRoomFor journal id edit = NeedsRoomFrom journal id edit.origin edit.deleted edit.body
 
 -- what a write answers that was said this of
 abbrev pub outcome_of : Looked → Outcome Revision
@@ -100,8 +102,9 @@ pub record Setting : Type 0 where
 
 -- what is said there of an incoming edit, where the journal takes so many edits
 abbrev pub look_in : ℕ → Setting → Incoming → Looked
-look_in limit s edit =
-    unless_full (nat_le limit (length s.entries)) (look_at s.document.id s.document.edits edit)
+look_in limit setting edit =
+    unless_full (nat_le limit (length setting.entries))
+    (look_at setting.document.id setting.document.edits edit)
 
 -- The definitions below say what a write leaves of each thing that it may change, by what was said of its
 -- edit. Only Ready changes anything. Where document 3 has two edits and the journal seven entries, Ready
@@ -110,35 +113,40 @@ look_in limit s edit =
 
 -- the document: an edit that is stored is its latest
 abbrev pub document_after : Looked → Setting → Filed
-document_after (Ready e) s =
-    record { id = s.document.id; latest = length s.entries + 1; edits = s.document.edits ++ e ∷ [] }
-document_after l s = s.document
+document_after (Ready e) setting =
+    record {
+      id = setting.document.id;
+      latest = length setting.entries + 1;
+      edits = setting.document.edits
+          ++ e ∷ [];
+    }
+document_after looked setting = setting.document
 
 -- the entries: the last is that of the edit that is stored
 abbrev pub entries_after : Looked → Setting → List Entry
-entries_after (Ready e) s =
-    s.entries ++ record { document = s.number; revision = length s.document.edits } ∷ []
-entries_after l s = s.entries
+entries_after (Ready e) setting =
+    setting.entries ++ record { document = setting.number; revision = length setting.document.edits } ∷ []
+entries_after looked setting = setting.entries
 
 -- the rows: the document's is the last, at the sequence of the edit that is stored
 abbrev pub rows_after : Looked → Setting → List (ℕ × ℕ)
-rows_after (Ready e) s = moved s.rows s.number (length s.entries + 1)
-rows_after l s = s.rows
+rows_after (Ready e) setting = moved setting.rows setting.number (length setting.entries + 1)
+rows_after looked setting = setting.rows
 
 -- the journal: the edit that is stored stands last, with its document's id
 abbrev pub journal_after : Looked → List ℕ → List Edit → List Edit
-journal_after (Ready e) id J = J ++ named id e ∷ []
-journal_after l id J = J
+journal_after (Ready e) id journal = journal ++ named id e ∷ []
+journal_after looked id journal = journal
 
 -- the documents: that of a first edit that is stored stands last
 abbrev pub documents_after : Looked → Setting → List Filed → List Filed
-documents_after (Ready e) s documents = documents ++ document_after (Ready e) s ∷ []
-documents_after l s documents = documents
+documents_after (Ready e) setting documents = documents ++ document_after (Ready e) setting ∷ []
+documents_after looked setting documents = documents
 
 -- the numbers by id: the document of a first edit that is stored has this one
 abbrev pub numbers_after : Looked → List ℕ → ℕ → (List ℕ → Option ℕ) → List ℕ → Option ℕ
 numbers_after (Ready e) id number numbers = update bytes_eq numbers id (Some number)
-numbers_after l id number numbers = numbers
+numbers_after looked id number numbers = numbers
 
 -- An edit of a document that was there was written: the write answers what the look says, and leaves the
 -- document, the entries and the rows that follow from it.

@@ -18,14 +18,14 @@ use Rattle.hub_database.specs.declared.answers.Info.{Info}
 
 -- an edit as a document, with its history where that is asked for
 abbrev pub doc_shown : Bool → Edit → Doc
-doc_shown revs e =
+doc_shown revs edit =
     record {
-      id = e.id;
-      rev = head_of e;
+      id = edit.id;
+      rev = head_of edit;
       path = if revs
-          then Some e.path else None;
-      deleted = e.deleted;
-      body = e.body;
+          then Some edit.path else None;
+      deleted = edit.deleted;
+      body = edit.body;
     }
 
 -- a document without its history
@@ -34,62 +34,62 @@ bare_doc id rev deleted body = record { id = id; rev = Some rev; path = None; de
 
 -- what is shown of a revision, where it has a body
 abbrev pub open_rev_of : Bool → Revision → Option Edit → OpenRev
-open_rev_of revs r None = opened.Missing r
-open_rev_of revs r (Some e) = opened.Found (doc_shown revs e)
+open_rev_of revs revision None = opened.Missing revision
+open_rev_of revs revision (Some edit) = opened.Found (doc_shown revs edit)
 
 -- what is shown of a revision of a document
 abbrev pub open_rev : List Edit → List ℕ → Bool → Revision → OpenRev
-open_rev J id revs r = open_rev_of revs r (shown J id r)
+open_rev journal id revs revision = open_rev_of revs revision (shown journal id revision)
 
 -- the revisions that are asked for: every leaf, best first, or those listed, in their order
 abbrev pub asked_of : List Edit → List ℕ → OpenRevs → List Revision
-asked_of J id All = revisions_of (leaves_of J id)
-asked_of J id (Listed revs) = revs
+asked_of journal id All = revisions_of (leaves_of journal id)
+asked_of journal id (Listed revs) = revs
 
 -- what is shown of each of them
 abbrev pub open_revs : List Edit → List ℕ → OpenRevs → Bool → List OpenRev
-open_revs J id which revs = map (open_rev J id revs) (asked_of J id which)
+open_revs journal id which revs = map (open_rev journal id revs) (asked_of journal id which)
 
 -- what is shown of a document: its winner, unless that is deleted
 abbrev pub lookup_of : List Edit → List ℕ → Bool → List Leaf → Lookup
-lookup_of J id revs [] = looked.Unknown
-lookup_of J id revs (winner ∷ others) =
+lookup_of journal id revs [] = looked.Unknown
+lookup_of journal id revs (winner ∷ others) =
     if winner.edit.deleted
     then looked.Deleted
     else looked.Found (doc_shown revs (record {
       id = id;
-      path = line_of J id winner.rev;
+      path = line_of journal id winner.rev;
       deleted = winner.edit.deleted;
       body = winner.edit.body;
     }))
 
 -- the document of this id, as a journal has it
 abbrev pub lookup : List Edit → List ℕ → Bool → Lookup
-lookup J id revs = lookup_of J id revs (leaves_of J id)
+lookup journal id revs = lookup_of journal id revs (leaves_of journal id)
 
 -- the document is found: it has a winner that is not deleted
 abbrev pub HasDocument : List Edit → List ℕ → Bool → Type 0
-HasDocument J id revs = (doc : Doc) × (lookup J id revs ≡ looked.Found doc)
+HasDocument journal id revs = (doc : Doc) × (lookup journal id revs ≡ looked.Found doc)
 
 -- how many documents have a winner that is not deleted, how many have a deleted one, how many edits there
 -- are, and of which life
 abbrev pub info_of : List Edit → (life : ℕ) → Info
-info_of J life = record {
-  doc_count = count_by (λ c. not (is_deleted (leaves_of J c.id))) (current J);
-  doc_del_count = count_by (λ c. is_deleted (leaves_of J c.id)) (current J);
-  update_seq = length J;
+info_of journal life = record {
+  doc_count = count_by (λ c. not (is_deleted (leaves_of journal c.id))) (current journal);
+  doc_del_count = count_by (λ c. is_deleted (leaves_of journal c.id)) (current journal);
+  update_seq = length journal;
   life = life;
 }
 
 -- the edit of this sequence
 abbrev pub entry_at : List Edit → ℕ → Option Edit
-entry_at J zero = None
-entry_at J (suc k) = slice_get J k
+entry_at journal zero = None
+entry_at journal (suc k) = slice_get journal k
 
 -- its id and its revision
 abbrev pub entry_of : List Edit → ℕ → Option (List ℕ × Revision)
-entry_of J n = option_and_then (λ e. option_map (λ r. (e.id, r)) (head_of e)) (entry_at J n)
+entry_of journal n = option_and_then (λ e. option_map (λ r. (e.id, r)) (head_of e)) (entry_at journal n)
 
 -- the whole of it
 abbrev pub entry_doc_of : List Edit → ℕ → Option Doc
-entry_doc_of J n = option_map (doc_shown true) (entry_at J n)
+entry_doc_of journal n = option_map (doc_shown true) (entry_at journal n)

@@ -18,7 +18,7 @@ use Rattle.hub_database.specs.Indexed.{IsIndexed}
 
 -- a document without what its tree has memory for
 abbrev pub filed : Document → Filed
-filed d = record { id = d.id; latest = d.latest; edits = d.tree.edits }
+filed document = record { id = document.id; latest = document.latest; edits = document.tree.edits }
 
 -- the documents of a store
 abbrev pub files : List Document → List Filed
@@ -43,7 +43,7 @@ pub record IsStore (store : Store) : Type 0 where
 
 -- how many documents of a journal have a deleted winner
 abbrev pub deleted_in : List Edit → ℕ
-deleted_in J = count_by (λ c. is_deleted (leaves_of J c.id)) (current J)
+deleted_in journal = count_by (λ c. is_deleted (leaves_of journal c.id)) (current journal)
 
 -- the store's count of documents with a deleted winner is that of its journal
 abbrev pub IsCounted : Store → Type 0
@@ -68,8 +68,8 @@ pub record IsSameStore (old new : Store) : Type 0 where
 
 -- where an edit is stored of a document that is there
 abbrev pub setting_of : ℕ → Document → List Entry → List (ℕ × ℕ) → Setting
-setting_of number d entries rows =
-    record { number = number; document = filed d; entries = entries; rows = rows }
+setting_of number document entries rows =
+    record { number = number; document = filed document; entries = entries; rows = rows }
 
 -- a document before its first edit
 abbrev pub unwritten : List ℕ → Filed

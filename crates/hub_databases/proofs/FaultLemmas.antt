@@ -7,13 +7,13 @@ use Rattle.hub_databases.specs.Kept.{NamesState}
 use Rattle.hub_databases.specs.Refusals.{IsCreationFault, IsFree, IsRemovalFault}
 
 -- of a creation under a name that was free
-pub creation_unnoted : (s : NamesState) (name : List ℕ) (fault : NoteFault) → IsFree s name
-    → IsCreationFault s name (fault_of fault)
-creation_unnoted s name note.NoMemory free = free
-creation_unnoted s name note.SequenceFull free = free
+pub creation_unnoted : (state : NamesState) (name : List ℕ) (fault : NoteFault) → IsFree state name
+    → IsCreationFault state name (fault_of fault)
+creation_unnoted state name note.NoMemory free = free
+creation_unnoted state name note.SequenceFull free = free
 
 -- of a removal of a name that was there
-pub removal_unnoted : (s : NamesState) (name : List ℕ) (fault : NoteFault) → Contains s.names name
-    → IsRemovalFault s name (fault_of fault)
-removal_unnoted s name note.NoMemory there = there
-removal_unnoted s name note.SequenceFull there = there
+pub removal_unnoted : (state : NamesState) (name : List ℕ) (fault : NoteFault) → Contains state.names name
+    → IsRemovalFault state name (fault_of fault)
+removal_unnoted state name note.NoMemory there = there
+removal_unnoted state name note.SequenceFull there = there

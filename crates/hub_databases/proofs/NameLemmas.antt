@@ -34,12 +34,12 @@ names_put [] key what = refl
 names_put (e ∷ es) key what =
     from (slice_cmp nat_cmp (string_bytes key) (string_bytes e.0)) (names_put es key what)
   where
-    from : (o : Ordering)
+    from : (ordering : Ordering)
         → names_of (insert_entry string_cmp es key what)
         ≡ insert_key (slice_cmp nat_cmp) (names_of es) (string_bytes key)
-        → names_of (match_ordering o ((key, what) ∷ e ∷ es) ((e.0, what) ∷ es)
+        → names_of (match_ordering ordering ((key, what) ∷ e ∷ es) ((e.0, what) ∷ es)
         (e ∷ insert_entry string_cmp es key what))
-        ≡ match_ordering o
+        ≡ match_ordering ordering
         (string_bytes key ∷ string_bytes e.0 ∷ names_of es) (string_bytes e.0 ∷ names_of es)
         (string_bytes e.0 ∷ insert_key (slice_cmp nat_cmp) (names_of es) (string_bytes key))
     from Less h = refl
@@ -73,10 +73,11 @@ out_again (n ∷ names) name absent =
     from (slice_cmp nat_cmp name n) refl
     (out_again names name (λ there. absent (suc there.0, omega arith, there.2)))
   where
-    from : (o : Ordering) → slice_cmp nat_cmp name n ≡ o
+    from : (ordering : Ordering) → slice_cmp nat_cmp name n ≡ ordering
         → remove_key (bytes_eq name) (insert_key (slice_cmp nat_cmp) names name) ≡ names
         → remove_key (bytes_eq name)
-        (match_ordering o (name ∷ n ∷ names) (n ∷ names) (n ∷ insert_key (slice_cmp nat_cmp) names name))
+        (match_ordering ordering (name ∷ n ∷ names) (n ∷ names)
+        (n ∷ insert_key (slice_cmp nat_cmp) names name))
         ≡ n ∷ names
     from Less is h =
         ap (λ b. cond b (n ∷ names) (name ∷ remove_key (bytes_eq name) (n ∷ names)))
@@ -88,10 +89,10 @@ out_again (n ∷ names) name absent =
         (sym (is_eq-slice_cmp name n) ∙ ap is_eq is)
         ∙ ap (λ ns. n ∷ ns) h
 
-pub taken_back : (s : NamesState) (name : List ℕ) → ¬ Contains s.names name
-    → without_name name (with_name name s) ≡ s
-taken_back s name absent =
-    ap (λ (ns : List (List ℕ)). record s { names = ns }) (out_again s.names name absent)
+pub taken_back : (state : NamesState) (name : List ℕ) → ¬ Contains state.names name
+    → without_name name (with_name name state) ≡ state
+taken_back state name absent =
+    ap (λ (ns : List (List ℕ)). record state { names = ns }) (out_again state.names name absent)
 
 -- keys in order are names in order
 above : {Y : Type 0} (key : String Y) (keys : List (String Y))
@@ -136,10 +137,10 @@ module _ {Y V : Type 0} (name_of : V → List ℕ) where
       from (slice_cmp nat_cmp (string_bytes key) (string_bytes e.0)) refl
       (own_put es key what (All-tail Own e es all) own)
     where
-      from : (o : Ordering) → slice_cmp nat_cmp (string_bytes key) (string_bytes e.0) ≡ o
+      from : (ordering : Ordering) → slice_cmp nat_cmp (string_bytes key) (string_bytes e.0) ≡ ordering
           → All Own (insert_entry string_cmp es key what)
           → All Own
-          (match_ordering o ((key, what) ∷ e ∷ es) ((e.0, what) ∷ es)
+          (match_ordering ordering ((key, what) ∷ e ∷ es) ((e.0, what) ∷ es)
           (e ∷ insert_entry string_cmp es key what))
       from Less is h = All-cons Own (key, what) (e ∷ es) own all
       from Equal is h =
@@ -165,10 +166,10 @@ module _ {Y V : Type 0} (name_of : V → List ℕ) where
   own_found (e ∷ es) name all =
       from (slice_cmp nat_cmp name (string_bytes e.0)) refl (own_found es name (All-tail Own e es all))
     where
-      from : (o : Ordering) → slice_cmp nat_cmp name (string_bytes e.0) ≡ o
+      from : (ordering : Ordering) → slice_cmp nat_cmp name (string_bytes e.0) ≡ ordering
           → IfSome (lookup (is_at (λ k. slice_cmp nat_cmp name (string_bytes k))) es)
           (λ what. name_of what ≡ name)
-          → IfSome (cond (is_eq o) (Some e.1)
+          → IfSome (cond (is_eq ordering) (Some e.1)
           (lookup (is_at (λ k. slice_cmp nat_cmp name (string_bytes k))) es))
           (λ what. name_of what ≡ name)
       from Less is h = h

@@ -28,15 +28,15 @@ pub record NamesState : Type 0 where
 
 -- with a name more, at its place in the order: a and c with b are a, b and c
 abbrev pub with_name : List ℕ → NamesState → NamesState
-with_name name s = record s { names = insert_key (slice_cmp nat_cmp) s.names name }
+with_name name state = record state { names = insert_key (slice_cmp nat_cmp) state.names name }
 
 -- with a database that was made under a name, and counted
 abbrev pub with_made : List ℕ → NamesState → NamesState
-with_made name s = record (with_name name s) { made = s.made + 1 }
+with_made name state = record (with_name name state) { made = state.made + 1 }
 
 -- without a name
 abbrev pub without_name : List ℕ → NamesState → NamesState
-without_name name s = record s { names = remove_key (bytes_eq name) s.names }
+without_name name state = record state { names = remove_key (bytes_eq name) state.names }
 
 -- the names that the entries of a map stand under
 abbrev pub names_of : {Y V : Type 0} → List (String Y × V) → List (List ℕ)

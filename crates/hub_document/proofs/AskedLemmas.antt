@@ -15,10 +15,10 @@ use Rattle.hub_document.specs.declared.doc.DocFault.TheVariants.{BadRev}
 abbrev AsksSome : Option (List Asked) → Type 0
 AsksSome asked = IsOkAnd (or_fault asked BadRev Ok) (λ v. 0 < length v)
 
-one_in_front : (a : Asked) (rest : Option (List Asked)) → is_some (in_front a rest) ≡ true
-    → AsksSome (in_front a rest)
-one_in_front a None h = absurd (true≢false (sym h))
-one_in_front a (Some others) h = let some : 0 < length (a ∷ others) = omega arith in some
+one_in_front : (asked : Asked) (rest : Option (List Asked)) → is_some (in_front asked rest) ≡ true
+    → AsksSome (in_front asked rest)
+one_in_front asked None h = absurd (true≢false (sym h))
+one_in_front asked (Some others) h = let some : 0 < length (asked ∷ others) = omega arith in some
 
 one_more : (id : List ℕ) (revs : Option (List Revision)) (rest : Option (List Asked))
     → is_some (option_and_then (λ r. in_front (record { id = id; revs = r }) rest) revs) ≡ true

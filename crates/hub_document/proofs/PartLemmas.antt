@@ -42,10 +42,11 @@ pub head_is : (id : List ℕ) → head_text id ≡ codes "{\"_id\":" ++ quoted i
 unfolding head_text
 head_is id = ap (λ l. 123 ∷ l) (id_name (quoted id))
 
-pub rev_is : (r : Revision) → after_commas (rev_member (Some r)) ≡ codes ",\"_rev\":" ++ quoted (text_of r)
-rev_is r =
-    one_after (member_text (codes "_rev") (quoted (text_of r)))
-    ∙ ap (λ l. 44 ∷ l) (rev_name (quoted (text_of r)))
+pub rev_is : (revision : Revision) → after_commas (rev_member (Some revision)) ≡ codes ",\"_rev\":"
+    ++ quoted (text_of revision)
+rev_is revision =
+    one_after (member_text (codes "_rev") (quoted (text_of revision)))
+    ∙ ap (λ l. 44 ∷ l) (rev_name (quoted (text_of revision)))
 
 pub deleted_is : after_commas (deleted_member true) ≡ codes ",\"_deleted\":true"
 deleted_is =
@@ -100,32 +101,35 @@ joined : (p : List ℕ) (ms : List (List ℕ)) → join_with_byte 44 (p ∷ ms) 
 joined p [] = sym (append-nil p)
 joined p (m ∷ ms) = ap (λ l. p ++ 44 ∷ l) (joined m ms)
 
-later_hashes : (rs : List Revision)
-    → after_commas (map (λ r. quoted r.hash) rs) ≡ flat_map (λ r. 44 ∷ quoted r.hash) rs
+later_hashes : (revisions : List Revision)
+    → after_commas (map (λ revision. quoted revision.hash) revisions) ≡ flat_map
+    (λ revision. 44 ∷ quoted revision.hash) revisions
 later_hashes [] = refl
-later_hashes (r ∷ rs) = ap (λ l. (44 ∷ quoted r.hash) ++ l) (later_hashes rs)
+later_hashes (revision ∷ revisions) = ap (λ l. (44 ∷ quoted revision.hash) ++ l) (later_hashes revisions)
 
-all_hashes : (r : Revision) (rs : List Revision)
-    → ids_text (r ∷ rs) ≡ quoted r.hash ++ flat_map (λ s. 44 ∷ quoted s.hash) rs
+all_hashes : (revision : Revision) (revisions : List Revision)
+    → ids_text (revision ∷ revisions) ≡ quoted revision.hash ++ flat_map (λ s. 44 ∷ quoted s.hash) revisions
 unfolding ids_text
 all_hashes r rs =
     joined (quoted r.hash) (map (λ s. quoted s.hash) rs) ∙ ap (λ l. quoted r.hash ++ l) (later_hashes rs)
 
-pub no_hashes : (held : List ℕ) (rs : List Revision) → length rs ≡ 0 → held ≡ held ++ ids_text rs
+pub no_hashes : (held : List ℕ) (revisions : List Revision) → length revisions ≡ 0 → held ≡ held
+    ++ ids_text revisions
 unfolding ids_text
 no_hashes held [] e = sym (append-nil held)
 no_hashes held (r ∷ rs) e = absurd (omega (arith, e))
 
 -- the first one, and then all the others
-pub hashes_written : (held mid new : List ℕ) (r : Revision) (rs all : List Revision) (i : ℕ) → all ≡ r ∷ rs
-    → mid ≡ held ++ quoted r.hash
-    → new ≡ mid ++ flat_map (λ s. 44 ∷ quoted s.hash) (take i rs) → length rs ≤ i → new ≡ held ++ ids_text all
-hashes_written held mid new r rs all i e first later end =
+pub hashes_written : (held mid new : List ℕ) (revision : Revision) (revisions all : List Revision) (i : ℕ)
+    → all ≡ revision ∷ revisions → mid ≡ held ++ quoted revision.hash
+    → new ≡ mid ++ flat_map (λ s. 44 ∷ quoted s.hash) (take i revisions) → length revisions ≤ i → new ≡ held
+    ++ ids_text all
+hashes_written held mid new revision revisions all i e first later end =
     later
-    ∙ ap (λ l. mid ++ flat_map (λ s. 44 ∷ quoted s.hash) l) (take_all i rs end)
-    ∙ ap (λ l. l ++ flat_map (λ s. 44 ∷ quoted s.hash) rs) first
-    ∙ append_assoc held (quoted r.hash) (flat_map (λ s. 44 ∷ quoted s.hash) rs)
-    ∙ ap (λ l. held ++ l) (sym (ap ids_text e ∙ all_hashes r rs))
+    ∙ ap (λ l. mid ++ flat_map (λ s. 44 ∷ quoted s.hash) l) (take_all i revisions end)
+    ∙ ap (λ l. l ++ flat_map (λ s. 44 ∷ quoted s.hash) revisions) first
+    ∙ append_assoc held (quoted revision.hash) (flat_map (λ s. 44 ∷ quoted s.hash) revisions)
+    ∙ ap (λ l. held ++ l) (sym (ap ids_text e ∙ all_hashes revision revisions))
 
 pub history_parts : (path : List Revision)
     → history_text path ≡ start_text (generation_of (parent_of path)) ++ (ids_text path ++ codes "]}")
@@ -168,10 +172,10 @@ four_commas a b c d z =
     (append_assoc (after_commas b) (after_commas c ++ after_commas d) z
     ∙ ap (λ l. after_commas b ++ l) (append_assoc (after_commas c) (after_commas d) z))
 
-doc_parts : (d : Doc)
-    → doc_text d ≡ head_text d.id ++ (after_commas (rev_member d.rev)
-    ++ (after_commas (deleted_member d.deleted)
-    ++ (after_commas (history_member d.path) ++ rest_text d.body)))
+doc_parts : (doc : Doc)
+    → doc_text doc ≡ head_text doc.id ++ (after_commas (rev_member doc.rev)
+    ++ (after_commas (deleted_member doc.deleted)
+    ++ (after_commas (history_member doc.path) ++ rest_text doc.body)))
 unfolding doc_text rest_text
 doc_parts d =
     object_parts d.id
@@ -181,19 +185,19 @@ doc_parts d =
     (if_some (inside d.body)) (codes "}"))
 
 -- the front of it, and then the rest
-pub doc_written : (held mid new : List ℕ) (d : Doc) → mid ≡ held ++ special_text d
-    → new ≡ mid ++ rest_text d.body → new ≡ held ++ doc_text d
-doc_written held mid new d front rest =
-    let h = head_text d.id in
-    let r = after_commas (rev_member d.rev) in
-    let m = after_commas (deleted_member d.deleted) in
-    let p = after_commas (history_member d.path) in
-    rest ∙ ap (λ l. l ++ rest_text d.body) front ∙ append_assoc held (special_text d) (rest_text d.body)
+pub doc_written : (held mid new : List ℕ) (doc : Doc) → mid ≡ held ++ special_text doc
+    → new ≡ mid ++ rest_text doc.body → new ≡ held ++ doc_text doc
+doc_written held mid new doc front rest =
+    let h = head_text doc.id in
+    let r = after_commas (rev_member doc.rev) in
+    let m = after_commas (deleted_member doc.deleted) in
+    let p = after_commas (history_member doc.path) in
+    rest ∙ ap (λ l. l ++ rest_text doc.body) front ∙ append_assoc held (special_text doc) (rest_text doc.body)
     ∙ ap (λ l. held ++ l)
-    (append_assoc h (r ++ (m ++ p)) (rest_text d.body)
+    (append_assoc h (r ++ (m ++ p)) (rest_text doc.body)
     ∙ ap (λ l. h ++ l)
-    (append_assoc r (m ++ p) (rest_text d.body) ∙ ap (λ l. r ++ l) (append_assoc m p (rest_text d.body))))
-    ∙ ap (λ l. held ++ l) (sym (doc_parts d))
+    (append_assoc r (m ++ p) (rest_text doc.body) ∙ ap (λ l. r ++ l) (append_assoc m p (rest_text doc.body))))
+    ∙ ap (λ l. held ++ l) (sym (doc_parts doc))
 
 pub local_parts : (id : List ℕ) (n : ℕ) (body : List ℕ)
     → local_text id n body ≡ head_text id ++ (count_text n ++ rest_text body)

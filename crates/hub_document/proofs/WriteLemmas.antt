@@ -75,17 +75,21 @@ dashed_plain bs plain =
     ∙ ap (λ l. 45 ∷ l) plain
 
 -- so a hash stands between its quotes as it is
-pub quoted_hash : (r : Revision) → IsRevision r → quoted r.hash ≡ 34 ∷ (r.hash ++ 34 ∷ [])
-quoted_hash r good = ap (λ l. 34 ∷ (l ++ 34 ∷ [])) (letters_plain r.hash good.letters)
+pub quoted_hash : (revision : Revision) → IsRevision revision → quoted revision.hash ≡ 34
+    ∷ (revision.hash ++ 34 ∷ [])
+quoted_hash revision good = ap (λ l. 34 ∷ (l ++ 34 ∷ [])) (letters_plain revision.hash good.letters)
 
 -- and so does a revision
-pub quoted_text : (r : Revision) → IsRevision r → quoted (text_of r) ≡ 34 ∷ (text_of r ++ 34 ∷ [])
-quoted_text r good =
-    let dash : escape (45 ∷ r.hash) ≡ 45 ∷ r.hash = dashed_plain r.hash (letters_plain r.hash good.letters) in
-    let whole : escape (text_of r) ≡ text_of r =
-    escape-append (decimal r.generation) (45 ∷ r.hash)
-    ∙ ap (λ l. l ++ escape (45 ∷ r.hash)) (decimal_plain r.generation (omega (arith, good.below)))
-    ∙ ap (λ l. decimal r.generation ++ l) dash in
+pub quoted_text : (revision : Revision) → IsRevision revision → quoted (text_of revision) ≡ 34
+    ∷ (text_of revision ++ 34 ∷ [])
+quoted_text revision good =
+    let dash : escape (45 ∷ revision.hash) ≡ 45
+    ∷ revision.hash = dashed_plain revision.hash (letters_plain revision.hash good.letters) in
+    let whole : escape (text_of revision) ≡ text_of revision =
+    escape-append (decimal revision.generation) (45 ∷ revision.hash)
+    ∙ ap (λ l. l ++ escape (45 ∷ revision.hash))
+    (decimal_plain revision.generation (omega (arith, good.below)))
+    ∙ ap (λ l. decimal revision.generation ++ l) dash in
     ap (λ l. 34 ∷ (l ++ 34 ∷ [])) whole
 
 -- and so does the revision of a local document

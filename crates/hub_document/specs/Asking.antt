@@ -24,7 +24,7 @@ revs_of (item d ds) = option_and_then (λ r. in_front r (revs_of ds)) (rev_in d)
 
 -- the revisions of a value, where it is an array of them
 abbrev pub revs_in : Data → Option (List Revision)
-revs_in d = option_and_then revs_of (as_array d)
+revs_in content = option_and_then revs_of (as_array content)
 
 -- whether each item is a text
 abbrev pub are_texts : Items → Bool
@@ -45,8 +45,8 @@ asked_of (member id d ms) =
 
 -- what a value asks: an object of arrays of texts, or else that fault; each text a revision, or else that one
 abbrev pub asked_in : Data → Result (List Asked) DocFault
-asked_in d =
-    or_fault (as_object d) NotObject (λ ms.
+asked_in content =
+    or_fault (as_object content) NotObject (λ ms.
     or_fault (if_holds (are_lists ms)) NotObject (λ _.
     or_fault (asked_of ms) BadRev Ok))
 

@@ -16,4 +16,4 @@ plain (member k d ms) = if is_hidden k then plain ms else member k d (plain ms)
 
 -- their compact text: one object
 abbrev pub body_text : Members → List ℕ
-body_text ms = compact_text (object (plain ms))
+body_text members = compact_text (object (plain members))

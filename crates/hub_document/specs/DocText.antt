@@ -15,7 +15,7 @@ member_text name value = quoted name ++ 58 ∷ value
 -- `_rev`, where a revision is named
 abbrev pub rev_member : Option Revision → List (List ℕ)
 rev_member None = []
-rev_member (Some r) = member_text (codes "_rev") (quoted (text_of r)) ∷ []
+rev_member (Some revision) = member_text (codes "_rev") (quoted (text_of revision)) ∷ []
 
 -- `_deleted`, where the document is deleted
 abbrev pub deleted_member : Bool → List (List ℕ)
@@ -45,13 +45,14 @@ if_some (b ∷ bs) = (b ∷ bs) ∷ []
 
 -- the members of a document: its id, its revision, whether it is deleted, its history, and its own
 abbrev pub members_of : Doc → List (List ℕ)
-members_of d =
-    member_text (codes "_id") (quoted d.id)
-    ∷ (rev_member d.rev ++ (deleted_member d.deleted ++ (history_member d.path ++ if_some (inside d.body))))
+members_of doc =
+    member_text (codes "_id") (quoted doc.id)
+    ∷ (rev_member doc.rev ++ (deleted_member doc.deleted
+    ++ (history_member doc.path ++ if_some (inside doc.body))))
 
 -- the document
 unfoldable pub doc_text : Doc → List ℕ
-doc_text d = codes "{" ++ (join_with_byte 44 (members_of d) ++ codes "}")
+doc_text doc = codes "{" ++ (join_with_byte 44 (members_of doc) ++ codes "}")
 
 -- the document with these members that a row shows: the first of its revisions is the winner
 abbrev pub row_doc : ChangeRow → List ℕ → Doc

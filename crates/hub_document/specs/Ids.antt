@@ -23,7 +23,7 @@ if_id s = if is_id s then Some s else None
 
 -- the id that `_id` gives
 abbrev pub id_of : Data → Option (List ℕ)
-id_of d = option_and_then if_id (option_and_then as_str (get (codes "_id") d))
+id_of content = option_and_then if_id (option_and_then as_str (get (codes "_id") content))
 
 -- the text, where it is an id of 512 bytes at most
 abbrev pub short_id : List ℕ → Option (List ℕ)

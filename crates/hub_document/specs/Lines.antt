@@ -4,5 +4,5 @@ use Rattle.hub_model.specs.Revision.{Revision, is_same}
 
 -- the revision and all behind it; nothing where the path does not name it
 abbrev pub from_on : Revision → List Revision → List Revision
-from_on r [] = []
-from_on r (s ∷ older) = if is_same r s then s ∷ older else from_on r older
+from_on revision [] = []
+from_on revision (other ∷ older) = if is_same revision other then other ∷ older else from_on revision older

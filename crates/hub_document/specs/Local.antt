@@ -32,16 +32,16 @@ short_local_id s = if is_local_id s && not (nat_lt 512 (length s)) then Some s e
 -- an `_id` is absent, or this one
 abbrev pub is_named_so : List ℕ → Option Data → Bool
 is_named_so id None = true
-is_named_so id (Some d) = unwrap_or (option_map (bytes_eq id) (as_str d)) false
+is_named_so id (Some content) = unwrap_or (option_map (bytes_eq id) (as_str content)) false
 
 -- the local document of this id that an object of these members is, or the first fault
 abbrev pub local_of : List ℕ → Data → Members → Result LocalDoc DocFault
-local_of id d ms =
-    or_fault (if_holds (not (members_have_float ms))) BadNumber (λ _.
-    or_fault (if_holds (is_local_id id && is_named_so id (get (codes "_id") d))) BadId (λ _.
-    or_fault (if_holds (are_good_members ms && not (deleted_of d))) BadMember (λ _.
+local_of id content members =
+    or_fault (if_holds (not (members_have_float members))) BadNumber (λ _.
+    or_fault (if_holds (is_local_id id && is_named_so id (get (codes "_id") content))) BadId (λ _.
+    or_fault (if_holds (are_good_members members && not (deleted_of content))) BadMember (λ _.
     or_fault (if_holds (not (nat_lt 512 (length id)))) TooLong (λ _.
-    Ok (record { id = id; body = body_text ms })))))
+    Ok (record { id = id; body = body_text members })))))
 
 -- the local document of this id that a text is, or the first fault
 abbrev pub local_in : List ℕ → List ℕ → Result LocalDoc DocFault

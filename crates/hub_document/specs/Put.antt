@@ -20,27 +20,33 @@ use Rattle.hub_document.specs.declared.doc.Doc.{Doc}
 
 -- this revision, unless the document names another one
 abbrev pub unless_other : Revision → Option Revision → Option (Option Revision)
-unless_other r None = Some (Some r)
-unless_other r (Some s) = if is_same r s then Some (Some r) else None
+unless_other revision None = Some (Some revision)
+unless_other revision (Some other) = if is_same revision other then Some (Some revision) else None
 
 -- the leaf that is named, by the request, by the document, by neither, or by both alike; None is a fault.
 -- Where the request names 2-b and the document has no `_rev` it is 2-b, and with a `_rev` of 1-a it is a
 -- fault.
 abbrev pub rev_put : Option (List ℕ) → Data → Option (Option Revision)
-rev_put None d = rev_of true d
-rev_put (Some text) d =
-    option_and_then (λ r. option_and_then (unless_other r) (rev_of true d)) (revision_of text)
+rev_put None content = rev_of true content
+rev_put (Some text) content =
+    option_and_then (λ r. option_and_then (unless_other r) (rev_of true content)) (revision_of text)
 
 -- the document that an object of these members is under the id, or the first fault. Under the id _a a
 -- document with a `_rev` of x is BadId, since that fault comes before BadRev.
 abbrev pub put_of : List ℕ → Option (List ℕ) → Bool → Data → Members → Result Doc DocFault
-put_of id rev new_edits d ms =
-    or_fault (if_holds (not (members_have_float ms))) BadNumber (λ _.
-    or_fault (if_holds (is_id id && is_named_so id (get (codes "_id") d))) BadId (λ _.
-    or_fault (rev_put rev d) BadRev (λ named.
-    or_fault (if_holds (are_good_members ms && new_edits)) BadMember (λ _.
+put_of id rev new_edits content members =
+    or_fault (if_holds (not (members_have_float members))) BadNumber (λ _.
+    or_fault (if_holds (is_id id && is_named_so id (get (codes "_id") content))) BadId (λ _.
+    or_fault (rev_put rev content) BadRev (λ named.
+    or_fault (if_holds (are_good_members members && new_edits)) BadMember (λ _.
     or_fault (if_holds (not (nat_lt 512 (length id)))) TooLong (λ _.
-    Ok (record { id = id; rev = named; path = None; deleted = deleted_of d; body = body_text ms }))))))
+    Ok (record {
+      id = id;
+      rev = named;
+      path = None;
+      deleted = deleted_of content;
+      body = body_text members;
+    }))))))
 
 -- the document that a text is under the id, or the first fault
 abbrev pub put_in : List ℕ → Option (List ℕ) → Bool → List ℕ → Result Doc DocFault

@@ -19,8 +19,8 @@ use Rattle.hub_document.specs.declared.doc.Doc.{Doc}
 
 -- goes on with what was read, or stops at the fault
 abbrev pub or_fault : {A B : Type 0} → Option A → DocFault → (A → Result B DocFault) → Result B DocFault
-or_fault None e next = Err e
-or_fault (Some a) e next = next a
+or_fault None fault next = Err fault
+or_fault (Some a) fault next = next a
 
 -- a value where the test holds
 abbrev pub if_holds : Bool → Option ⊤
@@ -28,37 +28,39 @@ if_holds b = if b then Some tt else None
 
 -- the head and the history: new edits have none
 abbrev pub history_of : Bool → Option Revision → Data → Option (Option Revision × Option (List Revision))
-history_of new_edits rev d =
-    if new_edits then Some (rev, None) else option_map (λ path. (slice_get path 0, Some path)) (path_of rev d)
+history_of new_edits rev content =
+    if new_edits then Some (rev, None) else
+    option_map (λ path. (slice_get path 0, Some path)) (path_of rev content)
 
 -- ---- the faults in their order
 
 -- the rest, where the head and the path are known
 abbrev pub with_path : Data → Members → List ℕ → Option Revision → Option (List Revision)
     → Result Doc DocFault
-with_path d ms id rev path =
-    or_fault (if_holds (are_good_members ms)) BadMember (λ _.
+with_path content members id rev path =
+    or_fault (if_holds (are_good_members members)) BadMember (λ _.
     or_fault (if_holds (not (nat_lt 512 (length id)))) TooLong (λ _.
-    Ok (record { id = id; rev = rev; path = path; deleted = deleted_of d; body = body_text ms })))
+    Ok (record { id = id; rev = rev; path = path; deleted = deleted_of content; body = body_text members })))
 
 -- the rest, where `_rev` is known
 abbrev pub with_rev : Bool → Data → Members → List ℕ → Option Revision → Result Doc DocFault
-with_rev new_edits d ms id rev =
-    or_fault (history_of new_edits rev d) BadRevisions (λ p. with_path d ms id p.0 p.1)
+with_rev new_edits content members id rev =
+    or_fault (history_of new_edits rev content) BadRevisions (λ p. with_path content members id p.0 p.1)
 
 -- the rest, where the id is known
 abbrev pub with_id : Bool → Data → Members → List ℕ → Result Doc DocFault
-with_id new_edits d ms id = or_fault (rev_of new_edits d) BadRev (with_rev new_edits d ms id)
+with_id new_edits content members id =
+    or_fault (rev_of new_edits content) BadRev (with_rev new_edits content members id)
 
 -- the document that an object of these members is
 abbrev pub document_of : Bool → Data → Members → Result Doc DocFault
-document_of new_edits d ms =
-    or_fault (if_holds (not (members_have_float ms))) BadNumber (λ _.
-    or_fault (id_of d) BadId (with_id new_edits d ms))
+document_of new_edits content members =
+    or_fault (if_holds (not (members_have_float members))) BadNumber (λ _.
+    or_fault (id_of content) BadId (with_id new_edits content members))
 
 -- the document that a value is
 abbrev pub doc_of : Bool → Data → Result Doc DocFault
-doc_of new_edits d = or_fault (as_object d) NotObject (document_of new_edits d)
+doc_of new_edits content = or_fault (as_object content) NotObject (document_of new_edits content)
 
 -- the JSON value that a text is: UTF-8, and read as `serde_json` does
 abbrev pub json_of : List ℕ → Option Data

@@ -5,8 +5,10 @@ use Rattle.hub_document.specs.RevisionText.{revision_of}
 
 -- the text of each revision within the limits reads as that revision
 abbrev pub TextsRead : Type 0
-TextsRead = (r : Revision) → IsRevision r → revision_of (text_of r) ≡ Some r
+TextsRead = (revision : Revision) → IsRevision revision → revision_of (text_of revision) ≡ Some revision
 
 -- what reads as a revision is its text, and the revision is within the limits
 abbrev pub ReadsAreTexts : Type 0
-ReadsAreTexts = (s : List ℕ) (r : Revision) → revision_of s ≡ Some r → (text_of r ≡ s) × IsRevision r
+ReadsAreTexts =
+    (s : List ℕ) (revision : Revision) → revision_of s ≡ Some revision → (text_of revision ≡ s)
+    × IsRevision revision

@@ -10,7 +10,7 @@ use Rattle.hub_document.specs.BodyText.{is_hidden}
 -- {}
 abbrev pub is_empty_object : Data → Bool
 is_empty_object (object no_members) = true
-is_empty_object d = false
+is_empty_object content = false
 
 -- read elsewhere, or ignored
 abbrev pub is_listed : List ℕ → Bool
@@ -21,11 +21,11 @@ is_listed k =
 
 -- the document's own, or one of these with a fitting value
 abbrev pub is_good_member : List ℕ → Data → Bool
-is_good_member k d =
+is_good_member k content =
     not (is_hidden k)
     || (is_listed k
-    || ((bytes_eq k (codes "_deleted") && is_some (as_bool d))
-    || (bytes_eq k (codes "_attachments") && is_empty_object d)))
+    || ((bytes_eq k (codes "_deleted") && is_some (as_bool content))
+    || (bytes_eq k (codes "_attachments") && is_empty_object content)))
 
 -- each member is good
 abbrev pub are_good_members : Members → Bool
@@ -34,4 +34,4 @@ are_good_members (member k d ms) = is_good_member k d && are_good_members ms
 
 -- whether the document is marked as deleted
 abbrev pub deleted_of : Data → Bool
-deleted_of d = unwrap_or (option_and_then as_bool (get (codes "_deleted") d)) false
+deleted_of content = unwrap_or (option_and_then as_bool (get (codes "_deleted") content)) false

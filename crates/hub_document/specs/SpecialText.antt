@@ -6,7 +6,7 @@ use Rattle.hub_document.specs.declared.doc.Doc.{Doc}
 
 -- the members that are not its own, as they are written one after the other
 abbrev pub special_text : Doc → List ℕ
-special_text d =
-    head_text d.id
-    ++ (after_commas (rev_member d.rev)
-    ++ (after_commas (deleted_member d.deleted) ++ after_commas (history_member d.path)))
+special_text doc =
+    head_text doc.id
+    ++ (after_commas (rev_member doc.rev)
+    ++ (after_commas (deleted_member doc.deleted) ++ after_commas (history_member doc.path)))

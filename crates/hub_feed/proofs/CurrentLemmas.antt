@@ -16,44 +16,45 @@ use Rattle.hub_feed.specs.Reach.{first_listed}
 use Rattle.hub_feed.proofs.ListedLemmas.{only_row, row_apart, no_row}
 
 -- a current row is of an edited document
-row_edited : (n : ℕ) (J : List Edit) (c : Current) → Contains (current_from n J) c → is_edited c.id J ≡ true
-row_edited n [] c h = absurd (contains_none c h)
-row_edited n (e ∷ later) c h =
-    elim (from_cases n e later c h) [
+row_edited : (n : ℕ) (journal : List Edit) (row : Current) → Contains (current_from n journal) row
+    → is_edited row.id journal ≡ true
+row_edited n [] row h = absurd (contains_none row h)
+row_edited n (edit ∷ later) row h =
+    elim (from_cases n edit later row h) [
       | inl p ↦
-          or_left (bytes_eq c.id e.id) (is_edited c.id later)
-          ((bytes_eq-Decides c.id e.id).1 (sym (ap (λ (x : Current). x.id) p.1)))
-      | inr q ↦ or_right (bytes_eq c.id e.id) (is_edited c.id later) (row_edited (n + 1) later c q)
+          or_left (bytes_eq row.id edit.id) (is_edited row.id later)
+          ((bytes_eq-Decides row.id edit.id).1 (sym (ap (λ (other : Current). other.id) p.1)))
+      | inr q ↦ or_right (bytes_eq row.id edit.id) (is_edited row.id later) (row_edited (n + 1) later row q)
     ]
 
 -- and the only one of it
-once : (n : ℕ) (J : List Edit) (c d : Current) → Contains (current_from n J) c → Contains (current_from n J) d
-    → c.id ≡ d.id → c.seq ≡ d.seq
-once n [] c d h i same = absurd (contains_none c h)
-once n (e ∷ later) c d h i same =
-    elim (from_cases n e later c h) [
-      | inl p ↦ elim (from_cases n e later d i) [
+once : (n : ℕ) (journal : List Edit) (row other : Current) → Contains (current_from n journal) row
+    → Contains (current_from n journal) other → row.id ≡ other.id → row.seq ≡ other.seq
+once n [] row other h i same = absurd (contains_none row h)
+once n (edit ∷ later) row other h i same =
+    elim (from_cases n edit later row h) [
+      | inl p ↦ elim (from_cases n edit later other i) [
         | inl q ↦ sym (ap (λ (x : Current). x.seq) p.1) ∙ ap (λ (x : Current). x.seq) q.1
         | inr q ↦
             absurd (both_ways _ p.0
             (subst (λ (id : List ℕ). is_edited id later ≡ true)
-            (sym same ∙ sym (ap (λ (x : Current). x.id) p.1)) (row_edited (n + 1) later d q)))
+            (sym same ∙ sym (ap (λ (x : Current). x.id) p.1)) (row_edited (n + 1) later other q)))
       ]
-      | inr p ↦ elim (from_cases n e later d i) [
+      | inr p ↦ elim (from_cases n edit later other i) [
         | inl q ↦
             absurd (both_ways _ q.0
             (subst (λ (id : List ℕ). is_edited id later ≡ true) (same ∙ sym (ap (λ (x : Current). x.id) q.1))
-            (row_edited (n + 1) later c p)))
-        | inr q ↦ once (n + 1) later c d p q same
+            (row_edited (n + 1) later row p)))
+        | inr q ↦ once (n + 1) later row other p q same
       ]
     ]
 
 -- an edit of the document of a current row
-pub edit_of_row : (J : List Edit) (c : Current) → Contains (current J) c
-    → (e : Edit) × Contains J e × (e.id ≡ c.id)
-edit_of_row J c h =
-    let i = any_at (λ (e : Edit). bytes_eq c.id e.id) J (row_edited 1 J c h) in
-    (i.0, i.1, sym ((bytes_eq-Decides c.id i.0.id).0 i.2))
+pub edit_of_row : (journal : List Edit) (row : Current) → Contains (current journal) row
+    → (edit : Edit) × Contains journal edit × (edit.id ≡ row.id)
+edit_of_row journal row h =
+    let i = any_at (λ (edit : Edit). bytes_eq row.id edit.id) journal (row_edited 1 journal row h) in
+    (i.0, i.1, sym ((bytes_eq-Decides row.id i.0.id).0 i.2))
 
 -- what a map gives of an element is in what it gives of the list
 pub contains_map : {X Y : Type 0} (f : X → Y) (xs : List X) (x : X) → Contains xs x
@@ -69,45 +70,52 @@ contains_map f (y ∷ xs) x h =
 pub row_there : (show : ℕ × ℕ → Current) (index : List (ℕ × ℕ)) (rows : List Current)
     (k seq : ℕ) (id : List ℕ)
     → map show index ≡ rows
-    → option_map (λ (r : ℕ × ℕ). r.0) (find (λ (r : ℕ × ℕ). nat_eq r.1 k) index) ≡ Some seq
-    → ((r : ℕ × ℕ) → r.1 ≡ k → show r ≡ record { seq = r.0; id = id })
+    → option_map (λ (other_row : ℕ × ℕ). other_row.0)
+    (find (λ (other_row : ℕ × ℕ). nat_eq other_row.1 k) index) ≡ Some seq
+    → ((other_row : ℕ × ℕ) → other_row.1 ≡ k → show other_row ≡ record { seq = other_row.0; id = id })
     → Contains rows (record { seq = seq; id = id })
-row_there show index rows k seq id all at shown = from (find (λ (r : ℕ × ℕ). nat_eq r.1 k) index) refl at
+row_there show index rows k seq id all at shown =
+    from (find (λ (other_row : ℕ × ℕ). nat_eq other_row.1 k) index) refl at
   where
-    from : (o : Option (ℕ × ℕ)) → find (λ (r : ℕ × ℕ). nat_eq r.1 k) index ≡ o
-        → option_map (λ (r : ℕ × ℕ). r.0) o ≡ Some seq → Contains rows (record { seq = seq; id = id })
+    from : (o : Option (ℕ × ℕ)) → find (λ (other_row : ℕ × ℕ). nat_eq other_row.1 k) index ≡ o
+        → option_map (λ (other_row : ℕ × ℕ). other_row.0) o ≡ Some seq
+        → Contains rows (record { seq = seq; id = id })
     from None e a = absurd (none-some seq a)
-    from (Some r) e a =
-        let i = find_is (λ (z : ℕ × ℕ). nat_eq z.1 k) index r e in
-        let is : show r ≡ record { seq = seq; id = id } =
-        shown r (eqb-true r.1 k i.0) ∙ ap (λ (n : ℕ). record { seq = n; id = id }) (same_Some r.0 seq a) in
+    from (Some other_row) e a =
+        let i = find_is (λ (third_row : ℕ × ℕ). nat_eq third_row.1 k) index other_row e in
+        let is : show other_row ≡ record { seq = seq; id = id } =
+        shown other_row (eqb-true other_row.1 k i.0)
+        ∙ ap (λ (n : ℕ). record { seq = n; id = id }) (same_Some other_row.0 seq a) in
         subst (λ (cs : List Current). Contains cs (record { seq = seq; id = id })) all
-        (subst (λ (c : Current). Contains (map show index) c) is (contains_map show index r i.1))
+        (subst (λ (row : Current). Contains (map show index) row) is (contains_map show index other_row i.1))
 
 -- what is found of one document, of which there is a current row
-module _ (J : List Edit) (id : List ℕ) (seq place : ℕ) (bound : Option ℕ)
-    (here : Contains (current J) (record { seq = seq; id = id })) where
-  same_row : (c : Current) → Contains (current J) c → c.id ≡ id → c.seq ≡ seq
-  same_row c h e = once 1 J c (record { seq = seq; id = id }) h here e
+module _ (journal : List Edit) (id : List ℕ) (seq place : ℕ) (bound : Option ℕ)
+    (here : Contains (current journal) (record { seq = seq; id = id })) where
+  same_row : (row : Current) → Contains (current journal) row → row.id ≡ id → row.seq ≡ seq
+  same_row row h e = once 1 journal row (record { seq = seq; id = id }) h here e
 
   pub next_ahead : (nat_lt place seq && is_within bound seq) ≡ true
-      → Some seq ≡ option_map (λ (c : Current). c.seq) (first_listed place bound (id ∷ []) (current J))
-  next_ahead t = only_row place bound id seq (current J) here same_row t
+      → Some seq ≡ option_map (λ (row : Current). row.seq)
+      (first_listed place bound (id ∷ []) (current journal))
+  next_ahead t = only_row place bound id seq (current journal) here same_row t
 
   pub next_apart : (nat_lt place seq && is_within bound seq) ≡ false
-      → None ≡ option_map (λ (c : Current). c.seq) (first_listed place bound (id ∷ []) (current J))
-  next_apart t = row_apart place bound id seq (current J) same_row t
+      → None ≡ option_map (λ (row : Current). row.seq) (first_listed place bound (id ∷ []) (current journal))
+  next_apart t = row_apart place bound id seq (current journal) same_row t
 
 -- and of one that has none
-pub next_unknown : (J : List Edit) (id : List ℕ) (place : ℕ) (bound : Option ℕ)
-    → ((c : Current) → Contains (current J) c → c.id ≡ id → ⊥)
-    → None ≡ option_map (λ (c : Current). c.seq) (first_listed place bound (id ∷ []) (current J))
-next_unknown J id place bound none = no_row place bound id (current J) none
+pub next_unknown : (journal : List Edit) (id : List ℕ) (place : ℕ) (bound : Option ℕ)
+    → ((row : Current) → Contains (current journal) row → row.id ≡ id → ⊥)
+    → None ≡ option_map (λ (row : Current). row.seq) (first_listed place bound (id ∷ []) (current journal))
+next_unknown journal id place bound none = no_row place bound id (current journal) none
 
 -- as one that was never edited
-pub next_unedited : (J : List Edit) (id : List ℕ) (place : ℕ) (bound : Option ℕ) → edits_of J id ≡ []
-    → None ≡ option_map (λ (c : Current). c.seq) (first_listed place bound (id ∷ []) (current J))
-next_unedited J id place bound none =
-    next_unknown J id place bound (λ c h e.
-    let i = edit_of_row J c h in
-    contains_none i.0 (subst (λ (es : List Edit). Contains es i.0) none (in_edits J id i.0 (i.1, i.2 ∙ e))))
+pub next_unedited : (journal : List Edit) (id : List ℕ) (place : ℕ) (bound : Option ℕ)
+    → edits_of journal id ≡ []
+    → None ≡ option_map (λ (row : Current). row.seq) (first_listed place bound (id ∷ []) (current journal))
+next_unedited journal id place bound none =
+    next_unknown journal id place bound (λ row h e.
+    let i = edit_of_row journal row h in
+    contains_none i.0 (subst (λ (edits : List Edit). Contains edits i.0) none
+    (in_edits journal id i.0 (i.1, i.2 ∙ e))))

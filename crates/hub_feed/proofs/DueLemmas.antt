@@ -15,45 +15,47 @@ use Rattle.hub_feed.specs.declared.mark.Mark.TheVariants as mark
 use Rattle.hub_feed.specs.declared.next.Next.TheVariants.{Give}
 
 -- a sequence that is found is a row's
-pub row_found : (o : Option Current) (seq : ℕ) → Some seq ≡ option_map (λ (c : Current). c.seq) o
-    → (c : Current) × (o ≡ Some c) × (c.seq ≡ seq)
+pub row_found : (maybe_row : Option Current) (seq : ℕ)
+    → Some seq ≡ option_map (λ (row : Current). row.seq) maybe_row
+    → (row : Current) × (maybe_row ≡ Some row) × (row.seq ≡ seq)
 row_found None seq e = absurd (none-some seq (sym e))
-row_found (Some c) seq e = (c, refl, sym (same_Some seq c.seq e))
+row_found (Some row) seq e = (row, refl, sym (same_Some seq row.seq e))
 
 -- an open feed with a row in reach has it due
-pub open_row : {R : Type 0} (show : Current → R) (rows : List Current) (f : Feed) (c : Current)
-    → f.status ≡ Open → find (is_in_reach f) rows ≡ Some c
-    → next_of show rows (due rows f) ≡ Give (Row (show c))
-open_row show rows f c waits found = rw waits (rw found refl)
+pub open_row : {R : Type 0} (show : Current → R) (rows : List Current) (feed : Feed) (row : Current)
+    → feed.status ≡ Open → find (is_in_reach feed) rows ≡ Some row
+    → next_of show rows (due rows feed) ≡ Give (Row (show row))
+open_row show rows feed row waits found = rw waits (rw found refl)
 
 -- an ending feed has its end due
-pub ending_end : {R : Type 0} (show : Current → R) (rows : List Current) (f : Feed) → f.status ≡ Ending
-    → next_of show rows (due rows f) ≡ Give (End f.place (pending rows f.place))
-ending_end show rows f ending = rw ending refl
+pub ending_end : {R : Type 0} (show : Current → R) (rows : List Current) (feed : Feed) → feed.status ≡ Ending
+    → next_of show rows (due rows feed) ≡ Give (End feed.place (pending rows feed.place))
+ending_end show rows feed ending = rw ending refl
 
 -- a row of this mark is shown of the row that is due
-mark_row : {R : Type 0} (show : Current → R) (seq_of : R → ℕ) (rows : List Current) (d : Due) (seq : ℕ)
-    → option_map (mark_of seq_of) (item_of show rows d) ≡ Some (mark.Row seq)
-    → (c : Current) × (d ≡ DueRow c) × (seq ≡ seq_of (show c))
-mark_row show seq_of rows (DueRow c) seq e = (c, refl, cc)
+mark_row : {R : Type 0} (show : Current → R) (seq_of : R → ℕ) (rows : List Current) (due : Due) (seq : ℕ)
+    → option_map (mark_of seq_of) (item_of show rows due) ≡ Some (mark.Row seq)
+    → (row : Current) × (due ≡ DueRow row) × (seq ≡ seq_of (show row))
+mark_row show seq_of rows (DueRow row) seq e = (row, refl, cc)
 mark_row show seq_of rows (DueEnd last_seq) seq e = absurd (cc)
 mark_row show seq_of rows DueNothing seq e = absurd (cc)
 mark_row show seq_of rows DueGone seq e = absurd (cc)
 
 -- a row in reach lies above the place and not above the bound
-reach_lies : (f : Feed) (c : Current) → is_in_reach f c ≡ true
-    → (f.place < c.seq) × IfSome f.bound (λ b. c.seq ≤ b)
-reach_lies f c e = let p = reach_parts f c e in (p.0, within_bound f.bound c.seq p.1)
+reach_lies : (feed : Feed) (row : Current) → is_in_reach feed row ≡ true
+    → (feed.place < row.seq) × IfSome feed.bound (λ b. row.seq ≤ b)
+reach_lies feed row e = let p = reach_parts feed row e in (p.0, within_bound feed.bound row.seq p.1)
 
 -- and so does the sequence that marks a row, where rows that are shown keep theirs
 pub marked_lies : {R : Type 0} (show : Current → R) (seq_of : R → ℕ)
-    (rows : List Current) (len : ℕ) (f : Feed)
-    (seq : ℕ) → ((c : Current) → seq_of (show c) ≡ c.seq) → ((c : Current) → Contains rows c → c.seq ≤ len)
-    → option_map (mark_of seq_of) (item_of show rows (due rows f)) ≡ Some (mark.Row seq)
-    → (f.place < seq) × (seq ≤ len) × IfSome f.bound (λ b. seq ≤ b)
-marked_lies show seq_of rows len f seq keeps within e =
-    let (c, is, marked) = mark_row show seq_of rows (due rows f) seq e in
-    let here = find_is (is_in_reach f) rows c (due_row rows f c is).1 in
-    let lies = reach_lies f c here.0 in
-    subst (λ n. (f.place < n) × (n ≤ len) × IfSome f.bound (λ b. n ≤ b)) (sym (marked ∙ keeps c))
-    (lies.0, within c here.1, lies.1)
+    (rows : List Current) (len : ℕ) (feed : Feed)
+    (seq : ℕ) → ((row : Current) → seq_of (show row) ≡ row.seq)
+    → ((row : Current) → Contains rows row → row.seq ≤ len)
+    → option_map (mark_of seq_of) (item_of show rows (due rows feed)) ≡ Some (mark.Row seq)
+    → (feed.place < seq) × (seq ≤ len) × IfSome feed.bound (λ b. seq ≤ b)
+marked_lies show seq_of rows len feed seq keeps within e =
+    let (row, is, marked) = mark_row show seq_of rows (due rows feed) seq e in
+    let here = find_is (is_in_reach feed) rows row (due_row rows feed row is).1 in
+    let lies = reach_lies feed row here.0 in
+    subst (λ n. (feed.place < n) × (n ≤ len) × IfSome feed.bound (λ b. n ≤ b)) (sym (marked ∙ keeps row))
+    (lies.0, within row here.1, lies.1)

@@ -35,13 +35,13 @@ behind_left len id feeds behind =
     All-filter (λ (p : ℕ × Feed). not (nat_eq p.0 id)) (λ (p : ℕ × Feed). IsBehind len p.1) feeds behind
 
 -- a feed that is there has a number that was given
-pub entry_given : (next id : ℕ) (feeds : List (ℕ × Feed)) (f : Feed)
-    → All (λ (p : ℕ × Feed). p.0 < next) feeds → entry_in id feeds ≡ Some f → id < next
-entry_given next id feeds f given there =
+pub entry_given : (next id : ℕ) (feeds : List (ℕ × Feed)) (feed : Feed)
+    → All (λ (p : ℕ × Feed). p.0 < next) feeds → entry_in id feeds ≡ Some feed → id < next
+entry_given next id feeds feed given there =
     elim (cases_Bool (nat_lt id next)) [
       | inl low ↦ ltb-true id next low
       | inr high ↦ let above : next ≤ id = ltb-false id next high in
-          absurd (none-some f
+          absurd (none-some feed
           (sym (none_above id feeds (λ k d l. let h = given k d l in omega (arith, h, above))) ∙ there))
     ]
 
@@ -50,7 +50,7 @@ module _ (id : ℕ) (change : Feed → Feed) where
   abbrev changed_one : ℕ × Feed → ℕ × Feed
   changed_one p = if nat_eq p.0 id then (p.0, change p.1) else p
 
-  one_behind : (len : ℕ) → ((f : Feed) → IsBehind len f → IsBehind len (change f)) → (p : ℕ × Feed)
+  one_behind : (len : ℕ) → ((feed : Feed) → IsBehind len feed → IsBehind len (change feed)) → (p : ℕ × Feed)
       → IsBehind len p.1 → IsBehind len (changed_one p).1
   one_behind len keeps p h = from (nat_eq p.0 id)
     where
@@ -66,7 +66,7 @@ module _ (id : ℕ) (change : Feed → Feed) where
   }
 
   pub behind_changed : (len : ℕ) (feeds : List (ℕ × Feed))
-      → ((f : Feed) → IsBehind len f → IsBehind len (change f)) → AreBehind len feeds
+      → ((feed : Feed) → IsBehind len feed → IsBehind len (change feed)) → AreBehind len feeds
       → AreBehind len (changed id change feeds)
   behind_changed len feeds keeps behind =
       All-map (λ (p : ℕ × Feed). IsBehind len p.1) changed_one feeds
@@ -92,41 +92,44 @@ behind_bound len Longpoll None h = omega arith
 behind_bound len Longpoll (Some bound) h = h
 behind_bound len Continuous bound h = h
 
-pub looks_behind : (len : ℕ) (d : Due) (f : Feed) → IsBehind len f → IsBehind len (after_next f d len)
-looks_behind len (DueRow c) f h = h
-looks_behind len (DueEnd last_seq) f h = h
-looks_behind len DueNothing f h = (omega arith, h.1)
-looks_behind len DueGone f h = h
+pub looks_behind : (len : ℕ) (due : Due) (feed : Feed) → IsBehind len feed
+    → IsBehind len (after_next feed due len)
+looks_behind len (DueRow c) feed h = h
+looks_behind len (DueEnd last_seq) feed h = h
+looks_behind len DueNothing feed h = (omega arith, h.1)
+looks_behind len DueGone feed h = h
 
-pub goes_behind : (rows : List Current) (len : ℕ) → ((c : Current) → Contains rows c → c.seq ≤ len)
-    → (f : Feed) → IsBehind len f → IsBehind len (after_due f (due rows f) len)
-goes_behind rows len within f h = from f.status
+pub goes_behind : (rows : List Current) (len : ℕ) → ((row : Current) → Contains rows row → row.seq ≤ len)
+    → (feed : Feed) → IsBehind len feed → IsBehind len (after_due feed (due rows feed) len)
+goes_behind rows len within feed h = from feed.status
   where
-    opened : (o : Option Current) (bound : Option ℕ) → find (is_in_reach f) rows ≡ o → f.bound ≡ bound
-        → IsBehind len (after_due f (due_open o bound) len)
-    opened (Some c) bound e q =
-        (within c (find_is (is_in_reach f) rows c e).1, behind_bound len f.params.mode f.bound h.1)
-    opened None (Some bound) e q = (subst (λ o. IfSome o (λ b. b ≤ len)) q h.1, h.1)
+    opened : (maybe_row : Option Current) (bound : Option ℕ) → find (is_in_reach feed) rows ≡ maybe_row
+        → feed.bound ≡ bound → IsBehind len (after_due feed (due_open maybe_row bound) len)
+    opened (Some row) bound e q = (
+      within row (find_is (is_in_reach feed) rows row e).1,
+      behind_bound len feed.params.mode feed.bound h.1,
+    )
+    opened None (Some bound) e q = (subst (λ maybe_row. IfSome maybe_row (λ b. b ≤ len)) q h.1, h.1)
     opened None None e q = (omega arith, h.1)
 
-    from : (s : Status) → IsBehind len (after_due f (due_at s rows f) len)
-    from Open = opened (find (is_in_reach f) rows) f.bound refl refl
+    from : (status : Status) → IsBehind len (after_due feed (due_at status rows feed) len)
+    from Open = opened (find (is_in_reach feed) rows) feed.bound refl refl
     from Ending = h
     from Ended = h
     from Finished = h
 
 -- and so does one whose time is over, or that ends
-pub expired_behind : (len : ℕ) (f : Feed) → IsBehind len f → IsBehind len (expire f)
-expired_behind len f h = from (is_open f.status && waits f.params.mode)
+pub expired_behind : (len : ℕ) (feed : Feed) → IsBehind len feed → IsBehind len (expire feed)
+expired_behind len feed h = from (is_open feed.status && waits feed.params.mode)
   where
-    from : (b : Bool) → IsBehind len (if b then record f { status = Ending } else f)
+    from : (b : Bool) → IsBehind len (if b then record feed { status = Ending } else feed)
     from true = h
     from false = h
 
-ended_behind : (len : ℕ) (f : Feed) → IsBehind len f → IsBehind len (end f)
-ended_behind len f h = from (is_open f.status)
+ended_behind : (len : ℕ) (feed : Feed) → IsBehind len feed → IsBehind len (end feed)
+ended_behind len feed h = from (is_open feed.status)
   where
-    from : (b : Bool) → IsBehind len (if b then record f { status = Ending } else f)
+    from : (b : Bool) → IsBehind len (if b then record feed { status = Ending } else feed)
     from true = h
     from false = h
 
@@ -157,8 +160,8 @@ module _ {R : Type 0} (id : ℕ) (feeds : List (ℕ × Feed))
     (is : p ≡ get_or feeds at p) where
   -- the feeds behind what the feed there answers
   pub behind_here : (show : Current → R) (rows : List Current) (len : ℕ) (new : Feed) → AreRising feeds
-      → (d : Due) (next : Next R)
-      → next ≡ next_of show rows d → new ≡ after_next p.1 d len
+      → (due : Due) (next : Next R)
+      → next ≡ next_of show rows due → new ≡ after_next p.1 due len
       → slice_set feeds at (p.0, new) ≡ feeds_behind id len next feeds
   behind_here show rows len new rising (DueRow c) next e h = rw e (stays_here id feeds at placed p is new h)
   behind_here show rows len new rising (DueEnd last_seq) next e h =

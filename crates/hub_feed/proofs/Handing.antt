@@ -10,33 +10,37 @@ use Rattle.hub_model.specs.declared.feeds.Item.TheVariants.{Beat}
 use Rattle.hub_model.proofs.Fitting.{fits_beat, fits_expire, fits_handed, fits_nothing}
 use Rattle.hub_feed.specs.Handing.{IsFitting, IsRightFor}
 
-module _ {R : Type 0} (kind : RowKind R) (allowed : List Edit → Type 0) (J : List Edit)
-    (f : Feed) (items : List (Item R)) (fitting : IsFitting kind allowed J f items) where
+module _ {R : Type 0} (kind : RowKind R) (allowed : List Edit → Type 0) (journal : List Edit)
+    (feed : Feed) (items : List (Item R)) (fitting : IsFitting kind allowed journal feed items) where
   -- what fits is right
-  pub fitting_right : IsRightFor kind allowed f.params f.since items
+  pub fitting_right : IsRightFor kind allowed feed.params feed.since items
   fitting_right = record {
-    edits = J;
+    edits = journal;
     legal = fitting.legal;
-    feed = f;
+    feed = feed;
     asks = refl;
     begins = refl;
     right = fitting.fits.right;
   }
 
   -- behind the item that is due
-  pub fitting_handed : (item : Item R) → due_item kind J f ≡ Some item
-      → IsFitting kind allowed J (after_due f (due_in J f) (length J)) (items ++ item ∷ [])
+  pub fitting_handed : (item : Item R) → due_item kind journal feed ≡ Some item
+      → IsFitting kind allowed journal (after_due feed (due_in journal feed) (length journal))
+      (items ++ item ∷ [])
   fitting_handed item due =
-      record { legal = fitting.legal; fits = fits_handed kind J f items item due fitting.fits }
+      record { legal = fitting.legal; fits = fits_handed kind journal feed items item due fitting.fits }
 
   -- behind nothing to hand
-  pub fitting_nothing : due_in J f ≡ DueNothing → IsFitting kind allowed J (after_nothing f (length J)) items
-  fitting_nothing due = record { legal = fitting.legal; fits = fits_nothing kind J f items due fitting.fits }
+  pub fitting_nothing : due_in journal feed ≡ DueNothing
+      → IsFitting kind allowed journal (after_nothing feed (length journal)) items
+  fitting_nothing due =
+      record { legal = fitting.legal; fits = fits_nothing kind journal feed items due fitting.fits }
 
   -- behind a heartbeat
-  pub fitting_beat : beat_due f ≡ true → IsFitting kind allowed J f (items ++ Beat ∷ [])
-  fitting_beat due = record { legal = fitting.legal; fits = fits_beat kind J f items due fitting.fits }
+  pub fitting_beat : beat_due feed ≡ true → IsFitting kind allowed journal feed (items ++ Beat ∷ [])
+  fitting_beat due =
+      record { legal = fitting.legal; fits = fits_beat kind journal feed items due fitting.fits }
 
   -- and once its time is over
-  pub fitting_expired : IsFitting kind allowed J (expire f) items
-  fitting_expired = record { legal = fitting.legal; fits = fits_expire kind J f items fitting.fits }
+  pub fitting_expired : IsFitting kind allowed journal (expire feed) items
+  fitting_expired = record { legal = fitting.legal; fits = fits_expire kind journal feed items fitting.fits }

@@ -17,42 +17,43 @@ use Rattle.hub_feed.proofs.ReachLemmas.{find_same, find_nothing, above_first, re
 
 -- the sequence of the first row that passes a test
 abbrev seq_in : (Current → Bool) → List Current → Option ℕ
-seq_in p rows = option_map (λ (c : Current). c.seq) (find p rows)
+seq_in p rows = option_map (λ (row : Current). row.seq) (find p rows)
 
 -- a first row is before what is found behind it
-first_low : (p : Current → Bool) (d : Current) (rows : List Current)
-    → AllPairs (λ (a b : Current). a.seq < b.seq) (d ∷ rows)
-    → lesser (Some d.seq) (seq_in p rows) ≡ Some d.seq
-first_low p d rows rise = from (find p rows) refl
+first_low : (p : Current → Bool) (row : Current) (rows : List Current)
+    → AllPairs (λ (other b : Current). other.seq < b.seq) (row ∷ rows)
+    → lesser (Some row.seq) (seq_in p rows) ≡ Some row.seq
+first_low p row rows rise = from (find p rows) refl
   where
-    from : (o : Option Current) → find p rows ≡ o
-        → lesser (Some d.seq) (option_map (λ (c : Current). c.seq) o) ≡ Some d.seq
+    from : (maybe_row : Option Current) → find p rows ≡ maybe_row
+        → lesser (Some row.seq) (option_map (λ (c : Current). c.seq) maybe_row) ≡ Some row.seq
     from None e = refl
-    from (Some c) e = let above = above_first d rows rise c (find_is p rows c e).1 in ap Some (omega arith)
+    from (Some c) e = let above = above_first row rows rise c (find_is p rows c e).1 in ap Some (omega arith)
 
-second_low : (p : Current → Bool) (d : Current) (rows : List Current)
-    → AllPairs (λ (a b : Current). a.seq < b.seq) (d ∷ rows)
-    → lesser (seq_in p rows) (Some d.seq) ≡ Some d.seq
-second_low p d rows rise = from (find p rows) refl
+second_low : (p : Current → Bool) (row : Current) (rows : List Current)
+    → AllPairs (λ (other b : Current). other.seq < b.seq) (row ∷ rows)
+    → lesser (seq_in p rows) (Some row.seq) ≡ Some row.seq
+second_low p row rows rise = from (find p rows) refl
   where
-    from : (o : Option Current) → find p rows ≡ o
-        → lesser (option_map (λ (c : Current). c.seq) o) (Some d.seq) ≡ Some d.seq
+    from : (maybe_row : Option Current) → find p rows ≡ maybe_row
+        → lesser (option_map (λ (c : Current). c.seq) maybe_row) (Some row.seq) ≡ Some row.seq
     from None e = refl
-    from (Some c) e = let above = above_first d rows rise c (find_is p rows c e).1 in ap Some (omega arith)
+    from (Some c) e = let above = above_first row rows rise c (find_is p rows c e).1 in ap Some (omega arith)
 
 -- what passes one of two tests first is the first of what passes each
-either_first : (p q : Current → Bool) (rows : List Current) → AllPairs (λ (a b : Current). a.seq < b.seq) rows
+either_first : (p q : Current → Bool) (rows : List Current)
+    → AllPairs (λ (other b : Current). other.seq < b.seq) rows
     → lesser (seq_in p rows) (seq_in q rows) ≡ seq_in (λ c. p c || q c) rows
 either_first p q [] rise = refl
-either_first p q (d ∷ rows) rise =
-    elim (cases_Bool (p d)) [
-      | inl t ↦ elim (cases_Bool (q d)) [
-        | inl u ↦ rw (t, u) (let same : min d.seq d.seq ≡ d.seq = omega arith in ap Some same)
-        | inr u ↦ rw (t, u) (first_low q d rows rise)
+either_first p q (row ∷ rows) rise =
+    elim (cases_Bool (p row)) [
+      | inl t ↦ elim (cases_Bool (q row)) [
+        | inl u ↦ rw (t, u) (let same : min row.seq row.seq ≡ row.seq = omega arith in ap Some same)
+        | inr u ↦ rw (t, u) (first_low q row rows rise)
       ]
-      | inr t ↦ elim (cases_Bool (q d)) [
-        | inl u ↦ rw (t, u) (second_low p d rows rise)
-        | inr u ↦ rw (t, u) (either_first p q rows (rest_rises d rows rise))
+      | inr t ↦ elim (cases_Bool (q row)) [
+        | inl u ↦ rw (t, u) (second_low p row rows rise)
+        | inr u ↦ rw (t, u) (either_first p q rows (rest_rises row rows rise))
       ]
     ]
 
@@ -62,18 +63,18 @@ shared true false x y = refl
 shared false b x y = refl
 
 -- a row of listed documents is of the first ones, or of the last
-listed_more : (place : ℕ) (bound : Option ℕ) (ids : List (List ℕ)) (id : List ℕ) (c : Current)
-    → is_listed_within place bound (ids ++ id ∷ []) c
-    ≡ (is_listed_within place bound ids c || is_listed_within place bound (id ∷ []) c)
-listed_more place bound ids id c =
-    ap (λ b. nat_lt place c.seq && (is_within bound c.seq && b))
-    (list_any-append (bytes_eq c.id) ids (id ∷ []))
-    ∙ shared (nat_lt place c.seq) (is_within bound c.seq) (list_any (bytes_eq c.id) ids)
-    (list_any (bytes_eq c.id) (id ∷ []))
+listed_more : (place : ℕ) (bound : Option ℕ) (ids : List (List ℕ)) (id : List ℕ) (row : Current)
+    → is_listed_within place bound (ids ++ id ∷ []) row
+    ≡ (is_listed_within place bound ids row || is_listed_within place bound (id ∷ []) row)
+listed_more place bound ids id row =
+    ap (λ b. nat_lt place row.seq && (is_within bound row.seq && b))
+    (list_any-append (bytes_eq row.id) ids (id ∷ []))
+    ∙ shared (nat_lt place row.seq) (is_within bound row.seq) (list_any (bytes_eq row.id) ids)
+    (list_any (bytes_eq row.id) (id ∷ []))
 
 -- one more listed document
 pub listed_step : (place : ℕ) (bound : Option ℕ) (rows : List Current)
-    → AllPairs (λ (a b : Current). a.seq < b.seq) rows
+    → AllPairs (λ (row other : Current). row.seq < other.seq) rows
     → (texts : List (String Global)) (i : ℕ) (d : String Global) → i < length texts
     → (first second : Option ℕ)
     → first ≡ option_map (λ (c : Current). c.seq)
@@ -98,10 +99,10 @@ listed_step place bound rows rise texts i d low first second before here =
 
 -- of no documents there is none
 pub listed_none : (place : ℕ) (bound : Option ℕ) (rows : List Current)
-    → None ≡ option_map (λ (c : Current). c.seq) (first_listed place bound [] rows)
+    → None ≡ option_map (λ (row : Current). row.seq) (first_listed place bound [] rows)
 listed_none place bound rows =
     rw (find_nothing (is_listed_within place bound []) rows
-    (λ c h t. never (nat_lt place c.seq) (is_within bound c.seq) t)) refl
+    (λ row h t. never (nat_lt place row.seq) (is_within bound row.seq) t)) refl
   where
     never : (a b : Bool) → (a && (b && false)) ≡ true → ⊥
     never true true t = absurd (cc)
@@ -109,13 +110,14 @@ listed_none place bound rows =
     never false b t = absurd (cc)
 
 -- a row of one listed document lies in reach, and has its id
-pub one_parts : (place : ℕ) (bound : Option ℕ) (id : List ℕ) (c : Current)
-    → is_listed_within place bound (id ∷ []) c ≡ true
-    → ((nat_lt place c.seq && is_within bound c.seq) ≡ true) × (c.id ≡ id)
-one_parts place bound id c t =
-    let p = and_parts (nat_lt place c.seq) (is_within bound c.seq && list_any (bytes_eq c.id) (id ∷ [])) t in
-    let q = and_parts (is_within bound c.seq) (list_any (bytes_eq c.id) (id ∷ [])) p.1 in
-    (rw (p.0, q.0) refl, (bytes_eq-Decides c.id id).0 (last (bytes_eq c.id id) q.1))
+pub one_parts : (place : ℕ) (bound : Option ℕ) (id : List ℕ) (row : Current)
+    → is_listed_within place bound (id ∷ []) row ≡ true
+    → ((nat_lt place row.seq && is_within bound row.seq) ≡ true) × (row.id ≡ id)
+one_parts place bound id row t =
+    let p = and_parts (nat_lt place row.seq)
+    (is_within bound row.seq && list_any (bytes_eq row.id) (id ∷ [])) t in
+    let q = and_parts (is_within bound row.seq) (list_any (bytes_eq row.id) (id ∷ [])) p.1 in
+    (rw (p.0, q.0) refl, (bytes_eq-Decides row.id id).0 (last (bytes_eq row.id id) q.1))
   where
     last : (b : Bool) → (b || false) ≡ true → b ≡ true
     last true t = refl
@@ -132,35 +134,35 @@ one_from place bound id seq t =
 -- The row of a document that stands once, where it lies above the place and not above the bound, ..
 pub only_row : (place : ℕ) (bound : Option ℕ) (id : List ℕ) (seq : ℕ) (rows : List Current)
     → Contains rows (record { seq = seq; id = id })
-    → ((c : Current) → Contains rows c → c.id ≡ id → c.seq ≡ seq)
+    → ((row : Current) → Contains rows row → row.id ≡ id → row.seq ≡ seq)
     → (nat_lt place seq && is_within bound seq) ≡ true
-    → Some seq ≡ option_map (λ (c : Current). c.seq) (first_listed place bound (id ∷ []) rows)
+    → Some seq ≡ option_map (λ (row : Current). row.seq) (first_listed place bound (id ∷ []) rows)
 only_row place bound id seq rows here one ahead = from (first_listed place bound (id ∷ []) rows) refl
   where
-    from : (o : Option Current) → first_listed place bound (id ∷ []) rows ≡ o
-        → Some seq ≡ option_map (λ (c : Current). c.seq) o
+    from : (maybe_row : Option Current) → first_listed place bound (id ∷ []) rows ≡ maybe_row
+        → Some seq ≡ option_map (λ (row : Current). row.seq) maybe_row
     from None e =
         absurd (find_not (is_listed_within place bound (id ∷ [])) rows e (record { seq = seq; id = id }) here
         (one_from place bound id seq ahead))
-    from (Some c) e =
-        let i = find_is (is_listed_within place bound (id ∷ [])) rows c e in
-        ap Some (sym (one c i.1 (one_parts place bound id c i.0).1))
+    from (Some row) e =
+        let i = find_is (is_listed_within place bound (id ∷ [])) rows row e in
+        ap Some (sym (one row i.1 (one_parts place bound id row i.0).1))
 
 -- .. and where it does not
 pub row_apart : (place : ℕ) (bound : Option ℕ) (id : List ℕ) (seq : ℕ) (rows : List Current)
-    → ((c : Current) → Contains rows c → c.id ≡ id → c.seq ≡ seq)
+    → ((row : Current) → Contains rows row → row.id ≡ id → row.seq ≡ seq)
     → (nat_lt place seq && is_within bound seq) ≡ false
-    → None ≡ option_map (λ (c : Current). c.seq) (first_listed place bound (id ∷ []) rows)
+    → None ≡ option_map (λ (row : Current). row.seq) (first_listed place bound (id ∷ []) rows)
 row_apart place bound id seq rows one apart =
-    rw (find_nothing (is_listed_within place bound (id ∷ [])) rows (λ c h t.
-    let p = one_parts place bound id c t in
-    both_ways _ apart (subst (λ (n : ℕ). (nat_lt place n && is_within bound n) ≡ true) (one c h p.1) p.0)))
+    rw (find_nothing (is_listed_within place bound (id ∷ [])) rows (λ row h t.
+    let p = one_parts place bound id row t in
+    both_ways _ apart (subst (λ (n : ℕ). (nat_lt place n && is_within bound n) ≡ true) (one row h p.1) p.0)))
     refl
 
 -- and of a document that is not there
 pub no_row : (place : ℕ) (bound : Option ℕ) (id : List ℕ) (rows : List Current)
-    → ((c : Current) → Contains rows c → c.id ≡ id → ⊥)
-    → None ≡ option_map (λ (c : Current). c.seq) (first_listed place bound (id ∷ []) rows)
+    → ((row : Current) → Contains rows row → row.id ≡ id → ⊥)
+    → None ≡ option_map (λ (row : Current). row.seq) (first_listed place bound (id ∷ []) rows)
 no_row place bound id rows none =
     rw (find_nothing (is_listed_within place bound (id ∷ [])) rows
-    (λ c h t. none c h (one_parts place bound id c t).1)) refl
+    (λ row h t. none row h (one_parts place bound id row t).1)) refl

@@ -22,7 +22,7 @@ pub record AreNumbered (next : ℕ) (feeds : List (ℕ × Feed)) : Type 0 where
 -- a feed has come, and goes, no further than the last of so many edits. Of 5 edits a feed with place 3 and
 -- bound 5 is so; one with place 3 and bound 8 is not.
 abbrev pub IsBehind : ℕ → Feed → Type 0
-IsBehind length f = (f.place ≤ length) × IfSome f.bound (λ bound. bound ≤ length)
+IsBehind length feed = (feed.place ≤ length) × IfSome feed.bound (λ bound. bound ≤ length)
 
 -- each of the feeds has come, and goes, no further than the last of so many edits
 abbrev pub AreBehind : ℕ → List (ℕ × Feed) → Type 0

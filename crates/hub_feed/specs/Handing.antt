@@ -10,9 +10,9 @@ use Rattle.hub_model.specs.declared.feeds.Item.{Item}
 -- of rows of one kind, where `allowed` says which edits there may be
 module _ {R : Type 0} (kind : RowKind R) (allowed : List Edit → Type 0) where
   -- the list fits the feed while these are the edits, and they are some that there may be
-  pub record IsFitting (J : List Edit) (f : Feed) (items : List (Item R)) : Type 0 where
-    pub legal : allowed J
-    pub fits : Fits kind J f items
+  pub record IsFitting (journal : List Edit) (feed : Feed) (items : List (Item R)) : Type 0 where
+    pub legal : allowed journal
+    pub fits : Fits kind journal feed items
 
   -- The list is rightly handed, by these parameters and above this sequence, for some edits that there may
   -- be, some place and some bound. For a normal feed above 0 the rows of b at 2 and a at 3 are: they are

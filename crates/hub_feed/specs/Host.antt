@@ -54,7 +54,7 @@ opened h params =
 -- what is due to a feed of these rows: nothing any more where there is no feed
 abbrev pub due_of : List Current → Option Feed → Due
 due_of rows None = DueGone
-due_of rows (Some f) = due rows f
+due_of rows (Some feed) = due rows feed
 
 -- what is due to the feed of this number
 abbrev pub due_to : {R : Type 0} → Hosted R → ℕ → Due
@@ -63,7 +63,8 @@ due_to h id = due_of h.current (entry_in id h.feeds)
 -- what a feed answers: nothing any more where there is no feed
 abbrev pub answer_of : {R : Type 0} → Hosted R → Option Feed → Next R
 answer_of h None = Gone
-answer_of h (Some f) = next_of (h.shown f.params.style f.params.include_docs) h.current (due h.current f)
+answer_of h (Some feed) =
+    next_of (h.shown feed.params.style feed.params.include_docs) h.current (due h.current feed)
 
 -- what the feed of this number answers
 abbrev pub answered : {R : Type 0} → Hosted R → ℕ → Next R
@@ -71,7 +72,7 @@ answered h id = answer_of h (entry_in id h.feeds)
 
 -- the item that is due to a feed, if there is one
 abbrev pub item_for : {R : Type 0} → Hosted R → Feed → Option (Item R)
-item_for h f = item_of (h.shown f.params.style f.params.include_docs) h.current (due h.current f)
+item_for h feed = item_of (h.shown feed.params.style feed.params.include_docs) h.current (due h.current feed)
 
 -- the item that is due to the feed of this number, if there is one
 abbrev pub item_due : {R : Type 0} → Hosted R → ℕ → Option (Item R)
@@ -91,7 +92,7 @@ behind_answer h id next = record h { feeds = feeds_behind id h.length next h.fee
 
 -- a feed once it handed what was due to it
 abbrev pub behind_due : {R : Type 0} → Hosted R → Feed → Feed
-behind_due h f = after_due f (due h.current f) h.length
+behind_due h feed = after_due feed (due h.current feed) h.length
 
 -- The host once the feed of this number handed the item that was due to it. Where that was the row at 6, the
 -- feed's place is 6 then, and it has one row more.
@@ -101,7 +102,7 @@ handed h id = record h { feeds = changed id (behind_due h) h.feeds }
 -- whether a heartbeat may be handed to a feed
 abbrev pub is_beat_due : Option Feed → Bool
 is_beat_due None = false
-is_beat_due (Some f) = beat_due f
+is_beat_due (Some feed) = beat_due feed
 
 -- the host once the time of the feed of this number is over
 abbrev pub expired : {R : Type 0} → Hosted R → ℕ → Hosted R

@@ -19,10 +19,10 @@ next_of show rows DueGone = Gone
 -- place 3 that has nothing to hand while there are 5 edits has place 5 then. Where the row at 5 is due it
 -- stays at place 3: it moves once the row was handed.
 abbrev pub after_next : Feed → Due → ℕ → Feed
-after_next f (DueRow c) len = f
-after_next f (DueEnd last_seq) len = f
-after_next f DueNothing len = after_nothing f len
-after_next f DueGone len = f
+after_next feed (DueRow c) len = feed
+after_next feed (DueEnd last_seq) len = feed
+after_next feed DueNothing len = after_nothing feed len
+after_next feed DueGone len = feed
 
 -- a row is due
 abbrev pub IsRowDue : Due → Type 0

@@ -10,12 +10,12 @@ use Rattle.hub_model.specs.Filter.{Filter, Everything, DocIds, Design}
 -- the first row above a place and not above the bound, if there is one. Of rows at 2, 6 and 9, place 3 and
 -- bound 8 it is that at 6; with bound 5 there is none, and above place 6 without a bound it is that at 9.
 abbrev pub first_within : ℕ → Option ℕ → List Current → Option Current
-first_within place bound rows = find (λ (c : Current). nat_lt place c.seq && is_within bound c.seq) rows
+first_within place bound rows = find (λ (row : Current). nat_lt place row.seq && is_within bound row.seq) rows
 
 -- whether a row lies above a place and not above the bound, and is of one of the documents with these ids
 abbrev pub is_listed_within : ℕ → Option ℕ → List (List ℕ) → Current → Bool
-is_listed_within place bound ids c =
-    nat_lt place c.seq && (is_within bound c.seq && list_any (bytes_eq c.id) ids)
+is_listed_within place bound ids row =
+    nat_lt place row.seq && (is_within bound row.seq && list_any (bytes_eq row.id) ids)
 
 -- the first row above a place and not above the bound that is of one of the documents with these ids, if
 -- there is one

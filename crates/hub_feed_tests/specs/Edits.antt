@@ -12,4 +12,4 @@ rows_of n (Some id ∷ edits) = record { seq = n; id = id.now } ∷ rows_of (n +
 
 -- a feed that is not beyond so many edits
 abbrev pub IsWithin : Feed → ℕ → Type 0
-IsWithin f len = (f.place ≤ len) × IfSome f.bound (λ bound. bound ≤ len)
+IsWithin feed len = (feed.place ≤ len) × IfSome feed.bound (λ bound. bound ≤ len)

@@ -52,9 +52,9 @@ listed_by [] id = refl
 listed_by (x ∷ xs) id = ap (λ b. bytes_eq id (string_bytes x) || b) (listed_by xs id)
 
 -- bytes that are below or above an id are not the id's
-differs : (id bytes : List ℕ) (o : Ordering) → slice_cmp nat_cmp bytes id ≡ o → is_eq o ≡ false
-    → bytes_eq id bytes ≡ false
-differs id bytes o e other =
+differs : (id bytes : List ℕ) (ordering : Ordering) → slice_cmp nat_cmp bytes id ≡ ordering
+    → is_eq ordering ≡ false → bytes_eq id bytes ≡ false
+differs id bytes ordering e other =
     false_from_ne_true (bytes_eq id bytes) (λ yes.
     clash (sym ((bytes_eq-Decides bytes id).1 (sym ((bytes_eq-Decides id bytes).0 yes)))
     ∙ (sym (is_eq-slice_cmp bytes id) ∙ (ap is_eq e ∙ other))))

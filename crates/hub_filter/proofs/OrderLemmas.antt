@@ -34,23 +34,26 @@ Rises (x ∷ xs) = UpTo x xs × Rises xs
 turned : (x y : List ℕ) → order x y ≡ ordering_reverse (order y x)
 turned = nat_list_cmp_total.antisymm
 
-not_gt : (o p : Ordering) → p ≡ ordering_reverse o → is_gt o ≡ true → is_gt p ≡ false
-not_gt Less p e t = absurd (cc)
-not_gt Equal p e t = absurd (cc)
-not_gt Greater p e t = rw e refl
+not_gt : (other ordering : Ordering) → ordering ≡ ordering_reverse other → is_gt other ≡ true
+    → is_gt ordering ≡ false
+not_gt Less ordering e t = absurd (cc)
+not_gt Equal ordering e t = absurd (cc)
+not_gt Greater ordering e t = rw e refl
 
-not_lt : (o p : Ordering) → p ≡ ordering_reverse o → is_lt o ≡ false → is_gt p ≡ false
-not_lt Less p e t = absurd (cc)
-not_lt Equal p e t = rw e refl
-not_lt Greater p e t = rw e refl
+not_lt : (other ordering : Ordering) → ordering ≡ ordering_reverse other → is_lt other ≡ false
+    → is_gt ordering ≡ false
+not_lt Less ordering e t = absurd (cc)
+not_lt Equal ordering e t = rw e refl
+not_lt Greater ordering e t = rw e refl
 
-tied : (o p : Ordering) → p ≡ ordering_reverse o → is_gt o ≡ false → is_gt p ≡ false → o ≡ Equal
-tied Less p e t u = absurd (clash (sym (ap is_gt e) ∙ u))
+tied : (other ordering : Ordering) → ordering ≡ ordering_reverse other → is_gt other ≡ false
+    → is_gt ordering ≡ false → other ≡ Equal
+tied Less ordering e t u = absurd (clash (sym (ap is_gt e) ∙ u))
   where
     clash : true ≡ false → ⊥
     clash e = cc
-tied Equal p e t u = refl
-tied Greater p e t u = absurd (cc)
+tied Equal ordering e t u = refl
+tied Greater ordering e t u = absurd (cc)
 
 -- ---- insertion keeps the order and the texts
 

@@ -10,25 +10,32 @@ use Rattle.hub_follow_model.proofs.Paths.{behind_more}
 use Rattle.hub_model.proofs.Walks.{walk_history, legal_histories, walk_steps}
 
 -- a copy whose head isn't known can be added to copies
-pub copy_acceptable : (J J' : List Edit) (e : Edit) → IsLegal J → AreCopies J J' → IsCopy J e
-    → ((r : Revision) → IsHead e r → ¬ IsKnown J' e.id r) → IsAcceptable J' e
-copy_acceptable J J' e legal copies c new =
+pub copy_acceptable : (journal later_journal : List Edit) (edit : Edit) → IsLegal journal
+    → AreCopies journal later_journal → IsCopy journal edit
+    → ((revision : Revision) → IsHead edit revision → ¬ IsKnown later_journal edit.id revision)
+    → IsAcceptable later_journal edit
+copy_acceptable journal later_journal edit legal copies c new =
     let o = c.shown.doc in
     record {
-      history = walk_history c.front e.id (λ f d. legal_histories J legal f (held f d)) e.path c.r
+      history = walk_history c.front edit.id (λ f d. legal_histories journal legal f (held f d)) edit.path c.r
           c.shown.head (o.0, o.1, first_in o.0.path c.r o.2) c.shown.walk;
       new = new;
-      agrees = λ r other s b k. (legal_sound J legal).tree e.id r other s (in_source r s b)
+      agrees =
+          λ revision other s b k. (legal_sound journal legal).tree edit.id revision other s
+          (in_source revision s b)
           (in_source other s k);
     }
   where
-    held : Holds J c.front
+    held : Holds journal c.front
     held f d = subst (λ (z : List Edit). Contains z f) c.split (Contains-append_left c.front c.rest f d)
 
-    in_source : (r s : Revision) → IsBehind (J' ++ e ∷ []) e.id r s → IsBehind J e.id r s
-    in_source r s (f, (d, n), i) = ⊎_elim
-        (λ (u : Contains J' f). copied_behind J J' legal copies e.id r s (f, (u, n), i))
-        (λ (v : e
-        ≡ f). behind_more J c.front e.id r s held
-        (walk_steps c.front e.id e.path s r c.shown.walk (subst (λ (z : Edit). IsNext z.path s r) (sym v) i)))
-        (Contains-push_cases J' e f d)
+    in_source : (revision s : Revision) → IsBehind (later_journal ++ edit ∷ []) edit.id revision s
+        → IsBehind journal edit.id revision s
+    in_source revision s (f, (d, n), i) = ⊎_elim
+        (λ (u : Contains later_journal f).
+        copied_behind journal later_journal legal copies edit.id revision s (f, (u, n), i))
+        (λ (v : edit
+        ≡ f). behind_more journal c.front edit.id revision s held
+        (walk_steps c.front edit.id edit.path s revision c.shown.walk
+        (subst (λ (z : Edit). IsNext z.path s revision) (sym v) i)))
+        (Contains-push_cases later_journal edit f d)

@@ -26,141 +26,161 @@ use Rattle.hub_follow_model.proofs.Paths.{behind_more}
 
 -- no entry after c has the document
 abbrev pub IsUnmoved : List Edit → ℕ → List ℕ → Type 0
-IsUnmoved J c id = (f : Edit) → Contains (drop c J) f → f.id ≢ id
+IsUnmoved journal c id = (edit : Edit) → Contains (drop c journal) edit → edit.id ≢ id
 
 -- of the documents that were not written after c each leaf is known at the target, or in hand
-pub record IsDoneBut (J J' : List Edit) (c : ℕ) (Hand : List ℕ → Revision → Type 0) : Type 0 where
-  pub within : c ≤ length J
-  pub brought : (id : List ℕ) (h : Revision) → IsUnmoved J c id → IsLeaf J id h → IsKnown J' id h ⊎ Hand id h
+pub record IsDoneBut (journal later_journal : List Edit) (c : ℕ)
+    (Hand : List ℕ → Revision → Type 0) : Type 0 where
+  pub within : c ≤ length journal
+  pub brought : (id : List ℕ) (revision : Revision) → IsUnmoved journal c id → IsLeaf journal id revision
+      → IsKnown later_journal id revision ⊎ Hand id revision
 
-pub record IsDone (J J' : List Edit) (c : ℕ) : Type 0 where
-  pub within : c ≤ length J
-  pub brought : (id : List ℕ) → IsUnmoved J c id → IsBrought J J' id
+pub record IsDone (journal later_journal : List Edit) (c : ℕ) : Type 0 where
+  pub within : c ≤ length journal
+  pub brought : (id : List ℕ) → IsUnmoved journal c id → IsBrought journal later_journal id
 
 -- both ends may have grown
-pub record Grows (J J' K K' : List Edit) : Type 0 where
+pub record Grows (journal later_journal other_journal edits : List Edit) : Type 0 where
   pub more : List Edit
-  pub source : K ≡ J ++ more
-  pub target : Holds K' J'
+  pub source : other_journal ≡ journal ++ more
+  pub target : Holds edits later_journal
 
 pub drop_in : {X : Type 0} (n : ℕ) (xs : List X) (x : X) → Contains (drop n xs) x → Contains xs x
 drop_in n xs x h =
     subst (λ z. Contains z x) (take-append-drop n xs) (Contains-append_right (take n xs) (drop n xs) x h)
 
-pub unmoved_before : (J L : List Edit) (c : ℕ) (id : List ℕ) → c ≤ length J → IsUnmoved (J ++ L) c id
-    → IsUnmoved J c id
-unmoved_before J L c id w u f h =
-    u f (subst (λ z. Contains z f) (sym (drop-append-le c J L w)) (Contains-append_left (drop c J) L f h))
+pub unmoved_before : (journal edits : List Edit) (c : ℕ) (id : List ℕ) → c ≤ length journal
+    → IsUnmoved (journal ++ edits) c id → IsUnmoved journal c id
+unmoved_before journal edits c id w u f h =
+    u f (subst (λ z. Contains z f) (sym (drop-append-le c journal edits w))
+    (Contains-append_left (drop c journal) edits f h))
 
-pub leaf_before : (J L : List Edit) (c : ℕ) (id : List ℕ) (h : Revision) → c ≤ length J
-    → IsUnmoved (J ++ L) c id → IsLeaf (J ++ L) id h → IsLeaf J id h
-leaf_before J L c id h w u l = (
+pub leaf_before : (journal edits : List Edit) (c : ℕ) (id : List ℕ) (revision : Revision) → c ≤ length journal
+    → IsUnmoved (journal ++ edits) c id → IsLeaf (journal ++ edits) id revision → IsLeaf journal id revision
+leaf_before journal edits c id revision w u l = (
   known l.0.0 l.0.1.0 l.0.1.1 l.0.2,
-  λ s b. l.1 s (behind_more (J ++ L) J id h s (λ f d. Contains-append_left J L f d) b),
+  λ s b. l.1 s (behind_more (journal ++ edits) journal id revision s
+      (λ edit d. Contains-append_left journal edits edit d) b),
 )
   where
-    known : (f : Edit) → Contains (J ++ L) f → f.id ≡ id → Contains f.path h → IsKnown J id h
-    known f d n i = ⊎_elim (λ (v : Contains J f). (f, (v, n), i))
-        (λ v. absurd (u f
-        (subst (λ z. Contains z f) (sym (drop-append-le c J L w)) (Contains-append_right (drop c J) L f v))
+    known : (edit : Edit) → Contains (journal ++ edits) edit → edit.id ≡ id → Contains edit.path revision
+        → IsKnown journal id revision
+    known edit d n i = ⊎_elim (λ (v : Contains journal edit). (edit, (v, n), i))
+        (λ v. absurd (u edit
+        (subst (λ z. Contains z edit) (sym (drop-append-le c journal edits w))
+        (Contains-append_right (drop c journal) edits edit v))
         n))
-        (Contains-append_cases J L f d)
+        (Contains-append_cases journal edits edit d)
 
-pub more_length : (J L : List Edit) (c : ℕ) → c ≤ length J → c ≤ length (J ++ L)
-more_length J L c w = omega (arith, length-append J L)
+pub more_length : (journal edits : List Edit) (c : ℕ) → c ≤ length journal → c ≤ length (journal ++ edits)
+more_length journal edits c w = omega (arith, length-append journal edits)
 
-pub done_grows : (J J' K K' : List Edit) (c : ℕ) → Grows J J' K K' → IsDone J J' c → IsDone K K' c
-done_grows J J' K K' c g p = subst (λ (z : List Edit). IsDone z K' c) (sym g.source) (record {
-  within = more_length J g.more c p.within;
-  brought = λ id u h l. known_more K' J' id h g.target
-      (p.brought id (unmoved_before J g.more c id p.within u) h (leaf_before J g.more c id h p.within u l));
-})
-
-pub done_but_grows : (J J' K K' : List Edit) (c : ℕ) (Hand : List ℕ → Revision → Type 0) → Grows J J' K K'
-    → IsDoneBut J J' c Hand → IsDoneBut K K' c Hand
-done_but_grows J J' K K' c Hand g p =
-    subst (λ (z : List Edit). IsDoneBut z K' c Hand) (sym g.source) (record {
-      within = more_length J g.more c p.within;
-      brought = λ id h u l. ⊎_elim (λ k. inl (known_more K' J' id h g.target k)) (λ k. inr k)
-          (p.brought id h (unmoved_before J g.more c id p.within u)
-          (leaf_before J g.more c id h p.within u l));
+pub done_grows : (journal later_journal other_journal edits : List Edit) (c : ℕ)
+    → Grows journal later_journal other_journal edits → IsDone journal later_journal c
+    → IsDone other_journal edits c
+done_grows journal later_journal other_journal edits c g p =
+    subst (λ (others : List Edit). IsDone others edits c) (sym g.source) (record {
+      within = more_length journal g.more c p.within;
+      brought = λ id u h l. known_more edits later_journal id h g.target
+          (p.brought id (unmoved_before journal g.more c id p.within u) h
+          (leaf_before journal g.more c id h p.within u l));
     })
 
-pub done_zero : (J J' : List Edit) → IsDone J J' 0
-done_zero J J' = record { within = omega arith; brought = λ id u h l. absurd (u l.0.0 l.0.1.0 l.0.1.1) }
+pub done_but_grows : (journal later_journal other_journal edits : List Edit) (c : ℕ)
+    (Hand : List ℕ → Revision → Type 0) → Grows journal later_journal other_journal edits
+    → IsDoneBut journal later_journal c Hand → IsDoneBut other_journal edits c Hand
+done_but_grows journal later_journal other_journal edits c Hand g p =
+    subst (λ (others : List Edit). IsDoneBut others edits c Hand) (sym g.source) (record {
+      within = more_length journal g.more c p.within;
+      brought = λ id h u l. ⊎_elim (λ k. inl (known_more edits later_journal id h g.target k)) (λ k. inr k)
+          (p.brought id h (unmoved_before journal g.more c id p.within u)
+          (leaf_before journal g.more c id h p.within u l));
+    })
+
+pub done_zero : (journal later_journal : List Edit) → IsDone journal later_journal 0
+done_zero journal later_journal =
+    record { within = omega arith; brought = λ id u h l. absurd (u l.0.0 l.0.1.0 l.0.1.1) }
 
 -- logs
 abbrev pub LogDone : List Edit → List Edit → Option ReplicationLog → Type 0
-LogDone J J' log = (c : ℕ) → IsRecordedIn log c → IsDone J J' c
+LogDone journal later_journal log = (c : ℕ) → IsRecordedIn log c → IsDone journal later_journal c
 
 abbrev pub PastDone : List Edit → List Edit → List HistoryEntry → Type 0
-PastDone J J' past = (p : HistoryEntry) → Contains past p → IsDone J J' p.recorded_seq.n
+PastDone journal later_journal past =
+    (p : HistoryEntry) → Contains past p → IsDone journal later_journal p.recorded_seq.n
 
-module _ (J J' : List Edit) where
-  pub past_of_log : (log : Option ReplicationLog) → LogDone J J' log → PastDone J J' (history_of log)
+module _ (journal later_journal : List Edit) where
+  pub past_of_log : (log : Option ReplicationLog) → LogDone journal later_journal log
+      → PastDone journal later_journal (history_of log)
   past_of_log None h p c = absurd (contains_none p c)
   past_of_log (Some log) h p c = h p.recorded_seq.n (inr (p, c, refl))
 
-  pub done_min : (m n : ℕ) → IsDone J J' m → IsDone J J' n → IsDone J J' (min m n)
+  pub done_min : (m n : ℕ) → IsDone journal later_journal m → IsDone journal later_journal n
+      → IsDone journal later_journal (min m n)
   done_min m n p q =
-      ⊎_elim (λ (e : min m n ≡ m). subst (λ z. IsDone J J' z) (sym e) p)
-      (λ (e : min m n ≡ n). subst (λ z. IsDone J J' z) (sym e) q) (grind arith)
+      ⊎_elim (λ (e : min m n ≡ m). subst (λ z. IsDone journal later_journal z) (sym e) p)
+      (λ (e : min m n ≡ n). subst (λ z. IsDone journal later_journal z) (sym e) q) (grind arith)
 
   -- a number that counts as another, or as 0
-  pub done_counted : (life : ℕ) (s : Seq) → IsDone J J' s.n → IsDone J J' (seq_in life s)
-  done_counted life s p = by_life s.life
+  pub done_counted : (life : ℕ) (seq : Seq) → IsDone journal later_journal seq.n
+      → IsDone journal later_journal (seq_in life seq)
+  done_counted life seq p = by_life seq.life
     where
-      same : (b : Bool) → IsDone J J' (if b then s.n else 0)
+      same : (b : Bool) → IsDone journal later_journal (if b then seq.n else 0)
       same true = p
-      same false = done_zero J J'
+      same false = done_zero journal later_journal
 
-      by_life : (of : Option ℕ) → IsDone J J' (counted life s.n of)
+      by_life : (of : Option ℕ) → IsDone journal later_journal (counted life seq.n of)
       by_life None = p
       by_life (Some of) = same (nat_eq of life)
 
-  pub done_lesser : (s t : Seq) → IsDone J J' s.n → IsDone J J' t.n → IsDone J J' (lesser_seq s t).n
-  done_lesser s t p q = by_lives s.life t.life
+  pub done_lesser : (seq t : Seq) → IsDone journal later_journal seq.n → IsDone journal later_journal t.n
+      → IsDone journal later_journal (lesser_seq seq t).n
+  done_lesser seq t p q = by_lives seq.life t.life
     where
       same : (life : ℕ) (b : Bool)
-          → IsDone J J' (if b then record { n = min s.n t.n; life = Some life } else beginning).n
-      same life true = done_min s.n t.n p q
-      same life false = done_zero J J'
+          → IsDone journal later_journal
+          (if b then record { n = min seq.n t.n; life = Some life } else beginning).n
+      same life true = done_min seq.n t.n p q
+      same life false = done_zero journal later_journal
 
-      by_lives : (l k : Option ℕ) → IsDone J J' (with_lives (min s.n t.n) l k).n
-      by_lives None k = done_min s.n t.n p q
-      by_lives (Some life) None = done_min s.n t.n p q
+      by_lives : (l k : Option ℕ) → IsDone journal later_journal (with_lives (min seq.n t.n) l k).n
+      by_lives None k = done_min seq.n t.n p q
+      by_lives (Some life) None = done_min seq.n t.n p q
       by_lives (Some life) (Some other) = same life (nat_eq life other)
 
-  pub done_recorded : (session : List ℕ) (past : List HistoryEntry) (n otherwise : Seq)
-      → PastDone J J' past → IsDone J J' n.n → IsDone J J' otherwise.n
-      → IsDone J J' (lesser_sequence n (recorded_seq_of session past) otherwise).n
-  done_recorded session [] n otherwise h p q = q
-  done_recorded session (x ∷ past) n otherwise h p q =
+  pub done_recorded : (session : List ℕ) (past : List HistoryEntry) (seq otherwise : Seq)
+      → PastDone journal later_journal past → IsDone journal later_journal seq.n
+      → IsDone journal later_journal otherwise.n
+      → IsDone journal later_journal (lesser_sequence seq (recorded_seq_of session past) otherwise).n
+  done_recorded session [] seq otherwise h p q = q
+  done_recorded session (x ∷ past) seq otherwise h p q =
       both (bytes_eq session x.session_id)
-      (done_recorded session past n otherwise (λ y c. h y (contains_there x y past c)) p q)
+      (done_recorded session past seq otherwise (λ y c. h y (contains_there x y past c)) p q)
     where
-      both : (b : Bool) → IsDone J J' (lesser_sequence n (recorded_seq_of session past) otherwise).n
-          → IsDone J J'
-          (lesser_sequence n (cond b (Some x.recorded_seq) (recorded_seq_of session past)) otherwise).n
-      both true ih = done_lesser x.recorded_seq n (h x (contains_here x past)) p
+      both : (b : Bool) → IsDone journal later_journal
+          (lesser_sequence seq (recorded_seq_of session past) otherwise).n → IsDone journal later_journal
+          (lesser_sequence seq (cond b (Some x.recorded_seq) (recorded_seq_of session past)) otherwise).n
+      both true ih = done_lesser x.recorded_seq seq (h x (contains_here x past)) p
       both false ih = ih
 
-  pub done_past : (source target : List HistoryEntry) → PastDone J J' source → PastDone J J' target
-      → IsDone J J' (common_session_sequence source target).n
-  done_past source [] h k = done_zero J J'
+  pub done_past : (source target : List HistoryEntry) → PastDone journal later_journal source
+      → PastDone journal later_journal target
+      → IsDone journal later_journal (common_session_sequence source target).n
+  done_past source [] h k = done_zero journal later_journal
   done_past source (x ∷ target) h k =
       done_recorded x.session_id source x.recorded_seq (common_session_sequence source target) h
       (k x (contains_here x target)) (done_past source target h (λ y c. k y (contains_there x y target c)))
 
   -- whichever number two logs agree on
-  pub done_common : (source target : Option ReplicationLog) → LogDone J J' source → LogDone J J' target
-      → IsDone J J' (common_sequence source target).n
-  done_common None target h k = done_zero J J'
-  done_common (Some source) None h k = done_zero J J'
+  pub done_common : (source target : Option ReplicationLog) → LogDone journal later_journal source
+      → LogDone journal later_journal target → IsDone journal later_journal (common_sequence source target).n
+  done_common None target h k = done_zero journal later_journal
+  done_common (Some source) None h k = done_zero journal later_journal
   done_common (Some source) (Some target) h k = both (bytes_eq source.session_id target.session_id)
     where
       both : (b : Bool)
-          → IsDone J J'
+          → IsDone journal later_journal
           (cond b (lesser_seq source.source_last_seq target.source_last_seq)
           (common_session_sequence source.history target.history)).n
       both true =
@@ -175,37 +195,39 @@ module _ (J J' : List Edit) where
       subst (λ z. Contains z p) (take-append-drop n past)
       (Contains-append_left (take n past) (drop n past) p c)
 
-  pub log_over_done : (s : Session) (past : List HistoryEntry) → IsDone J J' s.place.n → PastDone J J' past
-      → LogDone J J' (Some (checkpoint_log s past))
-  log_over_done s past p h c (inl e) = subst (λ z. IsDone J J' z) e p
-  log_over_done s past p h c (inr (x, d, e)) =
+  pub log_over_done : (session : Session) (past : List HistoryEntry)
+      → IsDone journal later_journal session.place.n → PastDone journal later_journal past
+      → LogDone journal later_journal (Some (checkpoint_log session past))
+  log_over_done session past p h c (inl e) = subst (λ z. IsDone journal later_journal z) e p
+  log_over_done session past p h c (inr (x, d, e)) =
       let own : HistoryEntry = record {
-        session_id = s.session_id;
-        start_last_seq = s.start;
-        end_last_seq = s.place;
-        recorded_seq = s.place;
+        session_id = session.session_id;
+        start_last_seq = session.start;
+        end_last_seq = session.place;
+        recorded_seq = session.place;
       } in
       ⊎_elim (λ (q : own ≡ x).
-      subst (λ z. IsDone J J' z) (ap (λ (z : HistoryEntry). z.recorded_seq.n) q ∙ e) p)
-      (λ q. subst (λ z. IsDone J J' z) e (h x q))
+      subst (λ z. IsDone journal later_journal z) (ap (λ (z : HistoryEntry). z.recorded_seq.n) q ∙ e) p)
+      (λ q. subst (λ z. IsDone journal later_journal z) e (h x q))
       (contains_cases own x past (take_in 50 (own ∷ past) x d))
 
 -- the last edit of a document, where it has any
-pub last_of : (J : List Edit) (id : List ℕ)
-    → ((n : ℕ) × (e : Edit) × IsCurrent J n e × (e.id ≡ id)) ⊎ ((f : Edit) → Contains J f → f.id ≢ id)
+pub last_of : (journal : List Edit) (id : List ℕ)
+    → ((n : ℕ) × (other : Edit) × IsCurrent journal n other × (other.id ≡ id))
+    ⊎ ((f : Edit) → Contains journal f → f.id ≢ id)
 last_of [] id = inr (λ f c. absurd (contains_none f c))
-last_of (x ∷ J) id = both (last_of J id) (same_text x.id id)
+last_of (edit ∷ journal) id = both (last_of journal id) (same_text edit.id id)
   where
-    both : ((n : ℕ) × (e : Edit) × IsCurrent J n e × (e.id ≡ id)) ⊎ ((f : Edit) → Contains J f → f.id ≢ id)
-        → (x.id ≡ id) ⊎ (x.id ≢ id)
-        → ((n : ℕ) × (e : Edit) × IsCurrent (x ∷ J) n e × (e.id ≡ id))
-        ⊎ ((f : Edit) → Contains (x ∷ J) f → f.id ≢ id)
-    both (inl (n, e, (b, l, s, m, none), q)) d =
-        inl (suc n, e, (x ∷ b, l, ap (λ (z : List Edit). x ∷ z) s, omega arith, none), q)
-    both (inr none) (inl q) = inl (1, x, ([], J, refl, omega arith, λ f c p. none f c (p ∙ q)), q)
+    both : ((n : ℕ) × (other : Edit) × IsCurrent journal n other × (other.id ≡ id))
+        ⊎ ((f : Edit) → Contains journal f → f.id ≢ id) → (edit.id ≡ id) ⊎ (edit.id ≢ id)
+        → ((n : ℕ) × (other : Edit) × IsCurrent (edit ∷ journal) n other × (other.id ≡ id))
+        ⊎ ((f : Edit) → Contains (edit ∷ journal) f → f.id ≢ id)
+    both (inl (n, other, (b, l, s, m, none), q)) d =
+        inl (suc n, other, (edit ∷ b, l, ap (λ (z : List Edit). edit ∷ z) s, omega arith, none), q)
+    both (inr none) (inl q) = inl (1, edit, ([], journal, refl, omega arith, λ f c p. none f c (p ∙ q)), q)
     both (inr none) (inr q) =
-        inr (λ f c. ⊎_elim (λ (v : x ≡ f). λ p. q (ap (λ (z : Edit). z.id) v ∙ p)) (λ v. none f v)
-        (contains_cases x f J c))
+        inr (λ f c. ⊎_elim (λ (v : edit ≡ f). λ p. q (ap (λ (z : Edit). z.id) v ∙ p)) (λ v. none f v)
+        (contains_cases edit f journal c))
 
 pub contains_map : {X Y : Type 0} (g : X → Y) (x : X) (xs : List X) → Contains xs x
     → Contains (map g xs) (g x)

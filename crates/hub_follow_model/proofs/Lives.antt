@@ -11,50 +11,51 @@ use Rattle.hub_follow_model.specs.World.{ChangesReply, LossBefore, LossAfter, Pa
 use Rattle.hub_model.specs.RightlyHanded.{ChangeItem}
 
 abbrev life_of : World → ℕ
-life_of w = w.life
+life_of world = world.life
 
 -- an answered call keeps it
-answered : (w : World) (call : Call) (answer : Answer) (mid : World) → IsAnswered w call answer mid
-    → mid.life ≡ w.life
-answered w (LocalGet side) (LogAnswer log) mid h = ap life_of h.1
-answered w (Changes since) (ChangesAnswer rows last life) mid h = ap life_of h.2
-answered w (RevsDiff asked) (RevsDiffAnswer missed) mid h = ap life_of h.1
-answered w (OpenRevs id revs) (OpenRevsAnswer docs) mid h = ap life_of h.1
-answered w (Merge docs) (MergeAnswer outcomes) mid h = ap life_of h.1
-answered w (LocalPut Source log) PutAnswer mid h = ap life_of h
-answered w (LocalPut Target log) PutAnswer mid h = ap life_of h
-answered w call answer mid h = absurd h
+answered : (world : World) (call : Call) (answer : Answer) (mid : World) → IsAnswered world call answer mid
+    → mid.life ≡ world.life
+answered world (LocalGet side) (LogAnswer log) mid h = ap life_of h.1
+answered world (Changes since) (ChangesAnswer rows last life) mid h = ap life_of h.2
+answered world (RevsDiff asked) (RevsDiffAnswer missed) mid h = ap life_of h.1
+answered world (OpenRevs id revs) (OpenRevsAnswer docs) mid h = ap life_of h.1
+answered world (Merge docs) (MergeAnswer outcomes) mid h = ap life_of h.1
+answered world (LocalPut Source log) PutAnswer mid h = ap life_of h
+answered world (LocalPut Target log) PutAnswer mid h = ap life_of h
+answered world call answer mid h = absurd h
 
 -- whatever becomes of its answer
-behind : (w : World) (next : Option Call) (after : Answer → Follower) (new : World)
-    → MatchOption next (new ≡ w) (λ call. (answer : Answer) × (mid : World) × IsAnswered w call answer mid
+behind : (world : World) (next : Option Call) (after : Answer → Follower) (new : World)
+    → MatchOption next (new ≡ world)
+    (λ call. (answer : Answer) × (mid : World) × IsAnswered world call answer mid
     × (new ≡ record mid { follower = after answer }))
-    → new.life ≡ w.life
-behind w None after new h = ap life_of h
-behind w (Some call) after new (answer, mid, h, e) = ap life_of e ∙ answered w call answer mid h
+    → new.life ≡ world.life
+behind world None after new h = ap life_of h
+behind world (Some call) after new (answer, mid, h, e) = ap life_of e ∙ answered world call answer mid h
 
 -- and so does a merge that stops
-stopped : (w : World) (next : Option Call) (count : ℕ) (new : World) → IsPartialMerge w next count new
-    → new.life ≡ w.life
-stopped w (Some (Merge docs)) count new h = ap life_of h
-stopped w None count new h = ap life_of h
-stopped w (Some (LocalGet side)) count new h = ap life_of h
-stopped w (Some (Changes since)) count new h = ap life_of h
-stopped w (Some (RevsDiff asked)) count new h = ap life_of h
-stopped w (Some (OpenRevs id revs)) count new h = ap life_of h
-stopped w (Some (LocalPut side log)) count new h = ap life_of h
+stopped : (world : World) (next : Option Call) (count : ℕ) (new : World) → IsPartialMerge world next count new
+    → new.life ≡ world.life
+stopped world (Some (Merge docs)) count new h = ap life_of h
+stopped world None count new h = ap life_of h
+stopped world (Some (LocalGet side)) count new h = ap life_of h
+stopped world (Some (Changes since)) count new h = ap life_of h
+stopped world (Some (RevsDiff asked)) count new h = ap life_of h
+stopped world (Some (OpenRevs id revs)) count new h = ap life_of h
+stopped world (Some (LocalPut side log)) count new h = ap life_of h
 
 -- and items that come for changes
-handed : (w : World) (next : Option Call) (items : List ChangeItem) (new : World)
-    → IsChangesReply w next items new → new.life ≡ w.life
-handed w (Some (Changes since)) items new (inl (rows, last, right, e)) = ap life_of e
-handed w (Some (Changes since)) items new (inr (wrong, e)) = ap life_of e
-handed w None items new h = ap life_of h
-handed w (Some (LocalGet side)) items new h = ap life_of h
-handed w (Some (RevsDiff asked)) items new h = ap life_of h
-handed w (Some (OpenRevs id revs)) items new h = ap life_of h
-handed w (Some (Merge docs)) items new h = ap life_of h
-handed w (Some (LocalPut side log)) items new h = ap life_of h
+handed : (world : World) (next : Option Call) (items : List ChangeItem) (new : World)
+    → IsChangesReply world next items new → new.life ≡ world.life
+handed world (Some (Changes since)) items new (inl (rows, last, right, e)) = ap life_of e
+handed world (Some (Changes since)) items new (inr (wrong, e)) = ap life_of e
+handed world None items new h = ap life_of h
+handed world (Some (LocalGet side)) items new h = ap life_of h
+handed world (Some (RevsDiff asked)) items new h = ap life_of h
+handed world (Some (OpenRevs id revs)) items new h = ap life_of h
+handed world (Some (Merge docs)) items new h = ap life_of h
+handed world (Some (LocalPut side log)) items new h = ap life_of h
 
 pub life_stays : LifeStays
 life_stays w new (Write docs) e = ap life_of e

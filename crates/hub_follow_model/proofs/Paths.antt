@@ -14,56 +14,66 @@ use Rattle.hub_model.proofs.Lists.{contains_none, contains_there, contains_cases
 use Rattle.hub_model.proofs.Shown.{current_is}
 
 -- each entry was acceptable
-pub legal_at : (before A B : List Edit) (e : Edit) → IsLegalAfter before (A ++ e ∷ B)
-    → IsAcceptable (before ++ A) e
-legal_at before [] B e h = subst (λ K. IsAcceptable K e) (sym (append-nil before)) h.0
-legal_at before (a ∷ A) B e h =
-    subst (λ K. IsAcceptable K e) (append_assoc before (a ∷ []) A) (legal_at (before ++ a ∷ []) A B e h.1)
+pub legal_at : (before others edits : List Edit) (edit : Edit) → IsLegalAfter before (others ++ edit ∷ edits)
+    → IsAcceptable (before ++ others) edit
+legal_at before [] edits edit h = subst (λ K. IsAcceptable K edit) (sym (append-nil before)) h.0
+legal_at before (other ∷ others) edits edit h =
+    subst (λ K. IsAcceptable K edit) (append_assoc before (other ∷ []) others)
+    (legal_at (before ++ other ∷ []) others edits edit h.1)
 
 -- what stands behind a revision stays there
-pub behind_more : (J K : List Edit) (id : List ℕ) (r s : Revision) → Holds J K → IsBehind K id r s
-    → IsBehind J id r s
-behind_more J K id r s h (e, (c, n), i) = (e, (h e c, n), i)
+pub behind_more : (journal other_journal : List Edit) (id : List ℕ) (revision other : Revision)
+    → Holds journal other_journal → IsBehind other_journal id revision other
+    → IsBehind journal id revision other
+behind_more journal other_journal id revision other h (e, (c, n), i) = (e, (h e c, n), i)
 
 -- a path has one first revision
-pub first_same : (p : List Revision) (r s : Revision) → IsFirst p r → IsFirst p s → r ≡ s
-first_same [] r s h k = absurd h
-first_same (x ∷ p) r s h k = cc
+pub first_same : (revisions : List Revision) (revision other : Revision) → IsFirst revisions revision
+    → IsFirst revisions other → revision ≡ other
+first_same [] revision other h k = absurd h
+first_same (x ∷ revisions) revision other h k = cc
 
 -- what isn't the first one stands behind another
-pub first_or_next : (p : List Revision) (r : Revision) → Contains p r
-    → IsFirst p r ⊎ ((s : Revision) × IsNext p s r)
-first_or_next [] r c = absurd (contains_none r c)
-first_or_next (x ∷ p) r c = both (first_or_next p r) (contains_cases x r p c)
+pub first_or_next : (revisions : List Revision) (revision : Revision) → Contains revisions revision
+    → IsFirst revisions revision ⊎ ((s : Revision) × IsNext revisions s revision)
+first_or_next [] revision c = absurd (contains_none revision c)
+first_or_next (other ∷ revisions) revision c =
+    both (first_or_next revisions revision) (contains_cases other revision revisions c)
   where
-    deeper : IsFirst p r ⊎ ((s : Revision) × IsNext p s r)
-        → IsFirst (x ∷ p) r ⊎ ((s : Revision) × IsNext (x ∷ p) s r)
-    deeper (inl i) = inr (x, inl (refl, i))
+    deeper : IsFirst revisions revision ⊎ ((s : Revision) × IsNext revisions s revision)
+        → IsFirst (other ∷ revisions) revision ⊎ ((s : Revision) × IsNext (other ∷ revisions) s revision)
+    deeper (inl i) = inr (other, inl (refl, i))
     deeper (inr (s, n)) = inr (s, inr n)
 
-    both : (Contains p r → IsFirst p r ⊎ ((s : Revision) × IsNext p s r)) → (x ≡ r) ⊎ Contains p r
-        → IsFirst (x ∷ p) r ⊎ ((s : Revision) × IsNext (x ∷ p) s r)
+    both : (Contains revisions revision → IsFirst revisions revision
+        ⊎ ((s : Revision) × IsNext revisions s revision)) → (other ≡ revision) ⊎ Contains revisions revision
+        → IsFirst (other ∷ revisions) revision ⊎ ((s : Revision) × IsNext (other ∷ revisions) s revision)
     both ih (inl e) = inl e
     both ih (inr h) = deeper (ih h)
 
-same_revision : (r s : Revision) → (r ≡ s) ⊎ (r ≢ s)
-same_revision r s = both (same_number r.generation s.generation) (same_text r.hash s.hash)
+same_revision : (revision other : Revision) → (revision ≡ other) ⊎ (revision ≢ other)
+same_revision revision other =
+    both (same_number revision.generation other.generation) (same_text revision.hash other.hash)
   where
-    both : (r.generation ≡ s.generation) ⊎ (r.generation ≢ s.generation)
-        → (r.hash ≡ s.hash) ⊎ (r.hash ≢ s.hash) → (r ≡ s) ⊎ (r ≢ s)
+    both : (revision.generation ≡ other.generation) ⊎ (revision.generation ≢ other.generation)
+        → (revision.hash ≡ other.hash) ⊎ (revision.hash ≢ other.hash) → (revision ≡ other)
+        ⊎ (revision ≢ other)
     both (inl p) (inl q) = inl (ap₂ (λ (g : ℕ) (h : List ℕ). record { generation = g; hash = h }) p q)
     both (inl p) (inr q) = inr (λ e. q (ap (λ (x : Revision). x.hash) e))
     both (inr p) q = inr (λ e. p (ap (λ (x : Revision). x.generation) e))
 
 -- a path names a revision or doesn't
-pub in_path : (p : List Revision) (r : Revision) → Contains p r ⊎ ¬ Contains p r
-in_path [] r = inr (contains_none r)
-in_path (x ∷ p) r = both (same_revision x r) (in_path p r)
+pub in_path : (revisions : List Revision) (revision : Revision) → Contains revisions revision
+    ⊎ ¬ Contains revisions revision
+in_path [] revision = inr (contains_none revision)
+in_path (other ∷ revisions) revision = both (same_revision other revision) (in_path revisions revision)
   where
-    both : (x ≡ r) ⊎ (x ≢ r) → Contains p r ⊎ ¬ Contains p r → Contains (x ∷ p) r ⊎ ¬ Contains (x ∷ p) r
+    both : (other ≡ revision) ⊎ (other ≢ revision) → Contains revisions revision
+        ⊎ ¬ Contains revisions revision → Contains (other ∷ revisions) revision
+        ⊎ ¬ Contains (other ∷ revisions) revision
     both (inl e) q = inl (0, omega arith, e)
-    both (inr n) (inl h) = inl (contains_there x r p h)
-    both (inr n) (inr h) = inr (λ c. ⊎_elim n h (contains_cases x r p c))
+    both (inr n) (inl h) = inl (contains_there other revision revisions h)
+    both (inr n) (inr h) = inr (λ c. ⊎_elim n h (contains_cases other revision revisions c))
 
 -- of two fronts of one list one is a front of the other
 pub fronts : {X : Type 0} (K rest A B : List X) (e : X) → K ++ rest ≡ A ++ e ∷ B
@@ -78,12 +88,14 @@ fronts {X = X} (k ∷ K) rest (a ∷ A) B e h = both (fronts K rest A B e (cc))
     both (inr (C, p)) = inr (C, cc)
 
 -- a row of all leaves: its entry, and that it lists each leaf
-pub row_is : (J : List Edit) (docs : Bool) (row : ChangeRow) → IsRow J AllDocs docs row
-    → (e : Edit) × IsCurrent J row.seq e × (e.id ≡ row.id)
-row_is J docs row (c, h, q) =
-    subst (λ (r : ChangeRow). (e : Edit) × IsCurrent J r.seq e × (e.id ≡ r.id)) (sym q) (current_is J c h)
+pub row_is : (journal : List Edit) (docs : Bool) (row : ChangeRow) → IsRow journal AllDocs docs row
+    → (edit : Edit) × IsCurrent journal row.seq edit × (edit.id ≡ row.id)
+row_is journal docs row (c, h, q) =
+    subst (λ (r : ChangeRow). (edit : Edit) × IsCurrent journal r.seq edit × (edit.id ≡ r.id)) (sym q)
+    (current_is journal c h)
 
-pub row_lists : (J : List Edit) (docs : Bool) (row : ChangeRow) → IsRow J AllDocs docs row → (r : Revision)
-    → IsLeaf J row.id r → Contains row.changes r
-row_lists J docs row (c, h, q) r =
-    subst (λ (w : ChangeRow). IsLeaf J w.id r → Contains w.changes r) (sym q) (is_leaf_from J c.id r)
+pub row_lists : (journal : List Edit) (docs : Bool) (row : ChangeRow) → IsRow journal AllDocs docs row
+    → (revision : Revision) → IsLeaf journal row.id revision → Contains row.changes revision
+row_lists journal docs row (c, h, q) revision =
+    subst (λ (w : ChangeRow). IsLeaf journal w.id revision → Contains w.changes revision) (sym q)
+    (is_leaf_from journal c.id revision)

@@ -48,24 +48,25 @@ ended_feed since last rows =
 abbrev pub items_of : List ChangeRow → (last pending : ℕ) → List ChangeItem
 items_of rows last pending = map (λ row. Row row) rows ++ End last pending ∷ []
 
--- The items are an answer of these rows: rows and their End, rightly handed while J is the journal. So a row
--- is each current document's between `since` and `last`, none is left out, and it lists every leaf. After
--- a, b, c and then a again, since 1 has the rows of b, c and a, and 4 as its last sequence.
+-- The items are an answer of these rows: rows and their End, rightly handed while this is the journal.
+-- So a row is each current document's between `since` and `last`, none is left out, and it lists every
+-- leaf. After a, b, c and then a again, since 1 has the rows of b, c and a, and 4 as its last sequence.
 abbrev pub IsChangesAnswer : List Edit → ℕ → List ChangeItem → List ChangeRow → ℕ → Type 0
-IsChangesAnswer J since items rows last =
+IsChangesAnswer journal since items rows last =
     (pending : ℕ) × (items ≡ items_of rows last pending)
-    × RightlyHanded change_rows J (ended_feed since last (length rows)) items
+    × RightlyHanded change_rows journal (ended_feed since last (length rows)) items
 
 -- some items are an answer of these rows
 abbrev pub HasChangesAnswer : List Edit → ℕ → List ChangeRow → ℕ → Type 0
-HasChangesAnswer J since rows last =
+HasChangesAnswer journal since rows last =
     (pending : ℕ)
-    × RightlyHanded change_rows J (ended_feed since last (length rows)) (items_of rows last pending)
+    × RightlyHanded change_rows journal (ended_feed since last (length rows)) (items_of rows last pending)
 
 -- the law: whatever a feed that a follower asked for has handed once it ended is an answer
 abbrev pub EndedFeedIsAnswer : Type 0
 EndedFeedIsAnswer =
-    (J : List Edit) (f : Feed) (since : Since) (items : List ChangeItem) → f.params ≡ params_from since
-    → RightlyHanded change_rows J f items → list_any is_end items ≡ true
-    → (rows : List ChangeRow) × (pending : ℕ) × (items ≡ items_of rows f.place pending)
-    × HasChangesAnswer J f.since rows f.place
+    (journal : List Edit) (feed : Feed) (since : Since) (items : List ChangeItem)
+    → feed.params ≡ params_from since
+    → RightlyHanded change_rows journal feed items → list_any is_end items ≡ true
+    → (rows : List ChangeRow) × (pending : ℕ) × (items ≡ items_of rows feed.place pending)
+    × HasChangesAnswer journal feed.since rows feed.place

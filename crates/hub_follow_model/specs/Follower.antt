@@ -66,30 +66,31 @@ pub data Follower : Type 0 where
   Down : Follower
   SourceStart : (session_id : List ℕ) → Follower
   TargetStart : (session_id : List ℕ) (source : Option ReplicationLog) → Follower
-  Ready : (s : Session) → Follower
-  Busy : (s : Session) (phase : Phase) → Follower
+  Ready : (session : Session) → Follower
+  Busy : (session : Session) (phase : Phase) → Follower
 
 -- why a round or a checkpoint fails
 pub data Fault : Type 0 where
   PeerFault : Fault  -- the call failed, or what came back is no answer to it
   RefusedDocument : (doc : Edit) (refusal : Refusal) → Fault  -- the target refused this document
-  MissingRevision : (id : List ℕ) (r : Revision) → Fault  -- the source says that it misses this revision
+  MissingRevision : (id : List ℕ) (revision : Revision)
+      → Fault  -- the source says that it misses this revision
 
 -- The log that a checkpoint writes before these older entries: it records the place, and holds 50 entries at
 -- most (the number is own). Session s1, which began at the beginning and is at place 4, writes
 -- source_last_seq 4 and one entry from the beginning to 4 before no older ones (proved: `CheckpointCalls`).
 abbrev pub checkpoint_log : Session → List HistoryEntry → ReplicationLog
-checkpoint_log s history =
+checkpoint_log session history =
     record {
-      session_id = s.session_id;
-      source_last_seq = s.place;
+      session_id = session.session_id;
+      source_last_seq = session.place;
       history =
           take 50
           (record {
-            session_id = s.session_id;
-            start_last_seq = s.start;
-            end_last_seq = s.place;
-            recorded_seq = s.place;
+            session_id = session.session_id;
+            start_last_seq = session.start;
+            end_last_seq = session.place;
+            recorded_seq = session.place;
           } ∷ history);
     }
 
@@ -99,17 +100,17 @@ revisions_of_row row = record { id = row.id; revs = row.changes }
 
 -- a document with the revisions that the target misses
 abbrev pub missing_revisions : Diff → Asked
-missing_revisions d = record { id = d.id; revs = d.missing }
+missing_revisions diff = record { id = diff.id; revs = diff.missing }
 
 -- the call that a phase makes. With the changes after 3 read, of which a has 2-d, it is RevsDiff of a with
 -- 2-d, then OpenRevs of the same, then Merge of what came (proved: `SecondRoundCalls`).
 abbrev pub phase_call : Session → Phase → Call
-phase_call s Listing = Changes s.place
-phase_call s (Comparison asked last) = RevsDiff asked
-phase_call s (Retrieval next later got last) = OpenRevs next.id next.revs
-phase_call s (Storage got last) = Merge got
-phase_call s SourceCheckpoint = LocalPut Source (checkpoint_log s s.source_history)
-phase_call s TargetCheckpoint = LocalPut Target (checkpoint_log s s.target_history)
+phase_call session Listing = Changes session.place
+phase_call session (Comparison asked last) = RevsDiff asked
+phase_call session (Retrieval next later got last) = OpenRevs next.id next.revs
+phase_call session (Storage got last) = Merge got
+phase_call session SourceCheckpoint = LocalPut Source (checkpoint_log session session.source_history)
+phase_call session TargetCheckpoint = LocalPut Target (checkpoint_log session session.target_history)
 
 -- the call that a follower makes next: none where it has nothing to do
 abbrev pub next_call : Follower → Option Call
@@ -133,38 +134,38 @@ new_session session_id source target =
 
 -- the follower behind a round, whose last sequence becomes the place
 abbrev pub ready_at : Session → Seq → Follower
-ready_at s last = Ready (record s { place = last })
+ready_at session last = Ready (record session { place = last })
 
 -- behind the changes: their revisions are compared, or the round is over where there are none
 abbrev pub comparison_or_ready : Session → List Asked → Seq → Follower
-comparison_or_ready s [] last = ready_at s last
-comparison_or_ready s (a ∷ asked) last = Busy s (Comparison (a ∷ asked) last)
+comparison_or_ready session [] last = ready_at session last
+comparison_or_ready session (a ∷ asked) last = Busy session (Comparison (a ∷ asked) last)
 
 -- behind the last document that was fetched: all are stored, or the round is over where there are none
 abbrev pub storage_or_ready : Session → List Edit → Seq → Follower
-storage_or_ready s [] last = ready_at s last
-storage_or_ready s (e ∷ got) last = Busy s (Storage (e ∷ got) last)
+storage_or_ready session [] last = ready_at session last
+storage_or_ready session (edit ∷ got) last = Busy session (Storage (edit ∷ got) last)
 
 -- the next document that the target misses is fetched, or all are stored where there is none. Where a, b and
 -- c are missing each has an OpenRevs of its own, and one Merge stores all three (proved: `FirstRoundCalls`).
 abbrev pub retrieval_or_storage : Session → List Asked → List Edit → Seq → Follower
-retrieval_or_storage s [] got last = storage_or_ready s got last
-retrieval_or_storage s (next ∷ later) got last = Busy s (Retrieval next later got last)
+retrieval_or_storage session [] got last = storage_or_ready session got last
+retrieval_or_storage session (next ∷ later) got last = Busy session (Retrieval next later got last)
 
 -- one more document in front of these, or the fault that this revision is missing
 abbrev pub with_document : List ℕ → Revision → Option Edit → Result (List Edit) Fault
     → Result (List Edit) Fault
-with_document id r None docs = Err (MissingRevision id r)
-with_document id r (Some e) (Ok es) = Ok (e ∷ es)
-with_document id r (Some e) (Err fault) = Err fault
+with_document id revision None docs = Err (MissingRevision id revision)
+with_document id revision (Some edit) (Ok es) = Ok (edit ∷ es)
+with_document id revision (Some edit) (Err fault) = Err fault
 
 -- the documents of these revisions, in their order, or the first revision that is missing. Of 2-d of a,
 -- which the source misses, it is MissingRevision a 2-d (proved: `MissingLeavesPlace`).
 abbrev pub all_documents : List ℕ → List Revision → List (Option Edit) → Result (List Edit) Fault
 all_documents id [] [] = Ok []
 all_documents id [] (doc ∷ docs) = Err PeerFault
-all_documents id (r ∷ revs) [] = Err PeerFault
-all_documents id (r ∷ revs) (doc ∷ docs) = with_document id r doc (all_documents id revs docs)
+all_documents id (revision ∷ revs) [] = Err PeerFault
+all_documents id (revision ∷ revs) (doc ∷ docs) = with_document id revision doc (all_documents id revs docs)
 
 -- the first document that the target refused; one that it knew is no refusal. Where a full target refuses
 -- the only document, it is that one as SequenceFull (proved: `RefusalLeavesPlace`); where the outcomes are
@@ -172,10 +173,10 @@ all_documents id (r ∷ revs) (doc ∷ docs) = with_document id r doc (all_docum
 abbrev pub first_refusal : List Edit → List (Outcome Revision) → Option Fault
 first_refusal [] [] = None
 first_refusal [] (o ∷ outcomes) = Some PeerFault
-first_refusal (e ∷ docs) [] = Some PeerFault
-first_refusal (e ∷ docs) (outcome.Stored r ∷ outcomes) = first_refusal docs outcomes
-first_refusal (e ∷ docs) (outcome.Known ∷ outcomes) = first_refusal docs outcomes
-first_refusal (e ∷ docs) (outcome.Refused refusal ∷ outcomes) = Some (RefusedDocument e refusal)
+first_refusal (edit ∷ docs) [] = Some PeerFault
+first_refusal (edit ∷ docs) (outcome.Stored r ∷ outcomes) = first_refusal docs outcomes
+first_refusal (edit ∷ docs) (outcome.Known ∷ outcomes) = first_refusal docs outcomes
+first_refusal (edit ∷ docs) (outcome.Refused refusal ∷ outcomes) = Some (RefusedDocument edit refusal)
 
 -- the answer is of the call's kind, and of as many parts
 abbrev pub IsAnswerTo : Call → Answer → Type 0
@@ -195,27 +196,28 @@ IsAnswerToNext (Some call) answer = IsAnswerTo call answer
 -- the follower behind the documents of one more row
 abbrev pub after_retrieval : Session → List Asked → List Edit → Seq → Result (List Edit) Fault
     → Result Follower Fault
-after_retrieval s later got last (Ok docs) = Ok (retrieval_or_storage s later (got ++ docs) last)
-after_retrieval s later got last (Err fault) = Err fault
+after_retrieval session later got last (Ok docs) = Ok (retrieval_or_storage session later (got ++ docs) last)
+after_retrieval session later got last (Err fault) = Err fault
 
 -- the follower behind the merge, where the target refused none
 abbrev pub after_storage : Session → Seq → Option Fault → Result Follower Fault
-after_storage s last None = Ok (ready_at s last)
-after_storage s last (Some fault) = Err fault
+after_storage session last None = Ok (ready_at session last)
+after_storage session last (Some fault) = Err fault
 
 -- The follower behind an answer to the call of its phase, or why the round or the checkpoint fails. A round
 -- whose changes end at 4 leads to Ready at place 4 behind its Merge (proved: `SecondRoundEnds`).
 abbrev pub phase_result : Session → Phase → Answer → Result Follower Fault
-phase_result s Listing (ChangesAnswer rows last life) =
-    Ok (comparison_or_ready s (map revisions_of_row rows) (seq_of life last))
-phase_result s (Comparison asked last) (RevsDiffAnswer diffs) =
-    Ok (retrieval_or_storage s (map missing_revisions diffs) [] last)
-phase_result s (Retrieval next later got last) (OpenRevsAnswer docs) =
-    after_retrieval s later got last (all_documents next.id next.revs docs)
-phase_result s (Storage got last) (MergeAnswer outcomes) = after_storage s last (first_refusal got outcomes)
-phase_result s SourceCheckpoint PutAnswer = Ok (Busy s TargetCheckpoint)
-phase_result s TargetCheckpoint PutAnswer = Ok (Ready s)
-phase_result s phase answer = Err PeerFault
+phase_result session Listing (ChangesAnswer rows last life) =
+    Ok (comparison_or_ready session (map revisions_of_row rows) (seq_of life last))
+phase_result session (Comparison asked last) (RevsDiffAnswer diffs) =
+    Ok (retrieval_or_storage session (map missing_revisions diffs) [] last)
+phase_result session (Retrieval next later got last) (OpenRevsAnswer docs) =
+    after_retrieval session later got last (all_documents next.id next.revs docs)
+phase_result session (Storage got last) (MergeAnswer outcomes) =
+    after_storage session last (first_refusal got outcomes)
+phase_result session SourceCheckpoint PutAnswer = Ok (Busy session TargetCheckpoint)
+phase_result session TargetCheckpoint PutAnswer = Ok (Ready session)
+phase_result session phase answer = Err PeerFault
 
 -- the follower behind an answer to its next call, or why it fails
 abbrev pub answer_result : Follower → Answer → Result Follower Fault

@@ -25,8 +25,8 @@ recorded_seq_of session (entry ∷ history) =
 
 -- the lesser of two recorded sequences, or another one where only one is there
 abbrev pub lesser_sequence : Seq → Option Seq → Seq → Seq
-lesser_sequence s None otherwise = otherwise
-lesser_sequence s (Some t) otherwise = lesser_seq t s
+lesser_sequence seq None otherwise = otherwise
+lesser_sequence seq (Some other) otherwise = lesser_seq other seq
 
 -- of the newest session of the target's history that the source's has too, the lesser of what the two
 -- record; the beginning where there is none. Where s1 is the newest common session, and recorded 5 at the

@@ -19,7 +19,7 @@ counted life n (Some of) = counted_in life n of
 
 -- a sequence as it counts in this life: as 0 where it is of another, and as it is where its life is not known
 abbrev pub seq_in : (life : ℕ) → Seq → ℕ
-seq_in life s = counted life s.n s.life
+seq_in life seq = counted life seq.n seq.life
 
 -- a number with the life that is there; the beginning where two are there that differ
 abbrev pub with_lives : ℕ → Option ℕ → Option ℕ → Seq
@@ -30,12 +30,12 @@ with_lives n (Some life) (Some other) =
 
 -- the lesser of two: of 9-1 and 7-1 it is 7-1, of 9-1 and 7 too, and of 9-2 and 7-1 it is the beginning
 abbrev pub lesser_seq : Seq → Seq → Seq
-lesser_seq s t = with_lives (min s.n t.n) s.life t.life
+lesser_seq seq other = with_lives (min seq.n other.n) seq.life other.life
 
 -- a sequence as it counts in the life of another, where that has one
 abbrev pub counted_by : Seq → Option ℕ → ℕ
-counted_by s None = s.n
-counted_by s (Some life) = seq_in life s
+counted_by seq None = seq.n
+counted_by seq (Some life) = seq_in life seq
 
 -- whether a place is the one before it, as that one counts in its life: 5-1 is so behind 5, and 0-2
 -- behind 5-1

@@ -49,11 +49,12 @@ four_edits = three_edits ++ second_edit ∷ []
 
 -- the rows above a sequence, of all leaves
 abbrev pub rows_above : List Edit → ℕ → List ChangeRow
-rows_above J since = map (row_of J AllDocs false) (filter (λ c. nat_lt since c.seq) (current J))
+rows_above journal since =
+    map (row_of journal AllDocs false) (filter (λ c. nat_lt since c.seq) (current journal))
 
 -- one revision of a document
 abbrev pub one_of : List ℕ → Revision → Asked
-one_of id r = record { id = id; revs = r ∷ [] }
+one_of id revision = record { id = id; revs = revision ∷ [] }
 
 -- the sequence n of the source, which is in its first life
 abbrev pub seq : ℕ → Seq

@@ -47,30 +47,31 @@ empty_world limit =
 
 -- the log at this side
 abbrev pub log_at : Side → World → Option ReplicationLog
-log_at Source w = w.source_log
-log_at Target w = w.target_log
+log_at Source world = world.source_log
+log_at Target world = world.target_log
 
 -- the world with this log at this side
 abbrev pub with_log : Side → ReplicationLog → World → World
-with_log Source log w = record w { source_log = Some log }
-with_log Target log w = record w { target_log = Some log }
+with_log Source log world = record world { source_log = Some log }
+with_log Target log world = record world { target_log = Some log }
 
--- From w the call may be answered so, and leaves the world so: the log that stands there; changes rightly
+-- From world the call may be answered so, and leaves the world so: the log that stands there; changes rightly
 -- handed by the source, above the sequence as it counts in the source's life, and that life; what the target
 -- misses; what the source shows of each revision; what storing the documents at the target comes to; the log
 -- stored. Nothing but the merge and the log changes the world.
 abbrev pub IsAnswered : World → Call → Answer → World → Type 0
-IsAnswered w (LocalGet side) (LogAnswer log) new = (log ≡ log_at side w) × (new ≡ w)
-IsAnswered w (Changes since) (ChangesAnswer rows last life) new =
-    HasChangesAnswer w.source (seq_in w.life since) rows last × (life ≡ w.life) × (new ≡ w)
-IsAnswered w (RevsDiff asked) (RevsDiffAnswer answered) new = (answered ≡ diffs w.target asked) × (new ≡ w)
-IsAnswered w (OpenRevs id revs) (OpenRevsAnswer docs) new =
-    (docs ≡ map (shown w.source id) revs) × (new ≡ w)
-IsAnswered w (Merge docs) (MergeAnswer outcomes) new =
-    (outcomes ≡ (merges_all w.limit w.target docs).outcomes)
-    × (new ≡ record w { target = (merges_all w.limit w.target docs).journal })
-IsAnswered w (LocalPut side log) PutAnswer new = new ≡ with_log side log w
-IsAnswered w call answer new = ⊥
+IsAnswered world (LocalGet side) (LogAnswer log) new = (log ≡ log_at side world) × (new ≡ world)
+IsAnswered world (Changes since) (ChangesAnswer rows last life) new =
+    HasChangesAnswer world.source (seq_in world.life since) rows last × (life ≡ world.life) × (new ≡ world)
+IsAnswered world (RevsDiff asked) (RevsDiffAnswer answered) new =
+    (answered ≡ diffs world.target asked) × (new ≡ world)
+IsAnswered world (OpenRevs id revs) (OpenRevsAnswer docs) new =
+    (docs ≡ map (shown world.source id) revs) × (new ≡ world)
+IsAnswered world (Merge docs) (MergeAnswer outcomes) new =
+    (outcomes ≡ (merges_all world.limit world.target docs).outcomes)
+    × (new ≡ record world { target = (merges_all world.limit world.target docs).journal })
+IsAnswered world (LocalPut side log) PutAnswer new = new ≡ with_log side log world
+IsAnswered world call answer new = ⊥
 
 -- what may happen next
 pub data Event : Type 0 where
@@ -112,56 +113,58 @@ checkpoint_start (Busy s phase) = Busy s phase
 
 -- a session of this id may begin: no call is to be made, and no earlier session had the id
 abbrev pub IsFreeFor : World → List ℕ → Type 0
-IsFreeFor w session_id = IsTrue (is_free w.follower) × (¬ Contains w.sessions session_id)
+IsFreeFor world session_id = IsTrue (is_free world.follower) × (¬ Contains world.sessions session_id)
 
 -- the next call is a merge, and leaves this world where it fails behind `count` documents; another call
 -- changes nothing
 abbrev pub IsPartialMerge : World → Option Call → ℕ → World → Type 0
-IsPartialMerge w (Some (Merge docs)) count new =
-    new ≡ record w {
-      target = (merges_all w.limit w.target (take count docs)).journal;
-      follower = after_failure w.follower;
+IsPartialMerge world (Some (Merge docs)) count new =
+    new ≡ record world {
+      target = (merges_all world.limit world.target (take count docs)).journal;
+      follower = after_failure world.follower;
     }
-IsPartialMerge w call count new = new ≡ w
+IsPartialMerge world call count new = new ≡ world
 
 -- the next call asks for changes, and leaves this world where the items are an answer to it; other items
 -- change nothing, and nor does another call
 abbrev pub IsChangesReply : World → Option Call → List ChangeItem → World → Type 0
-IsChangesReply w (Some (Changes since)) items new =
-    ((rows : List ChangeRow) × (last : ℕ) × IsChangesAnswer w.source (seq_in w.life since) items rows last
-    × (new ≡ record w { follower = after_answer w.follower (ChangesAnswer rows last w.life) }))
-    ⊎ (((rows : List ChangeRow) (last : ℕ) → ¬ IsChangesAnswer w.source (seq_in w.life since) items rows last)
-    × (new ≡ w))
-IsChangesReply w call items new = new ≡ w
+IsChangesReply world (Some (Changes since)) items new =
+    ((rows : List ChangeRow) × (last : ℕ)
+    × IsChangesAnswer world.source (seq_in world.life since) items rows last
+    × (new ≡ record world { follower = after_answer world.follower (ChangesAnswer rows last world.life) }))
+    ⊎ (((rows : List ChangeRow) (last : ℕ)
+    → ¬ IsChangesAnswer world.source (seq_in world.life since) items rows last) × (new ≡ world))
+IsChangesReply world call items new = new ≡ world
 
--- From w the event may lead to new. An event that has no place there changes nothing.
+-- From world the event may lead to new. An event that has no place there changes nothing.
 abbrev pub Step : World → Event → World → Type 0
-Step w (Write docs) new = new ≡ record w { source = (merges_all w.limit w.source docs).journal }
-Step w (InteractiveWrite drafts) new =
-    new ≡ record w { source = (stores_all (makes w.limit) false w.source drafts).journal }
-Step w (Start session_id) new =
-    (IsFreeFor w session_id
-    × (new ≡ record w { sessions = session_id ∷ w.sessions; follower = SourceStart session_id }))
-    ⊎ ((¬ IsFreeFor w session_id) × (new ≡ w))
-Step w Round new = new ≡ record w { follower = round_start w.follower }
-Step w Checkpoint new = new ≡ record w { follower = checkpoint_start w.follower }
-Step w Reply new =
-    MatchOption (next_call w.follower) (new ≡ w)
-    (λ call. (answer : Answer) × (mid : World) × IsAnswered w call answer mid
-    × (new ≡ record mid { follower = after_answer w.follower answer }))
-Step w (ChangesReply items) new = IsChangesReply w (next_call w.follower) items new
-Step w LossBefore new = new ≡ record w { follower = after_failure w.follower }
-Step w LossAfter new =
-    MatchOption (next_call w.follower) (new ≡ w)
-    (λ call. (answer : Answer) × (mid : World) × IsAnswered w call answer mid
-    × (new ≡ record mid { follower = after_failure w.follower }))
-Step w (PartialMerge count) new = IsPartialMerge w (next_call w.follower) count new
-Step w Restart new = new ≡ record w { follower = Down }
+Step world (Write docs) new =
+    new ≡ record world { source = (merges_all world.limit world.source docs).journal }
+Step world (InteractiveWrite drafts) new =
+    new ≡ record world { source = (stores_all (makes world.limit) false world.source drafts).journal }
+Step world (Start session_id) new =
+    (IsFreeFor world session_id
+    × (new ≡ record world { sessions = session_id ∷ world.sessions; follower = SourceStart session_id }))
+    ⊎ ((¬ IsFreeFor world session_id) × (new ≡ world))
+Step world Round new = new ≡ record world { follower = round_start world.follower }
+Step world Checkpoint new = new ≡ record world { follower = checkpoint_start world.follower }
+Step world Reply new =
+    MatchOption (next_call world.follower) (new ≡ world)
+    (λ call. (answer : Answer) × (mid : World) × IsAnswered world call answer mid
+    × (new ≡ record mid { follower = after_answer world.follower answer }))
+Step world (ChangesReply items) new = IsChangesReply world (next_call world.follower) items new
+Step world LossBefore new = new ≡ record world { follower = after_failure world.follower }
+Step world LossAfter new =
+    MatchOption (next_call world.follower) (new ≡ world)
+    (λ call. (answer : Answer) × (mid : World) × IsAnswered world call answer mid
+    × (new ≡ record mid { follower = after_failure world.follower }))
+Step world (PartialMerge count) new = IsPartialMerge world (next_call world.follower) count new
+Step world Restart new = new ≡ record world { follower = Down }
 
--- the events lead from w to new, one step after the other
+-- the events lead from world to new, one step after the other
 abbrev pub Run : World → List Event → World → Type 0
-Run w [] new = new ≡ w
-Run w (event ∷ events) new = (mid : World) × Step w event mid × Run mid events new
+Run world [] new = new ≡ world
+Run world (event ∷ events) new = (mid : World) × Step world event mid × Run mid events new
 
 -- the place of a follower that has a session
 abbrev pub place_of : Follower → Option Seq
@@ -174,6 +177,6 @@ place_of (Busy s phase) = Some s.place
 -- c is the number of a sequence up to which all is said to be copied: by one of the two logs, or by the
 -- follower's place
 abbrev pub IsCheckpointOf : World → ℕ → Type 0
-IsCheckpointOf w c =
-    IsRecordedIn w.source_log c
-    ⊎ (IsRecordedIn w.target_log c ⊎ (option_map (λ place. place.n) (place_of w.follower) ≡ Some c))
+IsCheckpointOf world c =
+    IsRecordedIn world.source_log c
+    ⊎ (IsRecordedIn world.target_log c ⊎ (option_map (λ place. place.n) (place_of world.follower) ≡ Some c))

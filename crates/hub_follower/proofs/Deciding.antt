@@ -33,46 +33,53 @@ use Rattle.hub_follower.specs.Listing.{rows_above, all_above}
 
 -- ---- rows that are one
 
-revs_are : (rs ss : List Revision) → same_revs rs ss ≡ true → rs ≡ ss
+revs_are : (others revisions : List Revision) → same_revs others revisions ≡ true → others ≡ revisions
 revs_are [] [] h = refl
-revs_are [] (s ∷ ss) h = absurd (cc)
-revs_are (r ∷ rs) [] h = absurd (cc)
-revs_are (r ∷ rs) (s ∷ ss) h =
-    let p = and_parts (is_same r s) (same_revs rs ss) h in
-    ap (λ z. z ∷ rs) (same_is r s p.0) ∙ ap (λ z. s ∷ z) (revs_are rs ss p.1)
+revs_are [] (revision ∷ revisions) h = absurd (cc)
+revs_are (other ∷ others) [] h = absurd (cc)
+revs_are (other ∷ others) (revision ∷ revisions) h =
+    let p = and_parts (is_same other revision) (same_revs others revisions) h in
+    ap (λ z. z ∷ others) (same_is other revision p.0) ∙ ap (λ z. revision ∷ z) (revs_are others revisions p.1)
 
-revs_self : (rs : List Revision) → same_revs rs rs ≡ true
+revs_self : (revisions : List Revision) → same_revs revisions revisions ≡ true
 revs_self [] = refl
-revs_self (r ∷ rs) = and_from (is_same r r) (same_revs rs rs) (same_self r) (revs_self rs)
+revs_self (revision ∷ revisions) =
+    and_from (is_same revision revision) (same_revs revisions revisions) (same_self revision)
+    (revs_self revisions)
 
 -- lists of other lengths are two
-pub lengths_differ : (rs ss : List Revision) → (length rs ≡ length ss → ⊥) → false ≡ same_revs rs ss
-lengths_differ rs ss h =
-    elim (cases_Bool (same_revs rs ss)) [
-      | inl t ↦ absurd (h (ap length (revs_are rs ss t)))
+pub lengths_differ : (revisions others : List Revision) → (length revisions ≡ length others → ⊥)
+    → false ≡ same_revs revisions others
+lengths_differ revisions others h =
+    elim (cases_Bool (same_revs revisions others)) [
+      | inl t ↦ absurd (h (ap length (revs_are revisions others t)))
       | inr t ↦ sym t
     ]
 
 -- where each of two lists has one at a place, what is left is compared so
-pub same_step : (rs ss : List Revision) (k : ℕ) (r s : Revision) → slice_get rs k ≡ Some r
-    → slice_get ss k ≡ Some s
-    → same_revs (drop k rs) (drop k ss) ≡ (is_same r s && same_revs (drop (k + 1) rs) (drop (k + 1) ss))
-same_step rs ss k r s a b =
+pub same_step : (revisions others : List Revision) (k : ℕ) (revision other : Revision)
+    → slice_get revisions k ≡ Some revision → slice_get others k ≡ Some other
+    → same_revs (drop k revisions) (drop k others) ≡
+    (is_same revision other && same_revs (drop (k + 1) revisions) (drop (k + 1) others))
+same_step revisions others k revision other a b =
     let next : suc k ≡ k + 1 = omega arith in
-    from rs ss k a b ∙ ap (λ n. is_same r s && same_revs (drop n rs) (drop n ss)) next
+    from revisions others k a b
+    ∙ ap (λ n. is_same revision other && same_revs (drop n revisions) (drop n others)) next
   where
-    from : (rs ss : List Revision) (k : ℕ) → slice_get rs k ≡ Some r → slice_get ss k ≡ Some s
-        → same_revs (drop k rs) (drop k ss) ≡ (is_same r s && same_revs (drop (suc k) rs) (drop (suc k) ss))
-    from [] ss k a b = absurd (cc)
-    from (x ∷ rs) [] k a b = absurd (cc)
-    from (x ∷ rs) (y ∷ ss) zero a b = rw (same_Some x r a, same_Some y s b) refl
-    from (x ∷ rs) (y ∷ ss) (suc k) a b = from rs ss k a b
+    from : (revisions others : List Revision) (k : ℕ) → slice_get revisions k ≡ Some revision
+        → slice_get others k ≡ Some other
+        → same_revs (drop k revisions) (drop k others) ≡
+        (is_same revision other && same_revs (drop (suc k) revisions) (drop (suc k) others))
+    from [] others k a b = absurd (cc)
+    from (x ∷ revisions) [] k a b = absurd (cc)
+    from (x ∷ revisions) (y ∷ others) zero a b = rw (same_Some x revision a, same_Some y other b) refl
+    from (x ∷ revisions) (y ∷ others) (suc k) a b = from revisions others k a b
 
 -- and each has one below its length
-pub none_below : (rs : List Revision) (k : ℕ) → k < length rs → slice_get rs k ≡ None → ⊥
+pub none_below : (revisions : List Revision) (k : ℕ) → k < length revisions → slice_get revisions k ≡ None → ⊥
 none_below [] k low e = absurd (omega (arith, low))
-none_below (x ∷ rs) zero low e = absurd (cc)
-none_below (x ∷ rs) (suc k) low e = none_below rs k (omega (arith, low)) e
+none_below (revision ∷ revisions) zero low e = absurd (cc)
+none_below (revision ∷ revisions) (suc k) low e = none_below revisions k (omega (arith, low)) e
 
 doc_is : (a b : Option (List ℕ)) → same_doc a b ≡ true → a ≡ b
 doc_is None None h = refl
@@ -99,27 +106,31 @@ abbrev made : (seq : ℕ) (id : List ℕ) (changes : List Revision) (deleted : B
 made seq id changes deleted doc seen =
     record { seq = seq; id = id; changes = changes; deleted = deleted; doc = doc; seen = seen }
 
-pub row_is : (a b : ChangeRow) → same_row a b ≡ true → a ≡ b
-row_is a b h =
-    let p = and_parts (nat_eq a.seq b.seq) _ h in
-    let q = and_parts (nat_eq a.seen b.seen) _ p.1 in
-    let r = and_parts (same_mark a.deleted b.deleted) _ q.1 in
-    let s = and_parts (bytes_eq a.id b.id) _ r.1 in
-    let t = and_parts (same_revs a.changes b.changes) (same_doc a.doc b.doc) s.1 in
-    ap (λ z. made z a.id a.changes a.deleted a.doc a.seen) (eqb-true a.seq b.seq p.0)
-    ∙ (ap (λ z. made b.seq z a.changes a.deleted a.doc a.seen) ((bytes_eq-Decides a.id b.id).0 s.0)
-    ∙ (ap (λ z. made b.seq b.id z a.deleted a.doc a.seen) (revs_are a.changes b.changes t.0)
-    ∙ (ap (λ z. made b.seq b.id b.changes z a.doc a.seen) (mark_is a.deleted b.deleted r.0)
-    ∙ (ap (λ z. made b.seq b.id b.changes b.deleted z a.seen) (doc_is a.doc b.doc t.1)
-    ∙ ap (λ z. made b.seq b.id b.changes b.deleted b.doc z) (eqb-true a.seen b.seen q.0)))))
+pub row_is : (row other : ChangeRow) → same_row row other ≡ true → row ≡ other
+row_is row other h =
+    let p = and_parts (nat_eq row.seq other.seq) _ h in
+    let q = and_parts (nat_eq row.seen other.seen) _ p.1 in
+    let r = and_parts (same_mark row.deleted other.deleted) _ q.1 in
+    let s = and_parts (bytes_eq row.id other.id) _ r.1 in
+    let t = and_parts (same_revs row.changes other.changes) (same_doc row.doc other.doc) s.1 in
+    ap (λ z. made z row.id row.changes row.deleted row.doc row.seen) (eqb-true row.seq other.seq p.0)
+    ∙ (ap (λ z. made other.seq z row.changes row.deleted row.doc row.seen)
+    ((bytes_eq-Decides row.id other.id).0 s.0)
+    ∙ (ap (λ z. made other.seq other.id z row.deleted row.doc row.seen)
+    (revs_are row.changes other.changes t.0)
+    ∙ (ap (λ z. made other.seq other.id other.changes z row.doc row.seen)
+    (mark_is row.deleted other.deleted r.0)
+    ∙ (ap (λ z. made other.seq other.id other.changes other.deleted z row.seen) (doc_is row.doc other.doc t.1)
+    ∙ ap (λ z. made other.seq other.id other.changes other.deleted other.doc z)
+    (eqb-true row.seen other.seen q.0)))))
 
-pub row_self : (a : ChangeRow) → same_row a a ≡ true
-row_self a =
-    and_from (nat_eq a.seq a.seq) _ (eq-eqb a.seq a.seq refl)
-    (and_from (nat_eq a.seen a.seen) _ (eq-eqb a.seen a.seen refl)
-    (and_from (same_mark a.deleted a.deleted) _ (mark_self a.deleted)
-    (and_from (bytes_eq a.id a.id) _ ((bytes_eq-Decides a.id a.id).1 refl)
-    (and_from (same_revs a.changes a.changes) _ (revs_self a.changes) (doc_self a.doc)))))
+pub row_self : (row : ChangeRow) → same_row row row ≡ true
+row_self row =
+    and_from (nat_eq row.seq row.seq) _ (eq-eqb row.seq row.seq refl)
+    (and_from (nat_eq row.seen row.seen) _ (eq-eqb row.seen row.seen refl)
+    (and_from (same_mark row.deleted row.deleted) _ (mark_self row.deleted)
+    (and_from (bytes_eq row.id row.id) _ ((bytes_eq-Decides row.id row.id).1 refl)
+    (and_from (same_revs row.changes row.changes) _ (revs_self row.changes) (doc_self row.doc)))))
 
 -- ---- rows and their end
 
@@ -130,7 +141,7 @@ shape (Row row ∷ items) last e =
     let i = shape items last e in (i.0, ap (λ (z : List ChangeItem). Row row ∷ z) i.1)
 shape (Beat ∷ items) last e = absurd (none-some last e)
 shape (End l p ∷ []) last e = (p, ap (λ z. End z p ∷ []) (same_Some l last e))
-shape (End l p ∷ x ∷ items) last e = absurd (none-some last e)
+shape (End l p ∷ item ∷ items) last e = absurd (none-some last e)
 
 shaped : (rows : List ChangeRow) (last pending : ℕ) → end_of (items_of rows last pending) ≡ Some last
 shaped [] last pending = refl
@@ -235,13 +246,13 @@ module _ (edits since : ℕ) (items : List ChangeItem) (last : ℕ) where
       by (Some l) e k = chosen l (is_numbered edits since l items) refl e k
 
   pub numbered : HasNumbers → numbered_end edits since items ≡ Some last
-  numbered h =
-      ap (option_and_then (λ l. if is_numbered edits since l items then Some l else None)) h.ends
+  numbered numbers =
+      ap (option_and_then (λ l. if is_numbered edits since l items then Some l else None)) numbers.ends
       ∙ ap (λ b. if b then Some last else None)
-      (and_from (nat_le (length items) 101) _ (le-leb (length items) 101 h.few)
-      (and_from (nat_le since last) _ (le-leb since last h.from)
+      (and_from (nat_le (length items) 101) _ (le-leb (length items) 101 numbers.few)
+      (and_from (nat_le since last) _ (le-leb since last numbers.from)
       (and_from (nat_le last edits) (are_rising last since 0 (rows_of items))
-      (le-leb last edits h.to) h.rise)))
+      (le-leb last edits numbers.to) numbers.rise)))
 
   pub is_numbered_so : numbered_end edits since items ≡ Some last → IsNumbered edits since items
   is_numbered_so h =
@@ -254,27 +265,29 @@ module _ (edits since : ℕ) (items : List ChangeItem) (last : ℕ) where
 
 -- ---- rows that were current
 
-pub shown_is : (J : List Edit) (row : ChangeRow) → is_shown J row ≡ true
-    → (c : Current) × Contains (current (take row.seen J)) c
-    × (row ≡ row_of (take row.seen J) AllDocs false c)
-shown_is J row h =
-    let K = take row.seen J in
+pub shown_is : (journal : List Edit) (row : ChangeRow) → is_shown journal row ≡ true
+    → (c : Current) × Contains (current (take row.seen journal)) c
+    × (row ≡ row_of (take row.seen journal) AllDocs false c)
+shown_is journal row h =
+    let K = take row.seen journal in
     let a = any_at (same_row row) (all_above K 0) h in
     let m = map_contains (row_of K AllDocs false) (rows_above K 0) a.0 a.1 in
     let f = filter_in (λ (c : Current). nat_lt 0 c.seq && passes Everything c.id) (current K) m.0 m.1 in
     (m.0, f.0, row_is row a.0 a.2 ∙ sym m.2)
 
-listed_above : (J : List Edit) (since : ℕ) (c : Current) → Contains (current J) c → since < c.seq
-    → Contains (all_above J since) (row_of J AllDocs false c)
-listed_above J since c m up =
-    contains_map (row_of J AllDocs false) c (rows_above J since)
-    (in_filter (λ (d : Current). nat_lt since d.seq && passes Everything d.id) (current J) c m
-    (and_from (nat_lt since c.seq) true (lt-ltb since c.seq up) refl))
+listed_above : (journal : List Edit) (since : ℕ) (row : Current) → Contains (current journal) row
+    → since < row.seq → Contains (all_above journal since) (row_of journal AllDocs false row)
+listed_above journal since row m up =
+    contains_map (row_of journal AllDocs false) row (rows_above journal since)
+    (in_filter (λ (other : Current). nat_lt since other.seq && passes Everything other.id)
+    (current journal) row m
+    (and_from (nat_lt since row.seq) true (lt-ltb since row.seq up) refl))
 
-is_shown_from : (J : List Edit) (row : ChangeRow) (c : Current) → Contains (current (take row.seen J)) c
-    → row ≡ row_of (take row.seen J) AllDocs false c → is_shown J row ≡ true
-is_shown_from J row c m e =
-    let K = take row.seen J in
+is_shown_from : (journal : List Edit) (row : ChangeRow) (c : Current)
+    → Contains (current (take row.seen journal)) c
+    → row ≡ row_of (take row.seen journal) AllDocs false c → is_shown journal row ≡ true
+is_shown_from journal row c m e =
+    let K = take row.seen journal in
     let w = current_within 1 K c m in
     at_any (same_row row) (all_above K 0) (row_of K AllDocs false c)
     (listed_above K 0 c m (let low = w.0 in omega (arith, low)))
@@ -282,11 +295,11 @@ is_shown_from J row c m e =
 
 -- ---- rows of which none is left out
 
-listed_is : (J : List Edit) (since last : ℕ) (rows : List ChangeRow)
-    → are_listed last rows (all_above J since) ≡ true
-    → (c : Current) → Contains (current J) c → since < c.seq → c.seq ≤ last
+listed_is : (journal : List Edit) (since last : ℕ) (rows : List ChangeRow)
+    → are_listed last rows (all_above journal since) ≡ true
+    → (c : Current) → Contains (current journal) c → since < c.seq → c.seq ≤ last
     → Contains (map (λ (row : ChangeRow). row.seq) rows) c.seq
-listed_is J since last rows h c m up low =
+listed_is journal since last rows h c m up low =
     ⊎_elim (λ (t : nat_lt last c.seq ≡ true).
     let above = ltb-true last c.seq t in absurd (omega (arith, above, low)))
     (λ (t : has_sequence rows c.seq ≡ true).
@@ -294,22 +307,25 @@ listed_is J since last rows h c m up low =
     subst (λ z. Contains (map (λ (row : ChangeRow). row.seq) rows) z) (eqb-true a.0.seq c.seq a.2)
     (contains_map (λ (row : ChangeRow). row.seq) a.0 rows a.1))
     (or_cases (nat_lt last c.seq) (has_sequence rows c.seq)
-    (at_all (λ (row : ChangeRow). nat_lt last row.seq || has_sequence rows row.seq) (all_above J since) h
-    (row_of J AllDocs false c) (listed_above J since c m up)))
+    (at_all (λ (row : ChangeRow). nat_lt last row.seq || has_sequence rows row.seq)
+    (all_above journal since) h
+    (row_of journal AllDocs false c) (listed_above journal since c m up)))
 
-is_listed_from : (J : List Edit) (since last : ℕ) (rows : List ChangeRow)
-    → ((c : Current) → Contains (current J) c → since < c.seq → c.seq ≤ last
+is_listed_from : (journal : List Edit) (since last : ℕ) (rows : List ChangeRow)
+    → ((c : Current) → Contains (current journal) c → since < c.seq → c.seq ≤ last
     → Contains (map (λ (row : ChangeRow). row.seq) rows) c.seq)
-    → are_listed last rows (all_above J since) ≡ true
-is_listed_from J since last rows whole =
-    all_at (λ (row : ChangeRow). nat_lt last row.seq || has_sequence rows row.seq) (all_above J since) each
+    → are_listed last rows (all_above journal since) ≡ true
+is_listed_from journal since last rows whole =
+    all_at (λ (row : ChangeRow). nat_lt last row.seq || has_sequence rows row.seq)
+    (all_above journal since) each
   where
-    each : (row : ChangeRow) → Contains (all_above J since) row
+    each : (row : ChangeRow) → Contains (all_above journal since) row
         → (nat_lt last row.seq || has_sequence rows row.seq) ≡ true
     each row m =
-        let q = map_contains (row_of J AllDocs false) (rows_above J since) row m in
+        let q = map_contains (row_of journal AllDocs false) (rows_above journal since) row m in
         let c = q.0 in
-        let f = filter_in (λ (d : Current). nat_lt since d.seq && passes Everything d.id) (current J) c q.1 in
+        let f = filter_in (λ (d : Current). nat_lt since d.seq && passes Everything d.id)
+        (current journal) c q.1 in
         let up = ltb-true since c.seq (and_parts (nat_lt since c.seq) true f.1).0 in
         subst (λ (z : ChangeRow). (nat_lt last z.seq || has_sequence rows z.seq) ≡ true) q.2
         (⊎_elim (λ (over : last < c.seq).
@@ -325,13 +341,14 @@ is_listed_from J since last rows whole =
 
 -- ---- the answer
 
-module _ (J : List Edit) (since : ℕ) (items : List ChangeItem) where
+module _ (journal : List Edit) (since : ℕ) (items : List ChangeItem) where
   pub decided : (last : ℕ)
-      → numbered_end (length J) since items ≡ Some last → list_all (is_shown J) (rows_of items) ≡ true
-      → are_listed last (rows_of items) (all_above J since) ≡ true
-      → IsChangesAnswer J since items (rows_of items) last
+      → numbered_end (length journal) since items ≡ Some last
+      → list_all (is_shown journal) (rows_of items) ≡ true
+      → are_listed last (rows_of items) (all_above journal since) ≡ true
+      → IsChangesAnswer journal since items (rows_of items) last
   decided last numbers shown listed =
-      let n = has_numbers (length J) since items last numbers in
+      let n = has_numbers (length journal) since items last numbers in
       let rows = rows_of items in
       let s = shape items last n.ends in
       let rise = rising_is last since 0 rows n.rise in
@@ -344,7 +361,7 @@ module _ (J : List Edit) (since : ℕ) (items : List ChangeItem) where
           rows = λ k d l.
               let row = get_or rows k d in
               let m = Contains-get_or rows k d l in
-              let c = shown_is J row (at_all (is_shown J) rows shown row m) in
+              let c = shown_is journal row (at_all (is_shown journal) rows shown row m) in
               let a = rise.1 k d l in record {
                 shown = (c.0, c.1, c.2, refl);
                 above = a.0;
@@ -354,18 +371,19 @@ module _ (J : List Edit) (since : ℕ) (items : List ChangeItem) where
           from_since = n.from;
           to_length = n.to;
           ends = subst (λ z. EndsAt last z) (sym s.1) (ends_of rows last s.0);
-          whole = λ c now passing up low. listed_is J since last rows listed c now up low;
+          whole = λ c now passing up low. listed_is journal since last rows listed c now up low;
           limited = omega (arith, len, few);
           beats = subst (λ z. All (IsAsked false) z) (sym s.1) (beats_of rows last s.0);
         },
       )
 
   pub record IsDecided (last : ℕ) : Type 0 where
-    pub numbers : numbered_end (length J) since items ≡ Some last
-    pub shown : list_all (is_shown J) (rows_of items) ≡ true
-    pub listed : are_listed last (rows_of items) (all_above J since) ≡ true
+    pub numbers : numbered_end (length journal) since items ≡ Some last
+    pub shown : list_all (is_shown journal) (rows_of items) ≡ true
+    pub listed : are_listed last (rows_of items) (all_above journal since) ≡ true
 
-  pub answered : (rows : List ChangeRow) (last : ℕ) → IsChangesAnswer J since items rows last → IsDecided last
+  pub answered : (rows : List ChangeRow) (last : ℕ) → IsChangesAnswer journal since items rows last
+      → IsDecided last
   answered rows last (pending, same, right) =
       let own : rows_of items ≡ rows = ap rows_of same ∙ rows_of-items rows last pending in
       let len = ap length same ∙ length_items rows last pending in
@@ -373,7 +391,7 @@ module _ (J : List Edit) (since : ℕ) (items : List ChangeItem) where
       let many = ap length own in
       let all = right.rows in
       record {
-        numbers = numbered (length J) since items last (record {
+        numbers = numbered (length journal) since items last (record {
           ends = ap end_of same ∙ shaped rows last pending;
           few = omega (arith, len, few, many);
           from = right.from_since;
@@ -382,42 +400,44 @@ module _ (J : List Edit) (since : ℕ) (items : List ChangeItem) where
               is_rising last since 0 (rows_of items) right.rising
               (λ k d l. let r = all k d l in (r.above, r.reached, omega arith));
         });
-        shown = all_at (is_shown J) (rows_of items) (λ row m.
+        shown = all_at (is_shown journal) (rows_of items) (λ row m.
             let r =
-            All-contains (IsRowOf change_rows J (ended_feed since last (length rows)))
+            All-contains (IsRowOf change_rows journal (ended_feed since last (length rows)))
             (rows_of items) row all m in
-            let (c, now, e, p) = r.shown in is_shown_from J row c now e);
-        listed = is_listed_from J since last (rows_of items) (λ c now up low. right.whole c now refl up low);
+            let (c, now, e, p) = r.shown in is_shown_from journal row c now e);
+        listed =
+            is_listed_from journal since last (rows_of items) (λ c now up low. right.whole c now refl up low);
       }
 
   -- where a test fails there is none
-  pub not_numbered : None ≡ numbered_end (length J) since items → (rows : List ChangeRow) (last : ℕ)
-      → ¬ IsChangesAnswer J since items rows last
+  pub not_numbered : None ≡ numbered_end (length journal) since items → (rows : List ChangeRow) (last : ℕ)
+      → ¬ IsChangesAnswer journal since items rows last
   not_numbered h rows last a = none-some last (h ∙ (answered rows last a).numbers)
 
-  pub not_shown : list_all (is_shown J) (rows_of items) ≡ false → (rows : List ChangeRow) (last : ℕ)
-      → ¬ IsChangesAnswer J since items rows last
+  pub not_shown : list_all (is_shown journal) (rows_of items) ≡ false → (rows : List ChangeRow) (last : ℕ)
+      → ¬ IsChangesAnswer journal since items rows last
   not_shown h rows last a = both_ways _ h (answered rows last a).shown
 
-  pub not_listed : (end : ℕ) → numbered_end (length J) since items ≡ Some end
-      → are_listed end (rows_of items) (all_above J since) ≡ false → (rows : List ChangeRow) (last : ℕ)
-      → ¬ IsChangesAnswer J since items rows last
+  pub not_listed : (end : ℕ) → numbered_end (length journal) since items ≡ Some end
+      → are_listed end (rows_of items) (all_above journal since) ≡ false → (rows : List ChangeRow) (last : ℕ)
+      → ¬ IsChangesAnswer journal since items rows last
   not_listed end n h rows last a =
       let d = answered rows last a in
       both_ways _ h
-      (subst (λ z. are_listed z (rows_of items) (all_above J since) ≡ true)
+      (subst (λ z. are_listed z (rows_of items) (all_above journal since) ≡ true)
       (same_Some last end (sym d.numbers ∙ n)) d.listed)
 
-  pub end_decides : (end : Option ℕ) → IfSome end (λ last. IsChangesAnswer J since items (rows_of items) last)
-      → (end ≡ None → (rows : List ChangeRow) (last : ℕ) → ¬ IsChangesAnswer J since items rows last)
+  pub end_decides : (end : Option ℕ)
+      → IfSome end (λ last. IsChangesAnswer journal since items (rows_of items) last)
+      → (end ≡ None → (rows : List ChangeRow) (last : ℕ) → ¬ IsChangesAnswer journal since items rows last)
       → IsTrue (is_some end)
-      ↔ ((rows : List ChangeRow) × (last : ℕ) × IsChangesAnswer J since items rows last)
+      ↔ ((rows : List ChangeRow) × (last : ℕ) × IsChangesAnswer journal since items rows last)
   end_decides None right wrong = (λ (h : false ≡ true). absurd (cc), λ p. absurd (wrong refl p.0 p.1 p.2))
   end_decides (Some last) right wrong = (λ h. (rows_of items, last, right), λ p. refl)
 
   -- memory may run out once the numbers are those of an answer
   pub licensed : {A E : Type 0} (r : Result A E) (last : ℕ)
-      → 0 < length J → numbered_end (length J) since items ≡ Some last
-      → OnErr r ((0 < length J) × IsNumbered (length J) since items)
+      → 0 < length journal → numbered_end (length journal) since items ≡ Some last
+      → OnErr r ((0 < length journal) × IsNumbered (length journal) since items)
   licensed (Ok x) last some h = tt
-  licensed (Err e) last some h = (some, is_numbered_so (length J) since items last h)
+  licensed (Err e) last some h = (some, is_numbered_so (length journal) since items last h)

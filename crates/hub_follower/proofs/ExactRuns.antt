@@ -14,45 +14,46 @@ use Rattle.hub_follower.specs.declared.fault.FollowFault.{FollowFault}
 use Rattle.hub_follower.proofs.Happening.{run_more}
 
 -- one run behind another
-run_on : (events more : List Event) (w mid new : World) → Run w events mid → Run mid more new
-    → Run w (events ++ more) new
-run_on [] more w mid new e r = subst (λ (z : World). Run z more new) e r
-run_on (x ∷ events) more w mid new (m, step, rest) r = (m, step, run_on events more m mid new rest r)
+run_on : (events more : List Event) (world mid new : World) → Run world events mid → Run mid more new
+    → Run world (events ++ more) new
+run_on [] more world mid new e r = subst (λ (other : World). Run other more new) e r
+run_on (event ∷ events) more world mid new (m, step, rest) r = (m, step, run_on events more m mid new rest r)
 
 module _ (limit : ℕ) (sessions : List (List ℕ)) where
   abbrev at : follow.Follower → Held → Held → World
-  at core s t = world_at limit sessions (standing_of core s t)
+  at core held other = world_at limit sessions (standing_of core held other)
 
-  both : (core : follow.Follower) (s t s' t' : Held) → s' ≡ s → t' ≡ t → at core s' t' ≡ at core s t
-  both core s t s' t' p q = ap (λ (z : Held). at core z t') p ∙ ap (λ (z : Held). at core s z) q
+  both : (core : follow.Follower) (held other s' t' : Held) → s' ≡ held → t' ≡ other
+      → at core s' t' ≡ at core held other
+  both core held other s' t' p q = ap (λ (z : Held). at core z t') p ∙ ap (λ (z : Held). at core held z) q
 
-  serves_answers : (core : follow.Follower) (call : follow.Call) (answer : follow.Answer) (s t s' t' : Held)
-      → Serves (IsExact limit) (IsExact limit) call answer s t s' t'
-      → IsAnswered (at core s t) call answer (at core s' t')
-  serves_answers core (follow.LocalGet follow.Source) (follow.LogAnswer log) s t s' t' (p, q) =
-      (p.0, both core s t s' t' p.1 q)
-  serves_answers core (follow.LocalGet follow.Target) (follow.LogAnswer log) s t s' t' (q, p) =
-      (p.0, both core s t s' t' q p.1)
-  serves_answers core (follow.LocalGet follow.Source) answer s t s' t' (p, q) = absurd p
-  serves_answers core (follow.LocalGet follow.Target) answer s t s' t' (q, p) = absurd p
-  serves_answers core (follow.Changes since) (follow.ChangesAnswer rows last life) s t s' t' (p, q) =
-      (p.0, p.1, both core s t s' t' p.2 q)
-  serves_answers core (follow.Changes since) answer s t s' t' (p, q) = absurd p
-  serves_answers core (follow.RevsDiff asked) (follow.RevsDiffAnswer missed) s t s' t' (q, p) =
-      (p.0, both core s t s' t' q p.1)
-  serves_answers core (follow.RevsDiff asked) answer s t s' t' (q, p) = absurd p
-  serves_answers core (follow.OpenRevs id revs) (follow.OpenRevsAnswer docs) s t s' t' (p, q) =
-      (p.0, both core s t s' t' p.1 q)
-  serves_answers core (follow.OpenRevs id revs) answer s t s' t' (p, q) = absurd p
-  serves_answers core (follow.Merge docs) (follow.MergeAnswer outcomes) s t s' t' (q, p) =
-      (p.0, ap (λ (z : Held). at core z t') q ∙ ap (λ (z : Held). at core s z) p.1)
-  serves_answers core (follow.Merge docs) answer s t s' t' (q, p) = absurd p
-  serves_answers core (follow.LocalPut follow.Source log) follow.PutAnswer s t s' t' (p, q) =
-      ap (λ (z : Held). at core z t') p ∙ ap (λ (z : Held). at core (record s { log = Some log }) z) q
-  serves_answers core (follow.LocalPut follow.Target log) follow.PutAnswer s t s' t' (q, p) =
-      ap (λ (z : Held). at core z t') q ∙ ap (λ (z : Held). at core s z) p
-  serves_answers core (follow.LocalPut follow.Source log) answer s t s' t' (p, q) = absurd p
-  serves_answers core (follow.LocalPut follow.Target log) answer s t s' t' (q, p) = absurd p
+  serves_answers : (core : follow.Follower) (call : follow.Call) (answer : follow.Answer)
+      (held other s' t' : Held) → Serves (IsExact limit) (IsExact limit) call answer held other s' t'
+      → IsAnswered (at core held other) call answer (at core s' t')
+  serves_answers core (follow.LocalGet follow.Source) (follow.LogAnswer log) held other s' t' (p, q) =
+      (p.0, both core held other s' t' p.1 q)
+  serves_answers core (follow.LocalGet follow.Target) (follow.LogAnswer log) held other s' t' (q, p) =
+      (p.0, both core held other s' t' q p.1)
+  serves_answers core (follow.LocalGet follow.Source) answer held other s' t' (p, q) = absurd p
+  serves_answers core (follow.LocalGet follow.Target) answer held other s' t' (q, p) = absurd p
+  serves_answers core (follow.Changes since) (follow.ChangesAnswer rows last life) held other s' t' (p, q) =
+      (p.0, p.1, both core held other s' t' p.2 q)
+  serves_answers core (follow.Changes since) answer held other s' t' (p, q) = absurd p
+  serves_answers core (follow.RevsDiff asked) (follow.RevsDiffAnswer missed) held other s' t' (q, p) =
+      (p.0, both core held other s' t' q p.1)
+  serves_answers core (follow.RevsDiff asked) answer held other s' t' (q, p) = absurd p
+  serves_answers core (follow.OpenRevs id revs) (follow.OpenRevsAnswer docs) held other s' t' (p, q) =
+      (p.0, both core held other s' t' p.1 q)
+  serves_answers core (follow.OpenRevs id revs) answer held other s' t' (p, q) = absurd p
+  serves_answers core (follow.Merge docs) (follow.MergeAnswer outcomes) held other s' t' (q, p) =
+      (p.0, ap (λ (z : Held). at core z t') q ∙ ap (λ (z : Held). at core held z) p.1)
+  serves_answers core (follow.Merge docs) answer held other s' t' (q, p) = absurd p
+  serves_answers core (follow.LocalPut follow.Source log) follow.PutAnswer held other s' t' (p, q) =
+      ap (λ (z : Held). at core z t') p ∙ ap (λ (z : Held). at core (record held { log = Some log }) z) q
+  serves_answers core (follow.LocalPut follow.Target log) follow.PutAnswer held other s' t' (q, p) =
+      ap (λ (z : Held). at core z t') q ∙ ap (λ (z : Held). at core held z) p
+  serves_answers core (follow.LocalPut follow.Source log) answer held other s' t' (p, q) = absurd p
+  serves_answers core (follow.LocalPut follow.Target log) answer held other s' t' (q, p) = absurd p
 
   step_runs : (old new : Standing Held Held) → Steps (IsExact limit) (IsExact limit) old new
       → Step (world_at limit sessions old) Reply (world_at limit sessions new)
@@ -78,27 +79,29 @@ module _ (limit : ℕ) (sessions : List (List ℕ)) where
   -- ---- a call that fails
 
   -- a part of the documents was stored, by the database at this side
-  abbrev IsPartAt : follow.Side → follow.Call → (s t s' t' : Held) → Type 0
-  IsPartAt follow.Source call s t s' t' = IsStoredInPart limit s call s' × (t' ≡ t)
-  IsPartAt follow.Target call s t s' t' = (s' ≡ s) × IsStoredInPart limit t call t'
+  abbrev IsPartAt : follow.Side → follow.Call → (held other s' t' : Held) → Type 0
+  IsPartAt follow.Source call held other s' t' = IsStoredInPart limit held call s' × (t' ≡ other)
+  IsPartAt follow.Target call held other s' t' = (s' ≡ held) × IsStoredInPart limit other call t'
 
   -- the call had no effect, its whole effect, or a part of it
-  abbrev IsLeft : follow.Side → follow.Call → (s t s' t' : Held) → Type 0
-  IsLeft side call s t s' t' =
-      ((s' ≡ s) × (t' ≡ t))
-      ⊎ (((answer : follow.Answer) × ServesAt (IsExact limit) (IsExact limit) side call answer s t s' t')
-      ⊎ IsPartAt side call s t s' t')
+  abbrev IsLeft : follow.Side → follow.Call → (held other s' t' : Held) → Type 0
+  IsLeft side call held other s' t' =
+      ((s' ≡ held) × (t' ≡ other))
+      ⊎ (((answer : follow.Answer)
+      × ServesAt (IsExact limit) (IsExact limit) side call answer held other s' t')
+      ⊎ IsPartAt side call held other s' t')
 
-  lost : (side : follow.Side) (call : follow.Call) (s t s' t' : Held)
-      → LosesAt (IsExactLoss limit) (IsExactLoss limit) side call s t s' t' → IsLeft side call s t s' t'
-  lost follow.Source call s t s' t' (inl e, q) = inl (e, q)
-  lost follow.Source call s t s' t' (inr (inl e), q) = inl (e, q)
-  lost follow.Source call s t s' t' (inr (inr (inl (answer, a))), q) = inr (inl (answer, (a, q)))
-  lost follow.Source call s t s' t' (inr (inr (inr p)), q) = inr (inr (p, q))
-  lost follow.Target call s t s' t' (q, inl e) = inl (q, e)
-  lost follow.Target call s t s' t' (q, inr (inl e)) = inl (q, e)
-  lost follow.Target call s t s' t' (q, inr (inr (inl (answer, a)))) = inr (inl (answer, (q, a)))
-  lost follow.Target call s t s' t' (q, inr (inr (inr p))) = inr (inr (q, p))
+  lost : (side : follow.Side) (call : follow.Call) (held other s' t' : Held)
+      → LosesAt (IsExactLoss limit) (IsExactLoss limit) side call held other s' t'
+      → IsLeft side call held other s' t'
+  lost follow.Source call held other s' t' (inl e, q) = inl (e, q)
+  lost follow.Source call held other s' t' (inr (inl e), q) = inl (e, q)
+  lost follow.Source call held other s' t' (inr (inr (inl (answer, a))), q) = inr (inl (answer, (a, q)))
+  lost follow.Source call held other s' t' (inr (inr (inr p)), q) = inr (inr (p, q))
+  lost follow.Target call held other s' t' (q, inl e) = inl (q, e)
+  lost follow.Target call held other s' t' (q, inr (inl e)) = inl (q, e)
+  lost follow.Target call held other s' t' (q, inr (inr (inl (answer, a)))) = inr (inl (answer, (q, a)))
+  lost follow.Target call held other s' t' (q, inr (inr (inr p))) = inr (inr (q, p))
 
   -- some event leads to what is left
   abbrev Happens : (old new : Standing Held Held) → Type 0

@@ -17,10 +17,11 @@ use Rattle.hub_follower.specs.Worlds.{IsWithinNext, HasPlace, HasAnswered}
 use Rattle.hub_follower.specs.declared.call.Answer.{Answer}
 
 -- one event more
-pub run_more : (events : List world.Event) (e : world.Event) (w mid new : world.World)
-    → world.Run w events mid → world.Step mid e new → world.Run w (events ++ e ∷ []) new
-run_more [] e w mid new r s = (new, subst (λ (z : world.World). world.Step z e new) r s, refl)
-run_more (x ∷ events) e w mid new (m, step, rest) s = (m, step, run_more events e m mid new rest s)
+pub run_more : (events : List world.Event) (event : world.Event) (w mid new : world.World)
+    → world.Run w events mid → world.Step mid event new → world.Run w (events ++ event ∷ []) new
+run_more [] event w mid new r s = (new, subst (λ (z : world.World). world.Step z event new) r s, refl)
+run_more (other ∷ events) event w mid new (m, step, rest) s =
+    (m, step, run_more events event m mid new rest s)
 
 -- behind every run the place is a sequence that the source has
 pub place_within : (limit : ℕ) (events : List world.Event) (w : world.World)
@@ -30,7 +31,7 @@ place_within limit events w r c e =
 
 -- so changes are asked for within
 pub within_next : (follower : follow.Follower) (len : ℕ)
-    → ((c : Seq) → world.place_of follower ≡ Some c → c.n ≤ len)
+    → ((seq : Seq) → world.place_of follower ≡ Some seq → seq.n ≤ len)
     → IsWithinNext len (follow.next_call follower)
 within_next follow.Down len h = tt
 within_next (follow.SourceStart session_id) len h = tt
@@ -44,10 +45,11 @@ within_next (follow.Busy s follow.SourceCheckpoint) len h = tt
 within_next (follow.Busy s follow.TargetCheckpoint) len h = tt
 
 -- an answer to the next call is one that the follower takes
-pub answered_fits : (w mid : world.World) (next : Option follow.Call) (a : Answer)
-    → HasAnswered w next (Some a) mid → follow.IsAnswerToNext next (answer_of a) × AnswerHasPaths a
-answered_fits w mid None a h = absurd h
-answered_fits w mid (Some call) a h = (answers_fit w mid call (answer_of a) h.0, h.1)
+pub answered_fits : (w mid : world.World) (next : Option follow.Call) (answer : Answer)
+    → HasAnswered w next (Some answer) mid → follow.IsAnswerToNext next (answer_of answer)
+    × AnswerHasPaths answer
+answered_fits w mid None answer h = absurd h
+answered_fits w mid (Some call) answer h = (answers_fit w mid call (answer_of answer) h.0, h.1)
 
 -- ---- sessions
 

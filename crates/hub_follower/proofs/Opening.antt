@@ -21,47 +21,48 @@ map_push f (y ∷ xs) x = ap (λ z. f y ∷ z) (map_push f xs x)
 -- the documents that are there behind those in hand, or the first revision that is missing
 abbrev pub opens : List ℕ → List Revision → List OpenRev → List Doc → Result (List Doc) follow.Fault
 opens id revs [] got = Ok got
-opens id [] (o ∷ found) got = Err follow.PeerFault
-opens id (r ∷ revs) (Found doc ∷ found) got = opens id revs found (got ++ doc ∷ [])
-opens id (r ∷ revs) (Missing x ∷ found) got = Err (follow.MissingRevision id r)
+opens id [] (rev ∷ found) got = Err follow.PeerFault
+opens id (revision ∷ revs) (Found doc ∷ found) got = opens id revs found (got ++ doc ∷ [])
+opens id (revision ∷ revs) (Missing x ∷ found) got = Err (follow.MissingRevision id revision)
 
 -- where they are there, they are what the answer brings
 pub opens_ok : (id : List ℕ) (revs : List Revision) (found : List OpenRev) (got docs : List Doc)
     → length found ≡ length revs → opens id revs found got ≡ Ok docs
-    → (es : List Edit) × (follow.all_documents id revs (map found_edit found) ≡ Ok es)
-    × (map edit_of docs ≡ map edit_of got ++ es)
+    → (edits : List Edit) × (follow.all_documents id revs (map found_edit found) ≡ Ok edits)
+    × (map edit_of docs ≡ map edit_of got ++ edits)
 opens_ok id [] [] got docs n e =
     let same : got ≡ docs = cc in
     ([], refl, ap (λ z. map edit_of z) (sym same) ∙ sym (append-nil (map edit_of got)))
-opens_ok id (r ∷ revs) [] got docs n e = absurd (omega arith)
-opens_ok id [] (o ∷ found) got docs n e = absurd (omega arith)
-opens_ok id (r ∷ revs) (Missing x ∷ found) got docs n e = absurd (cc)
-opens_ok id (r ∷ revs) (Found doc ∷ found) got docs n e =
-    let (es, o, m) = opens_ok id revs found (got ++ doc ∷ []) docs (omega arith) e in (
-      edit_of doc ∷ es,
-      ap (follow.with_document id r (Some (edit_of doc))) o,
+opens_ok id (revision ∷ revs) [] got docs n e = absurd (omega arith)
+opens_ok id [] (rev ∷ found) got docs n e = absurd (omega arith)
+opens_ok id (revision ∷ revs) (Missing x ∷ found) got docs n e = absurd (cc)
+opens_ok id (revision ∷ revs) (Found doc ∷ found) got docs n e =
+    let (edits, rev, m) = opens_ok id revs found (got ++ doc ∷ []) docs (omega arith) e in (
+      edit_of doc ∷ edits,
+      ap (follow.with_document id revision (Some (edit_of doc))) rev,
       m
-          ∙ (ap (λ z. z ++ es) (map_push edit_of got doc)
-          ∙ append_assoc (map edit_of got) (edit_of doc ∷ []) es),
+          ∙ (ap (λ z. z ++ edits) (map_push edit_of got doc)
+          ∙ append_assoc (map edit_of got) (edit_of doc ∷ []) edits),
     )
 
 -- where one is missing, it is what the answer misses
 pub opens_err : (id : List ℕ) (revs : List Revision) (found : List OpenRev)
-    (got : List Doc) (f : follow.Fault)
-    → length found ≡ length revs → opens id revs found got ≡ Err f
-    → follow.all_documents id revs (map found_edit found) ≡ Err f
-opens_err id revs [] got f n e = absurd (cc)
-opens_err id [] (o ∷ found) got f n e = absurd (omega arith)
-opens_err id (r ∷ revs) (Missing x ∷ found) got f n e =
+    (got : List Doc) (fault : follow.Fault)
+    → length found ≡ length revs → opens id revs found got ≡ Err fault
+    → follow.all_documents id revs (map found_edit found) ≡ Err fault
+opens_err id revs [] got fault n e = absurd (cc)
+opens_err id [] (o ∷ found) got fault n e = absurd (omega arith)
+opens_err id (revision ∷ revs) (Missing x ∷ found) got fault n e =
     at (follow.all_documents id revs (map found_edit found)) e
   where
-    at : (o : Result (List Edit) follow.Fault) → opens id (r ∷ revs) (Missing x ∷ found) got ≡ Err f
-        → follow.with_document id r None o ≡ Err f
+    at : (o : Result (List Edit) follow.Fault)
+        → opens id (revision ∷ revs) (Missing x ∷ found) got ≡ Err fault
+        → follow.with_document id revision None o ≡ Err fault
     at (Ok es) e = cc
     at (Err g) e = cc
-opens_err id (r ∷ revs) (Found doc ∷ found) got f n e =
-    ap (follow.with_document id r (Some (edit_of doc)))
-    (opens_err id revs found (got ++ doc ∷ []) f (omega arith) e)
+opens_err id (revision ∷ revs) (Found doc ∷ found) got fault n e =
+    ap (follow.with_document id revision (Some (edit_of doc)))
+    (opens_err id revs found (got ++ doc ∷ []) fault (omega arith) e)
 
 -- nothing is left
 pub opens_end : (id : List ℕ) (revs : List Revision) (found : List OpenRev) (got : List Doc) → found ≡ []
@@ -70,18 +71,20 @@ opens_end id revs found got e = ap (λ z. opens id revs z got) e
 
 -- a document that is not refused is passed over
 pub refused_later : (outcomes : List (Outcome Revision)) (at : ℕ) (d : Outcome Revision)
-    (e : Edit) (docs : List Edit)
-    → at < length outcomes → ((f : Refusal) → get_or outcomes at d ≡ outcome.Refused f → ⊥)
-    → follow.first_refusal (e ∷ docs) (drop at outcomes) ≡ follow.first_refusal docs (drop (at + 1) outcomes)
-refused_later outcomes at d e docs below n =
-    ap (λ z. follow.first_refusal (e ∷ docs) z) (drop_more outcomes at d below) ∙ by (get_or outcomes at d) n
+    (edit : Edit) (docs : List Edit)
+    → at < length outcomes → ((refusal : Refusal) → get_or outcomes at d ≡ outcome.Refused refusal → ⊥)
+    → follow.first_refusal (edit ∷ docs) (drop at outcomes) ≡ follow.first_refusal docs
+    (drop (at + 1) outcomes)
+refused_later outcomes at d edit docs below n =
+    ap (λ z. follow.first_refusal (edit ∷ docs) z) (drop_more outcomes at d below)
+    ∙ by (get_or outcomes at d) n
   where
-    by : (o : Outcome Revision) → ((f : Refusal) → o ≡ outcome.Refused f → ⊥)
-        → follow.first_refusal (e ∷ docs) (o ∷ drop (at + 1) outcomes)
+    by : (o : Outcome Revision) → ((refusal : Refusal) → o ≡ outcome.Refused refusal → ⊥)
+        → follow.first_refusal (edit ∷ docs) (o ∷ drop (at + 1) outcomes)
         ≡ follow.first_refusal docs (drop (at + 1) outcomes)
     by (outcome.Stored r) n = refl
     by outcome.Known n = refl
-    by (outcome.Refused f) n = absurd (n f refl)
+    by (outcome.Refused refusal) n = absurd (n refusal refl)
 
 pub none_left : {X : Type 0} (xs : List X) → length xs ≡ 0 → xs ≡ []
 none_left [] e = refl

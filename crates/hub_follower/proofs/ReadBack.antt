@@ -30,15 +30,15 @@ seq_data n None = number (unsigned n)
 seq_data n (Some life) = string (decimal n ++ 45 ∷ decimal life)
 
 abbrev data_of : Seq → Data
-data_of s = seq_data s.n s.life
+data_of seq = seq_data seq.n seq.life
 
 seq_compact : (n : ℕ) (life : Option ℕ) → n < 2 ^ 64 → IfSome life (λ l. l < 2 ^ 64)
     → compact_text (seq_data n life) ≡ seq_text_of n life
 seq_compact n None h k = refl
 seq_compact n (Some life) h k = tagged_quoted n life h k
 
-compact_of : (s : Seq) → IsWritableSeq s → compact_text (data_of s) ≡ seq_text s
-compact_of s h = seq_compact s.n s.life h.0 h.1
+compact_of : (seq : Seq) → IsWritableSeq seq → compact_text (data_of seq) ≡ seq_text seq
+compact_of seq h = seq_compact seq.n seq.life h.0 h.1
 
 seq_writable : (n : ℕ) (life : Option ℕ) → n < 2 ^ 64 → IfSome life (λ l. l < 2 ^ 64)
     → IsWritable (seq_data n life)
@@ -58,8 +58,8 @@ seq_back : (n : ℕ) (life : Option ℕ) → n < 2 ^ 64 → IfSome life (λ l. l
 seq_back n None h k = refl
 seq_back n (Some life) h k = ap (option_map (λ p. seq_of p.1 p.0)) (tagged_back n life h k)
 
-back_of : (s : Seq) → IsWritableSeq s → seq_value (data_of s) ≡ Some s
-back_of s h = seq_back s.n s.life h.0 h.1
+back_of : (seq : Seq) → IsWritableSeq seq → seq_value (data_of seq) ≡ Some seq
+back_of seq h = seq_back seq.n seq.life h.0 h.1
 
 -- ---- the object
 

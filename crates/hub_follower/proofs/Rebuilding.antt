@@ -29,89 +29,96 @@ chosen_no true x y e = absurd (cc)
 chosen_no false x y e = refl
 
 -- the next edit of a legal journal may be stored behind those before it
-next_acceptable : (before J : List Edit) (n : ℕ) (e : Edit) → IsLegalAfter before J → slice_get J n ≡ Some e
-    → IsAcceptable (before ++ take n J) e
-next_acceptable before [] n e h s = absurd (none-some e s)
-next_acceptable before (x ∷ J) zero e h s =
-    subst (λ K. IsAcceptable K e) (sym (append-nil before))
-    (subst (λ z. IsAcceptable before z) (same_Some x e s) h.0)
-next_acceptable before (x ∷ J) (suc n) e h s =
-    subst (λ K. IsAcceptable K e) (append_assoc before (x ∷ []) (take n J))
-    (next_acceptable (before ++ x ∷ []) J n e h.1 s)
+next_acceptable : (before journal : List Edit) (n : ℕ) (edit : Edit) → IsLegalAfter before journal
+    → slice_get journal n ≡ Some edit → IsAcceptable (before ++ take n journal) edit
+next_acceptable before [] n edit h s = absurd (none-some edit s)
+next_acceptable before (other ∷ journal) zero edit h s =
+    subst (λ K. IsAcceptable K edit) (sym (append-nil before))
+    (subst (λ z. IsAcceptable before z) (same_Some other edit s) h.0)
+next_acceptable before (other ∷ journal) (suc n) edit h s =
+    subst (λ K. IsAcceptable K edit) (append_assoc before (other ∷ []) (take n journal))
+    (next_acceptable (before ++ other ∷ []) journal n edit h.1 s)
 
-head_is_new : (K : List Edit) (e : Edit) → IsAcceptable K e → is_head_known K e.id e.path ≡ false
-head_is_new K e a =
-    let p = and_parts (is_history e.path) _ (is_acceptable_from K e a) in
-    not_true (is_head_known K e.id e.path) (and_parts (not (is_head_known K e.id e.path)) _ p.1).0
+head_is_new : (other_journal : List Edit) (edit : Edit) → IsAcceptable other_journal edit
+    → is_head_known other_journal edit.id edit.path ≡ false
+head_is_new other_journal edit a =
+    let p = and_parts (is_history edit.path) _ (is_acceptable_from other_journal edit a) in
+    not_true (is_head_known other_journal edit.id edit.path)
+    (and_parts (not (is_head_known other_journal edit.id edit.path)) _ p.1).0
 
 -- and is stored where there is room
-merged_next : (limit : ℕ) (K : List Edit) (e : Edit) → IsAcceptable K e → length K < limit
-    → (merges limit K e).journal ≡ K ++ e ∷ []
-merged_next limit K e a room =
-    ap (λ (z : Stores). z.journal)
-    (chosen_no (is_head_known K e.id e.path) _ _ (head_is_new K e a)
-    ∙ (chosen_yes (is_acceptable K e) _ _ (is_acceptable_from K e a)
-    ∙ chosen_no _ _ _ (lt-leb limit (length K) room)))
+merged_next : (limit : ℕ) (other_journal : List Edit) (edit : Edit) → IsAcceptable other_journal edit
+    → length other_journal < limit → (merges limit other_journal edit).journal ≡ other_journal ++ edit ∷ []
+merged_next limit other_journal edit a room =
+    ap (λ (stores : Stores). stores.journal)
+    (chosen_no (is_head_known other_journal edit.id edit.path) _ _ (head_is_new other_journal edit a)
+    ∙ (chosen_yes (is_acceptable other_journal edit) _ _ (is_acceptable_from other_journal edit a)
+    ∙ chosen_no _ _ _ (lt-leb limit (length other_journal) room)))
 
-take_next : (J : List Edit) (n : ℕ) (e : Edit) → slice_get J n ≡ Some e → take (suc n) J ≡ take n J ++ e ∷ []
-take_next [] n e s = absurd (none-some e s)
-take_next (x ∷ J) zero e s = ap (λ z. z ∷ []) (same_Some x e s)
-take_next (x ∷ J) (suc n) e s = ap (λ z. x ∷ z) (take_next J n e s)
+take_next : (journal : List Edit) (n : ℕ) (edit : Edit) → slice_get journal n ≡ Some edit
+    → take (suc n) journal ≡ take n journal ++ edit ∷ []
+take_next [] n edit s = absurd (none-some edit s)
+take_next (other ∷ journal) zero edit s = ap (λ z. z ∷ []) (same_Some other edit s)
+take_next (other ∷ journal) (suc n) edit s = ap (λ z. other ∷ z) (take_next journal n edit s)
 
-shown_edit : (o : Option Edit) (doc : Doc) → Some doc ≡ option_map (doc_shown true) o → o ≡ Some (edit_of doc)
+shown_edit : (maybe_edit : Option Edit) (doc : Doc) → Some doc ≡ option_map (doc_shown true) maybe_edit
+    → maybe_edit ≡ Some (edit_of doc)
 shown_edit None doc h = absurd (none-some doc (sym h))
-shown_edit (Some e) doc h = ap (λ z. Some (edit_of z)) (sym (same_Some doc (doc_shown true e) h))
+shown_edit (Some edit) doc h = ap (λ z. Some (edit_of z)) (sym (same_Some doc (doc_shown true edit) h))
 
 -- the edit of a sequence, from the document that is shown of it
-entry_edit : (J : List Edit) (n seq : ℕ) (doc : Doc) → n + 1 ≡ seq → Some doc ≡ entry_doc_of J seq
-    → slice_get J n ≡ Some (edit_of doc)
-entry_edit J n zero doc q h = absurd (omega (arith, q))
-entry_edit J n (suc k) doc q h =
+entry_edit : (journal : List Edit) (n seq : ℕ) (doc : Doc) → n + 1 ≡ seq → Some doc ≡ entry_doc_of journal seq
+    → slice_get journal n ≡ Some (edit_of doc)
+entry_edit journal n zero doc q h = absurd (omega (arith, q))
+entry_edit journal n (suc k) doc q h =
     let same : k ≡ n = omega (arith, q) in
-    subst (λ z. slice_get J z ≡ Some (edit_of doc)) same (shown_edit (slice_get J k) doc h)
+    subst (λ z. slice_get journal z ≡ Some (edit_of doc)) same (shown_edit (slice_get journal k) doc h)
 
 -- a database without edits is a copy of the first ones of every journal
-pub none_rebuilt : (J : List Edit) (copy : Database) (limits : Limits) → IsLegal J → length J ≤ 4294967295
-    → copy.journal ≡ [] → copy.deleted ≡ false → copy.limits ≡ limits → IsProfile limits → IsRebuilt J copy
-none_rebuilt J copy limits legal few none stands same p =
+pub none_rebuilt : (journal : List Edit) (copy : Database) (limits : Limits) → IsLegal journal
+    → length journal ≤ 4294967295
+    → copy.journal ≡ [] → copy.deleted ≡ false → copy.limits ≡ limits → IsProfile limits
+    → IsRebuilt journal copy
+none_rebuilt journal copy limits legal few none stands same p =
     let most = p.journal in
     let own = ap (λ (z : Limits). z.journal) same in
     record {
       legal = legal;
       fits = omega (arith, few, most, own);
       stands = stands;
-      first = none ∙ ap (λ (z : List Edit). take (length z) J) (sym none);
+      first = none ∙ ap (λ (z : List Edit). take (length z) journal) (sym none);
     }
 
 -- one more edit is stored in a copy of those before it
-pub added : (J : List Edit) (copy new : Database) (doc : Doc) (seq : ℕ) (outcomes : List (Outcome Revision))
-    → IsRebuilt J copy → length copy.journal + 1 ≡ seq → seq ≤ length J → Some doc ≡ entry_doc_of J seq
-    → merges_all copy.limits.journal copy.journal (edit_of doc ∷ [])
+pub added : (journal : List Edit) (copy new : Database) (doc : Doc) (seq : ℕ)
+    (outcomes : List (Outcome Revision))
+    → IsRebuilt journal copy → length copy.journal + 1 ≡ seq → seq ≤ length journal
+    → Some doc ≡ entry_doc_of journal seq → merges_all copy.limits.journal copy.journal (edit_of doc ∷ [])
     ≡ record { outcomes = outcomes; journal = new.journal }
     → new ≡ record copy { journal = new.journal }
-    → IsRebuilt J new × (length new.journal ≡ seq)
-added J copy new doc seq outcomes r q l h w s =
+    → IsRebuilt journal new × (length new.journal ≡ seq)
+added journal copy new doc seq outcomes r q l h w s =
     let n = length copy.journal in
     let e = edit_of doc in
-    let here = entry_edit J n seq doc q h in
+    let here = entry_edit journal n seq doc q h in
     let room : n < copy.limits.journal = omega (arith, r.fits, q, l) in
     let a : IsAcceptable copy.journal e =
-    subst (λ K. IsAcceptable K e) (sym r.first) (next_acceptable [] J n e r.legal here) in
+    subst (λ K. IsAcceptable K e) (sym r.first) (next_acceptable [] journal n e r.legal here) in
     let grown : new.journal ≡ copy.journal ++ e ∷ [] =
     sym (ap (λ (z : StoresAll). z.journal) w) ∙ merged_next copy.limits.journal copy.journal e a room in
     let len : length new.journal ≡ suc n =
     ap length grown ∙ (length-append copy.journal (e ∷ []) ∙ omega arith) in
-    let first : new.journal ≡ take (suc n) J =
-    grown ∙ (ap (λ K. K ++ e ∷ []) r.first ∙ sym (take_next J n e here)) in (
+    let first : new.journal ≡ take (suc n) journal =
+    grown ∙ (ap (λ K. K ++ e ∷ []) r.first ∙ sym (take_next journal n e here)) in (
       record {
         legal = r.legal;
-        fits = subst (λ (z : Database). length J ≤ z.limits.journal) (sym s) r.fits;
+        fits = subst (λ (z : Database). length journal ≤ z.limits.journal) (sym s) r.fits;
         stands = ap (λ (z : Database). z.deleted) s ∙ r.stands;
-        first = first ∙ ap (λ k. take k J) (sym len);
+        first = first ∙ ap (λ k. take k journal) (sym len);
       },
       omega (arith, len, q),
     )
 
 -- up to the last edit it is the whole journal
-pub whole_rebuilt : (J : List Edit) (n : ℕ) → n ≡ length J → take n J ≡ J
-whole_rebuilt J n e = take_all n J (omega (arith, e))
+pub whole_rebuilt : (journal : List Edit) (n : ℕ) → n ≡ length journal → take n journal ≡ journal
+whole_rebuilt journal n e = take_all n journal (omega (arith, e))

@@ -47,79 +47,83 @@ Leads core core' =
     × IsPastAsking core' × (IsPastAsking core → HasCountedCalls core')
     × (HasCountedCalls core → (calls_left core' + 1 ≤ calls_left core))
 
-rests : (core core' : follow.Follower) (s : follow.Session) → core' ≡ follow.Ready s
+rests : (core core' : follow.Follower) (session : follow.Session) → core' ≡ follow.Ready session
     → (HasCountedCalls core → 1 ≤ calls_left core) → Leads core core'
-rests core core' s e n =
+rests core core' session e n =
     subst (λ z. Leads core z) (sym e) (inl refl, tt, (λ p. tt), (λ p. let m = n p in omega (arith, m)))
 
-to_compare_leads : (s : follow.Session) (asked : List Asked) (last : Seq) (core' : follow.Follower)
-    → follow.comparison_or_ready s asked last ≡ core' → Leads (follow.Busy s follow.Listing) core'
-to_compare_leads s [] last core' e =
-    rests (follow.Busy s follow.Listing) core' (record s { place = last }) (sym e) (λ p. absurd p)
-to_compare_leads s (a ∷ asked) last core' e =
-    subst (λ z. Leads (follow.Busy s follow.Listing) z) e (inr refl, tt, (λ p. absurd p), (λ p. absurd p))
+to_compare_leads : (session : follow.Session) (asked : List Asked) (last : Seq) (core' : follow.Follower)
+    → follow.comparison_or_ready session asked last ≡ core' → Leads (follow.Busy session follow.Listing) core'
+to_compare_leads session [] last core' e =
+    rests (follow.Busy session follow.Listing) core' (record session { place = last }) (sym e) (λ p. absurd p)
+to_compare_leads session (a ∷ asked) last core' e =
+    subst (λ z. Leads (follow.Busy session follow.Listing) z) e
+    (inr refl, tt, (λ p. absurd p), (λ p. absurd p))
 
-to_store_leads : (s : follow.Session) (work : follow.Phase) (got : List Edit) (last : Seq)
+to_store_leads : (session : follow.Session) (work : follow.Phase) (got : List Edit) (last : Seq)
     (core' : follow.Follower)
-    → follow.storage_or_ready s got last ≡ core'
-    → (HasCountedCalls (follow.Busy s work) → 2 ≤ calls_left (follow.Busy s work))
-    → Leads (follow.Busy s work) core'
-to_store_leads s work [] last core' e n =
-    rests (follow.Busy s work) core' (record s { place = last }) (sym e)
+    → follow.storage_or_ready session got last ≡ core'
+    → (HasCountedCalls (follow.Busy session work) → 2 ≤ calls_left (follow.Busy session work))
+    → Leads (follow.Busy session work) core'
+to_store_leads session work [] last core' e n =
+    rests (follow.Busy session work) core' (record session { place = last }) (sym e)
     (λ p. let m = n p in omega (arith, m))
-to_store_leads s work (d ∷ got) last core' e n =
-    subst (λ z. Leads (follow.Busy s work) z) e
+to_store_leads session work (edit ∷ got) last core' e n =
+    subst (λ z. Leads (follow.Busy session work) z) e
     (inr refl, tt, (λ p. tt), (λ p. let m = n p in omega (arith, m)))
 
-to_fetch_leads : (s : follow.Session) (work : follow.Phase) (later : List Asked) (got : List Edit)
+to_fetch_leads : (session : follow.Session) (work : follow.Phase) (later : List Asked) (got : List Edit)
     (last : Seq) (core' : follow.Follower)
-    → follow.retrieval_or_storage s later got last ≡ core'
-    → (HasCountedCalls (follow.Busy s work) → length later + 2 ≤ calls_left (follow.Busy s work))
-    → Leads (follow.Busy s work) core'
-to_fetch_leads s work [] got last core' e n = to_store_leads s work got last core' e n
-to_fetch_leads s work (a ∷ later) got last core' e n =
-    subst (λ z. Leads (follow.Busy s work) z) e
+    → follow.retrieval_or_storage session later got last ≡ core'
+    → (HasCountedCalls (follow.Busy session work) → length later + 2 ≤ calls_left (follow.Busy session work))
+    → Leads (follow.Busy session work) core'
+to_fetch_leads session work [] got last core' e n = to_store_leads session work got last core' e n
+to_fetch_leads session work (asked ∷ later) got last core' e n =
+    subst (λ z. Leads (follow.Busy session work) z) e
     (inr refl, tt, (λ p. tt), (λ p. let m = n p in omega (arith, m)))
 
-fetched_leads : (s : follow.Session) (next : Asked) (later : List Asked) (got : List Edit) (last : Seq)
+fetched_leads : (session : follow.Session) (next : Asked) (later : List Asked) (got : List Edit) (last : Seq)
     (o : Result (List Edit) follow.Fault) (core' : follow.Follower)
-    → follow.after_retrieval s later got last o ≡ Ok core'
-    → Leads (follow.Busy s (follow.Retrieval next later got last)) core'
-fetched_leads s next later got last (Ok docs) core' e =
-    to_fetch_leads s (follow.Retrieval next later got last) later
+    → follow.after_retrieval session later got last o ≡ Ok core'
+    → Leads (follow.Busy session (follow.Retrieval next later got last)) core'
+fetched_leads session next later got last (Ok docs) core' e =
+    to_fetch_leads session (follow.Retrieval next later got last) later
     (got ++ docs) last core' (cc) (λ p. omega arith)
-fetched_leads s next later got last (Err fault) core' e = absurd (cc)
+fetched_leads session next later got last (Err fault) core' e = absurd (cc)
 
-stored_leads : (s : follow.Session) (got : List Edit) (last : Seq) (o : Option follow.Fault)
+stored_leads : (session : follow.Session) (got : List Edit) (last : Seq) (maybe_fault : Option follow.Fault)
     (core' : follow.Follower)
-    → follow.after_storage s last o ≡ Ok core' → Leads (follow.Busy s (follow.Storage got last)) core'
-stored_leads s got last None core' e =
-    rests (follow.Busy s (follow.Storage got last)) core' (record s { place = last }) (cc) (λ p. omega arith)
-stored_leads s got last (Some fault) core' e = absurd (cc)
+    → follow.after_storage session last maybe_fault ≡ Ok core'
+    → Leads (follow.Busy session (follow.Storage got last)) core'
+stored_leads session got last None core' e =
+    rests (follow.Busy session (follow.Storage got last)) core' (record session { place = last }) (cc)
+    (λ p. omega arith)
+stored_leads session got last (Some fault) core' e = absurd (cc)
 
-work_leads : (s : follow.Session) (work : follow.Phase) (answer : follow.Answer) (core' : follow.Follower)
-    → follow.phase_result s work answer ≡ Ok core' → Leads (follow.Busy s work) core'
-work_leads s follow.Listing (follow.ChangesAnswer rows last life) core' e =
-    to_compare_leads s (map follow.revisions_of_row rows) (seq_of life last) core' (cc)
-work_leads s follow.Listing answer core' e = absurd (cc)
-work_leads s (follow.Comparison asked last) (follow.RevsDiffAnswer diffs) core' e =
-    to_fetch_leads s (follow.Comparison asked last)
+work_leads : (session : follow.Session) (work : follow.Phase) (answer : follow.Answer)
+    (core' : follow.Follower)
+    → follow.phase_result session work answer ≡ Ok core' → Leads (follow.Busy session work) core'
+work_leads session follow.Listing (follow.ChangesAnswer rows last life) core' e =
+    to_compare_leads session (map follow.revisions_of_row rows) (seq_of life last) core' (cc)
+work_leads session follow.Listing answer core' e = absurd (cc)
+work_leads session (follow.Comparison asked last) (follow.RevsDiffAnswer diffs) core' e =
+    to_fetch_leads session (follow.Comparison asked last)
     (map follow.missing_revisions diffs) [] last core' (cc) (λ p. absurd p)
-work_leads s (follow.Comparison asked last) answer core' e = absurd (cc)
-work_leads s (follow.Retrieval next later got last) (follow.OpenRevsAnswer docs) core' e =
-    fetched_leads s next later got last _ core' e
-work_leads s (follow.Retrieval next later got last) answer core' e = absurd (cc)
-work_leads s (follow.Storage got last) (follow.MergeAnswer outcomes) core' e =
-    stored_leads s got last _ core' e
-work_leads s (follow.Storage got last) answer core' e = absurd (cc)
-work_leads s follow.SourceCheckpoint follow.PutAnswer core' e =
-    let same : follow.Busy s follow.TargetCheckpoint ≡ core' = cc in
-    subst (λ z. Leads (follow.Busy s follow.SourceCheckpoint) z) same
+work_leads session (follow.Comparison asked last) answer core' e = absurd (cc)
+work_leads session (follow.Retrieval next later got last) (follow.OpenRevsAnswer docs) core' e =
+    fetched_leads session next later got last _ core' e
+work_leads session (follow.Retrieval next later got last) answer core' e = absurd (cc)
+work_leads session (follow.Storage got last) (follow.MergeAnswer outcomes) core' e =
+    stored_leads session got last _ core' e
+work_leads session (follow.Storage got last) answer core' e = absurd (cc)
+work_leads session follow.SourceCheckpoint follow.PutAnswer core' e =
+    let same : follow.Busy session follow.TargetCheckpoint ≡ core' = cc in
+    subst (λ z. Leads (follow.Busy session follow.SourceCheckpoint) z) same
     (inr refl, tt, (λ p. tt), (λ p. omega arith))
-work_leads s follow.SourceCheckpoint answer core' e = absurd (cc)
-work_leads s follow.TargetCheckpoint follow.PutAnswer core' e =
-    rests (follow.Busy s follow.TargetCheckpoint) core' s (cc) (λ p. omega arith)
-work_leads s follow.TargetCheckpoint answer core' e = absurd (cc)
+work_leads session follow.SourceCheckpoint answer core' e = absurd (cc)
+work_leads session follow.TargetCheckpoint follow.PutAnswer core' e =
+    rests (follow.Busy session follow.TargetCheckpoint) core' session (cc) (λ p. omega arith)
+work_leads session follow.TargetCheckpoint answer core' e = absurd (cc)
 
 pub leads : (core : follow.Follower) (answer : follow.Answer) (core' : follow.Follower)
     → follow.answer_result core answer ≡ Ok core' → Leads core core'

@@ -21,31 +21,31 @@ pub record Held : Type 0 where
 
 -- what a database that nobody else writes answers, with a journal of at most so many edits
 abbrev pub IsExact : ℕ → Held → follow.Call → follow.Answer → Held → Type 0
-IsExact limit h (follow.LocalGet side) (follow.LogAnswer log) new = (log ≡ h.log) × (new ≡ h)
-IsExact limit h (follow.Changes since) (follow.ChangesAnswer rows last life) new =
-    HasChangesAnswer h.journal (seq_in h.life since) rows last × (life ≡ h.life) × (new ≡ h)
-IsExact limit h (follow.RevsDiff asked) (follow.RevsDiffAnswer missed) new =
-    (missed ≡ diffs h.journal asked) × (new ≡ h)
-IsExact limit h (follow.OpenRevs id revs) (follow.OpenRevsAnswer docs) new =
-    (docs ≡ map (shown h.journal id) revs) × (new ≡ h)
-IsExact limit h (follow.Merge docs) (follow.MergeAnswer outcomes) new =
-    (outcomes ≡ (merges_all limit h.journal docs).outcomes)
-    × (new ≡ record h { journal = (merges_all limit h.journal docs).journal })
-IsExact limit h (follow.LocalPut side log) follow.PutAnswer new = new ≡ record h { log = Some log }
-IsExact limit h call answer new = ⊥
+IsExact limit held (follow.LocalGet side) (follow.LogAnswer log) new = (log ≡ held.log) × (new ≡ held)
+IsExact limit held (follow.Changes since) (follow.ChangesAnswer rows last life) new =
+    HasChangesAnswer held.journal (seq_in held.life since) rows last × (life ≡ held.life) × (new ≡ held)
+IsExact limit held (follow.RevsDiff asked) (follow.RevsDiffAnswer missed) new =
+    (missed ≡ diffs held.journal asked) × (new ≡ held)
+IsExact limit held (follow.OpenRevs id revs) (follow.OpenRevsAnswer docs) new =
+    (docs ≡ map (shown held.journal id) revs) × (new ≡ held)
+IsExact limit held (follow.Merge docs) (follow.MergeAnswer outcomes) new =
+    (outcomes ≡ (merges_all limit held.journal docs).outcomes)
+    × (new ≡ record held { journal = (merges_all limit held.journal docs).journal })
+IsExact limit held (follow.LocalPut side log) follow.PutAnswer new = new ≡ record held { log = Some log }
+IsExact limit held call answer new = ⊥
 
 -- a merge of which so many documents were stored, the first ones
 abbrev pub IsStoredInPart : ℕ → Held → follow.Call → Held → Type 0
-IsStoredInPart limit h (follow.Merge docs) new =
-    (count : ℕ) × (new ≡ record h { journal = (merges_all limit h.journal (take count docs)).journal })
-IsStoredInPart limit h call new = ⊥
+IsStoredInPart limit held (follow.Merge docs) new =
+    (count : ℕ) × (new ≡ record held { journal = (merges_all limit held.journal (take count docs)).journal })
+IsStoredInPart limit held call new = ⊥
 
 -- How a call of such a database fails: it has no effect; or its whole effect, and the answer is lost; or it
 -- is a merge that stops. So of a merge of a and b the journal gets nothing, a, or both.
 abbrev pub IsExactLoss : ℕ → Held → follow.Call → Held → Type 0
-IsExactLoss limit h call new =
-    (new ≡ h)
-    ⊎ (((answer : follow.Answer) × IsExact limit h call answer new) ⊎ IsStoredInPart limit h call new)
+IsExactLoss limit held call new =
+    (new ≡ held)
+    ⊎ (((answer : follow.Answer) × IsExact limit held call answer new) ⊎ IsStoredInPart limit held call new)
 
 -- the world of a follower over such peers, in which these sessions have begun
 abbrev pub world_at : ℕ → List (List ℕ) → Standing Held Held → World

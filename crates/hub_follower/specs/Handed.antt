@@ -52,9 +52,9 @@ numbered_end edits since items =
 -- two lists of revisions are one
 abbrev pub same_revs : List Revision → List Revision → Bool
 same_revs [] [] = true
-same_revs [] (s ∷ others) = false
-same_revs (r ∷ revs) [] = false
-same_revs (r ∷ revs) (s ∷ others) = is_same r s && same_revs revs others
+same_revs [] (revision ∷ others) = false
+same_revs (other ∷ revs) [] = false
+same_revs (other ∷ revs) (revision ∷ others) = is_same other revision && same_revs revs others
 
 -- so are the members of two rows
 abbrev pub same_doc : Option (List ℕ) → Option (List ℕ) → Bool
@@ -80,7 +80,7 @@ same_row row other =
 
 -- the row is one of those that were current when there were `seen` edits
 abbrev pub is_shown : List Edit → ChangeRow → Bool
-is_shown J row = list_any (same_row row) (all_above (take row.seen J) 0)
+is_shown journal row = list_any (same_row row) (all_above (take row.seen journal) 0)
 
 -- one of the rows has this sequence
 abbrev pub has_sequence : List ChangeRow → ℕ → Bool

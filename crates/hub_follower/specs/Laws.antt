@@ -6,7 +6,7 @@ use Rattle.hub_follower.specs.LogText.{log_in, log_text}
 
 -- a sequence and its life are numbers of 64 bits
 abbrev pub IsWritableSeq : Seq → Type 0
-IsWritableSeq s = (s.n < 2 ^ 64) × IfSome s.life (λ life. life < 2 ^ 64)
+IsWritableSeq seq = (seq.n < 2 ^ 64) × IfSome seq.life (λ life. life < 2 ^ 64)
 
 -- the session's id is UTF-8, and the numbers are of 64 bits
 pub record IsWritableEntry (entry : HistoryEntry) : Type 0 where

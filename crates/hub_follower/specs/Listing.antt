@@ -12,11 +12,11 @@ use Rattle.hub_model.specs.declared.feeds.Style.TheVariants.{AllDocs}
 
 -- the current rows above a sequence
 abbrev pub rows_above : List Edit → ℕ → List Current
-rows_above J since = filter (λ c. nat_lt since c.seq && passes Everything c.id) (current J)
+rows_above journal since = filter (λ c. nat_lt since c.seq && passes Everything c.id) (current journal)
 
 -- as they are shown with every leaf
 abbrev pub all_above : List Edit → ℕ → List ChangeRow
-all_above J since = map (row_of J AllDocs false) (rows_above J since)
+all_above journal since = map (row_of journal AllDocs false) (rows_above journal since)
 
 -- what is asked for them all
 abbrev pub listing_params : ℕ → Params
@@ -35,4 +35,4 @@ listing_params since =
 -- the sequence of the last of them
 pub record AreFirst (all : List ChangeRow) (len : ℕ) (rows : List ChangeRow) (last : ℕ) : Type 0 where
   pub short : length all ≤ 100 → (rows ≡ all) × (last ≡ len)
-  pub long : 100 < length all → (rows ≡ take 100 all) × ((d : ChangeRow) → last ≡ (get_or all 99 d).seq)
+  pub long : 100 < length all → (rows ≡ take 100 all) × ((row : ChangeRow) → last ≡ (get_or all 99 row).seq)

@@ -15,11 +15,11 @@ use Rattle.hub_follow_model.specs.declared.seq.Seq.{Seq}
 
 -- the text of a member
 abbrev pub text_at : List ℕ → Data → Option (List ℕ)
-text_at k d = option_and_then as_str (get k d)
+text_at k content = option_and_then as_str (get k content)
 
 -- the whole number of a member, 0 at least
 abbrev pub count_at : List ℕ → Data → Option ℕ
-count_at k d = option_and_then as_u64 (option_and_then as_number (get k d))
+count_at k content = option_and_then as_u64 (option_and_then as_number (get k content))
 
 -- the sequence of a text, as 12-3, where there is one; else of a number, whose life is not known
 abbrev pub seq_or_number : Option (List ℕ) → Option ℕ → Option Seq
@@ -28,15 +28,15 @@ seq_or_number (Some text) number = option_map (λ p. seq_of p.1 p.0) (tagged_in 
 
 -- the sequence that a value is: "12-3", or 12 alone
 abbrev pub seq_value : Data → Option Seq
-seq_value d = seq_or_number (as_str d) (option_and_then as_u64 (as_number d))
+seq_value content = seq_or_number (as_str content) (option_and_then as_u64 (as_number content))
 
 -- the sequence of a member
 abbrev pub seq_at : List ℕ → Data → Option Seq
-seq_at k d = option_and_then seq_value (get k d)
+seq_at k content = option_and_then seq_value (get k content)
 
 -- the entry of a history that a value is
 abbrev pub entry_in : Data → Option HistoryEntry
-entry_in d =
+entry_in content =
     option_and_then (λ session. option_and_then (λ first. option_and_then (λ last. option_map (λ recorded.
     record {
       session_id = session;
@@ -44,8 +44,8 @@ entry_in d =
       end_last_seq = last;
       recorded_seq = recorded;
     })
-    (seq_at (codes "recorded_seq") d)) (seq_at (codes "end_last_seq") d))
-    (seq_at (codes "start_last_seq") d)) (text_at (codes "session_id") d)
+    (seq_at (codes "recorded_seq") content)) (seq_at (codes "end_last_seq") content))
+    (seq_at (codes "start_last_seq") content)) (text_at (codes "session_id") content)
 
 -- the entries
 abbrev pub entries_in : Items → Option (List HistoryEntry)
@@ -57,22 +57,22 @@ abbrev pub short_history : List HistoryEntry → Option (List HistoryEntry)
 short_history history = if nat_le (length history) 50 then Some history else None
 
 abbrev pub history_in : Data → Option (List HistoryEntry)
-history_in d =
+history_in content =
     option_and_then short_history
-    (option_and_then entries_in (option_and_then as_array (get (codes "history") d)))
+    (option_and_then entries_in (option_and_then as_array (get (codes "history") content)))
 
 -- the log of this version: 3 alone is known
 abbrev pub log_of_version : Data → ℕ → Option ReplicationLog
-log_of_version d version =
+log_of_version content version =
     if nat_eq version 3
     then option_and_then (λ session. option_and_then (λ last. option_map (λ history.
     record { session_id = session; source_last_seq = last; history = history })
-    (history_in d)) (seq_at (codes "source_last_seq") d)) (text_at (codes "session_id") d)
+    (history_in content)) (seq_at (codes "source_last_seq") content)) (text_at (codes "session_id") content)
     else None
 
 -- the log that a value is
 abbrev pub log_of : Data → Option ReplicationLog
-log_of d = option_and_then (log_of_version d) (count_at (codes "replication_id_version") d)
+log_of content = option_and_then (log_of_version content) (count_at (codes "replication_id_version") content)
 
 -- the log that the members' text is
 abbrev pub log_in : List ℕ → Option ReplicationLog
@@ -85,7 +85,7 @@ seq_text_of n (Some life) = sequence_text n life
 
 -- the text of a sequence
 abbrev pub seq_text : Seq → List ℕ
-seq_text s = seq_text_of s.n s.life
+seq_text seq = seq_text_of seq.n seq.life
 
 -- the text of an entry, its keys in byte order
 abbrev pub entry_text : HistoryEntry → List ℕ

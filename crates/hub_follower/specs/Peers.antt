@@ -21,31 +21,31 @@ IsCountedFault call_fault.NoMemory old new = Unit {0}
 
 -- a call's fault is told so
 abbrev pub IsCallFault : CallFault → FollowFault → Type 0
-IsCallFault call_fault.Peer f = f ≡ told.Peer
-IsCallFault call_fault.NoMemory f = f ≡ told.NoMemory
+IsCallFault call_fault.Peer fault = fault ≡ told.Peer
+IsCallFault call_fault.NoMemory fault = fault ≡ told.NoMemory
 
 -- a database's fault is told so: a refusal of a whole call is the peer's fault
 abbrev pub IsDbFault : DbFault → CallFault → Type 0
-IsDbFault db_fault.NoMemory f = f ≡ call_fault.NoMemory
-IsDbFault (db_fault.Refused refusal) f = f ≡ call_fault.Peer
+IsDbFault db_fault.NoMemory fault = fault ≡ call_fault.NoMemory
+IsDbFault (db_fault.Refused refusal) fault = fault ≡ call_fault.Peer
 
 -- why a call of the follower fails that has an answer: no peer is at fault, and the logs' id is a good one
 abbrev pub IsOwnFault : FollowFault → Type 0
 IsOwnFault told.Peer = ⊥
 IsOwnFault told.BadLogId = ⊥
-IsOwnFault e = Unit {0}
+IsOwnFault fault = Unit {0}
 
 -- a follower with a good id tells a fault of a peer only where that peer's count rose so; of one peer
 abbrev pub IsCountedOf : FollowFault → ℕ → ℕ → Type 0
 IsCountedOf told.Peer old new = Rose old new
 IsCountedOf told.BadLogId old new = ⊥
-IsCountedOf e old new = Unit {0}
+IsCountedOf fault old new = Unit {0}
 
 -- and of two
 abbrev pub IsCountedOfBoth : FollowFault → (s s' t t' : ℕ) → Type 0
 IsCountedOfBoth told.Peer s s' t t' = Rose s s' ⊎ Rose t t'
 IsCountedOfBoth told.BadLogId s s' t t' = ⊥
-IsCountedOfBoth e s s' t t' = Unit {0}
+IsCountedOfBoth fault s s' t t' = Unit {0}
 
 -- whose call it is
 abbrev pub side_of : follow.Call → follow.Side

@@ -5,8 +5,8 @@ use Rattle.hub_database.specs.Database.{Database}
 
 -- The database holds the first edits of a legal journal, and may hold all of them. After a, b and a again it
 -- may hold none, a, a and b, or all three.
-pub record IsRebuilt (J : List Edit) (copy : Database) : Type 0 where
-  pub legal : IsLegal J
-  pub fits : length J ≤ copy.limits.journal
+pub record IsRebuilt (journal : List Edit) (copy : Database) : Type 0 where
+  pub legal : IsLegal journal
+  pub fits : length journal ≤ copy.limits.journal
   pub stands : copy.deleted ≡ false
-  pub first : copy.journal ≡ take (length copy.journal) J
+  pub first : copy.journal ≡ take (length copy.journal) journal

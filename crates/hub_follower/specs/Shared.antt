@@ -18,10 +18,10 @@ all_deleted docs = map (λ _. Refused Deleted) docs
 -- once. Of the changes and of the logs nothing is said here.
 abbrev pub IsShared : follow.Call → follow.Answer → Type 0
 IsShared (follow.RevsDiff asked) (follow.RevsDiffAnswer answered) =
-    (J : List Edit) × IsLegal J × (answered ≡ diffs J asked)
+    (journal : List Edit) × IsLegal journal × (answered ≡ diffs journal asked)
 IsShared (follow.OpenRevs id revs) (follow.OpenRevsAnswer docs) =
-    (J : List Edit) × IsLegal J × (docs ≡ map (shown J id) revs)
+    (journal : List Edit) × IsLegal journal × (docs ≡ map (shown journal id) revs)
 IsShared (follow.Merge docs) (follow.MergeAnswer outcomes) =
-    (J : List Edit) × (limit : ℕ) × IsLegal J
-    × ((outcomes ≡ (merges_all limit J docs).outcomes) ⊎ (outcomes ≡ all_deleted docs))
+    (journal : List Edit) × (limit : ℕ) × IsLegal journal
+    × ((outcomes ≡ (merges_all limit journal docs).outcomes) ⊎ (outcomes ≡ all_deleted docs))
 IsShared call answer = Unit {0}

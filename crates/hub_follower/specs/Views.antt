@@ -39,9 +39,9 @@ follower_of (Busy session phase) = follow.Busy session (phase_of phase)
 
 -- the follower of a session that goes on so
 abbrev pub follower_behind : follow.Session → Next → follow.Follower
-follower_behind s goes.Ready = follow.Ready s
-follower_behind s (goes.ReadyAt last) = follow.ready_at s last
-follower_behind s (goes.Busy phase) = follow.Busy s (phase_of phase)
+follower_behind session goes.Ready = follow.Ready session
+follower_behind session (goes.ReadyAt last) = follow.ready_at session last
+follower_behind session (goes.Busy phase) = follow.Busy session (phase_of phase)
 
 -- a revision that was asked for, as an edit where it is there
 abbrev pub found_edit : OpenRev → Option Edit
@@ -104,5 +104,6 @@ IsFaultOf told.NoMemory outcome = Unit {0}
 IsFaultOf told.BadLogId outcome = ⊥
 IsFaultOf told.Peer outcome = outcome ≡ Err follow.PeerFault
 IsFaultOf (told.Refused id rev refusal) outcome =
-    (e : Edit) × (outcome ≡ Err (follow.RefusedDocument e refusal)) × (e.id ≡ id) × (head_of e ≡ Some rev)
+    (edit : Edit) × (outcome ≡ Err (follow.RefusedDocument edit refusal)) × (edit.id ≡ id)
+    × (head_of edit ≡ Some rev)
 IsFaultOf (told.Lost id rev) outcome = outcome ≡ Err (follow.MissingRevision (string_bytes id) rev)

@@ -26,14 +26,14 @@ pub record Pair : Type 0 where
 
 -- with these sessions and this follower they are a world
 abbrev pub world_of : Pair → List (List ℕ) → follow.Follower → world.World
-world_of p sessions follower =
+world_of pair sessions follower =
     record {
-      limit = p.limit;
-      life = p.life;
-      source = p.source;
-      target = p.target;
-      source_log = p.source_log;
-      target_log = p.target_log;
+      limit = pair.limit;
+      life = pair.life;
+      source = pair.source;
+      target = pair.target;
+      source_log = pair.source_log;
+      target_log = pair.target_log;
       sessions = sessions;
       follower = follower;
     }
@@ -50,7 +50,7 @@ IsWithinNext len (Some call) = IsWithin len call
 
 -- the place is a sequence that the source has
 abbrev pub HasPlace : world.World → Type 0
-HasPlace w = (c : Seq) → world.place_of w.follower ≡ Some c → c.n ≤ length w.source
+HasPlace w = (seq : Seq) → world.place_of w.follower ≡ Some seq → seq.n ≤ length w.source
 
 -- the next call was answered so; without one nothing changed
 abbrev pub HasAnswered : world.World → Option follow.Call → Option Answer → world.World → Type 0
@@ -72,8 +72,8 @@ changes_asked (Some (follow.LocalPut side log)) = None
 
 -- these items are such an answer of a source of this life
 abbrev pub IsAnswerOf : List Edit → (life since : ℕ) → List ChangeItem → Answer → Type 0
-IsAnswerOf J life since items answer =
-    (rows : List ChangeRow) × (last : ℕ) × IsChangesAnswer J since items rows last
+IsAnswerOf journal life since items answer =
+    (rows : List ChangeRow) × (last : ℕ) × IsChangesAnswer journal since items rows last
     × (answer_of answer ≡ follow.ChangesAnswer rows last life)
 
 -- an event

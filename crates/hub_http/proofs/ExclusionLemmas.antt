@@ -20,100 +20,108 @@ use Rattle.hub_http.specs.Exclusions.{IsOutside, IsHeadFault, IsOpenFault}
 use Rattle.hub_http.proofs.HeadLemmas.{asked_faults, head_has_bytes}
 
 -- a head within the limits
-record IsWithinLimits (h : RequestHead) : Type 0 where
-  len : length (print_request h) ≤ 16384
-  fields : length h.fields ≤ 64
+record IsWithinLimits (head : RequestHead) : Type 0 where
+  len : length (print_request head) ≤ 16384
+  fields : length head.fields ≤ 64
 
 -- the body that a head asks for is not there
 abbrev Lacks : RequestHead → List ℕ → Type 0
-Lacks h rest = (n : ℕ) × (length_by h ≡ Ok (Some n)) × (length rest < n)
+Lacks head rest = (n : ℕ) × (length_by head ≡ Ok (Some n)) × (length rest < n)
 
--- what a fault says of the head h that the bytes begin with, and of the rest
+-- what a fault says of the head head that the bytes begin with, and of the rest
 abbrev Says : RequestHead → List ℕ → HttpFault → Type 0
-Says h rest e =
-    IsOutside e
-    ⊎ (((e ≡ HeadTooLong) × (IsWithinLimits h → ⊥))
-    ⊎ (IsWithinLimits h × ((length_by h ≡ Err e) ⊎ ((e ≡ Ended) × Lacks h rest))))
+Says head rest fault =
+    IsOutside fault
+    ⊎ (((fault ≡ HeadTooLong) × (IsWithinLimits head → ⊥))
+    ⊎ (IsWithinLimits head × ((length_by head ≡ Err fault) ⊎ ((fault ≡ Ended) × Lacks head rest))))
 
-within : (bytes : List ℕ) (h k : RequestHead) (rest more : List ℕ) → ReadsRequest bytes h rest
-    → Begins bytes k more → IsWithinLimits h
-within bytes h k rest more r b =
-    let same = request_unique bytes k h more rest b.reads r in
+within : (bytes : List ℕ) (head other : RequestHead) (rest more : List ℕ) → ReadsRequest bytes head rest
+    → Begins bytes other more → IsWithinLimits head
+within bytes head other rest more r b =
+    let same = request_unique bytes other head more rest b.reads r in
     subst IsWithinLimits same.0 (record { len = b.len; fields = b.fields })
 
-faulty : (bytes : List ℕ) (h : RequestHead) (rest : List ℕ) (e : HttpFault) → ReadsRequest bytes h rest
-    → BeginsFaulty bytes e → Says h rest e
-faulty bytes h rest e r b =
-    let same = request_unique bytes b.0 h b.1 rest b.2.reads r in
-    inr (inr (within bytes h b.0 rest b.1 r b.2, inl (sym (ap length_by same.0) ∙ b.3)))
+faulty : (bytes : List ℕ) (head : RequestHead) (rest : List ℕ) (fault : HttpFault)
+    → ReadsRequest bytes head rest → BeginsFaulty bytes fault → Says head rest fault
+faulty bytes head rest fault r b =
+    let same = request_unique bytes b.0 head b.1 rest b.2.reads r in
+    inr (inr (within bytes head b.0 rest b.1 r b.2, inl (sym (ap length_by same.0) ∙ b.3)))
 
-cut : (bytes : List ℕ) (h : RequestHead) (rest : List ℕ) → ReadsRequest bytes h rest → IsCut bytes
-    → Says h rest Ended
-cut bytes h rest r x =
-    let same = request_unique bytes x.0 h x.1 rest x.3.reads r in
+cut : (bytes : List ℕ) (head : RequestHead) (rest : List ℕ) → ReadsRequest bytes head rest → IsCut bytes
+    → Says head rest Ended
+cut bytes head rest r x =
+    let same = request_unique bytes x.0 head x.1 rest x.3.reads r in
     inr (inr (
-      within bytes h x.0 rest x.1 r x.3,
+      within bytes head x.0 rest x.1 r x.3,
       inr (refl, (x.2, sym (ap length_by same.0) ∙ x.4, rw same.1 at x.5)),
     ))
 
 -- bytes are themselves and then nothing
-itself : (bytes : List ℕ) (h : RequestHead) (rest : List ℕ) → ReadsRequest bytes h rest
-    → ReadsRequest (bytes ++ []) h rest
-itself bytes h rest r = subst (λ (l : List ℕ). ReadsRequest l h rest) (sym (append-nil bytes)) r
+itself : (bytes : List ℕ) (head : RequestHead) (rest : List ℕ) → ReadsRequest bytes head rest
+    → ReadsRequest (bytes ++ []) head rest
+itself bytes head rest r = subst (λ (l : List ℕ). ReadsRequest l head rest) (sym (append-nil bytes)) r
 
-says : (bytes : List ℕ) (h : RequestHead) (rest : List ℕ) (e : HttpFault) → ReadsRequest bytes h rest
-    → Faults bytes e → Says h rest e
-says bytes h rest NoMemory r f = inl (inl refl)
-says bytes h rest BadHead r f =
-    elim f [ inl x ↦ absurd (x [] h rest (itself bytes h rest r)) | inr x ↦ faulty bytes h rest BadHead r x ]
-says bytes h rest HeadTooLong r f =
+says : (bytes : List ℕ) (head : RequestHead) (rest : List ℕ) (fault : HttpFault)
+    → ReadsRequest bytes head rest → Faults bytes fault → Says head rest fault
+says bytes head rest NoMemory r f = inl (inl refl)
+says bytes head rest BadHead r f =
+    elim f [
+      | inl x ↦ absurd (x [] head rest (itself bytes head rest r))
+      | inr x ↦ faulty bytes head rest
+          BadHead r x
+    ]
+says bytes head rest HeadTooLong r f =
     inr (inl (
       refl,
-      λ w. f.0 [] h rest (record { reads = itself bytes h rest r; len = w.len; fields = w.fields }),
+      λ w. f.0 [] head rest (record { reads = itself bytes head rest r; len = w.len; fields = w.fields }),
     ))
-says bytes h rest BodyTooLong r f = faulty bytes h rest BodyTooLong r f
-says bytes h rest Version r f = faulty bytes h rest Version r f
-says bytes h rest Coding r f = faulty bytes h rest Coding r f
-says bytes h rest Ended r f = elim f [ inl x ↦ absurd (x.1.0 h rest r) | inr x ↦ cut bytes h rest r x ]
-says bytes h rest IoFault r f = inl (inr refl)
+says bytes head rest BodyTooLong r f = faulty bytes head rest BodyTooLong r f
+says bytes head rest Version r f = faulty bytes head rest Version r f
+says bytes head rest Coding r f = faulty bytes head rest Coding r f
+says bytes head rest Ended r f =
+    elim f [ inl x ↦ absurd (x.1.0 head rest r) | inr x ↦ cut bytes head rest r x ]
+says bytes head rest IoFault r f = inl (inr refl)
 
-errors_same : (r : Result (Option ℕ) HttpFault) (e f : HttpFault) → r ≡ Err e → r ≡ Err f → e ≡ f
-errors_same r e f x y = let both : Err e ≡ Err f = sym x ∙ y in cc
+errors_same : (r : Result (Option ℕ) HttpFault) (fault other : HttpFault) → r ≡ Err fault → r ≡ Err other
+    → fault ≡ other
+errors_same r fault other x y = let both : Err fault ≡ Err other = sym x ∙ y in cc
 
-no_error : (r : Result (Option ℕ) HttpFault) (n : Option ℕ) (e : HttpFault) → r ≡ Ok n → r ≡ Err e → ⊥
-no_error r n e x y = absurd (cc)
+no_error : (r : Result (Option ℕ) HttpFault) (n : Option ℕ) (fault : HttpFault) → r ≡ Ok n → r ≡ Err fault → ⊥
+no_error r n fault x y = absurd (cc)
 
-said_once : (h : RequestHead) (rest : List ℕ) (e f : HttpFault) → Says h rest e → Says h rest f
-    → IsOutside e ⊎ (IsOutside f ⊎ (e ≡ f))
-said_once h rest e f (inl x) y = inl x
-said_once h rest e f (inr x) (inl y) = inr (inl y)
-said_once h rest e f (inr (inl x)) (inr (inl y)) = inr (inr (x.0 ∙ sym y.0))
-said_once h rest e f (inr (inl x)) (inr (inr y)) = absurd (x.1 y.0)
-said_once h rest e f (inr (inr x)) (inr (inl y)) = absurd (y.1 x.0)
-said_once h rest e f (inr (inr (w, inl x))) (inr (inr (v, inl y))) =
-    inr (inr (errors_same (length_by h) e f x y))
-said_once h rest e f (inr (inr (w, inl x))) (inr (inr (v, inr y))) =
-    absurd (no_error (length_by h) (Some y.1.0) e y.1.1 x)
-said_once h rest e f (inr (inr (w, inr x))) (inr (inr (v, inl y))) =
-    absurd (no_error (length_by h) (Some x.1.0) f x.1.1 y)
-said_once h rest e f (inr (inr (w, inr x))) (inr (inr (v, inr y))) = inr (inr (x.0 ∙ sym y.0))
+said_once : (head : RequestHead) (rest : List ℕ) (fault other : HttpFault) → Says head rest fault
+    → Says head rest other → IsOutside fault ⊎ (IsOutside other ⊎ (fault ≡ other))
+said_once head rest fault other (inl x) y = inl x
+said_once head rest fault other (inr x) (inl y) = inr (inl y)
+said_once head rest fault other (inr (inl x)) (inr (inl y)) = inr (inr (x.0 ∙ sym y.0))
+said_once head rest fault other (inr (inl x)) (inr (inr y)) = absurd (x.1 y.0)
+said_once head rest fault other (inr (inr x)) (inr (inl y)) = absurd (y.1 x.0)
+said_once head rest fault other (inr (inr (w, inl x))) (inr (inr (v, inl y))) =
+    inr (inr (errors_same (length_by head) fault other x y))
+said_once head rest fault other (inr (inr (w, inl x))) (inr (inr (v, inr y))) =
+    absurd (no_error (length_by head) (Some y.1.0) fault y.1.1 x)
+said_once head rest fault other (inr (inr (w, inr x))) (inr (inr (v, inl y))) =
+    absurd (no_error (length_by head) (Some x.1.0) other x.1.1 y)
+said_once head rest fault other (inr (inr (w, inr x))) (inr (inr (v, inr y))) = inr (inr (x.0 ∙ sym y.0))
 
-pub one_fault : (bytes : List ℕ) (h : RequestHead) (rest : List ℕ) (e f : HttpFault)
-    → ReadsRequest bytes h rest
-    → Faults bytes e → Faults bytes f → IsOutside e ⊎ (IsOutside f ⊎ (e ≡ f))
-one_fault bytes h rest e f r x y = said_once h rest e f (says bytes h rest e r x) (says bytes h rest f r y)
+pub one_fault : (bytes : List ℕ) (head : RequestHead) (rest : List ℕ) (fault other : HttpFault)
+    → ReadsRequest bytes head rest
+    → Faults bytes fault → Faults bytes other → IsOutside fault ⊎ (IsOutside other ⊎ (fault ≡ other))
+one_fault bytes head rest fault other r x y =
+    said_once head rest fault other (says bytes head rest fault r x) (says bytes head rest other r y)
 
-pub one_head_fault : (bytes : List ℕ) (e f : HttpFault) → BeginsFaulty bytes e → BeginsFaulty bytes f → e ≡ f
-one_head_fault bytes e f x y =
+pub one_head_fault : (bytes : List ℕ) (fault other : HttpFault) → BeginsFaulty bytes fault
+    → BeginsFaulty bytes other → fault ≡ other
+one_head_fault bytes fault other x y =
     let same = request_unique bytes x.0 y.0 x.1 y.1 x.2.reads y.2.reads in
-    errors_same (length_by y.0) e f (sym (ap length_by same.0) ∙ x.3) y.3
+    errors_same (length_by y.0) fault other (sym (ap length_by same.0) ∙ x.3) y.3
 
-pub head_fault : (bytes : List ℕ) (e : HttpFault) → BeginsFaulty bytes e → IsHeadFault e
-head_fault bytes e x = asked_faults x.0.minor x.0.target (pairs_of x.0) e x.3
+pub head_fault : (bytes : List ℕ) (fault : HttpFault) → BeginsFaulty bytes fault → IsHeadFault fault
+head_fault bytes fault x = asked_faults x.0.minor x.0.target (pairs_of x.0) fault x.3
 
-full : (h : RequestHead) (body rest : List ℕ) (l : Option ℕ) → length_by h ≡ Ok l
-    → length body ≡ unwrap_or l 0 → Lacks h (body ++ rest) → ⊥
-full h body rest l e b x =
+full : (head : RequestHead) (body rest : List ℕ) (l : Option ℕ) → length_by head ≡ Ok l
+    → length body ≡ unwrap_or l 0 → Lacks head (body ++ rest) → ⊥
+full head body rest l e b x =
     let ok : Option ℕ → Result (Option ℕ) HttpFault = λ k. Ok k in
     let both : ok l ≡ ok (Some x.0) = sym e ∙ x.1 in
     let size : l ≡ Some x.0 = cc in
@@ -121,21 +129,22 @@ full h body rest l e b x =
     let short = x.2 in
     grind (arith, common_steps)
 
-spelled_says : (h : RequestHead) (body rest : List ℕ) (l : Option ℕ) (e : HttpFault) → IsWithinLimits h
-    → length_by h ≡ Ok l
-    → length body ≡ unwrap_or l 0 → Says h (body ++ rest) e → IsOutside e
-spelled_says h body rest l e w k b (inl x) = x
-spelled_says h body rest l e w k b (inr (inl x)) = absurd (x.1 w)
-spelled_says h body rest l e w k b (inr (inr (v, inl x))) = absurd (no_error (length_by h) l e k x)
-spelled_says h body rest l e w k b (inr (inr (v, inr x))) = absurd (full h body rest l k b x.1)
+spelled_says : (head : RequestHead) (body rest : List ℕ) (l : Option ℕ) (fault : HttpFault)
+    → IsWithinLimits head → length_by head ≡ Ok l
+    → length body ≡ unwrap_or l 0 → Says head (body ++ rest) fault → IsOutside fault
+spelled_says head body rest l fault w k b (inl x) = x
+spelled_says head body rest l fault w k b (inr (inl x)) = absurd (x.1 w)
+spelled_says head body rest l fault w k b (inr (inr (v, inl x))) =
+    absurd (no_error (length_by head) l fault k x)
+spelled_says head body rest l fault w k b (inr (inr (v, inr x))) = absurd (full head body rest l k b x.1)
 
-pub spelled_no_fault : (bytes : List ℕ) (a : Asked) (rest : List ℕ) (e : HttpFault) → Spells bytes a rest
-    → Faults bytes e → IsOutside e
-spelled_no_fault bytes a rest e x f =
+pub spelled_no_fault : (bytes : List ℕ) (asked : Asked) (rest : List ℕ) (fault : HttpFault)
+    → Spells bytes asked rest → Faults bytes fault → IsOutside fault
+spelled_no_fault bytes asked rest fault x f =
     let b = x.1.begins in
-    spelled_says x.0 a.body rest x.1.length e
+    spelled_says x.0 asked.body rest x.1.length fault
     (record { len = b.len; fields = b.fields }) x.1.length_is x.1.body
-    (says bytes x.0 (a.body ++ rest) e b.reads f)
+    (says bytes x.0 (asked.body ++ rest) fault b.reads f)
 
 -- the shortest of heads
 short_head : RequestHead
@@ -172,16 +181,16 @@ short_head_begins = record {
 }
 
 -- no bytes are no head
-no_head : (h : RequestHead) (rest : List ℕ) → ReadsRequest [] h rest → ⊥
-no_head h rest r = let n = head_has_bytes [] h rest r in omega (arith, n)
+no_head : (head : RequestHead) (rest : List ℕ) → ReadsRequest [] head rest → ⊥
+no_head head rest r = let n = head_has_bytes [] head rest r in omega (arith, n)
 
-pub nothing_spells : (a : Asked) (rest : List ℕ) → Spells [] a rest → ⊥
-nothing_spells a rest x = no_head x.0 (a.body ++ rest) x.1.begins.reads
+pub nothing_spells : (asked : Asked) (rest : List ℕ) → Spells [] asked rest → ⊥
+nothing_spells asked rest x = no_head x.0 (asked.body ++ rest) x.1.begins.reads
 
-no_faulty : (e : HttpFault) → BeginsFaulty [] e → ⊥
-no_faulty e x = no_head x.0 x.1 x.2.reads
+no_faulty : (fault : HttpFault) → BeginsFaulty [] fault → ⊥
+no_faulty fault x = no_head x.0 x.1 x.2.reads
 
-pub nothing_faults : (e : HttpFault) → Faults [] e → e ≡ IoFault
+pub nothing_faults : (fault : HttpFault) → Faults [] fault → fault ≡ IoFault
 nothing_faults NoMemory f = absurd (omega (arith, f))
 nothing_faults BadHead f =
     elim f [
@@ -196,11 +205,11 @@ nothing_faults Ended f =
     elim f [ inl x ↦ absurd (omega (arith, x.0)) | inr x ↦ absurd (no_head x.0 x.1 x.3.reads) ]
 nothing_faults IoFault f = refl
 
-no_begin : (bytes : List ℕ) (e : HttpFault) → HasNoRequest bytes → BeginsFaulty bytes e → ⊥
-no_begin bytes e n x = n x.0 x.1 x.2.reads
+no_begin : (bytes : List ℕ) (fault : HttpFault) → HasNoRequest bytes → BeginsFaulty bytes fault → ⊥
+no_begin bytes fault n x = n x.0 x.1 x.2.reads
 
-pub open_faults : (bytes : List ℕ) (e : HttpFault) → HasNoRequest bytes → Faults bytes e
-    → IsOutside e ⊎ IsOpenFault e
+pub open_faults : (bytes : List ℕ) (fault : HttpFault) → HasNoRequest bytes → Faults bytes fault
+    → IsOutside fault ⊎ IsOpenFault fault
 open_faults bytes NoMemory n f = inl (inl refl)
 open_faults bytes BadHead n f = inr (inl refl)
 open_faults bytes HeadTooLong n f = inr (inr (inl refl))

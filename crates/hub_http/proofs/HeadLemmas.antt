@@ -19,87 +19,91 @@ use Rattle.hub_http.specs.Exclusions.{IsHeadFault}
 use Rattle.hub_http.specs.Looking.{LookFaults}
 
 -- a head has bytes
-pub head_has_bytes : (buf : List ℕ) (h : RequestHead) (rest : List ℕ) → ReadsRequest buf h rest
+pub head_has_bytes : (buf : List ℕ) (head : RequestHead) (rest : List ℕ) → ReadsRequest buf head rest
     → 0 < length buf
 unfolding print_request
 head_has_bytes buf h rest r = let n = ap length r.1 in grind (arith, common_steps)
 
 -- a head past the limit is the only one
-never_shorter : (buf : List ℕ) (headers : List HeaderSpan) (r : RequestSpans) → IsRequestOf buf headers r
-    → 16384 < r.len → NeverHasHead buf
-never_shorter buf headers r x far more k q b =
-    let same = request_prefix_free buf more x.0 k (drop r.len buf) q x.1.reads b.reads in
+never_shorter : (buf : List ℕ) (headers : List HeaderSpan) (spans : RequestSpans)
+    → IsRequestOf buf headers spans → 16384 < spans.len → NeverHasHead buf
+never_shorter buf headers spans x far more k q b =
+    let same = request_prefix_free buf more x.0 k (drop spans.len buf) q x.1.reads b.reads in
     let e : length (print_request x.0) ≡ length (print_request k) =
     ap (λ h. length (print_request h)) same.0 in
     omega (arith, x.1.len, b.len, e)
 
-pub too_long : (buf : List ℕ) (headers : List HeaderSpan) (r : RequestSpans) → IsRequestOf buf headers r
-    → 16384 < r.len → NeverHasHead buf × BeginsTooLong buf
-too_long buf headers r x far = (
-  never_shorter buf headers r x far,
-  inr (inl (x.0, drop r.len buf, x.1.reads, omega (arith, x.1.len, far))),
+pub too_long : (buf : List ℕ) (headers : List HeaderSpan) (spans : RequestSpans)
+    → IsRequestOf buf headers spans → 16384 < spans.len → NeverHasHead buf × BeginsTooLong buf
+too_long buf headers spans x far = (
+  never_shorter buf headers spans x far,
+  inr (inl (x.0, drop spans.len buf, x.1.reads, omega (arith, x.1.len, far))),
 )
 
 -- the head that was found has few enough fields
-few_fields : (buf : List ℕ) (headers : List HeaderSpan) (r : RequestSpans) (h : RequestHead)
+few_fields : (buf : List ℕ) (headers : List HeaderSpan) (spans : RequestSpans) (head : RequestHead)
     → length headers ≡ 64
-    → map (header_bytes buf) (take r.headers headers) ≡ map name_and_value h.fields → length h.fields ≤ 64
-few_fields buf headers r h room e = grind (arith, common_steps, ap length e)
+    → map (header_bytes buf) (take spans.headers headers) ≡ map name_and_value head.fields
+    → length head.fields ≤ 64
+few_fields buf headers spans head room e = grind (arith, common_steps, ap length e)
 
-pub begins : (buf : List ℕ) (headers : List HeaderSpan) (r : RequestSpans) (x : IsRequestOf buf headers r)
-    → length headers ≡ 64 → r.len ≤ 16384 → Begins buf x.0 (drop r.len buf)
-begins buf headers r x room short = record {
+pub begins : (buf : List ℕ) (headers : List HeaderSpan) (spans : RequestSpans)
+    (x : IsRequestOf buf headers spans)
+    → length headers ≡ 64 → spans.len ≤ 16384 → Begins buf x.0 (drop spans.len buf)
+begins buf headers spans x room short = record {
   reads = x.1.reads;
   len = omega (arith, x.1.len, short);
-  fields = few_fields buf headers r x.0 room x.1.fields;
+  fields = few_fields buf headers spans x.0 room x.1.fields;
 }
 
-pub asked_is : (buf : List ℕ) (headers : List HeaderSpan) (r : RequestSpans) (x : IsRequestOf buf headers r)
-    → asked r.version (span_bytes buf r.path) (map (header_bytes buf) (take r.headers headers))
+pub asked_is : (buf : List ℕ) (headers : List HeaderSpan) (spans : RequestSpans)
+    (x : IsRequestOf buf headers spans)
+    → asked spans.version (span_bytes buf spans.path) (map (header_bytes buf) (take spans.headers headers))
     ≡ length_by x.0
-asked_is buf headers r x =
-    ap (λ v. asked v (span_bytes buf r.path) (map (header_bytes buf) (take r.headers headers))) x.1.version
-    ∙ ap (λ t. asked x.0.minor t (map (header_bytes buf) (take r.headers headers))) x.1.path
+asked_is buf headers spans x =
+    ap (λ v. asked v (span_bytes buf spans.path) (map (header_bytes buf) (take spans.headers headers)))
+    x.1.version ∙ ap (λ t. asked x.0.minor t (map (header_bytes buf) (take spans.headers headers))) x.1.path
     ∙ ap (λ ps. asked x.0.minor x.0.target ps) x.1.fields
 
-pub begins_faulty : (buf : List ℕ) (headers : List HeaderSpan) (r : RequestSpans) (e : HttpFault)
-    → IsRequestOf buf headers r → length headers ≡ 64 → r.len ≤ 16384
-    → asked r.version (span_bytes buf r.path) (map (header_bytes buf) (take r.headers headers)) ≡ Err e
-    → BeginsFaulty buf e
-begins_faulty buf headers r e x room short h =
-    (x.0, drop r.len buf, begins buf headers r x room short, sym (asked_is buf headers r x) ∙ h)
+pub begins_faulty : (buf : List ℕ) (headers : List HeaderSpan) (spans : RequestSpans) (fault : HttpFault)
+    → IsRequestOf buf headers spans → length headers ≡ 64 → spans.len ≤ 16384
+    → asked spans.version (span_bytes buf spans.path)
+    (map (header_bytes buf) (take spans.headers headers)) ≡ Err fault → BeginsFaulty buf fault
+begins_faulty buf headers spans fault x room short h =
+    (x.0, drop spans.len buf, begins buf headers spans x room short, sym (asked_is buf headers spans x) ∙ h)
 
-one_faults : (a b : Bool) (n : ℕ) (e : HttpFault)
-    → cond a (cond b (Ok (Some n)) (Err BodyTooLong)) (Err BadHead) ≡ Err e
-    → (e ≡ BadHead) ⊎ (e ≡ BodyTooLong)
-one_faults true true n e h = absurd (cc)
-one_faults true false n e h = inr (cc)
-one_faults false b n e h = inl (cc)
+one_faults : (a b : Bool) (n : ℕ) (fault : HttpFault)
+    → cond a (cond b (Ok (Some n)) (Err BodyTooLong)) (Err BadHead) ≡ Err fault
+    → (fault ≡ BadHead) ⊎ (fault ≡ BodyTooLong)
+one_faults true true n fault h = absurd (cc)
+one_faults true false n fault h = inr (cc)
+one_faults false b n fault h = inl (cc)
 
-length_of_faults : (vs : List (List ℕ)) (e : HttpFault) → length_of vs ≡ Err e
-    → (e ≡ BadHead) ⊎ (e ≡ BodyTooLong)
+length_of_faults : (vs : List (List ℕ)) (fault : HttpFault) → length_of vs ≡ Err fault
+    → (fault ≡ BadHead) ⊎ (fault ≡ BodyTooLong)
 unfolding length_of
 length_of_faults [] e h = absurd (cc)
 length_of_faults (v ∷ vs) e h =
     one_faults (is_digits v && list_all (λ w. bytes_eq w v) vs)
     (nat_le (digits_value 10 v) body_limit) (digits_value 10 v) e h
 
-asked_choice : (a b c : Bool) (r : Result (Option ℕ) HttpFault) (e : HttpFault)
-    → (r ≡ Err e → (e ≡ BadHead) ⊎ (e ≡ BodyTooLong))
-    → cond a (cond b (Err Coding) (cond c r (Err BadHead))) (Err Version) ≡ Err e → IsHeadFault e
-asked_choice true true c r e f h = inr (inr (cc))
-asked_choice true false true r e f h = inl (f h)
-asked_choice true false false r e f h = inl (inl (cc))
-asked_choice false b c r e f h = inr (inl (cc))
+asked_choice : (a b c : Bool) (r : Result (Option ℕ) HttpFault) (fault : HttpFault)
+    → (r ≡ Err fault → (fault ≡ BadHead) ⊎ (fault ≡ BodyTooLong))
+    → cond a (cond b (Err Coding) (cond c r (Err BadHead))) (Err Version) ≡ Err fault → IsHeadFault fault
+asked_choice true true c r fault f h = inr (inr (cc))
+asked_choice true false true r fault f h = inl (f h)
+asked_choice true false false r fault f h = inl (inl (cc))
+asked_choice false b c r fault f h = inr (inl (cc))
 
-pub asked_faults : (minor : ℕ) (target : List ℕ) (pairs : List Pair) (e : HttpFault)
-    → asked minor target pairs ≡ Err e → IsHeadFault e
+pub asked_faults : (minor : ℕ) (target : List ℕ) (pairs : List Pair) (fault : HttpFault)
+    → asked minor target pairs ≡ Err fault → IsHeadFault fault
 unfolding asked
 asked_faults minor target pairs e h =
     asked_choice _ _ (is_target target) (length_of (values_named (codes "content-length") pairs)) e
     (length_of_faults _ e) h
 
-pub look_faults : (buf : List ℕ) (e : HttpFault) → IsHeadFault e → BeginsFaulty buf e → LookFaults buf e
+pub look_faults : (buf : List ℕ) (fault : HttpFault) → IsHeadFault fault → BeginsFaulty buf fault
+    → LookFaults buf fault
 look_faults buf NoMemory a b = head_has_bytes buf b.0 b.1 b.2.reads
 look_faults buf BadHead a b = inr b
 look_faults buf HeadTooLong a b =

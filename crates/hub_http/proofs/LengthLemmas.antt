@@ -69,21 +69,25 @@ one_length v all x =
     ∙ sym (ap length_of x.1)
 
 -- the values from an index on
-pub values_skip : (name buf : List ℕ) (hs : List HeaderSpan) (i : ℕ) (d : HeaderSpan) → i < length hs
-    → is_named name (header_bytes buf (get_or hs i d)) ≡ false
-    → values_named name (map (header_bytes buf) (drop i hs))
-    ≡ values_named name (map (header_bytes buf) (drop (i + 1) hs))
-values_skip name buf hs i d inside other =
-    ap (λ l. values_named name (map (header_bytes buf) l)) (drop-cons hs i d inside) ∙ cond-false _ _ _ other
-    ∙ ap (λ k. values_named name (map (header_bytes buf) (drop k hs))) (sym (add-one i))
+pub values_skip : (name buf : List ℕ) (spans : List HeaderSpan) (i : ℕ) (span : HeaderSpan) → i < length spans
+    → is_named name (header_bytes buf (get_or spans i span)) ≡ false
+    → values_named name (map (header_bytes buf) (drop i spans))
+    ≡ values_named name (map (header_bytes buf) (drop (i + 1) spans))
+values_skip name buf spans i span inside other =
+    ap (λ l. values_named name (map (header_bytes buf) l)) (drop-cons spans i span inside)
+    ∙ cond-false _ _ _ other
+    ∙ ap (λ k. values_named name (map (header_bytes buf) (drop k spans))) (sym (add-one i))
 
-pub values_take : (name buf : List ℕ) (hs : List HeaderSpan) (i : ℕ) (d : HeaderSpan) → i < length hs
-    → is_named name (header_bytes buf (get_or hs i d)) ≡ true
-    → values_named name (map (header_bytes buf) (drop i hs))
-    ≡ (header_bytes buf (get_or hs i d)).1 ∷ values_named name (map (header_bytes buf) (drop (i + 1) hs))
-values_take name buf hs i d inside same =
-    ap (λ l. values_named name (map (header_bytes buf) l)) (drop-cons hs i d inside) ∙ cond-true _ _ _ same
-    ∙ ap (λ k. (header_bytes buf (get_or hs i d)).1 ∷ values_named name (map (header_bytes buf) (drop k hs)))
+pub values_take : (name buf : List ℕ) (spans : List HeaderSpan) (i : ℕ) (span : HeaderSpan) → i < length spans
+    → is_named name (header_bytes buf (get_or spans i span)) ≡ true
+    → values_named name (map (header_bytes buf) (drop i spans))
+    ≡ (header_bytes buf (get_or spans i span)).1
+    ∷ values_named name (map (header_bytes buf) (drop (i + 1) spans))
+values_take name buf spans i span inside same =
+    ap (λ l. values_named name (map (header_bytes buf) l)) (drop-cons spans i span inside)
+    ∙ cond-true _ _ _ same
+    ∙ ap (λ k. (header_bytes buf (get_or spans i span)).1
+    ∷ values_named name (map (header_bytes buf) (drop k spans)))
     (sym (add-one i))
 
 pub not_digits : (v : List ℕ) → is_digits v ≡ false → Err BadHead ≡ length_in v

@@ -17,16 +17,16 @@ use Rattle.hub_http.specs.Stream.{Asked, asked_by, Spells, IsCut}
 use Rattle.hub_http.proofs.RequestLemmas.{spelled}
 
 -- a request, with more bytes behind it
-pub spells_more : (bytes : List ℕ) (a : Asked) (rest more : List ℕ) → Spells bytes a rest
-    → Spells (bytes ++ more) a (rest ++ more)
-spells_more bytes a rest more s =
+pub spells_more : (bytes : List ℕ) (asked : Asked) (rest more : List ℕ) → Spells bytes asked rest
+    → Spells (bytes ++ more) asked (rest ++ more)
+spells_more bytes asked rest more s =
     let h = s.0 in
     let x = s.1 in
-    let r = ReadsRequest-append bytes h (a.body ++ rest) more x.begins.reads in (
+    let r = ReadsRequest-append bytes h (asked.body ++ rest) more x.begins.reads in (
       h,
       record {
         begins = record {
-          reads = (r.0, r.1 ∙ ap (λ l. print_request h ++ l) (append_assoc a.body rest more));
+          reads = (r.0, r.1 ∙ ap (λ l. print_request h ++ l) (append_assoc asked.body rest more));
           len = x.begins.len;
           fields = x.begins.fields;
         };
@@ -44,12 +44,12 @@ spells_more bytes a rest more s =
 pub all_more : (all : List Asked) (bytes rest more : List ℕ) → SpellsAll bytes all rest
     → SpellsAll (bytes ++ more) all (rest ++ more)
 all_more [] bytes rest more s = ap (λ l. l ++ more) s
-all_more (a ∷ all) bytes rest more s =
-    (s.0 ++ more, spells_more bytes a s.0 more s.1, all_more all s.0 rest more s.2)
+all_more (asked ∷ all) bytes rest more s =
+    (s.0 ++ more, spells_more bytes asked s.0 more s.1, all_more all s.0 rest more s.2)
 
 -- a fault of looking for a head is one of the bytes that came
-pub look_faults_so_far : (over : Bool) (bytes : List ℕ) (e : HttpFault) → LookFaults bytes e
-    → FaultsSoFar over bytes e
+pub look_faults_so_far : (over : Bool) (bytes : List ℕ) (fault : HttpFault) → LookFaults bytes fault
+    → FaultsSoFar over bytes fault
 look_faults_so_far over bytes NoMemory f = f
 look_faults_so_far over bytes BadHead f = f
 look_faults_so_far over bytes HeadTooLong f = f
@@ -60,33 +60,36 @@ look_faults_so_far over bytes Ended f = absurd f
 look_faults_so_far over bytes IoFault f = absurd f
 
 -- a head has its bytes
-head_within : (bytes : List ℕ) (f : Head) (h : RequestHead) → IsHeadAt bytes f h → f.len ≤ length bytes
-head_within bytes f h at = let n = ap length at.begins.reads.1 in grind (arith, common_steps, at.len, n)
+head_within : (bytes : List ℕ) (head : Head) (other : RequestHead) → IsHeadAt bytes head other
+    → head.len ≤ length bytes
+head_within bytes head other at =
+    let n = ap length at.begins.reads.1 in grind (arith, common_steps, at.len, n)
 
-cut_so : (bytes : List ℕ) (f : Head) (h : RequestHead) (o : Option ℕ) → IsHeadAt bytes f h
-    → length_by h ≡ Ok o → length bytes < f.len + unwrap_or o 0 → IsCut bytes
-cut_so bytes f h None at asks short = absurd (omega (arith, head_within bytes f h at, short))
-cut_so bytes f h (Some n) at asks short =
-    let part : length (drop f.len bytes) < n = grind (arith, common_steps, head_within bytes f h at, short) in
-    (h, drop f.len bytes, n, at.begins, asks, part)
+cut_so : (bytes : List ℕ) (head : Head) (other : RequestHead) (o : Option ℕ) → IsHeadAt bytes head other
+    → length_by other ≡ Ok o → length bytes < head.len + unwrap_or o 0 → IsCut bytes
+cut_so bytes head other None at asks short = absurd (omega (arith, head_within bytes head other at, short))
+cut_so bytes head other (Some n) at asks short =
+    let part : length (drop head.len bytes) < n = grind
+    (arith, common_steps, head_within bytes head other at, short) in
+    (other, drop head.len bytes, n, at.begins, asks, part)
 
 -- the body that the head asks for did not come whole
-pub is_cut : (bytes : List ℕ) (f : Head) (n : ℕ) (x : (h : RequestHead) × IsHeadAt bytes f h)
-    → n ≡ unwrap_or f.length 0 → length bytes < f.len + n → IsCut bytes
-is_cut bytes f n x size short =
-    cut_so bytes f x.0 f.length x.1 x.1.length (subst (λ m. length bytes < f.len + m) size short)
+pub is_cut : (bytes : List ℕ) (head : Head) (n : ℕ) (x : (other : RequestHead) × IsHeadAt bytes head other)
+    → n ≡ unwrap_or head.length 0 → length bytes < head.len + n → IsCut bytes
+is_cut bytes head n x size short =
+    cut_so bytes head x.0 head.length x.1 x.1.length (subst (λ m. length bytes < head.len + m) size short)
 
 -- a head and its body came
-pub whole : (bytes rest : List ℕ) (f : Head) (q : Request)
-    (n : ℕ) (x : (h : RequestHead) × IsHeadAt bytes f h)
-    → f.len + n ≤ length bytes → n ≡ unwrap_or f.length 0
-    → q.body.items ≡ take n (drop f.len bytes) → rest ≡ drop (f.len + n) bytes
-    → q.method.items ≡ f.method.items → q.target.items ≡ f.target.items → q.has_length ≡ is_some f.length
-    → q.close ≡ f.close
-    → Spells bytes (asked_by q) rest
-whole bytes rest f q n x room size body left method target has close =
-    let s : Spells (bytes ++ []) (asked_by q) (rest ++ []) =
-    spelled bytes bytes rest [] f q n x
+pub whole : (bytes rest : List ℕ) (head : Head) (request : Request)
+    (n : ℕ) (x : (other : RequestHead) × IsHeadAt bytes head other)
+    → head.len + n ≤ length bytes → n ≡ unwrap_or head.length 0
+    → request.body.items ≡ take n (drop head.len bytes) → rest ≡ drop (head.len + n) bytes
+    → request.method.items ≡ head.method.items → request.target.items ≡ head.target.items
+    → request.has_length ≡ is_some head.length → request.close ≡ head.close
+    → Spells bytes (asked_by request) rest
+whole bytes rest head request n x room size body left method target has close =
+    let s : Spells (bytes ++ []) (asked_by request) (rest ++ []) =
+    spelled bytes bytes rest [] head request n x
     ([], sym (append-nil bytes)) room size body left method target has close in
-    subst (λ l. Spells bytes (asked_by q) l) (append-nil rest)
-    (subst (λ l. Spells l (asked_by q) (rest ++ [])) (append-nil bytes) s)
+    subst (λ l. Spells bytes (asked_by request) l) (append-nil rest)
+    (subst (λ l. Spells l (asked_by request) (rest ++ [])) (append-nil bytes) s)

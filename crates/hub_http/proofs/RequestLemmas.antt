@@ -57,8 +57,8 @@ never_request_more : (held y : List ℕ) → NeverHasRequest held → NeverHasRe
 never_request_more held y never more h rest r =
     never (y ++ more) h rest (subst (λ (l : List ℕ). ReadsRequest l h rest) (append_assoc held y more) r)
 
-faulty_more : (held y : List ℕ) (e : HttpFault) → BeginsFaulty held e → BeginsFaulty (held ++ y) e
-faulty_more held y e b = (
+faulty_more : (held y : List ℕ) (fault : HttpFault) → BeginsFaulty held fault → BeginsFaulty (held ++ y) fault
+faulty_more held y fault b = (
   b.0,
   b.1 ++ y,
   record { reads = ReadsRequest-append held b.0 b.1 y b.2.reads; len = b.2.len; fields = b.2.fields },
@@ -75,7 +75,8 @@ too_long_more held y b =
       ]
     ]
 
-pub head_fault_more : (held y : List ℕ) (e : HttpFault) → HasHeadFault held e → HasHeadFault (held ++ y) e
+pub head_fault_more : (held y : List ℕ) (fault : HttpFault) → HasHeadFault held fault
+    → HasHeadFault (held ++ y) fault
 head_fault_more held y BadHead f =
     elim f [ inl x ↦ inl (never_request_more held y x) | inr x ↦ inr (faulty_more held y BadHead x) ]
 head_fault_more held y HeadTooLong f = (never_more held y f.0, too_long_more held y f.1)
@@ -86,56 +87,57 @@ head_fault_more held y NoMemory f = f
 head_fault_more held y Ended f = f
 head_fault_more held y IoFault f = f
 
-faults_more : (held y : List ℕ) (e : HttpFault) → FindFaults held (Some y) e
-    → Leaves (held ++ y) (Err e) (Some (held ++ y))
+faults_more : (held y : List ℕ) (fault : HttpFault) → FindFaults held (Some y) fault
+    → Leaves (held ++ y) (Err fault) (Some (held ++ y))
 faults_more held y NoMemory f = (refl, f)
 faults_more held y Ended f =
     let same : held ++ y ≡ held = ap (λ l. held ++ l) f.1 ∙ append-nil held in
     inl (subst IsPartOfHead (sym same) f.0)
 faults_more held y IoFault f = tt
-faults_more held y e f = head_fault_more held y e f
+faults_more held y fault f = head_fault_more held y fault f
 
 -- a fault of looking for a head is one of the bytes
-pub told_fault : (a0 left : Option (List ℕ)) (held : List ℕ) (e : HttpFault)
-    → Keeps a0 (prepend_known held left) → FindFaults held left e
-    → IfSome a0 (λ bytes. Leaves bytes (Err e) (prepend_known held left))
-told_fault a0 None held e k f = keeps_some a0 None (λ bytes. Leaves bytes (Err e) None) k tt
-told_fault a0 (Some y) held e k f =
-    keeps_some a0 (Some (held ++ y)) (λ bytes. Leaves bytes (Err e) (Some (held ++ y))) k
-    (faults_more held y e f)
+pub told_fault : (a0 left : Option (List ℕ)) (held : List ℕ) (fault : HttpFault)
+    → Keeps a0 (prepend_known held left) → FindFaults held left fault
+    → IfSome a0 (λ bytes. Leaves bytes (Err fault) (prepend_known held left))
+told_fault a0 None held fault k f = keeps_some a0 None (λ bytes. Leaves bytes (Err fault) None) k tt
+told_fault a0 (Some y) held fault k f =
+    keeps_some a0 (Some (held ++ y)) (λ bytes. Leaves bytes (Err fault) (Some (held ++ y))) k
+    (faults_more held y fault f)
 
-pub spelled : (held1 held2 held3 y : List ℕ) (f : Head) (q : Request)
-    (n : ℕ) (x : (h : RequestHead) × IsHeadAt held1 f h)
-    → ((more : List ℕ) × (held2 ≡ held1 ++ more)) → f.len + n ≤ length held2 → n ≡ unwrap_or f.length 0
-    → q.body.items ≡ take n (drop f.len held2) → held3 ≡ drop (f.len + n) held2
-    → q.method.items ≡ f.method.items → q.target.items ≡ f.target.items → q.has_length ≡ is_some f.length
-    → q.close ≡ f.close
-    → Spells (held2 ++ y) (asked_by q) (held3 ++ y)
-spelled held1 held2 held3 y f q n x grown room size body left method target has close =
-    let h = x.0 in
+pub spelled : (held1 held2 held3 y : List ℕ) (head : Head) (request : Request)
+    (n : ℕ) (x : (other : RequestHead) × IsHeadAt held1 head other)
+    → ((more : List ℕ) × (held2 ≡ held1 ++ more)) → head.len + n ≤ length held2 → n ≡ unwrap_or head.length 0
+    → request.body.items ≡ take n (drop head.len held2) → held3 ≡ drop (head.len + n) held2
+    → request.method.items ≡ head.method.items → request.target.items ≡ head.target.items
+    → request.has_length ≡ is_some head.length → request.close ≡ head.close
+    → Spells (held2 ++ y) (asked_by request) (held3 ++ y)
+spelled held1 held2 held3 y head request n x grown room size body left method target has close =
+    let other = x.0 in
     let at = x.1 in
-    let r1 : ReadsRequest held2 h (drop f.len held1 ++ grown.0) =
-    rw grown.1 (ReadsRequest-append held1 h (drop f.len held1) grown.0 at.begins.reads) in
-    let whole : drop f.len held2 ≡ drop f.len held1 ++ grown.0 =
-    ap (drop f.len) r1.1 ∙ drop_at (print_request h) (drop f.len held1 ++ grown.0) f.len (sym at.len) in
-    let parts : q.body.items ++ held3 ≡ drop f.len held1 ++ grown.0 =
+    let r1 : ReadsRequest held2 other (drop head.len held1 ++ grown.0) =
+    rw grown.1 (ReadsRequest-append held1 other (drop head.len held1) grown.0 at.begins.reads) in
+    let whole : drop head.len held2 ≡ drop head.len held1 ++ grown.0 =
+    ap (drop head.len) r1.1 ∙ drop_at (print_request other) (drop head.len held1 ++ grown.0) head.len
+    (sym at.len) in
+    let parts : request.body.items ++ held3 ≡ drop head.len held1 ++ grown.0 =
     ap (λ l. l ++ held3) body
-    ∙ ap (λ l. take n (drop f.len held2) ++ l) (left ∙ sym (drop-drop n f.len held2))
-    ∙ take-append-drop n (drop f.len held2)
+    ∙ ap (λ l. take n (drop head.len held2) ++ l) (left ∙ sym (drop-drop n head.len held2))
+    ∙ take-append-drop n (drop head.len held2)
     ∙ whole in
-    let r2 : ReadsRequest (held2 ++ y) h ((drop f.len held1 ++ grown.0) ++ y) =
-    ReadsRequest-append held2 h _ y r1 in
-    let tail : (drop f.len held1 ++ grown.0) ++ y ≡ q.body.items ++ (held3 ++ y) =
-    ap (λ l. l ++ y) (sym parts) ∙ append_assoc q.body.items held3 y in
-    let sized : length (take n (drop f.len held2)) ≡ n = grind (arith, common_steps) in (
-      h,
+    let r2 : ReadsRequest (held2 ++ y) other ((drop head.len held1 ++ grown.0) ++ y) =
+    ReadsRequest-append held2 other _ y r1 in
+    let tail : (drop head.len held1 ++ grown.0) ++ y ≡ request.body.items ++ (held3 ++ y) =
+    ap (λ l. l ++ y) (sym parts) ∙ append_assoc request.body.items held3 y in
+    let sized : length (take n (drop head.len held2)) ≡ n = grind (arith, common_steps) in (
+      other,
       record {
         begins = record {
-          reads = (r2.0, r2.1 ∙ ap (λ l. print_request h ++ l) tail);
+          reads = (r2.0, r2.1 ∙ ap (λ l. print_request other ++ l) tail);
           len = at.begins.len;
           fields = at.begins.fields;
         };
-        length = f.length;
+        length = head.length;
         length_is = at.length;
         method = method ∙ at.method;
         target = target ∙ at.target;
@@ -146,52 +148,56 @@ spelled held1 held2 held3 y f q n x grown room size body left method target has 
     )
 
 pub told_request : (a0 left1 left2 : Option (List ℕ)) (held1 held2 held3 : List ℕ)
-    (f : Head) (q : Request) (n : ℕ)
-    → Keeps a0 (prepend_known held1 left1) → ((h : RequestHead) × IsHeadAt held1 f h)
+    (head : Head) (request : Request) (n : ℕ)
+    → Keeps a0 (prepend_known held1 left1) → ((other : RequestHead) × IsHeadAt held1 head other)
     → Keeps (prepend_known held1 left1) (prepend_known held2 left2)
     → ((more : List ℕ) × (held2 ≡ held1 ++ more))
-    → f.len + n ≤ length held2 → n ≡ unwrap_or f.length 0
-    → q.body.items ≡ take n (drop f.len held2) → held3 ≡ drop (f.len + n) held2
-    → q.method.items ≡ f.method.items → q.target.items ≡ f.target.items → q.has_length ≡ is_some f.length
-    → q.close ≡ f.close
-    → IfSome a0 (λ bytes. Leaves bytes (Ok (Some q)) (prepend_known held3 left2))
-told_request a0 left1 None held1 held2 held3 f q n k1 x k2 grown room size body left method target has close =
-    keeps_some a0 (prepend_known held1 left1) (λ bytes. Leaves bytes (Ok (Some q)) None) k1
-    (keeps_some (prepend_known held1 left1) None (λ bytes. Leaves bytes (Ok (Some q)) None) k2 tt)
+    → head.len + n ≤ length held2 → n ≡ unwrap_or head.length 0
+    → request.body.items ≡ take n (drop head.len held2) → held3 ≡ drop (head.len + n) held2
+    → request.method.items ≡ head.method.items → request.target.items ≡ head.target.items
+    → request.has_length ≡ is_some head.length → request.close ≡ head.close
+    → IfSome a0 (λ bytes. Leaves bytes (Ok (Some request)) (prepend_known held3 left2))
+told_request a0 left1 None held1 held2 held3 head request n k1 x k2 grown room size body left method target
+    has close =
+    keeps_some a0 (prepend_known held1 left1) (λ bytes. Leaves bytes (Ok (Some request)) None) k1
+    (keeps_some (prepend_known held1 left1) None (λ bytes. Leaves bytes (Ok (Some request)) None) k2 tt)
 told_request a0 left1
-    (Some y) held1 held2 held3 f q n k1 x k2 grown room size body left method target has close =
-    keeps_some a0 (prepend_known held1 left1) (λ bytes. Leaves bytes (Ok (Some q)) (Some (held3 ++ y))) k1
+    (Some y) held1 held2 held3 head request n k1 x k2 grown room size body left method target has close =
+    keeps_some a0 (prepend_known held1 left1)
+    (λ bytes. Leaves bytes (Ok (Some request)) (Some (held3 ++ y))) k1
     (keeps_some (prepend_known held1 left1)
-    (Some (held2 ++ y)) (λ bytes. Leaves bytes (Ok (Some q)) (Some (held3 ++ y))) k2
-    (spelled held1 held2 held3 y f q n x grown room size body left method target has close))
+    (Some (held2 ++ y)) (λ bytes. Leaves bytes (Ok (Some request)) (Some (held3 ++ y))) k2
+    (spelled held1 held2 held3 y head request n x grown room size body left method target has close))
 
 -- behind a head that was found no memory was found, or the reader failed
-some_bytes : (held1 held2 y : List ℕ) (f : Head) → ((h : RequestHead) × IsHeadAt held1 f h)
+some_bytes : (held1 held2 y : List ℕ) (head : Head) → ((other : RequestHead) × IsHeadAt held1 head other)
     → ((more : List ℕ) × (held2 ≡ held1 ++ more)) → 0 < length (held2 ++ y)
-some_bytes held1 held2 y f x grown =
-    let some = head_has_bytes held1 x.0 (drop f.len held1) x.1.begins.reads in
+some_bytes held1 held2 y head x grown =
+    let some = head_has_bytes held1 x.0 (drop head.len held1) x.1.begins.reads in
     let size = ap length grown.1 in
     grind (arith, common_steps)
 
-left_so : (bytes : List ℕ) (e : HttpFault) → (e ≡ NoMemory) ⊎ (e ≡ IoFault) → 0 < length bytes
-    → Leaves bytes (Err e) (Some bytes)
-left_so bytes e (inl p) some =
-    subst (λ (f : HttpFault). Leaves bytes (Err f) (Some bytes)) (sym p) (refl, some)
-left_so bytes e (inr p) some = subst (λ (f : HttpFault). Leaves bytes (Err f) (Some bytes)) (sym p) tt
+left_so : (bytes : List ℕ) (fault : HttpFault) → (fault ≡ NoMemory) ⊎ (fault ≡ IoFault) → 0 < length bytes
+    → Leaves bytes (Err fault) (Some bytes)
+left_so bytes fault (inl p) some =
+    subst (λ (other : HttpFault). Leaves bytes (Err other) (Some bytes)) (sym p) (refl, some)
+left_so bytes fault (inr p) some =
+    subst (λ (other : HttpFault). Leaves bytes (Err other) (Some bytes)) (sym p) tt
 
-pub told_memory : (a0 left1 left2 : Option (List ℕ)) (held1 held2 : List ℕ) (f : Head) (e : HttpFault)
-    → Keeps a0 (prepend_known held1 left1) → ((h : RequestHead) × IsHeadAt held1 f h)
+pub told_memory : (a0 left1 left2 : Option (List ℕ)) (held1 held2 : List ℕ) (head : Head) (fault : HttpFault)
+    → Keeps a0 (prepend_known held1 left1) → ((other : RequestHead) × IsHeadAt held1 head other)
     → Keeps (prepend_known held1 left1) (prepend_known held2 left2)
     → ((more : List ℕ) × (held2 ≡ held1 ++ more))
-    → (e ≡ NoMemory) ⊎ (e ≡ IoFault) → IfSome a0 (λ bytes. Leaves bytes (Err e) (prepend_known held2 left2))
-told_memory a0 left1 None held1 held2 f e k1 x k2 grown w =
-    keeps_some a0 (prepend_known held1 left1) (λ bytes. Leaves bytes (Err e) None) k1
-    (keeps_some (prepend_known held1 left1) None (λ bytes. Leaves bytes (Err e) None) k2 tt)
-told_memory a0 left1 (Some y) held1 held2 f e k1 x k2 grown w =
-    keeps_some a0 (prepend_known held1 left1) (λ bytes. Leaves bytes (Err e) (Some (held2 ++ y))) k1
+    → (fault ≡ NoMemory) ⊎ (fault ≡ IoFault)
+    → IfSome a0 (λ bytes. Leaves bytes (Err fault) (prepend_known held2 left2))
+told_memory a0 left1 None held1 held2 head fault k1 x k2 grown w =
+    keeps_some a0 (prepend_known held1 left1) (λ bytes. Leaves bytes (Err fault) None) k1
+    (keeps_some (prepend_known held1 left1) None (λ bytes. Leaves bytes (Err fault) None) k2 tt)
+told_memory a0 left1 (Some y) held1 held2 head fault k1 x k2 grown w =
+    keeps_some a0 (prepend_known held1 left1) (λ bytes. Leaves bytes (Err fault) (Some (held2 ++ y))) k1
     (keeps_some (prepend_known held1 left1)
-    (Some (held2 ++ y)) (λ bytes. Leaves bytes (Err e) (Some (held2 ++ y))) k2
-    (left_so (held2 ++ y) e w (some_bytes held1 held2 y f x grown)))
+    (Some (held2 ++ y)) (λ bytes. Leaves bytes (Err fault) (Some (held2 ++ y))) k2
+    (left_so (held2 ++ y) fault w (some_bytes held1 held2 y head x grown)))
 
 one_bound : (a b : Bool) (m : ℕ) (l : Option ℕ) → (b ≡ true → m ≤ 8388608)
     → cond a (cond b (Ok (Some m)) (Err BodyTooLong)) (Err BadHead) ≡ Ok l → unwrap_or l 0 ≤ 8388608
@@ -224,8 +230,8 @@ asked_bound minor target pairs l h =
     asked_bound_choice _ _ (is_target target)
     (length_of (values_named (codes "content-length") pairs)) l (length_of_bound _ l) h
 
-pub head_fits : (held : List ℕ) (f : Head) (n : ℕ) → ((h : RequestHead) × IsHeadAt held f h)
-    → n ≡ unwrap_or f.length 0 → f.len + n < 2 ^ 64
-head_fits held f n x e =
-    let body = asked_bound x.0.minor x.0.target (pairs_of x.0) f.length x.1.length in
+pub head_fits : (held : List ℕ) (head : Head) (n : ℕ) → ((other : RequestHead) × IsHeadAt held head other)
+    → n ≡ unwrap_or head.length 0 → head.len + n < 2 ^ 64
+head_fits held head n x e =
+    let body = asked_bound x.0.minor x.0.target (pairs_of x.0) head.length x.1.length in
     omega (arith, body, e, x.1.len, x.1.begins.len)

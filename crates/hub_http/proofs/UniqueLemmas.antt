@@ -14,19 +14,19 @@ same_front a b r q e l = (
   sym (drop_at a r (length a) refl) ∙ ap (drop (length a)) e ∙ drop_at b q (length a) (sym l),
 )
 
-pub spells_unique : (bytes : List ℕ) (a b : Asked) (r q : List ℕ) → Spells bytes a r → Spells bytes b q
-    → (a ≡ b) × (r ≡ q)
-spells_unique bytes a b r q x y =
+pub spells_unique : (bytes : List ℕ) (asked other : Asked) (r q : List ℕ) → Spells bytes asked r
+    → Spells bytes other q → (asked ≡ other) × (r ≡ q)
+spells_unique bytes asked other r q x y =
     let same = request_unique bytes x.0 y.0 _ _ x.1.begins.reads y.1.begins.reads in
     let ok : Option ℕ → Result (Option ℕ) HttpFault = λ l. Ok l in
     let sized : ok x.1.length ≡ ok y.1.length = sym x.1.length_is ∙ ap length_by same.0 ∙ y.1.length_is in
     let size : x.1.length ≡ y.1.length = cc in
     let front =
-    same_front a.body b.body r q same.1 (x.1.body ∙ ap (λ n. unwrap_or n 0) size ∙ sym y.1.body) in
-    let method : a.method ≡ b.method = x.1.method ∙ ap (λ h. h.method) same.0 ∙ sym y.1.method in
-    let target : a.target ≡ b.target = x.1.target ∙ ap (λ h. h.target) same.0 ∙ sym y.1.target in
-    let has : a.has_length ≡ b.has_length = x.1.has_length ∙ ap is_some size ∙ sym y.1.has_length in
-    let close : a.close ≡ b.close = x.1.close ∙ ap close_by same.0 ∙ sym y.1.close in (
+    same_front asked.body other.body r q same.1 (x.1.body ∙ ap (λ n. unwrap_or n 0) size ∙ sym y.1.body) in
+    let method : asked.method ≡ other.method = x.1.method ∙ ap (λ h. h.method) same.0 ∙ sym y.1.method in
+    let target : asked.target ≡ other.target = x.1.target ∙ ap (λ h. h.target) same.0 ∙ sym y.1.target in
+    let has : asked.has_length ≡ other.has_length = x.1.has_length ∙ ap is_some size ∙ sym y.1.has_length in
+    let close : asked.close ≡ other.close = x.1.close ∙ ap close_by same.0 ∙ sym y.1.close in (
       λ i. record {
         method = method i;
         target = target i;

@@ -9,11 +9,11 @@ use Rattle.hub_document.specs.SequenceText.{sequence_text}
 
 -- a revision that a row lists
 unfoldable pub revision_text : Revision → List ℕ
-revision_text r = codes "{\"rev\":" ++ (quoted (text_of r) ++ codes "}")
+revision_text revision = codes "{\"rev\":" ++ (quoted (text_of revision) ++ codes "}")
 
 -- the revisions that a row lists, with commas (44) between them
 unfoldable pub revisions_text : List Revision → List ℕ
-revisions_text rs = join_with_byte 44 (map revision_text rs)
+revisions_text revisions = join_with_byte 44 (map revision_text revisions)
 
 -- the member that marks a deleted document, behind the bracket that closes the revisions
 unfoldable pub row_mark : Bool → List ℕ

@@ -9,50 +9,54 @@ use Rattle.hub_http.specs.Stream.{Asked, Spells, Faults}
 
 -- a fault that says nothing of the bytes: no memory was found, or the reader failed
 abbrev pub IsOutside : HttpFault → Type 0
-IsOutside e = (e ≡ NoMemory) ⊎ (e ≡ IoFault)
+IsOutside fault = (fault ≡ NoMemory) ⊎ (fault ≡ IoFault)
 
 -- a fault that a whole head within the limits can have
 abbrev pub IsHeadFault : HttpFault → Type 0
-IsHeadFault e = ((e ≡ BadHead) ⊎ (e ≡ BodyTooLong)) ⊎ ((e ≡ Version) ⊎ (e ≡ Coding))
+IsHeadFault fault = ((fault ≡ BadHead) ⊎ (fault ≡ BodyTooLong)) ⊎ ((fault ≡ Version) ⊎ (fault ≡ Coding))
 
 -- a fault that bytes can have that no whole head begins
 abbrev pub IsOpenFault : HttpFault → Type 0
-IsOpenFault e = (e ≡ BadHead) ⊎ ((e ≡ HeadTooLong) ⊎ (e ≡ Ended))
+IsOpenFault fault = (fault ≡ BadHead) ⊎ ((fault ≡ HeadTooLong) ⊎ (fault ≡ Ended))
 
 -- bytes that spell a request have no fault of their own, whatever follows it: the line `GET / HTTP/1.1`, an
 -- empty line and then `junk` have none
 abbrev pub SpelledHasNoFault : Type 0
 SpelledHasNoFault =
-    (bytes : List ℕ) (a : Asked) (rest : List ℕ) (e : HttpFault)
-    → Spells bytes a rest → Faults bytes e → IsOutside e
+    (bytes : List ℕ) (asked : Asked) (rest : List ℕ) (fault : HttpFault)
+    → Spells bytes asked rest → Faults bytes fault → IsOutside fault
 
 -- no bytes spell no request
 abbrev pub NothingSpellsNothing : Type 0
-NothingSpellsNothing = (a : Asked) (rest : List ℕ) → ¬ (Spells [] a rest)
+NothingSpellsNothing = (asked : Asked) (rest : List ℕ) → ¬ (Spells [] asked rest)
 
 -- and have no fault, nor are they answered as out of memory: an end of the input between requests is clean,
 -- unless the reader failed
 abbrev pub NothingHasNoFault : Type 0
-NothingHasNoFault = (e : HttpFault) → Faults [] e → e ≡ IoFault
+NothingHasNoFault = (fault : HttpFault) → Faults [] fault → fault ≡ IoFault
 
 -- a head within the limits has one fault: one of HTTP/1.0 with a Transfer-Encoding has Version, not Coding
 abbrev pub HeadHasOneFault : Type 0
-HeadHasOneFault = (bytes : List ℕ) (e f : HttpFault) → BeginsFaulty bytes e → BeginsFaulty bytes f → e ≡ f
+HeadHasOneFault =
+    (bytes : List ℕ) (fault other : HttpFault) → BeginsFaulty bytes fault → BeginsFaulty bytes other
+    → fault ≡ other
 
 -- which is one of four
 abbrev pub HeadFaultIsNamed : Type 0
-HeadFaultIsNamed = (bytes : List ℕ) (e : HttpFault) → BeginsFaulty bytes e → IsHeadFault e
+HeadFaultIsNamed = (bytes : List ℕ) (fault : HttpFault) → BeginsFaulty bytes fault → IsHeadFault fault
 
 -- bytes that begin with a whole head, within the limits or past them, have at most one fault of their own:
 -- a bad field, a head too long and a body that is cut exclude each other there
 abbrev pub WholeHeadHasOneFault : Type 0
 WholeHeadHasOneFault =
-    (bytes : List ℕ) (h : RequestHead) (rest : List ℕ) (e f : HttpFault) → ReadsRequest bytes h rest
-    → Faults bytes e → Faults bytes f → IsOutside e ⊎ (IsOutside f ⊎ (e ≡ f))
+    (bytes : List ℕ) (head : RequestHead) (rest : List ℕ) (fault other : HttpFault)
+    → ReadsRequest bytes head rest
+    → Faults bytes fault → Faults bytes other → IsOutside fault ⊎ (IsOutside other ⊎ (fault ≡ other))
 
 -- other bytes have no fault of their own but a bad head, a head too long and an end in the middle. These do
 -- not exclude each other: `GET` and a target that is not UTF-8 so far is no head whatever follows, and ends
 -- in the middle; 65 fields and then the end are too many, and end in the middle
 abbrev pub OtherFaultsAreOpen : Type 0
 OtherFaultsAreOpen =
-    (bytes : List ℕ) (e : HttpFault) → HasNoRequest bytes → Faults bytes e → IsOutside e ⊎ IsOpenFault e
+    (bytes : List ℕ) (fault : HttpFault) → HasNoRequest bytes → Faults bytes fault → IsOutside fault
+    ⊎ IsOpenFault fault

@@ -35,7 +35,7 @@ same_word a b = bytes_eq (map to_ascii_lowercase a) (map to_ascii_lowercase b)
 
 -- the field has this name
 abbrev pub is_named : List ℕ → Pair → Bool
-is_named name p = same_word p.0 name
+is_named name pair = same_word pair.0 name
 
 -- a comma
 abbrev pub comma : ℕ
@@ -52,12 +52,13 @@ lists_close value = list_any (λ o. same_word o (codes "close")) (options value)
 
 -- the field asks to close the connection
 abbrev pub asks_close : Pair → Bool
-asks_close p = is_named (codes "connection") p && lists_close p.1
+asks_close pair = is_named (codes "connection") pair && lists_close pair.1
 
 -- the values of the fields of this name, in order
 abbrev pub values_named : List ℕ → List Pair → List (List ℕ)
 values_named name [] = []
-values_named name (p ∷ ps) = if is_named name p then p.1 ∷ values_named name ps else values_named name ps
+values_named name (pair ∷ pairs) =
+    if is_named name pair then pair.1 ∷ values_named name pairs else values_named name pairs
 
 -- decimal digits, at least one
 abbrev pub is_digits : List ℕ → Bool
@@ -99,25 +100,25 @@ asked minor target pairs =
 
 -- the fields of a head as pairs
 abbrev pub pairs_of : RequestHead → List Pair
-pairs_of h = map name_and_value h.fields
+pairs_of head = map name_and_value head.fields
 
 -- the length that a head asks for, or its first fault
 abbrev pub length_by : RequestHead → Result (Option ℕ) HttpFault
-length_by h = asked h.minor h.target (pairs_of h)
+length_by head = asked head.minor head.target (pairs_of head)
 
 -- the connection closes after the answer
 abbrev pub close_by : RequestHead → Bool
-close_by h = list_any asks_close (pairs_of h)
+close_by head = list_any asks_close (pairs_of head)
 
--- bytes begin with the head h, within the limits, and then rest
-pub record Begins (bytes : List ℕ) (h : RequestHead) (rest : List ℕ) : Type 0 where
-  pub reads : ReadsRequest bytes h rest
-  pub len : length (print_request h) ≤ head_limit
-  pub fields : length h.fields ≤ field_limit
+-- bytes begin with this head, within the limits, and then rest
+pub record Begins (bytes : List ℕ) (head : RequestHead) (rest : List ℕ) : Type 0 where
+  pub reads : ReadsRequest bytes head rest
+  pub len : length (print_request head) ≤ head_limit
+  pub fields : length head.fields ≤ field_limit
 
 -- bytes begin with no such head
 abbrev pub HasNoHead : List ℕ → Type 0
-HasNoHead bytes = (h : RequestHead) (rest : List ℕ) → ¬ (Begins bytes h rest)
+HasNoHead bytes = (head : RequestHead) (rest : List ℕ) → ¬ (Begins bytes head rest)
 
 -- no head ends in the bytes, and more bytes can end one. `GET / HT` does so; `GET / XX` does not, and
 -- neither does a whole head.
@@ -132,7 +133,8 @@ GoesOnTooLong bytes =
 -- the bytes begin with a head of too many bytes
 abbrev pub BeginsLong : List ℕ → Type 0
 BeginsLong bytes =
-    (h : RequestHead) × (rest : List ℕ) × ReadsRequest bytes h rest × (head_limit < length (print_request h))
+    (head : RequestHead) × (rest : List ℕ) × ReadsRequest bytes head rest
+    × (head_limit < length (print_request head))
 
 -- the bytes begin with a head past the limits
 abbrev pub BeginsTooLong : List ℕ → Type 0
@@ -145,7 +147,8 @@ NeverHasHead bytes = (more : List ℕ) → HasNoHead (bytes ++ more)
 -- The bytes begin with a head that has this fault. A head whose Content-Length is x has BadHead, and one
 -- whose Content-Length is 8388609 has BodyTooLong.
 abbrev pub BeginsFaulty : List ℕ → HttpFault → Type 0
-BeginsFaulty bytes e = (h : RequestHead) × (rest : List ℕ) × Begins bytes h rest × (length_by h ≡ Err e)
+BeginsFaulty bytes fault =
+    (head : RequestHead) × (rest : List ℕ) × Begins bytes head rest × (length_by head ≡ Err fault)
 
 -- the table of head faults: what bytes are that have this fault, whatever follows them. The last three do not
 -- lie in the bytes: each way to read them says when those come.

@@ -25,24 +25,24 @@ length_in v =
     then (if nat_le (digits_value 10 v) body_limit then Ok (digits_value 10 v) else Err BodyTooLong)
     else Err BadHead
 
--- the first f.len bytes of buf are the head h, and f has what it asks for
-pub record IsHeadAt (buf : List ℕ) (f : Head) (h : RequestHead) : Type 0 where
-  pub begins : Begins buf h (drop f.len buf)
-  pub len : f.len ≡ length (print_request h)
-  pub method : f.method.items ≡ h.method
-  pub target : f.target.items ≡ h.target
-  pub length : length_by h ≡ Ok f.length
-  pub close : f.close ≡ close_by h
+-- the first head.len bytes of buf are the head other, and head has what it asks for
+pub record IsHeadAt (buf : List ℕ) (head : Head) (other : RequestHead) : Type 0 where
+  pub begins : Begins buf other (drop head.len buf)
+  pub len : head.len ≡ length (print_request other)
+  pub method : head.method.items ≡ other.method
+  pub target : head.target.items ≡ other.target
+  pub length : length_by other ≡ Ok head.length
+  pub close : head.close ≡ close_by other
 
 -- what a fault says of the bytes in which a head was looked for: that of the table, or out of memory
 abbrev pub LookFaults : List ℕ → HttpFault → Type 0
 LookFaults buf NoMemory = 0 < length buf
-LookFaults buf e = HasHeadFault buf e
+LookFaults buf fault = HasHeadFault buf fault
 
 -- what looking for a head in buf answers
 abbrev pub Looks : List ℕ → Result (Option Head) HttpFault → Type 0
 Looks buf (Ok None) = GoesOn buf
-Looks buf (Ok (Some f)) = (h : RequestHead) × IsHeadAt buf f h
+Looks buf (Ok (Some f)) = (head : RequestHead) × IsHeadAt buf f head
 Looks buf (Err e) = LookFaults buf e
 
 -- what a fault of looking for a head says of the bytes that are held and those that are left: that of the
@@ -51,10 +51,10 @@ abbrev pub FindFaults : List ℕ → Option (List ℕ) → HttpFault → Type 0
 FindFaults held left NoMemory = IfSome left (λ more. 0 < length (held ++ more))
 FindFaults held left Ended = IsPartOfHead held × IsAtEnd left
 FindFaults held left IoFault = ⊤
-FindFaults held left e = HasHeadFault held e
+FindFaults held left fault = HasHeadFault held fault
 
 -- what looking for a head answers over a reader
 abbrev pub Finds : List ℕ → Option (List ℕ) → Result (Option Head) HttpFault → Type 0
-Finds held left (Ok (Some f)) = (h : RequestHead) × IsHeadAt held f h
+Finds held left (Ok (Some f)) = (head : RequestHead) × IsHeadAt held f head
 Finds held left (Ok None) = (held ≡ []) × IsAtEnd left
 Finds held left (Err e) = FindFaults held left e

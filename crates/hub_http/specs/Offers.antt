@@ -19,7 +19,7 @@ IsShort bytes = (bytes ≡ []) ⊎ (IsPartOfHead bytes ⊎ IsCut bytes)
 abbrev pub FaultsSoFar : Bool → List ℕ → HttpFault → Type 0
 FaultsSoFar over bytes Ended = (over ≡ true) × Faults bytes Ended
 FaultsSoFar over bytes IoFault = ⊥
-FaultsSoFar over bytes e = Faults bytes e
+FaultsSoFar over bytes fault = Faults bytes fault
 
 -- What is left behind a look for the next request among the bytes that came so far, where the input is over
 -- or not. Of `GET / HT` all is left, and it is NotYet, or Ended where the input is over. Of a GET and then
@@ -33,4 +33,4 @@ LeavesSoFar over bytes (Err e) rest = (rest ≡ bytes) × FaultsSoFar over bytes
 -- bytes are these requests, one after the other, and then rest
 abbrev pub SpellsAll : List ℕ → List Asked → List ℕ → Type 0
 SpellsAll bytes [] rest = bytes ≡ rest
-SpellsAll bytes (a ∷ more) rest = (mid : List ℕ) × Spells bytes a mid × SpellsAll mid more rest
+SpellsAll bytes (asked ∷ more) rest = (mid : List ℕ) × Spells bytes asked mid × SpellsAll mid more rest

@@ -18,35 +18,35 @@ pub record Asked : Type 0 where
 
 -- what a request asks
 abbrev pub asked_by : Request → Asked
-asked_by q = record {
-  method = q.method.items;
-  target = q.target.items;
-  has_length = q.has_length;
-  close = q.close;
-  body = q.body.items;
+asked_by request = record {
+  method = request.method.items;
+  target = request.target.items;
+  has_length = request.has_length;
+  close = request.close;
+  body = request.body.items;
 }
 
--- bytes are the head h, the body that it asks for, and then rest; a says what was asked. The head of a POST
--- with a Content-Length of 2, and then abc, are that request with the body ab, and then c.
-pub record SpelledBy (bytes : List ℕ) (a : Asked) (rest : List ℕ) (h : RequestHead) : Type 0 where
-  pub begins : Begins bytes h (a.body ++ rest)
+-- bytes are this head, the body that it asks for, and then rest; a says what was asked. The head of a
+-- POST with a Content-Length of 2, and then abc, are that request with the body ab, and then c.
+pub record SpelledBy (bytes : List ℕ) (asked : Asked) (rest : List ℕ) (head : RequestHead) : Type 0 where
+  pub begins : Begins bytes head (asked.body ++ rest)
   pub length : Option ℕ
-  pub length_is : length_by h ≡ Ok length
-  pub method : a.method ≡ h.method
-  pub target : a.target ≡ h.target
-  pub has_length : a.has_length ≡ is_some length
-  pub close : a.close ≡ close_by h
-  pub body : Rattle.std.specs.Prelude.length a.body ≡ unwrap_or length 0
+  pub length_is : length_by head ≡ Ok length
+  pub method : asked.method ≡ head.method
+  pub target : asked.target ≡ head.target
+  pub has_length : asked.has_length ≡ is_some length
+  pub close : asked.close ≡ close_by head
+  pub body : Rattle.std.specs.Prelude.length asked.body ≡ unwrap_or length 0
 
 -- bytes are that request and then rest
 abbrev pub Spells : List ℕ → Asked → List ℕ → Type 0
-Spells bytes a rest = (h : RequestHead) × SpelledBy bytes a rest h
+Spells bytes asked rest = (head : RequestHead) × SpelledBy bytes asked rest head
 
 -- the bytes end in the body that their head asks for. They are so where a head asks for 3 bytes, and ab
 -- stands behind it.
 abbrev pub IsCut : List ℕ → Type 0
 IsCut bytes =
-    (h : RequestHead) × (part : List ℕ) × (n : ℕ) × Begins bytes h part × (length_by h ≡ Ok (Some n))
+    (head : RequestHead) × (part : List ℕ) × (n : ℕ) × Begins bytes head part × (length_by head ≡ Ok (Some n))
     × (length part < n)
 
 -- the bytes of the block and then those that are left to read, where they are told
@@ -64,7 +64,7 @@ abbrev pub Faults : List ℕ → HttpFault → Type 0
 Faults bytes NoMemory = 0 < length bytes
 Faults bytes Ended = IsPartOfHead bytes ⊎ IsCut bytes
 Faults bytes IoFault = ⊤
-Faults bytes e = HasHeadFault bytes e
+Faults bytes fault = HasHeadFault bytes fault
 
 -- what is left after a call of `next` over these bytes. Where the bytes are one request and then c, and it
 -- was read, c is left; where memory was missing, all is left.

@@ -106,10 +106,11 @@ above_is place seq =
     ]
 
 pub above : (place : ℕ) (rows : List (ℕ × ℕ))
-    → entries_between nat_cmp (Excluded place) Unbounded rows ≡ filter (λ (r : ℕ × ℕ). nat_lt place r.0) rows
+    → entries_between nat_cmp (Excluded place) Unbounded rows ≡ filter
+    (λ (row : ℕ × ℕ). nat_lt place row.0) rows
 above place rows =
-    filter_as (λ (r : ℕ × ℕ). range_contains nat_cmp (Excluded place) Unbounded r.0)
-    (λ (r : ℕ × ℕ). nat_lt place r.0) (λ r. above_is place r.0) rows
+    filter_as (λ (row : ℕ × ℕ). range_contains nat_cmp (Excluded place) Unbounded row.0)
+    (λ (row : ℕ × ℕ). nat_lt place row.0) (λ row. above_is place row.0) rows
 
 -- the tree's test of what lies below a place
 below_is : (place seq : ℕ) → range_contains nat_cmp Unbounded (Excluded place) seq ≡ nat_lt seq place
@@ -126,96 +127,107 @@ below_is place seq =
     ]
 
 pub below : (place : ℕ) (rows : List (ℕ × ℕ))
-    → entries_between nat_cmp Unbounded (Excluded place) rows ≡ filter (λ (r : ℕ × ℕ). nat_lt r.0 place) rows
+    → entries_between nat_cmp Unbounded (Excluded place) rows ≡ filter
+    (λ (row : ℕ × ℕ). nat_lt row.0 place) rows
 below place rows =
-    filter_as (λ (r : ℕ × ℕ). range_contains nat_cmp Unbounded (Excluded place) r.0)
-    (λ (r : ℕ × ℕ). nat_lt r.0 place) (λ r. below_is place r.0) rows
+    filter_as (λ (row : ℕ × ℕ). range_contains nat_cmp Unbounded (Excluded place) row.0)
+    (λ (row : ℕ × ℕ). nat_lt row.0 place) (λ row. below_is place row.0) rows
 
 -- what the rows below a place end with
 module _ (rows found : List (ℕ × ℕ)) (place : ℕ)
     (is : found ≡ entries_between nat_cmp Unbounded (Excluded place) rows) where
-  from_last : filter (λ (r : ℕ × ℕ). nat_lt r.0 place) (reverse rows) ≡ reverse found
-  from_last = filter_reverse (λ (r : ℕ × ℕ). nat_lt r.0 place) rows ∙ ap reverse (sym (is ∙ below place rows))
+  from_last : filter (λ (row : ℕ × ℕ). nat_lt row.0 place) (reverse rows) ≡ reverse found
+  from_last =
+      filter_reverse (λ (row : ℕ × ℕ). nat_lt row.0 place) rows ∙ ap reverse (sym (is ∙ below place rows))
 
   pub last_none : found ≡ [] → last_before rows place ≡ None
-  last_none e = find_no_first (λ (r : ℕ × ℕ). nat_lt r.0 place) (reverse rows) (from_last ∙ ap reverse e)
+  last_none e = find_no_first (λ (row : ℕ × ℕ). nat_lt row.0 place) (reverse rows) (from_last ∙ ap reverse e)
 
-  pub last_found : (front : List (ℕ × ℕ)) (r : ℕ × ℕ) → found ≡ front ++ r ∷ []
-      → last_before rows place ≡ Some r
-  last_found front r e =
-      find_first (λ (r : ℕ × ℕ). nat_lt r.0 place) (reverse rows) r (reverse front)
-      (from_last ∙ (ap reverse e ∙ reverse-append front (r ∷ [])))
+  pub last_found : (front : List (ℕ × ℕ)) (row : ℕ × ℕ) → found ≡ front ++ row ∷ []
+      → last_before rows place ≡ Some row
+  last_found front row e =
+      find_first (λ (row : ℕ × ℕ). nat_lt row.0 place) (reverse rows) row (reverse front)
+      (from_last ∙ (ap reverse e ∙ reverse-append front (row ∷ [])))
 
 -- the first row above a place, where it is not above the bound
 module _ (place bound : ℕ) where
-  pub within : (rows : List (ℕ × ℕ)) (r : ℕ × ℕ) → find (λ (r : ℕ × ℕ). nat_lt place r.0) rows ≡ Some r
-      → r.0 ≤ bound → next_after rows place (Some bound) ≡ Some r
-  within [] r e l = absurd (none-some r e)
-  within (x ∷ rows) r e l =
-      elim (cases_Bool (nat_lt place x.0)) [
-        | inl t ↦ rw (t, le-leb x.0 bound (upto r (rw t at e) l)) (rw t at e)
-        | inr f ↦ rw f (within rows r (rw f at e) l)
+  pub within : (rows : List (ℕ × ℕ)) (row : ℕ × ℕ)
+      → find (λ (row : ℕ × ℕ). nat_lt place row.0) rows ≡ Some row
+      → row.0 ≤ bound → next_after rows place (Some bound) ≡ Some row
+  within [] row e l = absurd (none-some row e)
+  within (other_row ∷ rows) row e l =
+      elim (cases_Bool (nat_lt place other_row.0)) [
+        | inl t ↦ rw (t, le-leb other_row.0 bound (upto row (rw t at e) l)) (rw t at e)
+        | inr f ↦ rw f (within rows row (rw f at e) l)
       ]
     where
-      upto : (r : ℕ × ℕ) → Some x ≡ Some r → r.0 ≤ bound → x.0 ≤ bound
-      upto r q l = subst (λ (z : ℕ × ℕ). z.0 ≤ bound) (sym (same_Some x r q)) l
+      upto : (row : ℕ × ℕ) → Some other_row ≡ Some row → row.0 ≤ bound → other_row.0 ≤ bound
+      upto row q l = subst (λ (third_row : ℕ × ℕ). third_row.0 ≤ bound) (sym (same_Some other_row row q)) l
 
-  pub beyond : (rows : List (ℕ × ℕ)) (r : ℕ × ℕ) → AllPairs (λ (a b : ℕ × ℕ). a.0 < b.0) rows
-      → find (λ (r : ℕ × ℕ). nat_lt place r.0) rows ≡ Some r → bound < r.0
+  pub beyond : (rows : List (ℕ × ℕ)) (row : ℕ × ℕ)
+      → AllPairs (λ (third_row b : ℕ × ℕ). third_row.0 < b.0) rows
+      → find (λ (row : ℕ × ℕ). nat_lt place row.0) rows ≡ Some row → bound < row.0
       → next_after rows place (Some bound) ≡ None
-  beyond [] r rising e l = refl
-  beyond (x ∷ rows) r rising e l =
-      elim (cases_Bool (nat_lt place x.0)) [
+  beyond [] row rising e l = refl
+  beyond (other_row ∷ rows) row rising e l =
+      elim (cases_Bool (nat_lt place other_row.0)) [
         | inl t ↦
-            find_nothing (λ (z : ℕ × ℕ). is_within place (Some bound) z.0) (x ∷ rows)
-            (All-cons (λ (z : ℕ × ℕ). is_within place (Some bound) z.0 ≡ false) x rows
-            (out x.0 (first r (rw t at e) l)) (λ k d m. out _ (later r (rw t at e) l k d m)))
-        | inr f ↦ rw f (beyond rows r (of_tail (λ (a b : ℕ × ℕ). a.0 < b.0) x rows rising) (rw f at e) l)
+            find_nothing (λ (z : ℕ × ℕ). is_within place (Some bound) z.0) (other_row ∷ rows)
+            (All-cons (λ (z : ℕ × ℕ). is_within place (Some bound) z.0 ≡ false) other_row rows
+            (out other_row.0 (first row (rw t at e) l)) (λ k d m. out _ (later row (rw t at e) l k d m)))
+        | inr f ↦ rw f (beyond rows row
+            (of_tail (λ (third_row b : ℕ × ℕ). third_row.0 < b.0) other_row rows rising) (rw f at e) l)
       ]
     where
       out : (seq : ℕ) → bound < seq → (nat_lt place seq && nat_le seq bound) ≡ false
       out seq l = ap (λ b. nat_lt place seq && b) (lt-leb seq bound l) ∙ and-false (nat_lt place seq)
 
-      first : (r : ℕ × ℕ) → Some x ≡ Some r → bound < r.0 → bound < x.0
-      first r q l = subst (λ (z : ℕ × ℕ). bound < z.0) (sym (same_Some x r q)) l
+      first : (row : ℕ × ℕ) → Some other_row ≡ Some row → bound < row.0 → bound < other_row.0
+      first row q l = subst (λ (z : ℕ × ℕ). bound < z.0) (sym (same_Some other_row row q)) l
 
-      later : (r : ℕ × ℕ) → Some x ≡ Some r → bound < r.0 → All (λ (z : ℕ × ℕ). bound < z.0) rows
-      later r q l k d m = omega (arith, first r q l, of_head (λ (a b : ℕ × ℕ). a.0 < b.0) x rows rising k d m)
+      later : (row : ℕ × ℕ) → Some other_row ≡ Some row → bound < row.0
+          → All (λ (z : ℕ × ℕ). bound < z.0) rows
+      later row q l k d m =
+          omega (
+            arith,
+            first row q l,
+            of_head (λ (third_row b : ℕ × ℕ). third_row.0 < b.0) other_row rows rising k d m,
+          )
 
 pub nothing : (rows : List (ℕ × ℕ)) (place : ℕ) (bound : Option ℕ)
-    → find (λ (r : ℕ × ℕ). nat_lt place r.0) rows ≡ None → next_after rows place bound ≡ None
+    → find (λ (other_row : ℕ × ℕ). nat_lt place other_row.0) rows ≡ None → next_after rows place bound ≡ None
 nothing rows place None e = e
 nothing [] place (Some bound) e = refl
-nothing (x ∷ rows) place (Some bound) e =
-    elim (cases_Bool (nat_lt place x.0)) [
-      | inl t ↦ absurd (none-some x (sym (rw t at e)))
+nothing (row ∷ rows) place (Some bound) e =
+    elim (cases_Bool (nat_lt place row.0)) [
+      | inl t ↦ absurd (none-some row (sym (rw t at e)))
       | inr f ↦ rw f (nothing rows place (Some bound) (rw f at e))
     ]
 
 -- what the rows above a place begin with
 module _ (rows found : List (ℕ × ℕ)) (place : ℕ)
     (is : found ≡ entries_between nat_cmp (Excluded place) Unbounded rows) where
-  first_above : (r : ℕ × ℕ) (rest : List (ℕ × ℕ)) → found ≡ r ∷ rest
-      → find (λ (r : ℕ × ℕ). nat_lt place r.0) rows ≡ Some r
-  first_above r rest e =
-      find_first (λ (r : ℕ × ℕ). nat_lt place r.0) rows r rest (sym (above place rows) ∙ (sym is ∙ e))
+  first_above : (row : ℕ × ℕ) (rest : List (ℕ × ℕ)) → found ≡ row ∷ rest
+      → find (λ (row : ℕ × ℕ). nat_lt place row.0) rows ≡ Some row
+  first_above row rest e =
+      find_first (λ (row : ℕ × ℕ). nat_lt place row.0) rows row rest (sym (above place rows) ∙ (sym is ∙ e))
 
   pub next_none : (bound : Option ℕ) → found ≡ [] → next_after rows place bound ≡ None
   next_none bound e =
       nothing rows place bound
-      (find_no_first (λ (r : ℕ × ℕ). nat_lt place r.0) rows (sym (above place rows) ∙ (sym is ∙ e)))
+      (find_no_first (λ (row : ℕ × ℕ). nat_lt place row.0) rows (sym (above place rows) ∙ (sym is ∙ e)))
 
-  pub next_beyond : IsIndex rows → (bound : ℕ) (r : ℕ × ℕ) (rest : List (ℕ × ℕ)) → found ≡ r ∷ rest
-      → bound < r.0 → next_after rows place (Some bound) ≡ None
-  next_beyond index bound r rest e l = beyond place bound rows r index.rising (first_above r rest e) l
+  pub next_beyond : IsIndex rows → (bound : ℕ) (row : ℕ × ℕ) (rest : List (ℕ × ℕ)) → found ≡ row ∷ rest
+      → bound < row.0 → next_after rows place (Some bound) ≡ None
+  next_beyond index bound row rest e l = beyond place bound rows row index.rising (first_above row rest e) l
 
-  pub next_within : (bound : Option ℕ) (r : ℕ × ℕ) (rest : List (ℕ × ℕ)) → found ≡ r ∷ rest
-      → ((b : ℕ) → bound ≡ Some b → r.0 ≤ b) → next_after rows place bound ≡ Some r
-  next_within None r rest e l = first_above r rest e
-  next_within (Some b) r rest e l = within place b rows r (first_above r rest e) (l b refl)
+  pub next_within : (bound : Option ℕ) (row : ℕ × ℕ) (rest : List (ℕ × ℕ)) → found ≡ row ∷ rest
+      → ((b : ℕ) → bound ≡ Some b → row.0 ≤ b) → next_after rows place bound ≡ Some row
+  next_within None row rest e l = first_above row rest e
+  next_within (Some b) row rest e l = within place b rows row (first_above row rest e) (l b refl)
 
   pub counted : length found ≡ count_after rows place
-  counted = ap length (is ∙ above place rows) ∙ length-filter (λ (r : ℕ × ℕ). nat_lt place r.0) rows
+  counted = ap length (is ∙ above place rows) ∙ length-filter (λ (row : ℕ × ℕ). nat_lt place row.0) rows
 
 -- a row above all goes to the end
 pub insert_last : {X : Type 0} (rows : List (ℕ × X)) (seq : ℕ) (document : X)
@@ -231,14 +243,14 @@ insert_last (x ∷ rows) seq document all =
 module _ (document : ℕ) where
   -- whether a row is of another document
   abbrev is_other : ℕ × ℕ → Bool
-  is_other r = not (nat_eq r.1 document)
+  is_other row = not (nat_eq row.1 document)
 
   none_of : (rows : List (ℕ × ℕ)) → seq_of document rows ≡ None → All (λ r. is_other r ≡ true) rows
   none_of [] e = All-nil (λ r. is_other r ≡ true)
-  none_of (x ∷ rows) e =
-      elim (cases_Bool (nat_eq x.1 document)) [
-        | inl t ↦ absurd (none-some x.0 (sym (rw t at e)))
-        | inr f ↦ All-cons (λ r. is_other r ≡ true) x rows (ap not f) (none_of rows (rw f at e))
+  none_of (row ∷ rows) e =
+      elim (cases_Bool (nat_eq row.1 document)) [
+        | inl t ↦ absurd (none-some row.0 (sym (rw t at e)))
+        | inr f ↦ All-cons (λ r. is_other r ≡ true) row rows (ap not f) (none_of rows (rw f at e))
       ]
 
   -- a document that has no row loses none
@@ -247,48 +259,55 @@ module _ (document : ℕ) where
   moved_new rows seq e =
       ap (λ l. l ++ (seq, document) ∷ []) (sym (filter_keeps is_other rows (none_of rows e)))
 
-  pub seq_has : (P : ℕ → Type 0) (rows : List (ℕ × ℕ)) (old : ℕ) → All (λ (r : ℕ × ℕ). P r.0) rows
-      → seq_of document rows ≡ Some old → P old
+  pub seq_has : (P : ℕ → Type 0) (rows : List (ℕ × ℕ)) (old : ℕ)
+      → All (λ (other_row : ℕ × ℕ). P other_row.0) rows → seq_of document rows ≡ Some old → P old
   seq_has P [] old all e = absurd (none-some old e)
-  seq_has P (x ∷ rows) old all e =
-      elim (cases_Bool (nat_eq x.1 document)) [
-        | inl t ↦ subst P (same_Some x.0 old (rw t at e)) (all 0 x (omega arith))
-        | inr f ↦ seq_has P rows old (All-tail (λ (r : ℕ × ℕ). P r.0) x rows all) (rw f at e)
+  seq_has P (row ∷ rows) old all e =
+      elim (cases_Bool (nat_eq row.1 document)) [
+        | inl t ↦ subst P (same_Some row.0 old (rw t at e)) (all 0 row (omega arith))
+        | inr f ↦ seq_has P rows old (All-tail (λ (other_row : ℕ × ℕ). P other_row.0) row rows all)
+            (rw f at e)
       ]
 
-  without : (rows : List (ℕ × ℕ)) (old seq : ℕ) → AllPairs (λ (a b : ℕ × ℕ). a.0 < b.0) rows
-      → AllPairs (λ (a b : ℕ × ℕ). a.1 ≢ b.1) rows → seq_of document rows ≡ Some old
+  without : (rows : List (ℕ × ℕ)) (old seq : ℕ)
+      → AllPairs (λ (other_row third_row : ℕ × ℕ). other_row.0 < third_row.0) rows
+      → AllPairs (λ (other_row third_row : ℕ × ℕ). other_row.1 ≢ third_row.1) rows
+      → seq_of document rows ≡ Some old
       → remove_entry (is_at (nat_cmp old)) (rows ++ (seq, document) ∷ []) ≡ moved rows document seq
   without [] old seq rising once e = absurd (none-some old e)
-  without (x ∷ rows) old seq rising once e =
-      elim (cases_Bool (nat_eq x.1 document)) [
+  without (row ∷ rows) old seq rising once e =
+      elim (cases_Bool (nat_eq row.1 document)) [
         | inl t ↦
-            ap (λ b. cond b (rows ++ (seq, document) ∷ [])
-            (x ∷ remove_entry (is_at (nat_cmp old)) (rows ++ (seq, document) ∷ [])))
-            (ap is_eq (sym (nat_cmp_is old x.0 Equal (sym (same_Some x.0 old (rw t at e))))))
+            ap (λ third_row. cond third_row (rows ++ (seq, document) ∷ [])
+            (row ∷ remove_entry (is_at (nat_cmp old)) (rows ++ (seq, document) ∷ [])))
+            (ap is_eq (sym (nat_cmp_is old row.0 Equal (sym (same_Some row.0 old (rw t at e))))))
             ∙ (ap (λ l. l ++ (seq, document) ∷ [])
-            (sym (filter_keeps is_other rows (others (eqb-true x.1 document t))))
-            ∙ ap (λ b. cond (not b) (x ∷ filter is_other rows) (filter is_other rows) ++ (seq, document) ∷ [])
+            (sym (filter_keeps is_other rows (others (eqb-true row.1 document t))))
+            ∙ ap (λ third_row. cond (not third_row) (row ∷ filter is_other rows) (filter is_other rows)
+            ++ (seq, document) ∷ [])
             (sym t))
         | inr f ↦
-            ap (λ b. cond b (rows ++ (seq, document) ∷ [])
-            (x ∷ remove_entry (is_at (nat_cmp old)) (rows ++ (seq, document) ∷ [])))
+            ap (λ third_row. cond third_row (rows ++ (seq, document) ∷ [])
+            (row ∷ remove_entry (is_at (nat_cmp old)) (rows ++ (seq, document) ∷ [])))
             (ap is_eq
-            (sym (nat_cmp_is old x.0 Greater
-            (seq_has (λ z. x.0 < z) rows old
-            (of_head (λ (a b : ℕ × ℕ). a.0 < b.0) x rows rising) (rw f at e)))))
-            ∙ (ap (λ l. x ∷ l)
-            (without rows old seq (of_tail (λ (a b : ℕ × ℕ). a.0 < b.0) x rows rising)
-            (of_tail (λ (a b : ℕ × ℕ). a.1 ≢ b.1) x rows once) (rw f at e))
-            ∙ ap (λ b. cond (not b) (x ∷ filter is_other rows) (filter is_other rows) ++ (seq, document) ∷ [])
+            (sym (nat_cmp_is old row.0 Greater
+            (seq_has (λ z. row.0 < z) rows old
+            (of_head (λ (other_row third_row : ℕ × ℕ). other_row.0 < third_row.0) row rows rising)
+            (rw f at e))))) ∙ (ap (λ l. row ∷ l)
+            (without rows old seq (of_tail
+            (λ (other_row third_row : ℕ × ℕ). other_row.0 < third_row.0) row rows rising)
+            (of_tail (λ (other_row third_row : ℕ × ℕ). other_row.1 ≢ third_row.1) row rows once) (rw f at e))
+            ∙ ap (λ third_row. cond (not third_row) (row ∷ filter is_other rows) (filter is_other rows)
+            ++ (seq, document) ∷ [])
             (sym f))
       ]
     where
-      others : x.1 ≡ document → All (λ r. is_other r ≡ true) rows
+      others : row.1 ≡ document → All (λ r. is_other r ≡ true) rows
       others q k d m =
           ap not
           (false_from_ne_true _
-          (λ h. of_head (λ (a b : ℕ × ℕ). a.1 ≢ b.1) x rows once k d m (q ∙ sym (eqb-true _ document h))))
+          (λ h. of_head (λ (other_row third_row : ℕ × ℕ). other_row.1 ≢ third_row.1) row rows once k d m
+          (q ∙ sym (eqb-true _ document h))))
 
   -- a document that has a row loses that one
   pub moved_old : (rows : List (ℕ × ℕ)) (old seq : ℕ) → IsIndex rows → seq_of document rows ≡ Some old
@@ -297,27 +316,31 @@ module _ (document : ℕ) where
 
   -- rows after a move
   pub index_moved : (rows : List (ℕ × ℕ)) (seq : ℕ) → IsIndex rows → 0 < seq
-      → All (λ (r : ℕ × ℕ). r.0 < seq) rows → IsIndex (moved rows document seq)
+      → All (λ (row : ℕ × ℕ). row.0 < seq) rows → IsIndex (moved rows document seq)
   index_moved rows seq index positive all = record {
     rising =
-        all_pairs_push (λ (a b : ℕ × ℕ). a.0 < b.0) (filter is_other rows) (seq, document)
-        (AllPairs-filter (λ (a b : ℕ × ℕ). a.0 < b.0) is_other rows index.rising)
-        (All-filter is_other (λ (r : ℕ × ℕ). r.0 < seq) rows all);
+        all_pairs_push (λ (other_row third_row : ℕ × ℕ). other_row.0 < third_row.0) (filter is_other rows)
+        (seq, document)
+        (AllPairs-filter (λ (other_row third_row : ℕ × ℕ). other_row.0 < third_row.0) is_other rows
+        index.rising)
+        (All-filter is_other (λ (row : ℕ × ℕ). row.0 < seq) rows all);
     once =
-        all_pairs_push (λ (a b : ℕ × ℕ). a.1 ≢ b.1) (filter is_other rows) (seq, document)
-        (AllPairs-filter (λ (a b : ℕ × ℕ). a.1 ≢ b.1) is_other rows index.once)
+        all_pairs_push (λ (other_row third_row : ℕ × ℕ). other_row.1 ≢ third_row.1) (filter is_other rows)
+        (seq, document)
+        (AllPairs-filter (λ (other_row third_row : ℕ × ℕ). other_row.1 ≢ third_row.1) is_other rows
+        index.once)
         (λ k d m. other (get_or (filter is_other rows) k d) (filter_passes is_other rows k d m));
     positive =
-        All-push (λ (r : ℕ × ℕ). 0 < r.0) (filter is_other rows) (seq, document)
-        (All-filter is_other (λ (r : ℕ × ℕ). 0 < r.0) rows index.positive) positive;
+        All-push (λ (row : ℕ × ℕ). 0 < row.0) (filter is_other rows) (seq, document)
+        (All-filter is_other (λ (row : ℕ × ℕ). 0 < row.0) rows index.positive) positive;
   }
     where
-      other : (r : ℕ × ℕ) → is_other r ≡ true → r.1 ≢ document
-      other r h e = both_ways (is_other r) (ap not (eq-eqb r.1 document e)) h
+      other : (row : ℕ × ℕ) → is_other row ≡ true → row.1 ≢ document
+      other row h e = both_ways (is_other row) (ap not (eq-eqb row.1 document e)) h
 
 -- rows that were seen as a value, and those after an insertion and a removal
 module _ (document seq : ℕ) (value rows inserted : List (ℕ × ℕ))
-    (seen : rows ≡ value) (above_all : All (λ (r : ℕ × ℕ). r.0 < seq) value)
+    (seen : rows ≡ value) (above_all : All (λ (row : ℕ × ℕ). row.0 < seq) value)
     (by_insert : inserted ≡ insert_entry nat_cmp rows seq document) where
   at_end : inserted ≡ value ++ (seq, document) ∷ []
   at_end =
@@ -337,6 +360,6 @@ module _ (document seq : ℕ) (value rows inserted : List (ℕ × ℕ))
       ∙ moved_old document value key seq (subst IsIndex seen index) (own ∙ is))
 
 pub index_after : (document seq : ℕ) (value rows after : List (ℕ × ℕ)) → rows ≡ value → IsIndex rows
-    → 0 < seq → All (λ (r : ℕ × ℕ). r.0 < seq) value → after ≡ moved value document seq → IsIndex after
+    → 0 < seq → All (λ (row : ℕ × ℕ). row.0 < seq) value → after ≡ moved value document seq → IsIndex after
 index_after document seq value rows after seen index positive all is =
     subst IsIndex (sym is) (index_moved document value seq (subst IsIndex seen index) positive all)

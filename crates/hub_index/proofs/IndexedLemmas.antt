@@ -23,76 +23,81 @@ use Rattle.hub_model.proofs.Shown.{find_is}
 
 -- the key that is found among rows, the first of which has this number or another
 abbrev first_key : ℕ → ℕ × ℕ → List (ℕ × ℕ) → Bool → Option ℕ
-first_key k x rows b =
-    option_map (λ (z : ℕ × ℕ). z.0) (if b then Some x else find (λ (z : ℕ × ℕ). nat_eq z.1 k) rows)
+first_key k row rows b =
+    option_map (λ (other_row : ℕ × ℕ). other_row.0)
+    (if b then Some row else find (λ (other_row : ℕ × ℕ). nat_eq other_row.1 k) rows)
 
 -- what a number has no key for is no row's number
 none_key : (rows : List (ℕ × ℕ)) (k : ℕ) → seq_of k rows ≡ None
-    → (i : ℕ) (r : ℕ × ℕ) → slice_get rows i ≡ Some r → nat_eq r.1 k ≡ false
-none_key [] k e i r g = absurd (none-some r g)
-none_key (x ∷ rows) k e i r g = from (none_key rows k) (nat_eq x.1 k) refl e i g
+    → (i : ℕ) (row : ℕ × ℕ) → slice_get rows i ≡ Some row → nat_eq row.1 k ≡ false
+none_key [] k e i row g = absurd (none-some row g)
+none_key (other_row ∷ rows) k e i row g = from (none_key rows k) (nat_eq other_row.1 k) refl e i g
   where
-    from : (seq_of k rows ≡ None → (i : ℕ) (r : ℕ × ℕ) → slice_get rows i ≡ Some r → nat_eq r.1 k ≡ false)
-        → (b : Bool) → nat_eq x.1 k ≡ b → first_key k x rows b ≡ None
-        → (i : ℕ) → slice_get (x ∷ rows) i ≡ Some r → nat_eq r.1 k ≡ false
-    from rest true t e i g = absurd (none-some x.0 (sym e))
-    from rest false t e zero g = subst (λ (z : ℕ × ℕ). nat_eq z.1 k ≡ false) (same_Some x r g) t
-    from rest false t e (suc i) g = rest e i r g
+    from : (seq_of k rows ≡ None → (i : ℕ) (row : ℕ × ℕ) → slice_get rows i ≡ Some row
+        → nat_eq row.1 k ≡ false)
+        → (b : Bool) → nat_eq other_row.1 k ≡ b → first_key k other_row rows b ≡ None
+        → (i : ℕ) → slice_get (other_row ∷ rows) i ≡ Some row → nat_eq row.1 k ≡ false
+    from rest true t e i g = absurd (none-some other_row.0 (sym e))
+    from rest false t e zero g =
+        subst (λ (third_row : ℕ × ℕ). nat_eq third_row.1 k ≡ false) (same_Some other_row row g) t
+    from rest false t e (suc i) g = rest e i row g
 
 -- and among the rows of the other numbers, with one of this number behind them
 abbrev kept_key : ℕ → ℕ → ℕ → ℕ × ℕ → List (ℕ × ℕ) → Bool → Option ℕ
-kept_key j k n x rows b =
-    let others : List (ℕ × ℕ) = filter (λ (z : ℕ × ℕ). not (nat_eq z.1 k)) rows in
-    seq_of j ((if not b then (x ∷ others) else others) ++ (n, k) ∷ [])
+kept_key j k n row rows b =
+    let others : List (ℕ × ℕ) = filter (λ (other_row : ℕ × ℕ). not (nat_eq other_row.1 k)) rows in
+    seq_of j ((if not b then (row ∷ others) else others) ++ (n, k) ∷ [])
 
 -- the key of a number that is moved
 moved_here : (rows : List (ℕ × ℕ)) (k n : ℕ) → seq_of k (moved rows k n) ≡ Some n
 moved_here [] k n = rw (eq-eqb k k refl) refl
-moved_here (x ∷ rows) k n = from (moved_here rows k n) (nat_eq x.1 k) refl
+moved_here (row ∷ rows) k n = from (moved_here rows k n) (nat_eq row.1 k) refl
   where
-    from : seq_of k (moved rows k n) ≡ Some n → (b : Bool) → nat_eq x.1 k ≡ b
-        → kept_key k k n x rows b ≡ Some n
+    from : seq_of k (moved rows k n) ≡ Some n → (b : Bool) → nat_eq row.1 k ≡ b
+        → kept_key k k n row rows b ≡ Some n
     from rest true t = rest
-    from rest false t = ap (first_key k x (moved rows k n)) t ∙ rest
+    from rest false t = ap (first_key k row (moved rows k n)) t ∙ rest
 
 -- and of another
 moved_other : (rows : List (ℕ × ℕ)) (k n j : ℕ) → j ≢ k → seq_of j (moved rows k n) ≡ seq_of j rows
 moved_other [] k n j h = rw (number_apart k j (λ e. h (sym e))) refl
-moved_other (x ∷ rows) k n j h = from (moved_other rows k n j h) (nat_eq x.1 k) refl
+moved_other (row ∷ rows) k n j h = from (moved_other rows k n j h) (nat_eq row.1 k) refl
   where
-    from : seq_of j (moved rows k n) ≡ seq_of j rows → (b : Bool) → nat_eq x.1 k ≡ b
-        → kept_key j k n x rows b ≡ first_key j x rows (nat_eq x.1 j)
+    from : seq_of j (moved rows k n) ≡ seq_of j rows → (b : Bool) → nat_eq row.1 k ≡ b
+        → kept_key j k n row rows b ≡ first_key j row rows (nat_eq row.1 j)
     from rest true t =
-        rest ∙ sym (ap (first_key j x rows) (number_apart x.1 j (λ e. h (sym e ∙ eqb-true x.1 k t))))
-    from rest false t = here (nat_eq x.1 j)
+        rest ∙ sym (ap (first_key j row rows) (number_apart row.1 j (λ e. h (sym e ∙ eqb-true row.1 k t))))
+    from rest false t = here (nat_eq row.1 j)
       where
-        here : (b : Bool) → first_key j x (moved rows k n) b ≡ first_key j x rows b
+        here : (b : Bool) → first_key j row (moved rows k n) b ≡ first_key j row rows b
         here true = refl
         here false = rest
 
 -- the edit of a current row
-current_edit_from : (n : ℕ) (J : List Edit) (c : Current) → Contains (current_from n J) c
-    → (i : ℕ) → c.seq ≡ n + i → (e : Edit) × (slice_get J i ≡ Some e) × (e.id ≡ c.id)
-current_edit_from n [] c h i s = absurd (let w = current_within n [] c h in omega arith)
-current_edit_from n (e ∷ later) c h zero s =
-    elim (from_cases n e later c h) [
-      | inl p ↦ (e, refl, ap (λ (x : Current). x.id) p.1)
-      | inr q ↦ absurd (let w = current_within (n + 1) later c q in omega (arith, w.0))
+current_edit_from : (n : ℕ) (journal : List Edit) (row : Current) → Contains (current_from n journal) row
+    → (i : ℕ) → row.seq ≡ n + i → (edit : Edit) × (slice_get journal i ≡ Some edit) × (edit.id ≡ row.id)
+current_edit_from n [] row h i s = absurd (let w = current_within n [] row h in omega arith)
+current_edit_from n (edit ∷ later) row h zero s =
+    elim (from_cases n edit later row h) [
+      | inl p ↦ (edit, refl, ap (λ (other : Current). other.id) p.1)
+      | inr q ↦ absurd (let w = current_within (n + 1) later row q in omega (arith, w.0))
     ]
-current_edit_from n (e ∷ later) c h (suc i) s =
-    elim (from_cases n e later c h) [
-      | inl p ↦ absurd (let q : n ≡ c.seq = ap (λ (x : Current). x.seq) p.1 in omega arith)
-      | inr q ↦ current_edit_from (n + 1) later c q i (omega arith)
+current_edit_from n (edit ∷ later) row h (suc i) s =
+    elim (from_cases n edit later row h) [
+      | inl p ↦ absurd (let q : n ≡ row.seq = ap (λ (other : Current). other.seq) p.1 in omega arith)
+      | inr q ↦ current_edit_from (n + 1) later row q i (omega arith)
     ]
 
-pub current_edit : (J : List Edit) (c : Current) → Contains (current J) c
-    → (i : ℕ) → c.seq ≡ i + 1 → (e : Edit) × (slice_get J i ≡ Some e) × (e.id ≡ c.id)
-current_edit J c h i s = current_edit_from 1 J c h i (omega (arith, s))
+pub current_edit : (journal : List Edit) (row : Current) → Contains (current journal) row
+    → (i : ℕ) → row.seq ≡ i + 1 → (edit : Edit) × (slice_get journal i ≡ Some edit) × (edit.id ≡ row.id)
+current_edit journal row h i s = current_edit_from 1 journal row h i (omega (arith, s))
 
 -- a current row lies at an edit
-pub row_lies : (J : List Edit) (seq : ℕ) → ((c : Current) × Contains (current J) c × (c.seq ≡ seq))
-    → (1 ≤ seq) × (seq ≤ length J)
-row_lies J seq (c, h, s) = let w = current_within 1 J c h in (omega (arith, w.0, s), omega (arith, w.1, s))
+pub row_lies : (journal : List Edit) (seq : ℕ)
+    → ((row : Current) × Contains (current journal) row × (row.seq ≡ seq))
+    → (1 ≤ seq) × (seq ≤ length journal)
+row_lies journal seq (row, h, s) =
+    let w = current_within 1 journal row h in (omega (arith, w.0, s), omega (arith, w.1, s))
 
 -- a place and a bound are looked at by the index and by a feed alike
 within_same : (bound : Option ℕ) (place seq : ℕ)
@@ -104,42 +109,45 @@ within_same None place seq = sym (and_true (nat_lt place seq))
     and_true false = refl
 within_same (Some b) place seq = refl
 
-module _ (ids : ℕ → Option (List ℕ × ℕ)) (J : List Edit) (index : List (ℕ × ℕ))
-    (ix : IsIndexed ids J index) where
+module _ (ids : ℕ → Option (List ℕ × ℕ)) (journal : List Edit) (index : List (ℕ × ℕ))
+    (ix : IsIndexed ids journal index) where
   -- a row's number has an id
-  row_known : (i : ℕ) (r : ℕ × ℕ) → slice_get index i ≡ Some r → (p : List ℕ × ℕ) × (ids r.1 ≡ Some p)
-  row_known i r g = from (ids r.1) refl
+  row_known : (i : ℕ) (row : ℕ × ℕ) → slice_get index i ≡ Some row → (p : List ℕ × ℕ) × (ids row.1 ≡ Some p)
+  row_known i row g = from (ids row.1) refl
     where
-      from : (o : Option (List ℕ × ℕ)) → ids r.1 ≡ o → (p : List ℕ × ℕ) × (ids r.1 ≡ Some p)
+      from : (o : Option (List ℕ × ℕ)) → ids row.1 ≡ o → (p : List ℕ × ℕ) × (ids row.1 ≡ Some p)
       from None e =
-          absurd (both_ways (nat_eq r.1 r.1) (none_key index r.1 (ix.none r.1 e) i r g) (eq-eqb r.1 r.1 refl))
+          absurd (both_ways (nat_eq row.1 row.1) (none_key index row.1 (ix.none row.1 e) i row g)
+          (eq-eqb row.1 row.1 refl))
       from (Some p) e = (p, e)
 
   -- and its sequence is that of an edit
-  pub rows_within : All (λ (r : ℕ × ℕ). r.0 < length J + 1) index
+  pub rows_within : All (λ (row : ℕ × ℕ). row.0 < length journal + 1) index
   rows_within = all_shown low (row_in ids) index (subst (All low) (sym ix.rows) within)
     where
       low : Current → Type 0
-      low c = c.seq < length J + 1
+      low c = c.seq < length journal + 1
 
-      within : All low (current J)
+      within : All low (current journal)
       within k d l =
-          let w = current_within 1 J _ (All-contains_itself (current J) k d l) in omega (arith, w.1)
+          let w = current_within 1 journal _ (All-contains_itself (current journal) k d l) in
+          omega (arith, w.1)
 
-  row_at : (r : ℕ × ℕ) → Contains index r → (p : List ℕ × ℕ) × (ids r.1 ≡ Some p)
-  row_at r c = row_known c.0 r (at_place index c.0 r c.1 (sym c.2))
+  row_at : (row : ℕ × ℕ) → Contains index row → (p : List ℕ × ℕ) × (ids row.1 ≡ Some p)
+  row_at row c = row_known c.0 row (at_place index c.0 row c.1 (sym c.2))
 
   -- which the row shows
-  row_shown : (r : ℕ × ℕ) (p : List ℕ × ℕ) → ids r.1 ≡ Some p → row_in ids r ≡ record { seq = r.0; id = p.0 }
-  row_shown r p is = ap (λ (o : Option (List ℕ × ℕ)). record { seq = r.0; id = id_in o }) is
+  row_shown : (row : ℕ × ℕ) (p : List ℕ × ℕ) → ids row.1 ≡ Some p
+      → row_in ids row ≡ record { seq = row.0; id = p.0 }
+  row_shown row p is = ap (λ (o : Option (List ℕ × ℕ)). record { seq = row.0; id = id_in o }) is
 
   next_is : (place : ℕ) (bound : Option ℕ)
-      → find (λ (c : Current). nat_lt place c.seq && is_within bound c.seq) (current J)
+      → find (λ (row : Current). nat_lt place row.seq && is_within bound row.seq) (current journal)
       ≡ option_map (row_in ids) (next_after index place bound)
   next_is place bound =
-      ap (find (λ (c : Current). nat_lt place c.seq && is_within bound c.seq)) (sym ix.rows)
-      ∙ (find_map (λ (c : Current). nat_lt place c.seq && is_within bound c.seq) (row_in ids) index
-      ∙ ap (λ (p : ℕ → Bool). option_map (row_in ids) (find (λ (r : ℕ × ℕ). p r.0) index))
+      ap (find (λ (row : Current). nat_lt place row.seq && is_within bound row.seq)) (sym ix.rows)
+      ∙ (find_map (λ (row : Current). nat_lt place row.seq && is_within bound row.seq) (row_in ids) index
+      ∙ ap (λ (p : ℕ → Bool). option_map (row_in ids) (find (λ (other_row : ℕ × ℕ). p other_row.0) index))
       (λ i n. sym (within_same bound place n) i))
 
   -- the next row is of a number that has an id, and is the next current row
@@ -149,21 +157,21 @@ module _ (ids : ℕ → Option (List ℕ × ℕ)) (J : List Edit) (index : List 
 
     pub next_found : (p : List ℕ × ℕ) → ids r.1 ≡ Some p
         → Some (record { seq = r.0; id = p.0 })
-        ≡ find (λ (c : Current). nat_lt place c.seq && is_within bound c.seq) (current J)
+        ≡ find (λ (c : Current). nat_lt place c.seq && is_within bound c.seq) (current journal)
     next_found p at =
         sym (ap Some (row_shown r p at)) ∙ (ap (option_map (row_in ids)) is ∙ sym (next_is place bound))
 
   pub next_nothing : (place : ℕ) (bound : Option ℕ) → None ≡ next_after index place bound
-      → None ≡ find (λ (c : Current). nat_lt place c.seq && is_within bound c.seq) (current J)
+      → None ≡ find (λ (row : Current). nat_lt place row.seq && is_within bound row.seq) (current journal)
   next_nothing place bound is = ap (option_map (row_in ids)) is ∙ sym (next_is place bound)
 
   last_is : (place : ℕ)
-      → find (λ (c : Current). nat_lt c.seq place) (reverse (current J))
+      → find (λ (row : Current). nat_lt row.seq place) (reverse (current journal))
       ≡ option_map (row_in ids) (last_before index place)
   last_is place =
-      ap (λ cs. find (λ (c : Current). nat_lt c.seq place) (reverse cs)) (sym ix.rows)
-      ∙ (ap (find (λ (c : Current). nat_lt c.seq place)) (sym (map_reverse (row_in ids) index))
-      ∙ find_map (λ (c : Current). nat_lt c.seq place) (row_in ids) (reverse index))
+      ap (λ cs. find (λ (row : Current). nat_lt row.seq place) (reverse cs)) (sym ix.rows)
+      ∙ (ap (find (λ (row : Current). nat_lt row.seq place)) (sym (map_reverse (row_in ids) index))
+      ∙ find_map (λ (row : Current). nat_lt row.seq place) (row_in ids) (reverse index))
 
   -- and so is the last one
   module _ (place : ℕ) (r : ℕ × ℕ) (is : Some r ≡ last_before index place) where
@@ -174,22 +182,22 @@ module _ (ids : ℕ → Option (List ℕ × ℕ)) (J : List Edit) (index : List 
 
     pub last_found : (p : List ℕ × ℕ) → ids r.1 ≡ Some p
         → Some (record { seq = r.0; id = p.0 })
-        ≡ find (λ (c : Current). nat_lt c.seq place) (reverse (current J))
+        ≡ find (λ (c : Current). nat_lt c.seq place) (reverse (current journal))
     last_found p at =
         sym (ap Some (row_shown r p at)) ∙ (ap (option_map (row_in ids)) is ∙ sym (last_is place))
 
   pub last_nothing : (place : ℕ) → None ≡ last_before index place
-      → None ≡ find (λ (c : Current). nat_lt c.seq place) (reverse (current J))
+      → None ≡ find (λ (row : Current). nat_lt row.seq place) (reverse (current journal))
   last_nothing place is = ap (option_map (row_in ids)) is ∙ sym (last_is place)
 
   -- how many rows lie above a place
-  pub count_is : (place : ℕ) → count_after index place ≡ pending (current J) place
+  pub count_is : (place : ℕ) → count_after index place ≡ pending (current journal) place
   count_is place =
-      sym (count_map (λ (c : Current). nat_lt place c.seq) (row_in ids) index)
+      sym (count_map (λ (row : Current). nat_lt place row.seq) (row_in ids) index)
       ∙ ap (λ cs. pending cs place) ix.rows
 
   -- one more edit, of the id of this number, which had this id or none
-  module _ (e : Edit) (k seq : ℕ) (last : seq ≡ length J + 1)
+  module _ (e : Edit) (k seq : ℕ) (last : seq ≡ length journal + 1)
       (own : (p : List ℕ × ℕ) → ids k ≡ Some p → p.0 ≡ e.id)
       (apart : (j : ℕ) (p : List ℕ × ℕ) → ids j ≡ Some p → j ≢ k → p.0 ≢ e.id)
       (ids' : ℕ → Option (List ℕ × ℕ)) (at : ids' k ≡ Some (e.id, seq))
@@ -221,19 +229,19 @@ module _ (ids : ℕ → Option (List ℕ × ℕ)) (J : List Edit) (index : List 
     abbrev renewed : List Current → Current → List Current
     renewed cs c = filter (λ (z : Current). not (bytes_eq z.id e.id)) cs ++ c ∷ []
 
-    rows_more : map (row_in ids') (moved index k seq) ≡ current (J ++ e ∷ [])
+    rows_more : map (row_in ids') (moved index k seq) ≡ current (journal ++ e ∷ [])
     rows_more =
         map-append (row_in ids') (filter (λ (r : ℕ × ℕ). not (nat_eq r.1 k)) index) ((seq, k) ∷ [])
         ∙ (ap (λ cs. cs ++ row_in ids' (seq, k) ∷ [])
         (filter_shown (row_in ids) (row_in ids') (λ (r : ℕ × ℕ). not (nat_eq r.1 k))
         (λ (c : Current). not (bytes_eq c.id e.id)) index others_shown)
         ∙ (ap (λ cs. renewed cs (row_in ids' (seq, k))) ix.rows
-        ∙ (ap (λ (o : Option (List ℕ × ℕ)). renewed (current J) (record { seq = seq; id = id_in o })) at
-        ∙ (ap (λ (n : ℕ). renewed (current J) (record { seq = n; id = e.id })) (omega (arith, last))
-        ∙ sym (current_push 1 J e)))))
+        ∙ (ap (λ (o : Option (List ℕ × ℕ)). renewed (current journal) (record { seq = seq; id = id_in o })) at
+        ∙ (ap (λ (n : ℕ). renewed (current journal) (record { seq = n; id = e.id })) (omega (arith, last))
+        ∙ sym (current_push 1 journal e)))))
 
     -- the rows go on to be the current ones
-    pub indexed_more : IsIndexed ids' (J ++ e ∷ []) (moved index k seq)
+    pub indexed_more : IsIndexed ids' (journal ++ e ∷ []) (moved index k seq)
     indexed_more = record { rows = rows_more; key = key'; none = none' }
       where
         key' : (j : ℕ) (p : List ℕ × ℕ) → ids' j ≡ Some p → seq_of j (moved index k seq) ≡ Some p.1

@@ -35,7 +35,8 @@ pub less_up_to : (x y z : List ℕ) → slice_cmp nat_cmp x y ≡ Less → is_le
     → slice_cmp nat_cmp x z ≡ Less
 less_up_to x y z xy yz = from (slice_cmp nat_cmp y z) refl yz
   where
-    from : (o : Ordering) → slice_cmp nat_cmp y z ≡ o → is_le o ≡ true → slice_cmp nat_cmp x z ≡ Less
+    from : (ordering : Ordering) → slice_cmp nat_cmp y z ≡ ordering → is_le ordering ≡ true
+        → slice_cmp nat_cmp x z ≡ Less
     from Less e h = nat_list_cmp_total.trans x y z xy e
     from Equal e h = sym (alike_right nat_list_cmp_total y z x e) ∙ xy
     from Greater e h = absurd (cc)
@@ -44,7 +45,8 @@ pub greater_less : (x y z : List ℕ) → is_gt (slice_cmp nat_cmp x z) ≡ true
     → is_gt (slice_cmp nat_cmp y z) ≡ true
 greater_less x y z xz xy = ap is_gt (nat_list_cmp_total.antisymm y z ∙ ap ordering_reverse zy)
   where
-    zx : (o : Ordering) → slice_cmp nat_cmp x z ≡ o → is_gt o ≡ true → slice_cmp nat_cmp z x ≡ Less
+    zx : (ordering : Ordering) → slice_cmp nat_cmp x z ≡ ordering → is_gt ordering ≡ true
+        → slice_cmp nat_cmp z x ≡ Less
     zx Less e h = absurd (cc)
     zx Equal e h = absurd (cc)
     zx Greater e h = nat_list_cmp_total.antisymm z x ∙ ap ordering_reverse e
@@ -53,8 +55,9 @@ greater_less x y z xz xy = ap is_gt (nat_list_cmp_total.antisymm y z ∙ ap orde
     zy = nat_list_cmp_total.trans z x y (zx (slice_cmp nat_cmp x z) refl xz) xy
 
 -- texts that compare as different are
-pub apart_by : (x y : List ℕ) (o : Ordering) → slice_cmp nat_cmp x y ≡ o → o ≢ Equal → bytes_eq x y ≡ false
-apart_by x y o e n =
+pub apart_by : (x y : List ℕ) (ordering : Ordering) → slice_cmp nat_cmp x y ≡ ordering → ordering ≢ Equal
+    → bytes_eq x y ≡ false
+apart_by x y ordering e n =
     text_apart x y
     (λ same. n (sym e ∙ (ap (slice_cmp nat_cmp x) (sym same) ∙ tied_itself nat_list_cmp_total x)))
 
@@ -269,12 +272,12 @@ module _ {X : Type 0} (p : X → Bool) where
       from rest true h q = absurd (cc)
       from rest false h q = All-cons (λ y. p y ≡ false) x xs h (rest q)
 
-less_is : (o : Ordering) → is_lt o ≡ true → o ≡ Less
+less_is : (ordering : Ordering) → is_lt ordering ≡ true → ordering ≡ Less
 less_is Less h = refl
 less_is Equal h = absurd (cc)
 less_is Greater h = absurd (cc)
 
-greater_is : (o : Ordering) → is_gt o ≡ true → o ≡ Greater
+greater_is : (ordering : Ordering) → is_gt ordering ≡ true → ordering ≡ Greater
 greater_is Less h = absurd (cc)
 greater_is Equal h = absurd (cc)
 greater_is Greater h = refl

@@ -37,17 +37,17 @@ Numbered = ℕ × List (Option ℕ)
 
 -- where the rows of a page lie
 pub page_within : (page : Numbered) → length page.1 ≡ 256
-    → All (λ (r : ℕ × ℕ). (256 * page.0 < r.0) × (r.0 ≤ 256 * page.0 + 256)) (page_rows page)
+    → All (λ (row : ℕ × ℕ). (256 * page.0 < row.0) × (row.0 ≤ 256 * page.0 + 256)) (page_rows page)
 page_within page size k d l =
     let w = rows_within (256 * page.0 + 1) page.1 k d l in (omega (arith, w.0), omega (arith, w.1, size))
 
 -- a page has a row
 pub page_has : (page : Numbered) → IsPage page
-    → (r : ℕ × ℕ) × (rest : List (ℕ × ℕ)) × (page_rows page ≡ r ∷ rest)
+    → (row : ℕ × ℕ) × (rest : List (ℕ × ℕ)) × (page_rows page ≡ row ∷ rest)
 page_has page is = from (page_rows page) refl
   where
     from : (rows : List (ℕ × ℕ)) → page_rows page ≡ rows
-        → (r : ℕ × ℕ) × (rest : List (ℕ × ℕ)) × (page_rows page ≡ r ∷ rest)
+        → (row : ℕ × ℕ) × (rest : List (ℕ × ℕ)) × (page_rows page ≡ row ∷ rest)
     from [] e =
         absurd (omega (
           arith,
@@ -55,15 +55,15 @@ page_has page is = from (page_rows page) refl
           length_rows (256 * page.0 + 1) page.1,
           ap (λ (rows : List (ℕ × ℕ)). length rows) e,
         ))
-    from (r ∷ rest) e = (r, rest, e)
+    from (row ∷ rest) e = (row, rest, e)
 
 -- so what holds of its rows holds of one of them
 pub page_row : (P : ℕ × ℕ → Type 0) (page : Numbered) → IsPage page → All P (page_rows page)
-    → (r : ℕ × ℕ) × P r × (256 * page.0 < r.0) × (r.0 ≤ 256 * page.0 + 256)
+    → (row : ℕ × ℕ) × P row × (256 * page.0 < row.0) × (row.0 ≤ 256 * page.0 + 256)
 page_row P page is all =
     let h = page_has page is in
     let w =
-    subst (All (λ (r : ℕ × ℕ). (256 * page.0 < r.0) × (r.0 ≤ 256 * page.0 + 256))) h.2
+    subst (All (λ (row : ℕ × ℕ). (256 * page.0 < row.0) × (row.0 ≤ 256 * page.0 + 256))) h.2
     (page_within page is.size) in
     (h.0, subst (All P) h.2 all 0 h.0 (omega arith), (w 0 h.0 (omega arith)).0, (w 0 h.0 (omega arith)).1)
 
@@ -116,71 +116,84 @@ next_place n = omega arith
 
 -- pages in the order of their numbers
 abbrev pub Rising : List Numbered → Type 0
-Rising es = AllPairs (λ (a b : Numbered). a.0 < b.0) es
+Rising numbered = AllPairs (λ (other b : Numbered). other.0 < b.0) numbered
 
 -- the page at a place, with those before it and behind it
-module _ (es : List Numbered) (at : ℕ) (x : Numbered) (l : at < length es) (here : x ≡ get_or es at x) where
-  pub cut_rows : rows_of es ≡ rows_of (take at es) ++ (page_rows x ++ rows_of (drop (at + 1) es))
+module _ (numbered : List Numbered) (at : ℕ) (other : Numbered) (l : at < length numbered)
+    (here : other ≡ get_or numbered at other) where
+  pub cut_rows : rows_of numbered ≡ rows_of (take at numbered)
+      ++ (page_rows other ++ rows_of (drop (at + 1) numbered))
   cut_rows =
       ap rows_of
-      (sym (take-append-drop at es)
-      ∙ ap (λ ys. take at es ++ ys) (drop_more es at x l ∙ ap (λ y. y ∷ drop (at + 1) es) (sym here)))
-      ∙ flat_map-append page_rows (take at es) (x ∷ drop (at + 1) es)
+      (sym (take-append-drop at numbered)
+      ∙ ap (λ ys. take at numbered ++ ys)
+      (drop_more numbered at other l ∙ ap (λ y. y ∷ drop (at + 1) numbered) (sym here)))
+      ∙ flat_map-append page_rows (take at numbered) (other ∷ drop (at + 1) numbered)
 
   pub set_rows : (y : Numbered)
-      → rows_of (set es at y) ≡ rows_of (take at es) ++ (page_rows y ++ rows_of (drop (at + 1) es))
+      → rows_of (set numbered at y) ≡ rows_of (take at numbered)
+      ++ (page_rows y ++ rows_of (drop (at + 1) numbered))
   set_rows y =
-      ap rows_of (set_split es at y l ∙ ap (λ n. take at es ++ y ∷ drop n es) (next_place at))
-      ∙ flat_map-append page_rows (take at es) (y ∷ drop (at + 1) es)
+      ap rows_of (set_split numbered at y l
+      ∙ ap (λ n. take at numbered ++ y ∷ drop n numbered) (next_place at))
+      ∙ flat_map-append page_rows (take at numbered) (y ∷ drop (at + 1) numbered)
 
-  pub is_page : All IsPage es → IsPage x
-  is_page pages = subst IsPage (sym here) (All-get_or IsPage es at x l pages)
+  pub is_page : All IsPage numbered → IsPage other
+  is_page pages = subst IsPage (sym here) (All-get_or IsPage numbered at other l pages)
 
-  number : (d : Numbered) → (get_or es at d).0 ≡ x.0
-  number d = ap (λ (e : Numbered). e.0) (get_or_default es at d x l ∙ sym here)
+  number : (d : Numbered) → (get_or numbered at d).0 ≡ other.0
+  number d = ap (λ (e : Numbered). e.0) (get_or_default numbered at d other l ∙ sym here)
 
-  lower : Rising es → All (λ (e : Numbered). e.0 < x.0) (take at es)
+  lower : Rising numbered → All (λ (e : Numbered). e.0 < other.0) (take at numbered)
   lower rising k d m =
-      let below : k < at = omega (arith, length-take-le at es (omega arith), m) in
-      omega (arith, rising k at d below l, number d, ap (λ (e : Numbered). e.0) (get_or-take at es k d below))
+      let below : k < at = omega (arith, length-take-le at numbered (omega arith), m) in
+      omega (
+        arith,
+        rising k at d below l,
+        number d,
+        ap (λ (e : Numbered). e.0) (get_or-take at numbered k d below),
+      )
 
-  higher : Rising es → All (λ (e : Numbered). x.0 < e.0) (drop (at + 1) es)
+  higher : Rising numbered → All (λ (e : Numbered). other.0 < e.0) (drop (at + 1) numbered)
   higher rising k d m =
-      let fits : at + 1 + k < length es = omega (arith, length-drop (at + 1) es, m) in
+      let fits : at + 1 + k < length numbered = omega (arith, length-drop (at + 1) numbered, m) in
       omega (
         arith,
         rising at (at + 1 + k) d (omega arith) fits,
         number d,
-        ap (λ (e : Numbered). e.0) (get_or-drop (at + 1) es k d),
+        ap (λ (e : Numbered). e.0) (get_or-drop (at + 1) numbered k d),
       )
 
 -- a page that was read twice
-pub same_number : (es : List Numbered) (at k : ℕ) (x y : Numbered) → at < length es → x ≡ get_or es at x
-    → y ≡ get_or es at y → y.0 ≡ k → x.0 ≡ k
-same_number es at k x y l here there q =
-    ap (λ (e : Numbered). e.0) (here ∙ (get_or_default es at x y l ∙ sym there)) ∙ q
+pub same_number : (numbered : List Numbered) (at k : ℕ) (x y : Numbered) → at < length numbered
+    → x ≡ get_or numbered at x → y ≡ get_or numbered at y → y.0 ≡ k → x.0 ≡ k
+same_number numbered at k x y l here there q =
+    ap (λ (other : Numbered). other.0) (here ∙ (get_or_default numbered at x y l ∙ sym there)) ∙ q
 
 -- a page that is removed, whatever was written to it before
-pub remove_set : (es : List Numbered) (at : ℕ) (y : Numbered) → remove (set es at y) at ≡ remove es at
-remove_set es at y =
-    ap (λ ys. ys ++ drop (suc at) (set es at y)) (take-set es at y)
-    ∙ ap (λ ys. take at es ++ ys) (drop-set-lt (suc at) es at y (omega arith))
+pub remove_set : (numbered : List Numbered) (at : ℕ) (other : Numbered)
+    → remove (set numbered at other) at ≡ remove numbered at
+remove_set numbered at other =
+    ap (λ ys. ys ++ drop (suc at) (set numbered at other)) (take-set numbered at other)
+    ∙ ap (λ ys. take at numbered ++ ys) (drop-set-lt (suc at) numbered at other (omega arith))
 
 -- what is left of the pages
-left_of : (es : List Numbered) (at : ℕ) → remove es at ≡ take at es ++ drop (at + 1) es
-left_of es at = ap (λ n. take at es ++ drop n es) (next_place at)
+left_of : (numbered : List Numbered) (at : ℕ) → remove numbered at ≡ take at numbered
+    ++ drop (at + 1) numbered
+left_of numbered at = ap (λ n. take at numbered ++ drop n numbered) (next_place at)
 
-pub dropped_is : (es : List Numbered) (at : ℕ) → All IsPage es → All IsPage (remove es at)
-dropped_is es at pages =
-    subst (All IsPage) (sym (left_of es at))
-    (All-append IsPage (take at es) (drop (at + 1) es) (All-take IsPage at es pages)
-    (All-drop IsPage (at + 1) es pages))
+pub dropped_is : (numbered : List Numbered) (at : ℕ) → All IsPage numbered → All IsPage (remove numbered at)
+dropped_is numbered at pages =
+    subst (All IsPage) (sym (left_of numbered at))
+    (All-append IsPage (take at numbered) (drop (at + 1) numbered) (All-take IsPage at numbered pages)
+    (All-drop IsPage (at + 1) numbered pages))
 
 -- where a page of this number is, it parts the pages
-pub place_is : (es : List Numbered) (k at : ℕ) → Rising es
-    → IsSomeAnd (slice_get es at) (λ (e : Numbered). e.0 ≡ k)
-    → (at < length es) × IsPartitionPoint (λ (e : Numbered). e.0 < k) (λ (e : Numbered). k ≤ e.0) es at
-place_is es k at rising there = (
+pub place_is : (numbered : List Numbered) (k at : ℕ) → Rising numbered
+    → IsSomeAnd (slice_get numbered at) (λ (other : Numbered). other.0 ≡ k)
+    → (at < length numbered) × IsPartitionPoint (λ (other : Numbered). other.0 < k)
+    (λ (other : Numbered). k ≤ other.0) numbered at
+place_is numbered k at rising there = (
   is.0,
   (
     (λ z d from below. omega (arith, rising z at d below is.0, same d)),
@@ -188,45 +201,47 @@ place_is es k at rising there = (
   ),
 )
   where
-    is : (at < length es) × ((e : Numbered) → e ≡ get_or es at e → e.0 ≡ k)
-    is = some_at (λ (e : Numbered). e.0 ≡ k) es at there
+    is : (at < length numbered) × ((other : Numbered) → other ≡ get_or numbered at other → other.0 ≡ k)
+    is = some_at (λ (other : Numbered). other.0 ≡ k) numbered at there
 
-    same : (d : Numbered) → (get_or es at d).0 ≡ k
-    same d = is.1 (get_or es at d) (get_or_default es at d (get_or es at d) is.0)
+    same : (d : Numbered) → (get_or numbered at d).0 ≡ k
+    same d = is.1 (get_or numbered at d) (get_or_default numbered at d (get_or numbered at d) is.0)
 
-    upper : (z : ℕ) (d : Numbered) → at ≤ z → z < length es → k ≤ (get_or es z d).0
+    upper : (z : ℕ) (d : Numbered) → at ≤ z → z < length numbered → k ≤ (get_or numbered z d).0
     upper z d from below = elim (cases_order at z) [
-      | inl q ↦ omega (arith, same d, ap (λ n. (get_or es n d).0) q)
+      | inl q ↦ omega (arith, same d, ap (λ n. (get_or numbered n d).0) q)
       | inr (inl less) ↦ omega (arith, rising at z d less below, same d)
       | inr (inr more) ↦ absurd (omega (arith, from, more))
     ]
 
 -- what a search by number asks of the pages, and what its answer is
-pub numbers_parted : (es : List Numbered) (k : ℕ) → Rising es
-    → IsPartitionedBy (λ (e : Numbered). nat_lt e.0 k) es
-numbers_parted es k rising i j d from below passes =
-    let less : (get_or es j d).0 < k = ltb-true (get_or es j d).0 k passes in
-    lt-ltb (get_or es i d).0 k (elim (cases_order i j) [
-      | inl q ↦ omega (arith, less, ap (λ n. (get_or es n d).0) q)
+pub numbers_parted : (numbered : List Numbered) (k : ℕ) → Rising numbered
+    → IsPartitionedBy (λ (other : Numbered). nat_lt other.0 k) numbered
+numbers_parted numbered k rising i j d from below passes =
+    let less : (get_or numbered j d).0 < k = ltb-true (get_or numbered j d).0 k passes in
+    lt-ltb (get_or numbered i d).0 k (elim (cases_order i j) [
+      | inl q ↦ omega (arith, less, ap (λ n. (get_or numbered n d).0) q)
       | inr (inl before) ↦ omega (arith, less, rising i j d before below)
       | inr (inr behind) ↦ absurd (omega (arith, from, behind))
     ])
 
-pub place_searched : (es : List Numbered) (k at : ℕ)
-    → IsPartitionPoint (λ (e : Numbered). nat_lt e.0 k ≡ true) (λ (e : Numbered). nat_lt e.0 k ≡ false) es at
-    → IsPartitionPoint (λ (e : Numbered). e.0 < k) (λ (e : Numbered). k ≤ e.0) es at
-place_searched es k at point = (
-  (λ z d from below. ltb-true (get_or es z d).0 k (point.0 z d from below)),
-  λ z d from below. ltb-false (get_or es z d).0 k (point.1 z d from below),
+pub place_searched : (numbered : List Numbered) (k at : ℕ)
+    → IsPartitionPoint (λ (other : Numbered). nat_lt other.0 k ≡ true)
+    (λ (other : Numbered). nat_lt other.0 k ≡ false) numbered at
+    → IsPartitionPoint (λ (other : Numbered). other.0 < k) (λ (other : Numbered). k ≤ other.0) numbered at
+place_searched numbered k at point = (
+  (λ z d from below. ltb-true (get_or numbered z d).0 k (point.0 z d from below)),
+  λ z d from below. ltb-false (get_or numbered z d).0 k (point.1 z d from below),
 )
 
 -- a page whose number is none, where the pages are parted by that number
-pub none_there : (es : List Numbered) (k at : ℕ) → Rising es
-    → IsPartitionPoint (λ (e : Numbered). e.0 < k) (λ (e : Numbered). k ≤ e.0) es at
-    → ((d : Numbered) → at < length es → (get_or es at d).0 ≢ k) → All (λ (e : Numbered). e.0 ≢ k) es
-none_there es k at rising point apart z d l q =
+pub none_there : (numbered : List Numbered) (k at : ℕ) → Rising numbered
+    → IsPartitionPoint (λ (other : Numbered). other.0 < k) (λ (other : Numbered). k ≤ other.0) numbered at
+    → ((d : Numbered) → at < length numbered → (get_or numbered at d).0 ≢ k)
+    → All (λ (other : Numbered). other.0 ≢ k) numbered
+none_there numbered k at rising point apart z d l q =
     elim (cases_order z at) [
-      | inl same ↦ apart d (omega (arith, same, l)) (omega (arith, q, ap (λ n. (get_or es n d).0) same))
+      | inl same ↦ apart d (omega (arith, same, l)) (omega (arith, q, ap (λ n. (get_or numbered n d).0) same))
       | inr (inl less) ↦ omega (arith, q, point.0 z d (omega arith) less)
       | inr (inr more) ↦
           omega (arith, q, rising at z d more l, point.1 at d (omega arith) (omega (arith, more, l)))
@@ -234,36 +249,40 @@ none_there es k at rising point apart z d l q =
 
 -- a sequence, the page of its number, and its slot there
 module _ (k i seq : ℕ) (in' : i < 256) (is : 256 * k + i + 1 ≡ seq) where
-  missed : (e : Numbered) → IsPage e → e.0 ≢ k → All (λ (r : ℕ × ℕ). at_seq seq r.0 ≡ false) (page_rows e)
-  missed e page apart z d l =
-      let w = page_within e page.size z d l in
-      not_at seq _ (elim (cases_order e.0 k) [
+  missed : (numbered : Numbered) → IsPage numbered → numbered.0 ≢ k
+      → All (λ (row : ℕ × ℕ). at_seq seq row.0 ≡ false) (page_rows numbered)
+  missed numbered page apart z d l =
+      let w = page_within numbered page.size z d l in
+      not_at seq _ (elim (cases_order numbered.0 k) [
         | inl q ↦ absurd (apart q)
         | inr (inl below) ↦ inr (omega (arith, w.1, is, below))
         | inr (inr above) ↦ inl (omega (arith, w.0, is, above))
       ])
 
-  missed_all : (es : List Numbered) → All IsPage es → All (λ (e : Numbered). e.0 ≢ k) es
-      → All (λ (r : ℕ × ℕ). at_seq seq r.0 ≡ false) (rows_of es)
-  missed_all es pages apart =
-      All_rows (λ (r : ℕ × ℕ). at_seq seq r.0 ≡ false) es
-      (λ z d l. missed (get_or es z d) (pages z d l) (apart z d l))
+  missed_all : (numbered : List Numbered) → All IsPage numbered
+      → All (λ (other : Numbered). other.0 ≢ k) numbered
+      → All (λ (row : ℕ × ℕ). at_seq seq row.0 ≡ false) (rows_of numbered)
+  missed_all numbered pages apart =
+      All_rows (λ (row : ℕ × ℕ). at_seq seq row.0 ≡ false) numbered
+      (λ z d l. missed (get_or numbered z d) (pages z d l) (apart z d l))
 
   -- a sequence whose page is not there has no row
-  pub pages_missed : (es : List Numbered) → All IsPage es → All (λ (e : Numbered). e.0 ≢ k) es
-      → rows_of es ≡ remove_entry (at_seq seq) (rows_of es)
-  pages_missed es pages apart = sym (remove_none (at_seq seq) (rows_of es) (missed_all es pages apart))
+  pub pages_missed : (numbered : List Numbered) → All IsPage numbered
+      → All (λ (other : Numbered). other.0 ≢ k) numbered
+      → rows_of numbered ≡ remove_entry (at_seq seq) (rows_of numbered)
+  pages_missed numbered pages apart =
+      sym (remove_none (at_seq seq) (rows_of numbered) (missed_all numbered pages apart))
 
   -- a row above all, in a slot of its page
   pub slots_filled : (d : ℕ) (slots : List (Option ℕ))
-      → length slots ≡ 256 → All (λ (r : ℕ × ℕ). r.0 < seq) (page_rows (k, slots))
+      → length slots ≡ 256 → All (λ (row : ℕ × ℕ). row.0 < seq) (page_rows (k, slots))
       → page_rows (k, set slots i (Some d)) ≡ page_rows (k, slots) ++ (seq, d) ∷ []
   slots_filled d slots size low =
-      rows_filled (256 * k + 1) i d slots (omega (arith, size)) (λ z r l. omega (arith, low z r l, is))
+      rows_filled (256 * k + 1) i d slots (omega (arith, size)) (λ z row l. omega (arith, low z row l, is))
       ∙ ap (λ m. page_rows (k, slots) ++ (m, d) ∷ []) (omega (arith, is))
 
   pub filled_is : (d : ℕ) (slots : List (Option ℕ)) → k < 2 ^ 56 → length slots ≡ 256 → seq < 2 ^ 64
-      → All (λ (r : ℕ × ℕ). r.0 < seq) (page_rows (k, slots)) → IsPage (k, set slots i (Some d))
+      → All (λ (row : ℕ × ℕ). row.0 < seq) (page_rows (k, slots)) → IsPage (k, set slots i (Some d))
   filled_is d slots low size bound below = record {
     low = low;
     size = omega (arith, length-set slots i (Some d), size);
@@ -274,9 +293,9 @@ module _ (k i seq : ℕ) (in' : i < 256) (is : 256 * k + i + 1 ≡ seq) where
       length-append (page_rows (k, slots)) ((seq, d) ∷ []),
     );
     fits =
-        subst (All (λ (r : ℕ × ℕ). r.0 < 2 ^ 64)) (sym (slots_filled d slots size below))
-        (All-push (λ (r : ℕ × ℕ). r.0 < 2 ^ 64) (page_rows (k, slots)) (seq, d)
-        (λ z r l. omega (arith, below z r l, bound)) bound);
+        subst (All (λ (row : ℕ × ℕ). row.0 < 2 ^ 64)) (sym (slots_filled d slots size below))
+        (All-push (λ (row : ℕ × ℕ). row.0 < 2 ^ 64) (page_rows (k, slots)) (seq, d)
+        (λ z row l. omega (arith, below z row l, bound)) bound);
   }
 
   pub cleared_is : (slots : List (Option ℕ)) → IsPage (k, slots) → 0 < count_by is_some (set slots i None)
@@ -286,36 +305,44 @@ module _ (k i seq : ℕ) (in' : i < 256) (is : 256 * k + i + 1 ≡ seq) where
     size = omega (arith, length-set slots i None, page.size);
     live = live;
     fits =
-        subst (All (λ (r : ℕ × ℕ). r.0 < 2 ^ 64)) (sym (rows_cleared (256 * k + 1) i slots))
-        (All_removed (λ (r : ℕ × ℕ). r.0 < 2 ^ 64) (at_seq (256 * k + 1 + i))
+        subst (All (λ (row : ℕ × ℕ). row.0 < 2 ^ 64)) (sym (rows_cleared (256 * k + 1) i slots))
+        (All_removed (λ (row : ℕ × ℕ). row.0 < 2 ^ 64) (at_seq (256 * k + 1 + i))
         (page_rows (k, slots)) page.fits);
   }
 
   -- where all rows lie below the sequence, no page has a higher number
-  numbers_upto : (es : List Numbered) → All IsPage es → All (λ (r : ℕ × ℕ). r.0 < seq) (rows_of es)
-      → All (λ (e : Numbered). e.0 ≤ k) es
-  numbers_upto [] pages low = All-nil (λ (e : Numbered). e.0 ≤ k)
-  numbers_upto (e ∷ es) pages low =
-      let r =
-      page_row (λ (r : ℕ × ℕ). r.0 < seq) e (pages 0 e (omega arith))
-      (All_front (λ (r : ℕ × ℕ). r.0 < seq) (page_rows e) (rows_of es) low) in
-      All-cons (λ (e : Numbered). e.0 ≤ k) e es (omega (arith, r.1, r.2, is))
-      (numbers_upto es (All-tail IsPage e es pages)
-      (All_back (λ (r : ℕ × ℕ). r.0 < seq) (page_rows e) (rows_of es) low))
+  numbers_upto : (numbered : List Numbered) → All IsPage numbered
+      → All (λ (row : ℕ × ℕ). row.0 < seq) (rows_of numbered)
+      → All (λ (other : Numbered). other.0 ≤ k) numbered
+  numbers_upto [] pages low = All-nil (λ (other : Numbered). other.0 ≤ k)
+  numbers_upto (other ∷ numbered) pages low =
+      let row =
+      page_row (λ (row : ℕ × ℕ). row.0 < seq) other (pages 0 other (omega arith))
+      (All_front (λ (row : ℕ × ℕ). row.0 < seq) (page_rows other) (rows_of numbered) low) in
+      All-cons (λ (other : Numbered). other.0 ≤ k) other numbered (omega (arith, row.1, row.2, is))
+      (numbers_upto numbered (All-tail IsPage other numbered pages)
+      (All_back (λ (row : ℕ × ℕ). row.0 < seq) (page_rows other) (rows_of numbered) low))
 
   -- and if the last page has another number, all have lower ones
-  pub below_new : (es : List Numbered) (at : ℕ) (x : Numbered) → at + 1 ≡ length es → x ≡ get_or es at x
-      → x.0 ≢ k → Rising es → All IsPage es → All (λ (r : ℕ × ℕ). r.0 < seq) (rows_of es)
-      → All (λ (e : Numbered). e.0 < k) es
-  below_new es at x last here apart rising pages low z d l =
+  pub below_new : (numbered : List Numbered) (at : ℕ) (x : Numbered) → at + 1 ≡ length numbered
+      → x ≡ get_or numbered at x
+      → x.0 ≢ k → Rising numbered → All IsPage numbered
+      → All (λ (row : ℕ × ℕ). row.0 < seq) (rows_of numbered)
+      → All (λ (other : Numbered). other.0 < k) numbered
+  below_new numbered at x last here apart rising pages low z d l =
       elim (cases_order z at) [
         | inl q ↦
-            omega (arith, less, ap (λ n. (get_or es n d).0) q, number es at x (omega (arith, last)) here d)
+            omega (
+              arith,
+              less,
+              ap (λ n. (get_or numbered n d).0) q,
+              number numbered at x (omega (arith, last)) here d,
+            )
         | inr (inl before) ↦ omega (
           arith,
           less,
           rising z at d before (omega (arith, last)),
-          number es at x (omega (arith, last)) here d,
+          number numbered at x (omega (arith, last)) here d,
         )
         | inr (inr behind) ↦ absurd (omega (arith, l, last, behind))
       ]
@@ -328,8 +355,8 @@ module _ (k i seq : ℕ) (in' : i < 256) (is : 256 * k + i + 1 ≡ seq) where
             absurd (omega (
               arith,
               h,
-              numbers_upto es pages low at x (omega (arith, last)),
-              number es at x (omega (arith, last)) here x,
+              numbers_upto numbered pages low at x (omega (arith, last)),
+              number numbered at x (omega (arith, last)) here x,
             ))
       ]
 
@@ -357,81 +384,88 @@ module _ (k i seq : ℕ) (in' : i < 256) (is : 256 * k + i + 1 ≡ seq) where
         (filled_is d empty (omega (arith, bound, is)) size bound none_low)
 
 -- a sequence of the page at a place
-module _ (es : List Numbered) (at : ℕ) (x : Numbered) (l : at < length es) (here : x ≡ get_or es at x)
-    (pages : All IsPage es) (i seq : ℕ) (in' : i < 256) (is : 256 * x.0 + i + 1 ≡ seq) where
+module _ (numbered : List Numbered) (at : ℕ) (other : Numbered) (l : at < length numbered)
+    (here : other ≡ get_or numbered at other)
+    (pages : All IsPage numbered) (i seq : ℕ) (in' : i < 256) (is : 256 * other.0 + i + 1 ≡ seq) where
   -- the row of a slot that is emptied
-  pub pages_cleared : Rising es
-      → rows_of (set es at (x.0, set x.1 i None)) ≡ remove_entry (at_seq seq) (rows_of es)
+  pub pages_cleared : Rising numbered
+      → rows_of (set numbered at (other.0, set other.1 i None)) ≡ remove_entry (at_seq seq) (rows_of numbered)
   pages_cleared rising =
-      set_rows es at x l here (x.0, set x.1 i None)
+      set_rows numbered at other l here (other.0, set other.1 i None)
       ∙ sym
-      (ap (remove_entry (at_seq seq)) (cut_rows es at x l here)
-      ∙ (remove_right (at_seq seq) (rows_of (take at es)) (page_rows x ++ rows_of (drop (at + 1) es))
-      (missed_all x.0 i seq in' is (take at es) (All-take IsPage at es pages)
-      (λ z d m q. omega (arith, lower es at x l here rising z d m, q)))
-      ∙ ap (λ rows. rows_of (take at es) ++ rows)
-      (remove_left (at_seq seq) (page_rows x) (rows_of (drop (at + 1) es))
-      (missed_all x.0 i seq in' is (drop (at + 1) es) (All-drop IsPage (at + 1) es pages)
-      (λ z d m q. omega (arith, higher es at x l here rising z d m, q)))
-      ∙ ap (λ rows. rows ++ rows_of (drop (at + 1) es)) (sym own))))
+      (ap (remove_entry (at_seq seq)) (cut_rows numbered at other l here)
+      ∙ (remove_right (at_seq seq) (rows_of (take at numbered))
+      (page_rows other ++ rows_of (drop (at + 1) numbered))
+      (missed_all other.0 i seq in' is (take at numbered) (All-take IsPage at numbered pages)
+      (λ z d m q. omega (arith, lower numbered at other l here rising z d m, q)))
+      ∙ ap (λ rows. rows_of (take at numbered) ++ rows)
+      (remove_left (at_seq seq) (page_rows other) (rows_of (drop (at + 1) numbered))
+      (missed_all other.0 i seq in' is (drop (at + 1) numbered) (All-drop IsPage (at + 1) numbered pages)
+      (λ z d m q. omega (arith, higher numbered at other l here rising z d m, q)))
+      ∙ ap (λ rows. rows ++ rows_of (drop (at + 1) numbered)) (sym own))))
     where
-      own : slot_rows (256 * x.0 + 1) (set x.1 i None) ≡ remove_entry (at_seq seq) (page_rows x)
+      own : slot_rows (256 * other.0 + 1) (set other.1 i None) ≡ remove_entry (at_seq seq) (page_rows other)
       own =
-          rows_cleared (256 * x.0 + 1) i x.1
-          ∙ ap (λ m. remove_entry (at_seq m) (page_rows x)) (omega (arith, is))
+          rows_cleared (256 * other.0 + 1) i other.1
+          ∙ ap (λ m. remove_entry (at_seq m) (page_rows other)) (omega (arith, is))
 
   -- a page that has no row may as well be removed
   pub rows_dropped : (w : List (Option ℕ)) → count_by is_some w ≡ 0
-      → rows_of (remove es at) ≡ rows_of (set es at (x.0, w))
+      → rows_of (remove numbered at) ≡ rows_of (set numbered at (other.0, w))
   rows_dropped w none =
-      ap rows_of (left_of es at)
-      ∙ (flat_map-append page_rows (take at es) (drop (at + 1) es)
-      ∙ (ap (λ rows. rows_of (take at es) ++ (rows ++ rows_of (drop (at + 1) es)))
-      (sym (none_live (256 * x.0 + 1) w none))
-      ∙ sym (set_rows es at x l here (x.0, w))))
+      ap rows_of (left_of numbered at)
+      ∙ (flat_map-append page_rows (take at numbered) (drop (at + 1) numbered)
+      ∙ (ap (λ rows. rows_of (take at numbered) ++ (rows ++ rows_of (drop (at + 1) numbered)))
+      (sym (none_live (256 * other.0 + 1) w none))
+      ∙ sym (set_rows numbered at other l here (other.0, w))))
 
   -- a row above all, on the last page
-  module _ (last : length es ≤ at + 1) (low : All (λ (r : ℕ × ℕ). r.0 < seq) (rows_of es)) where
+  module _ (last : length numbered ≤ at + 1) (low : All (λ (r : ℕ × ℕ). r.0 < seq) (rows_of numbered)) where
     nothing_behind : (y : Numbered)
-        → rows_of (take at es) ++ (page_rows y ++ rows_of (drop (at + 1) es))
-        ≡ rows_of (take at es) ++ page_rows y
+        → rows_of (take at numbered) ++ (page_rows y ++ rows_of (drop (at + 1) numbered))
+        ≡ rows_of (take at numbered) ++ page_rows y
     nothing_behind y =
-        ap (λ ys. rows_of (take at es) ++ (page_rows y ++ rows_of ys)) (drop_all (at + 1) es last)
-        ∙ ap (λ rows. rows_of (take at es) ++ rows) (append-nil (page_rows y))
+        ap (λ ys. rows_of (take at numbered) ++ (page_rows y ++ rows_of ys)) (drop_all (at + 1) numbered last)
+        ∙ ap (λ rows. rows_of (take at numbered) ++ rows) (append-nil (page_rows y))
 
-    own_low : All (λ (r : ℕ × ℕ). r.0 < seq) (page_rows x)
+    own_low : All (λ (r : ℕ × ℕ). r.0 < seq) (page_rows other)
     own_low =
-        All_back (λ (r : ℕ × ℕ). r.0 < seq) (rows_of (take at es)) (page_rows x)
-        (subst (All (λ (r : ℕ × ℕ). r.0 < seq)) (cut_rows es at x l here ∙ nothing_behind x) low)
+        All_back (λ (r : ℕ × ℕ). r.0 < seq) (rows_of (take at numbered)) (page_rows other)
+        (subst (All (λ (r : ℕ × ℕ). r.0 < seq))
+        (cut_rows numbered at other l here ∙ nothing_behind other) low)
 
-    pub pages_filled : (d : ℕ) → rows_of (set es at (x.0, set x.1 i (Some d))) ≡ rows_of es ++ (seq, d) ∷ []
+    pub pages_filled : (d : ℕ)
+        → rows_of (set numbered at (other.0, set other.1 i (Some d))) ≡ rows_of numbered ++ (seq, d) ∷ []
     pages_filled d =
-        set_rows es at x l here (x.0, set x.1 i (Some d))
-        ∙ (nothing_behind (x.0, set x.1 i (Some d))
-        ∙ (ap (λ rows. rows_of (take at es) ++ rows)
-        (slots_filled x.0 i seq in' is d x.1 (is_page es at x l here pages).size own_low)
-        ∙ (sym (append_assoc (rows_of (take at es)) (page_rows x) ((seq, d) ∷ []))
-        ∙ ap (λ rows. rows ++ (seq, d) ∷ []) (sym (cut_rows es at x l here ∙ nothing_behind x)))))
+        set_rows numbered at other l here (other.0, set other.1 i (Some d))
+        ∙ (nothing_behind (other.0, set other.1 i (Some d))
+        ∙ (ap (λ rows. rows_of (take at numbered) ++ rows)
+        (slots_filled other.0 i seq in' is d other.1 (is_page numbered at other l here pages).size own_low)
+        ∙ (sym (append_assoc (rows_of (take at numbered)) (page_rows other) ((seq, d) ∷ []))
+        ∙ ap (λ rows. rows ++ (seq, d) ∷ [])
+        (sym (cut_rows numbered at other l here ∙ nothing_behind other)))))
 
-    pub pages_filled_are : (d : ℕ) → seq < 2 ^ 64 → All IsPage (set es at (x.0, set x.1 i (Some d)))
+    pub pages_filled_are : (d : ℕ) → seq < 2 ^ 64
+        → All IsPage (set numbered at (other.0, set other.1 i (Some d)))
     pages_filled_are d bound =
-        let page = is_page es at x l here pages in
-        All-set IsPage es at (x.0, set x.1 i (Some d))
-        (filled_is x.0 i seq in' is d x.1 page.low page.size bound own_low) pages
+        let page = is_page numbered at other l here pages in
+        All-set IsPage numbered at (other.0, set other.1 i (Some d))
+        (filled_is other.0 i seq in' is d other.1 page.low page.size bound own_low) pages
 
 -- rows that pass a test, where those of the pages before a place or behind it do not
 module _ (p : ℕ × ℕ → Bool) where
-  none_pass : (rows : List (ℕ × ℕ)) → All (λ r. p r ≡ false) rows → filter p rows ≡ []
+  none_pass : (rows : List (ℕ × ℕ)) → All (λ row. p row ≡ false) rows → filter p rows ≡ []
   none_pass [] all = refl
-  none_pass (r ∷ rows) all =
-      rw (all 0 r (omega arith)) (none_pass rows (All-tail (λ r. p r ≡ false) r rows all))
+  none_pass (row ∷ rows) all =
+      rw (all 0 row (omega arith)) (none_pass rows (All-tail (λ row. p row ≡ false) row rows all))
 
-  rows_parted : (es : List Numbered) (at : ℕ)
-      → filter p (rows_of es) ≡ filter p (rows_of (take at es)) ++ filter p (rows_of (drop at es))
-  rows_parted es at =
-      ap (λ ys. filter p (rows_of ys)) (sym (take-append-drop at es))
-      ∙ (ap (filter p) (flat_map-append page_rows (take at es) (drop at es))
-      ∙ filter-append p (rows_of (take at es)) (rows_of (drop at es)))
+  rows_parted : (numbered : List Numbered) (at : ℕ)
+      → filter p (rows_of numbered) ≡ filter p (rows_of (take at numbered))
+      ++ filter p (rows_of (drop at numbered))
+  rows_parted numbered at =
+      ap (λ ys. filter p (rows_of ys)) (sym (take-append-drop at numbered))
+      ∙ (ap (filter p) (flat_map-append page_rows (take at numbered) (drop at numbered))
+      ∙ filter-append p (rows_of (take at numbered)) (rows_of (drop at numbered)))
 
 module _ {X : Type 0} (p : X → Bool) (xs ys : List X) (same : filter p xs ≡ filter p ys) where
   -- what passes is the same, so the first of it is
@@ -453,68 +487,76 @@ find_reverse_same p xs ys same =
     (filter_reverse p xs ∙ (ap reverse same ∙ sym (filter_reverse p ys)))
 
 -- pages from a number on have all rows above a place of that number's page
-pub from_page : (place at : ℕ) (es : List Numbered) → All IsPage es → at ≤ length es
-    → AllWithin (λ (e : Numbered). e.0 < place / 256) es 0 at
-    → filter (λ (r : ℕ × ℕ). nat_lt place r.0) (rows_of es)
-    ≡ filter (λ (r : ℕ × ℕ). nat_lt place r.0) (rows_of (drop at es))
-from_page place at es pages fits low =
-    rows_parted (λ (r : ℕ × ℕ). nat_lt place r.0) es at
-    ∙ ap (λ rows. rows ++ filter (λ (r : ℕ × ℕ). nat_lt place r.0) (rows_of (drop at es)))
-    (none_pass (λ (r : ℕ × ℕ). nat_lt place r.0) (rows_of (take at es))
-    (All_rows (λ (r : ℕ × ℕ). nat_lt place r.0 ≡ false) (take at es)
-    (λ z d m. early (get_or (take at es) z d) (All-take IsPage at es pages z d m) (before z d m))))
+pub from_page : (place at : ℕ) (numbered : List Numbered) → All IsPage numbered → at ≤ length numbered
+    → AllWithin (λ (other : Numbered). other.0 < place / 256) numbered 0 at
+    → filter (λ (row : ℕ × ℕ). nat_lt place row.0) (rows_of numbered)
+    ≡ filter (λ (row : ℕ × ℕ). nat_lt place row.0) (rows_of (drop at numbered))
+from_page place at numbered pages fits low =
+    rows_parted (λ (row : ℕ × ℕ). nat_lt place row.0) numbered at
+    ∙ ap (λ rows. rows ++ filter (λ (row : ℕ × ℕ). nat_lt place row.0) (rows_of (drop at numbered)))
+    (none_pass (λ (row : ℕ × ℕ). nat_lt place row.0) (rows_of (take at numbered))
+    (All_rows (λ (row : ℕ × ℕ). nat_lt place row.0 ≡ false) (take at numbered)
+    (λ z d m. early (get_or (take at numbered) z d) (All-take IsPage at numbered pages z d m)
+    (before z d m))))
   where
-    before : All (λ (e : Numbered). e.0 < place / 256) (take at es)
+    before : All (λ (other : Numbered). other.0 < place / 256) (take at numbered)
     before z d m =
-        let below : z < at = omega (arith, length-take-le at es fits, m) in
-        omega (arith, low z d (omega arith) below, ap (λ (e : Numbered). e.0) (get_or-take at es z d below))
+        let below : z < at = omega (arith, length-take-le at numbered fits, m) in
+        omega (
+          arith,
+          low z d (omega arith) below,
+          ap (λ (other : Numbered). other.0) (get_or-take at numbered z d below),
+        )
 
-    early : (e : Numbered) → IsPage e → e.0 < place / 256
-        → All (λ (r : ℕ × ℕ). nat_lt place r.0 ≡ false) (page_rows e)
-    early e page low z d l = le-ltb place _ (omega (arith, (page_within e page.size z d l).1, low))
+    early : (other : Numbered) → IsPage other → other.0 < place / 256
+        → All (λ (row : ℕ × ℕ). nat_lt place row.0 ≡ false) (page_rows other)
+    early other page low z d l = le-ltb place _ (omega (arith, (page_within other page.size z d l).1, low))
 
 -- pages up to a number have all rows below a place of that number's page
-pub upto_page : (place at : ℕ) (es : List Numbered) → All IsPage es → at ≤ length es
-    → AllWithin (λ (e : Numbered). place / 256 + 1 ≤ e.0) es at (length es)
-    → filter (λ (r : ℕ × ℕ). nat_lt r.0 place) (rows_of es)
-    ≡ filter (λ (r : ℕ × ℕ). nat_lt r.0 place) (rows_of (take at es))
-upto_page place at es pages fits high =
-    rows_parted (λ (r : ℕ × ℕ). nat_lt r.0 place) es at
-    ∙ (ap (λ rows. filter (λ (r : ℕ × ℕ). nat_lt r.0 place) (rows_of (take at es)) ++ rows)
-    (none_pass (λ (r : ℕ × ℕ). nat_lt r.0 place) (rows_of (drop at es))
-    (All_rows (λ (r : ℕ × ℕ). nat_lt r.0 place ≡ false) (drop at es)
-    (λ z d m. late (get_or (drop at es) z d) (All-drop IsPage at es pages z d m) (behind z d m))))
-    ∙ append-nil (filter (λ (r : ℕ × ℕ). nat_lt r.0 place) (rows_of (take at es))))
+pub upto_page : (place at : ℕ) (numbered : List Numbered) → All IsPage numbered → at ≤ length numbered
+    → AllWithin (λ (other : Numbered). place / 256 + 1 ≤ other.0) numbered at (length numbered)
+    → filter (λ (row : ℕ × ℕ). nat_lt row.0 place) (rows_of numbered)
+    ≡ filter (λ (row : ℕ × ℕ). nat_lt row.0 place) (rows_of (take at numbered))
+upto_page place at numbered pages fits high =
+    rows_parted (λ (row : ℕ × ℕ). nat_lt row.0 place) numbered at
+    ∙ (ap (λ rows. filter (λ (row : ℕ × ℕ). nat_lt row.0 place) (rows_of (take at numbered)) ++ rows)
+    (none_pass (λ (row : ℕ × ℕ). nat_lt row.0 place) (rows_of (drop at numbered))
+    (All_rows (λ (row : ℕ × ℕ). nat_lt row.0 place ≡ false) (drop at numbered)
+    (λ z d m. late (get_or (drop at numbered) z d) (All-drop IsPage at numbered pages z d m) (behind z d m))))
+    ∙ append-nil (filter (λ (row : ℕ × ℕ). nat_lt row.0 place) (rows_of (take at numbered))))
   where
-    behind : All (λ (e : Numbered). place / 256 < e.0) (drop at es)
+    behind : All (λ (other : Numbered). place / 256 < other.0) (drop at numbered)
     behind z d m = omega (
       arith,
-      high (at + z) d (omega arith) (omega (arith, length-drop at es, m)),
-      ap (λ (e : Numbered). e.0) (get_or-drop at es z d),
+      high (at + z) d (omega arith) (omega (arith, length-drop at numbered, m)),
+      ap (λ (other : Numbered). other.0) (get_or-drop at numbered z d),
     )
 
-    late : (e : Numbered) → IsPage e → place / 256 < e.0
-        → All (λ (r : ℕ × ℕ). nat_lt r.0 place ≡ false) (page_rows e)
-    late e page high z d l = le-ltb _ place (omega (arith, (page_within e page.size z d l).0, high))
+    late : (other : Numbered) → IsPage other → place / 256 < other.0
+        → All (λ (row : ℕ × ℕ). nat_lt row.0 place ≡ false) (page_rows other)
+    late other page high z d l = le-ltb _ place (omega (arith, (page_within other page.size z d l).0, high))
 
 -- rising rows below a number are fewer than it
-pub few : (n m : ℕ) (rows : List (ℕ × ℕ)) → AllPairs (λ (a b : ℕ × ℕ). a.0 < b.0) rows
-    → All (λ (r : ℕ × ℕ). n < r.0) rows → All (λ (r : ℕ × ℕ). r.0 < m) rows → n < m → n + length rows < m
+pub few : (n m : ℕ) (rows : List (ℕ × ℕ))
+    → AllPairs (λ (other_row third_row : ℕ × ℕ). other_row.0 < third_row.0) rows
+    → All (λ (row : ℕ × ℕ). n < row.0) rows → All (λ (row : ℕ × ℕ). row.0 < m) rows → n < m
+    → n + length rows < m
 few n m [] rising low high l = omega arith
-few n m (r ∷ rows) rising low high l =
+few n m (row ∷ rows) rising low high l =
     omega (
       arith,
-      low 0 r (omega arith),
-      few r.0 m rows (of_tail (λ (a b : ℕ × ℕ). a.0 < b.0) r rows rising)
-          (of_head (λ (a b : ℕ × ℕ). a.0 < b.0) r rows rising) (All-tail (λ (r : ℕ × ℕ). r.0 < m) r rows high)
-          (high 0 r (omega arith)),
+      low 0 row (omega arith),
+      few row.0 m rows (of_tail (λ (other_row third_row : ℕ × ℕ). other_row.0 < third_row.0) row rows rising)
+          (of_head (λ (other_row third_row : ℕ × ℕ). other_row.0 < third_row.0) row rows rising)
+          (All-tail (λ (row : ℕ × ℕ). row.0 < m) row rows high)
+          (high 0 row (omega arith)),
     )
 
-pub few_rows : (es : List Numbered) → ArePages es → length (rows_of es) < 2 ^ 64
-few_rows es pages = omega (
+pub few_rows : (numbered : List Numbered) → ArePages numbered → length (rows_of numbered) < 2 ^ 64
+few_rows numbered pages = omega (
   arith,
-  few 0 (2 ^ 64) (rows_of es) pages.index.rising pages.index.positive
-      (All_rows (λ (r : ℕ × ℕ). r.0 < 2 ^ 64) es (λ z d l. (pages.each z d l).fits)) (omega arith),
+  few 0 (2 ^ 64) (rows_of numbered) pages.index.rising pages.index.positive
+      (All_rows (λ (row : ℕ × ℕ). row.0 < 2 ^ 64) numbered (λ z d l. (pages.each z d l).fits)) (omega arith),
 )
 
 -- numbers that are all the same, before others that are not
@@ -530,110 +572,126 @@ one_kind k x (y ∷ ys) rest all out =
     ∙ one_kind k y ys rest (All-tail (λ z. z ≡ k) x (y ∷ ys) all) out
 
 -- an index has as many pages as its rows lie on
-pub pages_counted : (es : List Numbered) → Rising es → All IsPage es → page_count (rows_of es) ≡ length es
-pages_counted es rising pages = ap length (numbers es rising pages) ∙ length-map es (λ (e : Numbered). e.0)
+pub pages_counted : (numbered : List Numbered) → Rising numbered → All IsPage numbered
+    → page_count (rows_of numbered) ≡ length numbered
+pages_counted numbered rising pages =
+    ap length (numbers numbered rising pages) ∙ length-map numbered (λ (other : Numbered). other.0)
   where
-    outside : (k : ℕ) (rows : List (ℕ × ℕ)) → All (λ (r : ℕ × ℕ). k < page_of r.0) rows
-        → is_member nat_eq (map (λ (r : ℕ × ℕ). page_of r.0) rows) k ≡ false
+    outside : (k : ℕ) (rows : List (ℕ × ℕ)) → All (λ (row : ℕ × ℕ). k < page_of row.0) rows
+        → is_member nat_eq (map (λ (row : ℕ × ℕ). page_of row.0) rows) k ≡ false
     outside k [] all = refl
-    outside k (r ∷ rows) all =
-        ap (λ b. b || list_any (nat_eq k) (map (λ (r : ℕ × ℕ). page_of r.0) rows))
-        (ne_eqb k (page_of r.0) (λ e. omega (arith, all 0 r (omega arith), e)))
-        ∙ outside k rows (All-tail (λ (r : ℕ × ℕ). k < page_of r.0) r rows all)
+    outside k (row ∷ rows) all =
+        ap (λ b. b || list_any (nat_eq k) (map (λ (row : ℕ × ℕ). page_of row.0) rows))
+        (ne_eqb k (page_of row.0) (λ other. omega (arith, all 0 row (omega arith), other)))
+        ∙ outside k rows (All-tail (λ (row : ℕ × ℕ). k < page_of row.0) row rows all)
 
-    page_is : (e : Numbered) → IsPage e → All (λ (r : ℕ × ℕ). page_of r.0 ≡ e.0) (page_rows e)
-    page_is e page z d l = let w = page_within e page.size z d l in omega (arith, w.0, w.1)
+    page_is : (other : Numbered) → IsPage other
+        → All (λ (row : ℕ × ℕ). page_of row.0 ≡ other.0) (page_rows other)
+    page_is other page z d l = let w = page_within other page.size z d l in omega (arith, w.0, w.1)
 
-    higher : (k : ℕ) (es : List Numbered) → All IsPage es → All (λ (e : Numbered). k < e.0) es
-        → All (λ (r : ℕ × ℕ). k < page_of r.0) (rows_of es)
-    higher k es pages all =
-        All_rows (λ (r : ℕ × ℕ). k < page_of r.0) es
-        (λ z d l y c m. omega (arith, all z d l, page_is (get_or es z d) (pages z d l) y c m))
+    higher : (k : ℕ) (numbered : List Numbered) → All IsPage numbered
+        → All (λ (other : Numbered). k < other.0) numbered
+        → All (λ (row : ℕ × ℕ). k < page_of row.0) (rows_of numbered)
+    higher k numbered pages all =
+        All_rows (λ (row : ℕ × ℕ). k < page_of row.0) numbered
+        (λ z d l y c m. omega (arith, all z d l, page_is (get_or numbered z d) (pages z d l) y c m))
 
     first : (k : ℕ) (rows : List (ℕ × ℕ)) (rest : List ℕ)
-        → ((r : ℕ × ℕ) × (others : List (ℕ × ℕ)) × (rows ≡ r ∷ others))
-        → All (λ (r : ℕ × ℕ). page_of r.0 ≡ k) rows → is_member nat_eq rest k ≡ false
-        → unique_keys nat_eq (map (λ (r : ℕ × ℕ). page_of r.0) rows ++ rest) ≡ k ∷ unique_keys nat_eq rest
-    first k rows rest (r, others, e) all out =
-        ap (λ rows. unique_keys nat_eq (map (λ (r : ℕ × ℕ). page_of r.0) rows ++ rest)) e
-        ∙ one_kind k (page_of r.0) (map (λ (r : ℕ × ℕ). page_of r.0) others) rest
-        (All-map (λ n. n ≡ k) (λ (r : ℕ × ℕ). page_of r.0) (r ∷ others)
-        (subst (All (λ (r : ℕ × ℕ). page_of r.0 ≡ k)) e all)) out
+        → ((row : ℕ × ℕ) × (others : List (ℕ × ℕ)) × (rows ≡ row ∷ others))
+        → All (λ (row : ℕ × ℕ). page_of row.0 ≡ k) rows → is_member nat_eq rest k ≡ false
+        → unique_keys nat_eq (map (λ (row : ℕ × ℕ). page_of row.0) rows ++ rest) ≡ k ∷ unique_keys nat_eq rest
+    first k rows rest (row, others, other) all out =
+        ap (λ rows. unique_keys nat_eq (map (λ (row : ℕ × ℕ). page_of row.0) rows ++ rest)) other
+        ∙ one_kind k (page_of row.0) (map (λ (row : ℕ × ℕ). page_of row.0) others) rest
+        (All-map (λ n. n ≡ k) (λ (row : ℕ × ℕ). page_of row.0) (row ∷ others)
+        (subst (All (λ (row : ℕ × ℕ). page_of row.0 ≡ k)) other all)) out
 
-    numbers : (es : List Numbered) → Rising es → All IsPage es
-        → unique_keys nat_eq (map (λ (r : ℕ × ℕ). page_of r.0) (rows_of es)) ≡ map (λ (e : Numbered). e.0) es
+    numbers : (numbered : List Numbered) → Rising numbered → All IsPage numbered
+        → unique_keys nat_eq (map (λ (row : ℕ × ℕ). page_of row.0) (rows_of numbered)) ≡ map
+        (λ (other : Numbered). other.0) numbered
     numbers [] rising pages = refl
-    numbers (e ∷ es) rising pages =
-        ap (unique_keys nat_eq) (map-append (λ (r : ℕ × ℕ). page_of r.0) (page_rows e) (rows_of es))
-        ∙ (first e.0 (page_rows e) (map (λ (r : ℕ × ℕ). page_of r.0) (rows_of es))
-        (page_has e (pages 0 e (omega arith))) (page_is e (pages 0 e (omega arith)))
-        (outside e.0 (rows_of es)
-        (higher e.0 es (All-tail IsPage e es pages) (of_head (λ (a b : Numbered). a.0 < b.0) e es rising)))
-        ∙ ap (λ ns. e.0 ∷ ns)
-        (numbers es (of_tail (λ (a b : Numbered). a.0 < b.0) e es rising) (All-tail IsPage e es pages)))
+    numbers (other ∷ numbered) rising pages =
+        ap (unique_keys nat_eq) (map-append (λ (row : ℕ × ℕ). page_of row.0) (page_rows other)
+        (rows_of numbered))
+        ∙ (first other.0 (page_rows other) (map (λ (row : ℕ × ℕ). page_of row.0) (rows_of numbered))
+        (page_has other (pages 0 other (omega arith))) (page_is other (pages 0 other (omega arith)))
+        (outside other.0 (rows_of numbered)
+        (higher other.0 numbered (All-tail IsPage other numbered pages)
+        (of_head (λ (a b : Numbered). a.0 < b.0) other numbered rising))) ∙ ap (λ ns. other.0 ∷ ns)
+        (numbers numbered (of_tail (λ (a b : Numbered). a.0 < b.0) other numbered rising)
+        (All-tail IsPage other numbered pages)))
 
-module _ (p : ℕ × ℕ → Bool) (e : Numbered) (es : List Numbered) where
+module _ (p : ℕ × ℕ → Bool) (numbered : Numbered) (others : List Numbered) where
   -- what is found on the first page, or behind it
-  pub found_first : (r : ℕ × ℕ) → Some r ≡ find p (page_rows e) → find p (rows_of (e ∷ es)) ≡ Some r
-  found_first r h =
-      find-append p (page_rows e) (rows_of es) ∙ ap (λ o. option_or o (find p (rows_of es))) (sym h)
+  pub found_first : (row : ℕ × ℕ) → Some row ≡ find p (page_rows numbered)
+      → find p (rows_of (numbered ∷ others)) ≡ Some row
+  found_first row h =
+      find-append p (page_rows numbered) (rows_of others)
+      ∙ ap (λ o. option_or o (find p (rows_of others))) (sym h)
 
-  pub found_later : None ≡ find p (page_rows e) → find p (rows_of (e ∷ es)) ≡ find p (rows_of es)
+  pub found_later : None ≡ find p (page_rows numbered)
+      → find p (rows_of (numbered ∷ others)) ≡ find p (rows_of others)
   found_later h =
-      find-append p (page_rows e) (rows_of es) ∙ ap (λ o. option_or o (find p (rows_of es))) (sym h)
+      find-append p (page_rows numbered) (rows_of others)
+      ∙ ap (λ o. option_or o (find p (rows_of others))) (sym h)
 
   -- the same from the last page on
-  from_last : find p (reverse (rows_of (es ++ e ∷ [])))
-      ≡ option_or (find p (reverse (page_rows e))) (find p (reverse (rows_of es)))
+  from_last : find p (reverse (rows_of (others ++ numbered ∷ [])))
+      ≡ option_or (find p (reverse (page_rows numbered))) (find p (reverse (rows_of others)))
   from_last =
       ap (λ rows. find p (reverse rows))
-      (flat_map-append page_rows es (e ∷ []) ∙ ap (λ rows. rows_of es ++ rows) (append-nil (page_rows e)))
-      ∙ (ap (find p) (reverse-append (rows_of es) (page_rows e))
-      ∙ find-append p (reverse (page_rows e)) (reverse (rows_of es)))
+      (flat_map-append page_rows others (numbered ∷ [])
+      ∙ ap (λ rows. rows_of others ++ rows) (append-nil (page_rows numbered)))
+      ∙ (ap (find p) (reverse-append (rows_of others) (page_rows numbered))
+      ∙ find-append p (reverse (page_rows numbered)) (reverse (rows_of others)))
 
-  pub found_last : (r : ℕ × ℕ) → Some r ≡ find p (reverse (page_rows e))
-      → find p (reverse (rows_of (es ++ e ∷ []))) ≡ Some r
-  found_last r h = from_last ∙ ap (λ o. option_or o (find p (reverse (rows_of es)))) (sym h)
+  pub found_last : (row : ℕ × ℕ) → Some row ≡ find p (reverse (page_rows numbered))
+      → find p (reverse (rows_of (others ++ numbered ∷ []))) ≡ Some row
+  found_last row h = from_last ∙ ap (λ o. option_or o (find p (reverse (rows_of others)))) (sym h)
 
-  pub found_before : None ≡ find p (reverse (page_rows e))
-      → find p (reverse (rows_of (es ++ e ∷ []))) ≡ find p (reverse (rows_of es))
-  found_before h = from_last ∙ ap (λ o. option_or o (find p (reverse (rows_of es)))) (sym h)
+  pub found_before : None ≡ find p (reverse (page_rows numbered))
+      → find p (reverse (rows_of (others ++ numbered ∷ []))) ≡ find p (reverse (rows_of others))
+  found_before h = from_last ∙ ap (λ o. option_or o (find p (reverse (rows_of others)))) (sym h)
 
-  pub counted_first : count_by p (rows_of (e ∷ es)) ≡ count_by p (page_rows e) + count_by p (rows_of es)
-  counted_first = sum_by-append (λ r. cond (p r) 1 0) (page_rows e) (rows_of es)
+  pub counted_first : count_by p (rows_of (numbered ∷ others)) ≡ count_by p (page_rows numbered) + count_by p
+      (rows_of others)
+  counted_first = sum_by-append (λ r. cond (p r) 1 0) (page_rows numbered) (rows_of others)
 
 -- ---- rows without one
 
 -- the rows of an index without that at a sequence
-pub removed_is : (seq : ℕ) (rows : List (ℕ × ℕ)) → AllPairs (λ (a b : ℕ × ℕ). a.0 < b.0) rows
+pub removed_is : (seq : ℕ) (rows : List (ℕ × ℕ))
+    → AllPairs (λ (other_row third_row : ℕ × ℕ). other_row.0 < third_row.0) rows
     → remove_entry (at_seq seq) rows ≡ filter (λ (r : ℕ × ℕ). not (nat_eq r.0 seq)) rows
 removed_is seq [] rising = refl
-removed_is seq (x ∷ xs) rising =
-    let rest = of_tail (λ (a b : ℕ × ℕ). a.0 < b.0) x xs rising in
-    elim (cases_Bool (nat_eq x.0 seq)) [
+removed_is seq (row ∷ xs) rising =
+    let rest = of_tail (λ (other_row third_row : ℕ × ℕ). other_row.0 < third_row.0) row xs rising in
+    elim (cases_Bool (nat_eq row.0 seq)) [
       | inl t ↦
-          ap (λ b. cond b xs (x ∷ remove_entry (at_seq seq) xs)) (is_at_same seq x.0 (eqb-true x.0 seq t))
-          ∙ (sym (filter_keeps (λ (r : ℕ × ℕ). not (nat_eq r.0 seq)) xs (others (eqb-true x.0 seq t)))
-          ∙ ap (λ b. cond (not b) (x ∷ filter (λ (r : ℕ × ℕ). not (nat_eq r.0 seq)) xs)
+          ap (λ third_row. cond third_row xs (row ∷ remove_entry (at_seq seq) xs))
+          (is_at_same seq row.0 (eqb-true row.0 seq t))
+          ∙ (sym (filter_keeps (λ (r : ℕ × ℕ). not (nat_eq r.0 seq)) xs (others (eqb-true row.0 seq t)))
+          ∙ ap (λ third_row. cond (not third_row) (row ∷ filter (λ (r : ℕ × ℕ). not (nat_eq r.0 seq)) xs)
           (filter (λ (r : ℕ × ℕ). not (nat_eq r.0 seq)) xs)) (sym t))
       | inr f ↦
-          ap (λ b. cond b xs (x ∷ remove_entry (at_seq seq) xs))
-          (false_from_ne_true (at_seq seq x.0)
-          (λ h. both_ways (nat_eq x.0 seq) f (eq-eqb x.0 seq (at_is seq x.0 h))))
-          ∙ (ap (λ l. x ∷ l) (removed_is seq xs rest)
-          ∙ ap (λ b. cond (not b) (x ∷ filter (λ (r : ℕ × ℕ). not (nat_eq r.0 seq)) xs)
+          ap (λ third_row. cond third_row xs (row ∷ remove_entry (at_seq seq) xs))
+          (false_from_ne_true (at_seq seq row.0)
+          (λ h. both_ways (nat_eq row.0 seq) f (eq-eqb row.0 seq (at_is seq row.0 h))))
+          ∙ (ap (λ l. row ∷ l) (removed_is seq xs rest)
+          ∙ ap (λ third_row. cond (not third_row) (row ∷ filter (λ (r : ℕ × ℕ). not (nat_eq r.0 seq)) xs)
           (filter (λ (r : ℕ × ℕ). not (nat_eq r.0 seq)) xs)) (sym f))
     ]
   where
-    others : x.0 ≡ seq → All (λ (r : ℕ × ℕ). not (nat_eq r.0 seq) ≡ true) xs
+    others : row.0 ≡ seq → All (λ (r : ℕ × ℕ). not (nat_eq r.0 seq) ≡ true) xs
     others e k d l =
         ap not
         (ne_eqb (get_or xs k d).0 seq (λ q.
-        let above = of_head (λ (a b : ℕ × ℕ). a.0 < b.0) x xs rising k d l in omega (arith, e, q, above)))
+        let above = of_head (λ (other_row third_row : ℕ × ℕ). other_row.0 < third_row.0) row xs rising k d l
+        in omega (arith, e, q, above)))
 
 pub index_less : (p : ℕ × ℕ → Bool) (rows : List (ℕ × ℕ)) → IsIndex rows → IsIndex (filter p rows)
 index_less p rows index = record {
-  rising = AllPairs-filter (λ (a b : ℕ × ℕ). a.0 < b.0) p rows index.rising;
-  once = AllPairs-filter (λ (a b : ℕ × ℕ). a.1 ≢ b.1) p rows index.once;
-  positive = All-filter p (λ (r : ℕ × ℕ). 0 < r.0) rows index.positive;
+  rising = AllPairs-filter (λ (row other_row : ℕ × ℕ). row.0 < other_row.0) p rows index.rising;
+  once = AllPairs-filter (λ (row other_row : ℕ × ℕ). row.1 ≢ other_row.1) p rows index.once;
+  positive = All-filter p (λ (third_row : ℕ × ℕ). 0 < third_row.0) rows index.positive;
 }

@@ -32,17 +32,17 @@ rows_append n (Some d ∷ xs) ys =
 
 -- where the sequences of rows lie
 pub rows_within : (n : ℕ) (s : List (Option ℕ))
-    → All (λ (r : ℕ × ℕ). (n ≤ r.0) × (r.0 < n + length s)) (slot_rows n s)
-rows_within n [] = All-nil (λ (r : ℕ × ℕ). (n ≤ r.0) × (r.0 < n + length {A = Option ℕ} []))
+    → All (λ (row : ℕ × ℕ). (n ≤ row.0) × (row.0 < n + length s)) (slot_rows n s)
+rows_within n [] = All-nil (λ (row : ℕ × ℕ). (n ≤ row.0) × (row.0 < n + length {A = Option ℕ} []))
 rows_within n (None ∷ s) =
     λ k d l. let w = rows_within (n + 1) s k d l in (omega (arith, w.0), omega (arith, w.1))
 rows_within n (Some v ∷ s) =
-    All-cons (λ (r : ℕ × ℕ). (n ≤ r.0) × (r.0 < n + length (Some v ∷ s))) (n, v) (slot_rows (n + 1) s)
+    All-cons (λ (row : ℕ × ℕ). (n ≤ row.0) × (row.0 < n + length (Some v ∷ s))) (n, v) (slot_rows (n + 1) s)
     (omega arith, omega arith)
     (λ k d l. let w = rows_within (n + 1) s k d l in (omega (arith, w.0), omega (arith, w.1)))
 
 -- rows below the slots' own
-pub no_rows : (m n : ℕ) (s : List (Option ℕ)) → n ≤ m → All (λ (r : ℕ × ℕ). r.0 < n) (slot_rows m s)
+pub no_rows : (m n : ℕ) (s : List (Option ℕ)) → n ≤ m → All (λ (row : ℕ × ℕ). row.0 < n) (slot_rows m s)
     → slot_rows m s ≡ []
 no_rows m n [] l all = refl
 no_rows m n (None ∷ s) l all = no_rows (m + 1) n s (omega arith) all
@@ -50,7 +50,7 @@ no_rows m n (Some d ∷ s) l all = absurd (omega (arith, all 0 (m, d) (omega ari
 
 -- rows moved by the same number
 pub rows_shift : (b n : ℕ) (s : List (Option ℕ))
-    → slot_rows (b + n) s ≡ map (λ (r : ℕ × ℕ). (b + r.0, r.1)) (slot_rows n s)
+    → slot_rows (b + n) s ≡ map (λ (row : ℕ × ℕ). (b + row.0, row.1)) (slot_rows n s)
 rows_shift b n [] = refl
 rows_shift b n (None ∷ s) = ap (λ m. slot_rows m s) (omega arith) ∙ rows_shift b (n + 1) s
 rows_shift b n (Some d ∷ s) =
@@ -98,9 +98,9 @@ module _ {X : Type 0} (p : X → Bool) where
 
 -- the first row from a slot on
 pub from_slot : (m n i : ℕ) (s : List (Option ℕ)) → n + i ≡ m
-    → find (λ (r : ℕ × ℕ). nat_le m r.0) (slot_rows n s)
-    ≡ find (λ (r : ℕ × ℕ). nat_le m r.0) (slot_rows m (drop i s))
-from_slot m n zero s e = ap (λ k. find (λ (r : ℕ × ℕ). nat_le m r.0) (slot_rows k s)) (omega (arith, e))
+    → find (λ (row : ℕ × ℕ). nat_le m row.0) (slot_rows n s)
+    ≡ find (λ (row : ℕ × ℕ). nat_le m row.0) (slot_rows m (drop i s))
+from_slot m n zero s e = ap (λ k. find (λ (row : ℕ × ℕ). nat_le m row.0) (slot_rows k s)) (omega (arith, e))
 from_slot m n (suc i) [] e = refl
 from_slot m n (suc i) (None ∷ s) e = from_slot m (n + 1) i s (omega (arith, e))
 from_slot m n (suc i) (Some d ∷ s) e =
@@ -134,10 +134,10 @@ module _ (s : List (Option ℕ)) (at : ℕ) (in' : at < length s) where
 
 -- the last row below a slot
 pub below_slot : (e m : ℕ) (s : List (Option ℕ)) → m ≤ length s → (m ≡ e) ⊎ (length s ≤ m)
-    → find (λ (r : ℕ × ℕ). nat_lt r.0 e) (reverse (slot_rows 0 s))
-    ≡ find (λ (r : ℕ × ℕ). nat_lt r.0 e) (reverse (slot_rows 0 (take m s)))
+    → find (λ (row : ℕ × ℕ). nat_lt row.0 e) (reverse (slot_rows 0 s))
+    ≡ find (λ (row : ℕ × ℕ). nat_lt row.0 e) (reverse (slot_rows 0 (take m s)))
 below_slot e m s l (inr h) =
-    ap (λ t. find (λ (r : ℕ × ℕ). nat_lt r.0 e) (reverse (slot_rows 0 t))) (sym (take_all m s h))
+    ap (λ t. find (λ (row : ℕ × ℕ). nat_lt row.0 e) (reverse (slot_rows 0 t))) (sym (take_all m s h))
 below_slot e m s l (inl q) =
     ap (λ t. find p (reverse (slot_rows 0 t))) (sym (take-append-drop m s))
     ∙ (ap (λ rows. find p (reverse rows)) (rows_append 0 (take m s) (drop m s))
@@ -148,7 +148,7 @@ below_slot e m s l (inl q) =
     (omega (arith, q, length-take-le m s l, (rows_within (0 + length (take m s)) (drop m s) k d g).0)))))))
   where
     p : ℕ × ℕ → Bool
-    p r = nat_lt r.0 e
+    p row = nat_lt row.0 e
 
     later : List (ℕ × ℕ)
     later = slot_rows (0 + length (take m s)) (drop m s)
@@ -157,7 +157,7 @@ below_slot e m s l (inl q) =
 module _ (base : ℕ) where
   -- a slot's row
   abbrev pub row_at : ℕ × ℕ → ℕ × ℕ
-  row_at r = (base + 1 + r.0, r.1)
+  row_at row = (base + 1 + row.0, row.1)
 
   behind : (s : List (Option ℕ)) → slot_rows (base + 1) s ≡ map row_at (slot_rows 0 s)
   behind s = ap (λ m. slot_rows m s) (omega arith) ∙ rows_shift (base + 1) 0 s
@@ -178,23 +178,24 @@ module _ (base : ℕ) where
 
   -- the first row above a place is that of the first slot from the place on
   pub first_row : (place : ℕ) (s : List (Option ℕ))
-      → find (λ (r : ℕ × ℕ). nat_lt place r.0) (slot_rows (base + 1) s)
-      ≡ option_map row_at (find (λ (r : ℕ × ℕ). nat_le (place - base) r.0) (slot_rows 0 s))
+      → find (λ (row : ℕ × ℕ). nat_lt place row.0) (slot_rows (base + 1) s)
+      ≡ option_map row_at (find (λ (row : ℕ × ℕ). nat_le (place - base) row.0) (slot_rows 0 s))
   first_row place s =
-      ap (find (λ (r : ℕ × ℕ). nat_lt place r.0)) (behind s)
-      ∙ (find_map (λ (r : ℕ × ℕ). nat_lt place r.0) row_at (slot_rows 0 s)
-      ∙ ap (λ (p : ℕ → Bool). option_map row_at (find (λ (r : ℕ × ℕ). p r.0) (slot_rows 0 s)))
+      ap (find (λ (row : ℕ × ℕ). nat_lt place row.0)) (behind s)
+      ∙ (find_map (λ (row : ℕ × ℕ). nat_lt place row.0) row_at (slot_rows 0 s)
+      ∙ ap (λ (p : ℕ → Bool). option_map row_at (find (λ (row : ℕ × ℕ). p row.0) (slot_rows 0 s)))
       (λ i n. above_same place n i))
 
   -- and the last one below it that of the last slot below it
   pub last_row : (place : ℕ) (s : List (Option ℕ))
-      → find (λ (r : ℕ × ℕ). nat_lt r.0 place) (reverse (slot_rows (base + 1) s))
-      ≡ option_map row_at (find (λ (r : ℕ × ℕ). nat_lt r.0 (place - (base + 1))) (reverse (slot_rows 0 s)))
+      → find (λ (row : ℕ × ℕ). nat_lt row.0 place) (reverse (slot_rows (base + 1) s))
+      ≡ option_map row_at (find (λ (row : ℕ × ℕ). nat_lt row.0 (place - (base + 1)))
+      (reverse (slot_rows 0 s)))
   last_row place s =
-      ap (λ rows. find (λ (r : ℕ × ℕ). nat_lt r.0 place) (reverse rows)) (behind s)
-      ∙ (ap (find (λ (r : ℕ × ℕ). nat_lt r.0 place)) (sym (map_reverse row_at (slot_rows 0 s)))
-      ∙ (find_map (λ (r : ℕ × ℕ). nat_lt r.0 place) row_at (reverse (slot_rows 0 s))
-      ∙ ap (λ (p : ℕ → Bool). option_map row_at (find (λ (r : ℕ × ℕ). p r.0) (reverse (slot_rows 0 s))))
+      ap (λ rows. find (λ (row : ℕ × ℕ). nat_lt row.0 place) (reverse rows)) (behind s)
+      ∙ (ap (find (λ (row : ℕ × ℕ). nat_lt row.0 place)) (sym (map_reverse row_at (slot_rows 0 s)))
+      ∙ (find_map (λ (row : ℕ × ℕ). nat_lt row.0 place) row_at (reverse (slot_rows 0 s))
+      ∙ ap (λ (p : ℕ → Bool). option_map row_at (find (λ (row : ℕ × ℕ). p row.0) (reverse (slot_rows 0 s))))
       (λ i n. below_same place n i)))
 
 -- slots that have a document have a row each
@@ -220,16 +221,16 @@ length_rows n (Some d ∷ s) =
 -- how many rows lie above a place: the documents of the slots from the place on
 pub count_behind : (base place i : ℕ) (s : List (Option ℕ))
     → i ≤ length s → (i ≡ place - base) ⊎ ((length s ≤ i) × (i ≤ place - base))
-    → count_by (λ (r : ℕ × ℕ). nat_lt place r.0) (slot_rows (base + 1) s) ≡ count_by is_some (drop i s)
+    → count_by (λ (row : ℕ × ℕ). nat_lt place row.0) (slot_rows (base + 1) s) ≡ count_by is_some (drop i s)
 count_behind base place i s l h =
     ap (λ t. count_by p (slot_rows (base + 1) t)) (sym (take-append-drop i s))
     ∙ (ap (count_by p) (rows_append (base + 1) (take i s) (drop i s))
-    ∙ (sum_by-append (λ r. cond (p r) 1 0) (slot_rows (base + 1) (take i s)) later
+    ∙ (sum_by-append (λ row. cond (p row) 1 0) (slot_rows (base + 1) (take i s)) later
     ∙ (ap (λ n. n + count_by p later) (count_none p (slot_rows (base + 1) (take i s)) early)
     ∙ (omega (arith, count_each p (base + 1 + length (take i s)) (drop i s) (late h))))))
   where
     p : ℕ × ℕ → Bool
-    p r = nat_lt place r.0
+    p row = nat_lt place row.0
 
     later : List (ℕ × ℕ)
     later = slot_rows (base + 1 + length (take i s)) (drop i s)
@@ -238,7 +239,7 @@ count_behind base place i s l h =
     near (inl q) = omega (arith, q)
     near (inr g) = g.1
 
-    early : All (λ r. p r ≡ false) (slot_rows (base + 1) (take i s))
+    early : All (λ row. p row ≡ false) (slot_rows (base + 1) (take i s))
     early k d g =
         le-ltb place _
         (omega (
@@ -249,7 +250,7 @@ count_behind base place i s l h =
           (rows_within (base + 1) (take i s) k d g).0,
         ))
 
-    late : (i ≡ place - base) ⊎ ((length s ≤ i) × (i ≤ place - base)) → All (λ r. p r ≡ true) later
+    late : (i ≡ place - base) ⊎ ((length s ≤ i) × (i ≤ place - base)) → All (λ row. p row ≡ true) later
     late (inl q) k d g =
         lt-ltb place _
         (omega (
@@ -269,7 +270,7 @@ count_behind base place i s l h =
 
 -- a slot above all is filled
 pub rows_filled : (n i d : ℕ) (s : List (Option ℕ))
-    → i < length s → All (λ (r : ℕ × ℕ). r.0 < n + i) (slot_rows n s)
+    → i < length s → All (λ (row : ℕ × ℕ). row.0 < n + i) (slot_rows n s)
     → slot_rows n (set s i (Some d)) ≡ slot_rows n s ++ (n + i, d) ∷ []
 rows_filled n i d [] l all = absurd (omega (arith, l))
 rows_filled n zero d (x ∷ s) l all =
@@ -278,7 +279,8 @@ rows_filled n zero d (x ∷ s) l all =
     ∙ ap (λ rows. rows ++ (n + 0, d) ∷ [])
     (sym (no_rows n n (x ∷ s) (omega arith) (λ k z g. omega (arith, all k z g)))))
   where
-    none : (x : Option ℕ) → All (λ (r : ℕ × ℕ). r.0 < n + 0) (slot_rows n (x ∷ s)) → slot_rows (n + 1) s ≡ []
+    none : (x : Option ℕ) → All (λ (row : ℕ × ℕ). row.0 < n + 0) (slot_rows n (x ∷ s))
+        → slot_rows (n + 1) s ≡ []
     none None all = no_rows (n + 1) n s (omega arith) (λ k z g. omega (arith, all k z g))
     none (Some v) all = absurd (omega (arith, all 0 (n, v) (omega arith)))
 rows_filled n (suc i) d (None ∷ s) l all =
@@ -287,8 +289,11 @@ rows_filled n (suc i) d (None ∷ s) l all =
 rows_filled n (suc i) d (Some v ∷ s) l all =
     ap (λ rows. (n, v) ∷ rows)
     (rows_filled (n + 1) i d s (omega (arith, l))
-    (λ k z g. omega (arith, All-tail (λ (r : ℕ × ℕ). r.0 < n + suc i) (n, v) (slot_rows (n + 1) s) all k z g))
-    ∙ ap (λ m. slot_rows (n + 1) s ++ (m, d) ∷ []) (omega arith))
+    (λ k z g. omega (
+      arith,
+      All-tail (λ (row : ℕ × ℕ). row.0 < n + suc i) (n, v)
+          (slot_rows (n + 1) s) all k z g,
+    )) ∙ ap (λ m. slot_rows (n + 1) s ++ (m, d) ∷ []) (omega arith))
 
 -- whether a row is at a sequence
 abbrev pub at_seq : ℕ → ℕ → Bool

@@ -12,13 +12,13 @@ id_in (Some p) = p.0
 
 -- a row, with the id of its number
 abbrev pub row_in : (ℕ → Option (List ℕ × ℕ)) → ℕ × ℕ → Current
-row_in ids r = record { seq = r.0; id = id_in (ids r.1) }
+row_in ids row = record { seq = row.0; id = id_in (ids row.1) }
 
 -- Where `ids` gives each number its id and the sequence of its latest edit: the rows are the current ones of
 -- the edits, that of a number lies at its latest edit, and each is of a number that has an id. With edits of
 -- a, b and a again, where a has the number 0 and b the number 1, the rows are (2, 1) and (3, 0).
-pub record IsIndexed (ids : ℕ → Option (List ℕ × ℕ)) (J : List Edit) (index : List (ℕ × ℕ)) : Type 0
+pub record IsIndexed (ids : ℕ → Option (List ℕ × ℕ)) (journal : List Edit) (index : List (ℕ × ℕ)) : Type 0
   where
-    pub rows : map (row_in ids) index ≡ current J
+    pub rows : map (row_in ids) index ≡ current journal
     pub key : (k : ℕ) (p : List ℕ × ℕ) → ids k ≡ Some p → seq_of k index ≡ Some p.1
     pub none : (k : ℕ) → ids k ≡ None → seq_of k index ≡ None

@@ -27,7 +27,7 @@ pub record IsPage (page : ℕ × List (Option ℕ)) : Type 0 where
   pub low : page.0 < 2 ^ 56
   pub size : length page.1 ≡ 256
   pub live : 0 < count_by is_some page.1
-  pub fits : All (λ (r : ℕ × ℕ). r.0 < 2 ^ 64) (page_rows page)
+  pub fits : All (λ (row : ℕ × ℕ). row.0 < 2 ^ 64) (page_rows page)
 
 -- pages that an index keeps, in the order of their numbers
 pub record ArePages (pages : List (ℕ × List (Option ℕ))) : Type 0 where
@@ -41,4 +41,4 @@ page_of seq = (seq - 1) / 256
 
 -- How many different pages rows lie on. Rows at 3, 256 and 600 lie on two, the pages 0 and 2.
 abbrev pub page_count : List (ℕ × ℕ) → ℕ
-page_count rows = distinct_count nat_eq (map (λ (r : ℕ × ℕ). page_of r.0) rows)
+page_count rows = distinct_count nat_eq (map (λ (row : ℕ × ℕ). page_of row.0) rows)

@@ -7,18 +7,19 @@ use Rattle.std.specs.List.{All, AllPairs}
 -- of two rows the earlier has the lower sequence, and another document; sequences begin at 1. (2, 1), (3, 0)
 -- are such rows. (3, 0), (2, 1) are not, and neither are (2, 1), (3, 1).
 pub record IsIndex (rows : List (ℕ × ℕ)) : Type 0 where
-  pub rising : AllPairs (λ (a b : ℕ × ℕ). a.0 < b.0) rows
-  pub once : AllPairs (λ (a b : ℕ × ℕ). a.1 ≢ b.1) rows
-  pub positive : All (λ (r : ℕ × ℕ). 0 < r.0) rows
+  pub rising : AllPairs (λ (row other_row : ℕ × ℕ). row.0 < other_row.0) rows
+  pub once : AllPairs (λ (row other_row : ℕ × ℕ). row.1 ≢ other_row.1) rows
+  pub positive : All (λ (third_row : ℕ × ℕ). 0 < third_row.0) rows
 
 -- the sequence of a document
 abbrev pub seq_of : ℕ → List (ℕ × ℕ) → Option ℕ
-seq_of document rows = option_map (λ (r : ℕ × ℕ). r.0) (find (λ (r : ℕ × ℕ). nat_eq r.1 document) rows)
+seq_of document rows =
+    option_map (λ (row : ℕ × ℕ). row.0) (find (λ (row : ℕ × ℕ). nat_eq row.1 document) rows)
 
 -- the rows of the other documents, and then one of this document. From (1, 0), (2, 1) and with document 0
 -- at 3 they are (2, 1), (3, 0).
 abbrev pub moved : List (ℕ × ℕ) → ℕ → ℕ → List (ℕ × ℕ)
-moved rows document seq = filter (λ (r : ℕ × ℕ). not (nat_eq r.1 document)) rows ++ (seq, document) ∷ []
+moved rows document seq = filter (λ (row : ℕ × ℕ). not (nat_eq row.1 document)) rows ++ (seq, document) ∷ []
 
 -- whether a sequence lies above the place, and not above the bound
 abbrev pub is_within : ℕ → Option ℕ → ℕ → Bool
@@ -28,12 +29,12 @@ is_within place (Some bound) seq = nat_lt place seq && nat_le seq bound
 -- the first row above the place and not above the bound: of rows at 2, 6 and 9, place 3 and bound 8 it is
 -- that at 6, and with bound 5 there is none
 abbrev pub next_after : List (ℕ × ℕ) → ℕ → Option ℕ → Option (ℕ × ℕ)
-next_after rows place bound = find (λ (r : ℕ × ℕ). is_within place bound r.0) rows
+next_after rows place bound = find (λ (row : ℕ × ℕ). is_within place bound row.0) rows
 
 -- the last row below the place
 abbrev pub last_before : List (ℕ × ℕ) → ℕ → Option (ℕ × ℕ)
-last_before rows place = find (λ (r : ℕ × ℕ). nat_lt r.0 place) (reverse rows)
+last_before rows place = find (λ (row : ℕ × ℕ). nat_lt row.0 place) (reverse rows)
 
 -- how many rows lie above the place
 abbrev pub count_after : List (ℕ × ℕ) → ℕ → ℕ
-count_after rows place = count_by (λ (r : ℕ × ℕ). nat_lt place r.0) rows
+count_after rows place = count_by (λ (row : ℕ × ℕ). nat_lt place row.0) rows

@@ -10,66 +10,69 @@ use Rattle.hub_model.specs.Feed.{Status, Open, Ending, Ended, Finished, Feed, Du
 use Rattle.hub_model.specs.Feed.{due, due_at, due_open, is_in_reach, is_within, bound_after, status_after}
 use Rattle.hub_model.specs.Filter.{passes}
 
-due_open_row : (o : Option Current) (b : Option ℕ) (c : Current) → due_open o b ≡ DueRow c → o ≡ Some c
-due_open_row (Some d) b c e = cc
-due_open_row None (Some b) c e = absurd (cc)
-due_open_row None None c e = absurd (cc)
+due_open_row : (maybe_row : Option Current) (b : Option ℕ) (other : Current)
+    → due_open maybe_row b ≡ DueRow other → maybe_row ≡ Some other
+due_open_row (Some row) b other e = cc
+due_open_row None (Some b) other e = absurd (cc)
+due_open_row None None other e = absurd (cc)
 
-due_open_end : (o : Option Current) (b : Option ℕ) (last : ℕ) → due_open o b ≡ DueEnd last
-    → (b ≡ Some last) × (o ≡ None)
-due_open_end (Some d) b last e = absurd (cc)
+due_open_end : (maybe_row : Option Current) (b : Option ℕ) (last : ℕ) → due_open maybe_row b ≡ DueEnd last
+    → (b ≡ Some last) × (maybe_row ≡ None)
+due_open_end (Some row) b last e = absurd (cc)
 due_open_end None (Some b) last e = (cc, refl)
 due_open_end None None last e = absurd (cc)
 
-due_open_nothing : (o : Option Current) (b : Option ℕ) → due_open o b ≡ DueNothing → (b ≡ None) × (o ≡ None)
-due_open_nothing (Some d) b e = absurd (cc)
+due_open_nothing : (maybe_row : Option Current) (b : Option ℕ) → due_open maybe_row b ≡ DueNothing
+    → (b ≡ None) × (maybe_row ≡ None)
+due_open_nothing (Some row) b e = absurd (cc)
 due_open_nothing None (Some b) e = absurd (cc)
 due_open_nothing None None e = (refl, refl)
 
-due_at_row : (st : Status) (rows : List Current) (f : Feed) (c : Current) → due_at st rows f ≡ DueRow c
-    → (st ≡ Open) × (find (is_in_reach f) rows ≡ Some c)
-due_at_row Open rows f c e = (refl, due_open_row _ f.bound c e)
-due_at_row Ending rows f c e = absurd (cc)
-due_at_row Ended rows f c e = absurd (cc)
-due_at_row Finished rows f c e = absurd (cc)
+due_at_row : (st : Status) (rows : List Current) (feed : Feed) (row : Current)
+    → due_at st rows feed ≡ DueRow row → (st ≡ Open) × (find (is_in_reach feed) rows ≡ Some row)
+due_at_row Open rows feed row e = (refl, due_open_row _ feed.bound row e)
+due_at_row Ending rows feed row e = absurd (cc)
+due_at_row Ended rows feed row e = absurd (cc)
+due_at_row Finished rows feed row e = absurd (cc)
 
-due_at_end : (st : Status) (rows : List Current) (f : Feed) (last : ℕ) → due_at st rows f ≡ DueEnd last
-    → ((st ≡ Ending) × (last ≡ f.place))
-    ⊎ ((st ≡ Open) × (f.bound ≡ Some last) × (find (is_in_reach f) rows ≡ None))
-due_at_end Open rows f last e = let p = due_open_end _ f.bound last e in inr (refl, p.0, p.1)
-due_at_end Ending rows f last e = inl (refl, cc)
-due_at_end Ended rows f last e = absurd (cc)
-due_at_end Finished rows f last e = absurd (cc)
+due_at_end : (st : Status) (rows : List Current) (feed : Feed) (last : ℕ) → due_at st rows feed ≡ DueEnd last
+    → ((st ≡ Ending) × (last ≡ feed.place))
+    ⊎ ((st ≡ Open) × (feed.bound ≡ Some last) × (find (is_in_reach feed) rows ≡ None))
+due_at_end Open rows feed last e = let p = due_open_end _ feed.bound last e in inr (refl, p.0, p.1)
+due_at_end Ending rows feed last e = inl (refl, cc)
+due_at_end Ended rows feed last e = absurd (cc)
+due_at_end Finished rows feed last e = absurd (cc)
 
-due_at_nothing : (st : Status) (rows : List Current) (f : Feed) → due_at st rows f ≡ DueNothing
-    → (st ≡ Open) × (f.bound ≡ None) × (find (is_in_reach f) rows ≡ None)
-due_at_nothing Open rows f e = let p = due_open_nothing _ f.bound e in (refl, p.0, p.1)
-due_at_nothing Ending rows f e = absurd (cc)
-due_at_nothing Ended rows f e = absurd (cc)
-due_at_nothing Finished rows f e = absurd (cc)
+due_at_nothing : (st : Status) (rows : List Current) (feed : Feed) → due_at st rows feed ≡ DueNothing
+    → (st ≡ Open) × (feed.bound ≡ None) × (find (is_in_reach feed) rows ≡ None)
+due_at_nothing Open rows feed e = let p = due_open_nothing _ feed.bound e in (refl, p.0, p.1)
+due_at_nothing Ending rows feed e = absurd (cc)
+due_at_nothing Ended rows feed e = absurd (cc)
+due_at_nothing Finished rows feed e = absurd (cc)
 
-pub due_row : (rows : List Current) (f : Feed) (c : Current) → due rows f ≡ DueRow c
-    → (f.status ≡ Open) × (find (is_in_reach f) rows ≡ Some c)
-due_row rows f c e = due_at_row f.status rows f c e
+pub due_row : (rows : List Current) (feed : Feed) (row : Current) → due rows feed ≡ DueRow row
+    → (feed.status ≡ Open) × (find (is_in_reach feed) rows ≡ Some row)
+due_row rows feed row e = due_at_row feed.status rows feed row e
 
-pub due_end : (rows : List Current) (f : Feed) (last : ℕ) → due rows f ≡ DueEnd last
-    → ((f.status ≡ Ending) × (last ≡ f.place))
-    ⊎ ((f.status ≡ Open) × (f.bound ≡ Some last) × (find (is_in_reach f) rows ≡ None))
-due_end rows f last e = due_at_end f.status rows f last e
+pub due_end : (rows : List Current) (feed : Feed) (last : ℕ) → due rows feed ≡ DueEnd last
+    → ((feed.status ≡ Ending) × (last ≡ feed.place))
+    ⊎ ((feed.status ≡ Open) × (feed.bound ≡ Some last) × (find (is_in_reach feed) rows ≡ None))
+due_end rows feed last e = due_at_end feed.status rows feed last e
 
-pub due_nothing : (rows : List Current) (f : Feed) → due rows f ≡ DueNothing
-    → (f.status ≡ Open) × (f.bound ≡ None) × (find (is_in_reach f) rows ≡ None)
-due_nothing rows f e = due_at_nothing f.status rows f e
+pub due_nothing : (rows : List Current) (feed : Feed) → due rows feed ≡ DueNothing
+    → (feed.status ≡ Open) × (feed.bound ≡ None) × (find (is_in_reach feed) rows ≡ None)
+due_nothing rows feed e = due_at_nothing feed.status rows feed e
 
 -- the parts of the test
-pub reach_parts : (f : Feed) (c : Current) → is_in_reach f c ≡ true
-    → (f.place < c.seq) × (is_within f.bound c.seq ≡ true) × IsTrue (passes f.params.filter c.id)
-reach_parts f c e =
-    let p = and_parts _ _ e in let q = and_parts _ _ p.1 in (ltb-true f.place c.seq p.0, q.0, q.1)
+pub reach_parts : (feed : Feed) (row : Current) → is_in_reach feed row ≡ true
+    → (feed.place < row.seq) × (is_within feed.bound row.seq ≡ true)
+    × IsTrue (passes feed.params.filter row.id)
+reach_parts feed row e =
+    let p = and_parts _ _ e in let q = and_parts _ _ p.1 in (ltb-true feed.place row.seq p.0, q.0, q.1)
 
-pub reach_from : (f : Feed) (c : Current) → f.place < c.seq → is_within f.bound c.seq ≡ true
-    → IsTrue (passes f.params.filter c.id) → is_in_reach f c ≡ true
-reach_from f c a b p = and_from _ _ (lt-ltb f.place c.seq a) (and_from _ _ b p)
+pub reach_from : (feed : Feed) (row : Current) → feed.place < row.seq → is_within feed.bound row.seq ≡ true
+    → IsTrue (passes feed.params.filter row.id) → is_in_reach feed row ≡ true
+reach_from feed row a b p = and_from _ _ (lt-ltb feed.place row.seq a) (and_from _ _ b p)
 
 pub within_bound : (b : Option ℕ) (n : ℕ) → is_within b n ≡ true → IfSome b (λ m. n ≤ m)
 within_bound None n e = tt

@@ -32,7 +32,7 @@ use Rattle.hub_model.proofs.Right.{some_weaker, right_grows, right_moves, right_
 use Rattle.hub_model.proofs.Rows.{current_within, find_first, find_none}
 
 -- a feed begins no later than the last edit
-pub since_within : (s : Since) (len life : ℕ) → since_of s len life ≤ len
+pub since_within : (since : Since) (len life : ℕ) → since_of since len life ≤ len
 since_within Now len life = omega arith
 since_within (Plain seq) len life = omega arith
 since_within (Tagged seq of) len life = omega arith
@@ -47,7 +47,7 @@ module _ {R : Type 0} (kind : RowKind R) where
     bounded = some_weaker f.bound _ _ h.bounded (λ n p. (p.0, omega (arith, p.1, length-append J es)));
   }
 
-  bound_within : (m : Mode) (s len : ℕ) → s ≤ len → IfSome (bound_of m len) (λ b. (s ≤ b) × (b ≤ len))
+  bound_within : (mode : Mode) (s len : ℕ) → s ≤ len → IfSome (bound_of mode len) (λ b. (s ≤ b) × (b ≤ len))
   bound_within Normal s len h = (h, omega arith)
   bound_within Longpoll s len h = tt
   bound_within Continuous s len h = tt
@@ -75,9 +75,9 @@ module _ {R : Type 0} (kind : RowKind R) where
   }
 
   -- an End was handed only by a feed that is over
-  no_end : (J : List Edit) (f : Feed) (items : List (Item R)) → Fits kind J f items → is_over f.status ≡ false
-      → list_any is_end items ≡ false
-  no_end J f items h e =
+  no_end : (journal : List Edit) (feed : Feed) (items : List (Item R)) → Fits kind journal feed items
+      → is_over feed.status ≡ false → list_any is_end items ≡ false
+  no_end journal feed items h e =
       elim (cases_Bool (list_any is_end items)) [
         | inl t ↦ absurd (both_ways _ e (h.over t))
         | inr t ↦ t
@@ -96,90 +96,103 @@ module _ {R : Type 0} (kind : RowKind R) where
       ]
 
   -- a row that is due
-  fits_row : (J : List Edit) (f : Feed) (items : List (Item R)) (c : Current)
-      → Fits kind J f items → due (current J) f ≡ DueRow c
-      → Fits kind J (after_row f c.seq (length J))
-      (items ++ Row (kind.shown J f.params.style f.params.include_docs c) ∷ [])
-  fits_row J f items c h e =
-      let row = kind.shown J f.params.style f.params.include_docs c in
-      let d = due_row (current J) f c e in
-      let first = find_first (is_in_reach f) 1 J c d.1 in
-      let parts = reach_parts f c first.0 in
-      let within : (1 ≤ c.seq) × (c.seq < 1 + length J) = current_within 1 J c first.1 in
-      let to_length : c.seq ≤ length J = omega arith in
+  fits_row : (journal : List Edit) (feed : Feed) (items : List (Item R)) (c : Current)
+      → Fits kind journal feed items → due (current journal) feed ≡ DueRow c
+      → Fits kind journal (after_row feed c.seq (length journal))
+      (items ++ Row (kind.shown journal feed.params.style feed.params.include_docs c) ∷ [])
+  fits_row journal feed items c h e =
+      let row = kind.shown journal feed.params.style feed.params.include_docs c in
+      let d = due_row (current journal) feed c e in
+      let first = find_first (is_in_reach feed) 1 journal c d.1 in
+      let parts = reach_parts feed c first.0 in
+      let within : (1 ≤ c.seq) × (c.seq < 1 + length journal) = current_within 1 journal c first.1 in
+      let to_length : c.seq ≤ length journal = omega arith in
       let bounds =
-      bound_after_row f.params.mode f.bound (length J) c.seq to_length (within_bound f.bound c.seq parts.1)
-      (some_weaker f.bound _ _ h.bounded (λ n k. k.1)) in
-      let open_before = no_end J f items h (ap is_over d.0) in
+      bound_after_row feed.params.mode feed.bound (length journal) c.seq to_length
+      (within_bound feed.bound c.seq parts.1)
+      (some_weaker feed.bound _ _ h.bounded (λ n k. k.1)) in
+      let open_before = no_end journal feed items h (ap is_over d.0) in
       record {
         right =
-            right_row kind J f items row c.seq (kind.keeps J f.params.style f.params.include_docs c).0
+            right_row kind journal feed items row c.seq
+            (kind.keeps journal feed.params.style feed.params.include_docs c).0
             _ _ _ h.right (c, first.1, refl, parts.2) parts.0 to_length
-            (some_weaker (bound_after f.params.mode f.bound (length J)) (λ m. (c.seq ≤ m) × (m ≤ length J))
+            (some_weaker (bound_after feed.params.mode feed.bound (length journal))
+            (λ m. (c.seq ≤ m) × (m ≤ length journal))
             (λ m. c.seq ≤ m) bounds (λ n k. k.0)) open_before
             (λ x in_rows q a b.
             let least : c.seq ≤ x.seq =
-            first.2 x in_rows (reach_from f x a (within_below f.bound x.seq c.seq parts.1 b) q) in
+            first.2 x in_rows (reach_from feed x a (within_below feed.bound x.seq c.seq parts.1 b) q) in
             omega arith)
-            (some_weaker f.params.limit _ _ (h.fewer d.0) (λ n k. omega (arith, h.counted)));
+            (some_weaker feed.params.limit _ _ (h.fewer d.0) (λ n k. omega (arith, h.counted)));
         counted =
             ap length (rows_of-row items row)
             ∙ (length-append (rows_of items) (row ∷ []) ∙ ap (λ n. n + 1) h.counted);
-        fewer = λ t. open_after_row f.params.limit (f.rows + 1) t;
+        fewer = λ t. open_after_row feed.params.limit (feed.rows + 1) t;
         over = λ t. absurd (both_ways _ open_before (end_more items (Row row) refl t));
         bounded = bounds;
       }
 
   -- an End, at a place that no passing row lies before
-  fits_end_at : (J : List Edit) (f : Feed) (items : List (Item R)) (last n : ℕ) → Fits kind J f items
-      → is_over f.status ≡ false → f.place ≤ last → last ≤ length J → IfSome f.bound (λ b. last ≤ b) →
-      ((c : Current) → Contains (current J) c → IsTrue (passes f.params.filter c.id)
-      → f.place < c.seq → c.seq ≤ last → ⊥) →
-      Fits kind J (after_end f last) (items ++ End last n ∷ [])
-  fits_end_at J f items last n h over p l b gap = record {
+  fits_end_at : (journal : List Edit) (feed : Feed) (items : List (Item R)) (last n : ℕ)
+      → Fits kind journal feed items
+      → is_over feed.status ≡ false → feed.place ≤ last → last ≤ length journal
+      → IfSome feed.bound (λ b. last ≤ b) →
+      ((row : Current) → Contains (current journal) row → IsTrue (passes feed.params.filter row.id)
+      → feed.place < row.seq → row.seq ≤ last → ⊥) →
+      Fits kind journal (after_end feed last) (items ++ End last n ∷ [])
+  fits_end_at journal feed items last n h over p l b gap = record {
     right =
-        right_moves kind J f items (End last n ∷ []) f.bound last f.rows Ended h.right refl p l
-        (some_weaker f.bound _ _ h.bounded (λ m k. k.0))
-        (ends_more last items (End last n ∷ []) (no_end J f items h over) (refl, refl)) gap
-        (All-push (IsAsked f.params.heartbeat) [] (End last n) (All-nil (IsAsked f.params.heartbeat)) tt);
+        right_moves kind journal feed items (End last n ∷ []) feed.bound last feed.rows Ended h.right refl p l
+        (some_weaker feed.bound _ _ h.bounded (λ m k. k.0))
+        (ends_more last items (End last n ∷ []) (no_end journal feed items h over) (refl, refl)) gap
+        (All-push (IsAsked feed.params.heartbeat) [] (End last n)
+        (All-nil (IsAsked feed.params.heartbeat)) tt);
     counted = ap length (rows_of-end items last n) ∙ h.counted;
     fewer = λ e. absurd (cc);
     over = λ e. refl;
-    bounded = both f.bound b h.bounded;
+    bounded = both feed.bound b h.bounded;
   }
     where
-      both : (o : Option ℕ) → IfSome o (λ m. last ≤ m) → IfSome o (λ m. (f.place ≤ m) × (m ≤ length J))
-          → IfSome o (λ m. (last ≤ m) × (m ≤ length J))
+      both : (o : Option ℕ) → IfSome o (λ m. last ≤ m)
+          → IfSome o (λ m. (feed.place ≤ m) × (m ≤ length journal))
+          → IfSome o (λ m. (last ≤ m) × (m ≤ length journal))
       both None x y = tt
       both (Some m) x y = (x, y.1)
 
   -- an End that is due
-  fits_end : (J : List Edit) (f : Feed) (items : List (Item R)) (last n : ℕ) → Fits kind J f items
-      → due (current J) f ≡ DueEnd last → Fits kind J (after_end f last) (items ++ End last n ∷ [])
-  fits_end J f items last n h e =
-      elim (due_end (current J) f last e) [
+  fits_end : (journal : List Edit) (feed : Feed) (items : List (Item R)) (last n : ℕ)
+      → Fits kind journal feed items
+      → due (current journal) feed ≡ DueEnd last
+      → Fits kind journal (after_end feed last) (items ++ End last n ∷ [])
+  fits_end journal feed items last n h e =
+      elim (due_end (current journal) feed last e) [
         | inl a ↦
-            fits_end_at J f items last n h
+            fits_end_at journal feed items last n h
             (ap is_over a.0) (omega (arith, a.1)) (omega (arith, a.1, h.right.to_length))
-            (some_weaker f.bound _ _ h.bounded (λ m k. omega (arith, a.1, k.0)))
+            (some_weaker feed.bound _ _ h.bounded (λ m k. omega (arith, a.1, k.0)))
             (λ c x q y z. absurd (omega (arith, a.1)))
-        | inr a ↦ let at = some_at f.bound last _ a.1 h.bounded in
-            fits_end_at J f items last n h (ap is_over a.0) at.0 at.1 (rw a.1 (omega arith))
-            (λ c x q y z. find_none _ (current J) a.2 c x (reach_from f c y (rw a.1 (le-leb c.seq last z)) q))
+        | inr a ↦ let at = some_at feed.bound last _ a.1 h.bounded in
+            fits_end_at journal feed items last n h (ap is_over a.0) at.0 at.1 (rw a.1 (omega arith))
+            (λ c x q y z. find_none _ (current journal) a.2 c x
+            (reach_from feed c y (rw a.1 (le-leb c.seq last z)) q))
       ]
 
   -- what is due so is handed
-  handed_as : (J : List Edit) (f : Feed) (items : List (Item R)) (item : Item R) (d : Due)
-      → due_in J f ≡ d → item_of (kind.shown J f.params.style f.params.include_docs) (current J) d ≡ Some item
-      → Fits kind J f items → Fits kind J (after_due f d (length J)) (items ++ item ∷ [])
-  handed_as J f items item (DueRow c) q e h =
-      subst (λ (i : Item R). Fits kind J (after_row f c.seq (length J)) (items ++ i ∷ []))
-      (same_Some _ item e) (fits_row J f items c h q)
-  handed_as J f items item (DueEnd last) q e h =
-      subst (λ (i : Item R). Fits kind J (after_end f last) (items ++ i ∷ [])) (same_Some _ item e)
-      (fits_end J f items last (pending (current J) last) h q)
-  handed_as J f items item DueNothing q e h = absurd (none-some item e)
-  handed_as J f items item DueGone q e h = absurd (none-some item e)
+  handed_as : (journal : List Edit) (feed : Feed) (items : List (Item R)) (item : Item R) (due : Due)
+      → due_in journal feed ≡ due
+      → item_of (kind.shown journal feed.params.style feed.params.include_docs)
+      (current journal) due ≡ Some item
+      → Fits kind journal feed items
+      → Fits kind journal (after_due feed due (length journal)) (items ++ item ∷ [])
+  handed_as journal feed items item (DueRow c) q e h =
+      subst (λ (i : Item R). Fits kind journal (after_row feed c.seq (length journal)) (items ++ i ∷ []))
+      (same_Some _ item e) (fits_row journal feed items c h q)
+  handed_as journal feed items item (DueEnd last) q e h =
+      subst (λ (i : Item R). Fits kind journal (after_end feed last) (items ++ i ∷ [])) (same_Some _ item e)
+      (fits_end journal feed items last (pending (current journal) last) h q)
+  handed_as journal feed items item DueNothing q e h = absurd (none-some item e)
+  handed_as journal feed items item DueGone q e h = absurd (none-some item e)
 
   pub fits_handed : HandedFits kind
   fits_handed J f items item e h = handed_as J f items item (due_in J f) refl e h
@@ -226,26 +239,27 @@ module _ {R : Type 0} (kind : RowKind R) where
       }
 
   -- the feed is no longer open
-  pub fits_status : (J : List Edit) (f : Feed) (items : List (Item R)) (status : Status)
-      → (status ≡ Open → ⊥) → (list_any is_end items ≡ true → is_over status ≡ true) → Fits kind J f items
-      → Fits kind J (record f { status = status }) items
-  fits_status J f items status closed over h = record {
-    right = subst (RightlyHanded kind J (record f { status = status })) (append-nil items)
-        (right_moves kind J f items [] f.bound f.place f.rows status h.right refl
-        (omega arith) h.right.to_length (some_weaker f.bound _ _ h.bounded (λ m k. k.0))
-        (subst (EndsAt f.place) (sym (append-nil items)) h.right.ends) (λ c x q y z. absurd (omega arith))
-        (All-nil (IsAsked f.params.heartbeat)));
+  pub fits_status : (journal : List Edit) (feed : Feed) (items : List (Item R)) (status : Status)
+      → (status ≡ Open → ⊥) → (list_any is_end items ≡ true → is_over status ≡ true)
+      → Fits kind journal feed items → Fits kind journal (record feed { status = status }) items
+  fits_status journal feed items status closed over h = record {
+    right = subst (RightlyHanded kind journal (record feed { status = status })) (append-nil items)
+        (right_moves kind journal feed items [] feed.bound feed.place feed.rows status h.right refl
+        (omega arith) h.right.to_length (some_weaker feed.bound _ _ h.bounded (λ m k. k.0))
+        (subst (EndsAt feed.place) (sym (append-nil items)) h.right.ends) (λ c x q y z. absurd (omega arith))
+        (All-nil (IsAsked feed.params.heartbeat)));
     counted = h.counted;
     fewer = λ e. absurd (closed e);
     over = over;
     bounded = h.bounded;
   }
 
-  fits_ending : (J : List Edit) (f : Feed) (items : List (Item R)) → is_open f.status ≡ true
-      → Fits kind J f items → Fits kind J (record f { status = Ending }) items
-  fits_ending J f items e h =
-      fits_status J f items Ending
-      (λ t. cc) (λ t. absurd (both_ways _ (no_end J f items h (ap is_over (open_when f.status e))) t)) h
+  fits_ending : (journal : List Edit) (feed : Feed) (items : List (Item R)) → is_open feed.status ≡ true
+      → Fits kind journal feed items → Fits kind journal (record feed { status = Ending }) items
+  fits_ending journal feed items e h =
+      fits_status journal feed items Ending
+      (λ t. cc) (λ t. absurd (both_ways _
+      (no_end journal feed items h (ap is_over (open_when feed.status e))) t)) h
 
   pub fits_expire : ExpiredFits kind
   fits_expire J f items h =

@@ -9,20 +9,23 @@ use Rattle.hub_model.proofs.Legal.{first_in, legal_sound}
 use Rattle.hub_model.proofs.Walks.{line_of_walk}
 
 -- what goes step by step is the front of the walk from its first
-front_of : (J : List Edit) (id : List ℕ) → IsTree J id → (p w : List Revision) (r : Revision)
-    → ((s t : Revision) → IsNext p s t → IsBehind J id t s) → IsFirst p r → IsFirst w r → IsWalk J id w
-    → take (length p) w ≡ p
-front_of J id tree [] w r steps i j walk = absurd i
-front_of J id tree (x ∷ p) [] r steps i j walk = absurd j
-front_of J id tree (x ∷ []) (y ∷ w) r steps i j walk = ap (λ (z : Revision). z ∷ []) (j ∙ sym i)
-front_of J id tree (x ∷ z ∷ p) (y ∷ []) r steps i j walk =
-    absurd (walk z (subst (λ v. IsBehind J id z v) (i ∙ sym j) (steps x z (inl (refl, refl)))))
-front_of J id tree (x ∷ z ∷ p) (y ∷ u ∷ w) r steps i j walk =
+front_of : (journal : List Edit) (id : List ℕ) → IsTree journal id
+    → (others revisions : List Revision) (revision : Revision)
+    → ((s t : Revision) → IsNext others s t → IsBehind journal id t s) → IsFirst others revision
+    → IsFirst revisions revision → IsWalk journal id revisions → take (length others) revisions ≡ others
+front_of journal id tree [] revisions revision steps i j walk = absurd i
+front_of journal id tree (other ∷ others) [] revision steps i j walk = absurd j
+front_of journal id tree (other ∷ []) (y ∷ revisions) revision steps i j walk =
+    ap (λ (z : Revision). z ∷ []) (j ∙ sym i)
+front_of journal id tree (other ∷ z ∷ others) (y ∷ []) revision steps i j walk =
+    absurd (walk z (subst (λ v. IsBehind journal id z v) (i ∙ sym j) (steps other z (inl (refl, refl)))))
+front_of journal id tree (other ∷ z ∷ others) (y ∷ u ∷ revisions) revision steps i j walk =
     let same : u ≡ z =
-    tree u z x (subst (λ v. IsBehind J id u v) (j ∙ sym i) walk.0) (steps x z (inl (refl, refl))) in
-    ap (λ (v : Revision). v ∷ take (length (z ∷ p)) (u ∷ w)) (j ∙ sym i)
-    ∙ ap (λ (v : List Revision). x ∷ v)
-    (front_of J id tree (z ∷ p) (u ∷ w) z (λ s t n. steps s t (inr n)) refl same walk.1)
+    tree u z other (subst (λ v. IsBehind journal id u v) (j ∙ sym i) walk.0)
+    (steps other z (inl (refl, refl))) in
+    ap (λ (v : Revision). v ∷ take (length (z ∷ others)) (u ∷ revisions)) (j ∙ sym i)
+    ∙ ap (λ (v : List Revision). other ∷ v)
+    (front_of journal id tree (z ∷ others) (u ∷ revisions) z (λ s t n. steps s t (inr n)) refl same walk.1)
 
 pub path_is_front : PathIsFront
 path_is_front J id e r legal own head =

@@ -26,45 +26,56 @@ some_weaker None P Q h f = tt
 some_weaker (Some n) P Q h f = f n h
 
 module _ {R : Type 0} (kind : RowKind R) where
-  pub row_seen : (J : List Edit) (f : Feed) (row : R) → IsPassingRow kind J f row → kind.seen row ≡ length J
-  row_seen J f row p = ap kind.seen p.2 ∙ (kind.keeps J f.params.style f.params.include_docs p.0).1
+  pub row_seen : (journal : List Edit) (feed : Feed) (row : R) → IsPassingRow kind journal feed row
+      → kind.seen row ≡ length journal
+  row_seen journal feed row p =
+      ap kind.seen p.2 ∙ (kind.keeps journal feed.params.style feed.params.include_docs p.0).1
 
-  pub seen_within : (J : List Edit) (f : Feed) (row : R) → IsRowOf kind J f row → kind.seen row ≤ length J
-  seen_within J f row r =
-      omega (arith, row_seen (take (kind.seen row) J) f row r.shown, length-take (kind.seen row) J)
+  pub seen_within : (journal : List Edit) (feed : Feed) (row : R) → IsRowOf kind journal feed row
+      → kind.seen row ≤ length journal
+  seen_within journal feed row r =
+      omega (
+        arith,
+        row_seen (take (kind.seen row) journal) feed row r.shown,
+        length-take (kind.seen row) journal,
+      )
 
-  row_grows : (J es : List Edit) (f : Feed) (row : R) → IsRowOf kind J f row → IsRowOf kind (J ++ es) f row
-  row_grows J es f row r = record {
+  row_grows : (journal edits : List Edit) (feed : Feed) (row : R) → IsRowOf kind journal feed row
+      → IsRowOf kind (journal ++ edits) feed row
+  row_grows journal edits feed row r = record {
     shown =
-        subst (λ K. IsPassingRow kind K f row)
-        (sym (take-append-le (kind.seen row) J es (seen_within J f row r))) r.shown;
+        subst (λ K. IsPassingRow kind K feed row)
+        (sym (take-append-le (kind.seen row) journal edits (seen_within journal feed row r))) r.shown;
     above = r.above;
     reached = r.reached;
     bounded = r.bounded;
   }
 
   -- more edits come
-  pub right_grows : (J es : List Edit) (f : Feed) (items : List (Item R)) → RightlyHanded kind J f items
-      → RightlyHanded kind (J ++ es) f items
-  right_grows J es f items r = record {
+  pub right_grows : (journal edits : List Edit) (feed : Feed) (items : List (Item R))
+      → RightlyHanded kind journal feed items → RightlyHanded kind (journal ++ edits) feed items
+  right_grows journal edits feed items r = record {
     rising = r.rising;
-    rows = All-weaker (IsRowOf kind J f) (IsRowOf kind (J ++ es) f) (row_grows J es f) (rows_of items) r.rows;
+    rows =
+        All-weaker (IsRowOf kind journal feed) (IsRowOf kind (journal ++ edits) feed)
+        (row_grows journal edits feed) (rows_of items) r.rows;
     from_since = r.from_since;
-    to_length = omega (arith, r.to_length, length-append J es);
+    to_length = omega (arith, r.to_length, length-append journal edits);
     ends = r.ends;
-    whole = λ c h p a b. r.whole c (current_before 1 J es c h (omega (arith, r.to_length))) p a b;
+    whole = λ c h p a b. r.whole c (current_before 1 journal edits c h (omega (arith, r.to_length))) p a b;
     limited = r.limited;
     beats = r.beats;
   }
 
   -- the feed, moved on
   abbrev moved : Feed → Option ℕ → ℕ → ℕ → Status → Feed
-  moved f bound place rows status = record f { bound = bound; place = place; rows = rows; status = status }
+  moved feed bound place rows status =
+      record feed { bound = bound; place = place; rows = rows; status = status }
 
-  row_moves : (J : List Edit) (f : Feed) (bound : Option ℕ) (place rows : ℕ) (status : Status)
-      → f.place ≤ place → IfSome bound (λ b. f.place ≤ b) → (row : R) → IsRowOf kind J f row
-      → IsRowOf kind J (moved f bound place rows status) row
-  row_moves J f bound place rows status p b row r = record {
+  row_moves : (journal : List Edit) (feed : Feed) (bound : Option ℕ) (place rows : ℕ) (status : Status)
+      → feed.place ≤ place → IfSome bound (λ b. feed.place ≤ b) → (row : R) → IsRowOf kind journal feed row
+      → IsRowOf kind journal (moved feed bound place rows status) row
+  row_moves journal feed bound place rows status p b row r = record {
     shown = r.shown;
     above = r.above;
     reached = omega (arith, r.reached);
@@ -72,64 +83,67 @@ module _ {R : Type 0} (kind : RowKind R) where
   }
 
   -- the feed moves on with no row, past no row that passes
-  pub right_moves : (J : List Edit) (f : Feed) (items more : List (Item R)) (bound : Option ℕ)
+  pub right_moves : (journal : List Edit) (feed : Feed) (items more : List (Item R)) (bound : Option ℕ)
       (place rows : ℕ) (status : Status) →
-      RightlyHanded kind J f items → rows_of more ≡ [] → f.place ≤ place → place ≤ length J
-      → IfSome bound (λ b. f.place ≤ b) → EndsAt place (items ++ more) →
-      ((c : Current) → Contains (current J) c → IsTrue (passes f.params.filter c.id)
-      → f.place < c.seq → c.seq ≤ place → ⊥) →
-      All (IsAsked f.params.heartbeat) more →
-      RightlyHanded kind J (moved f bound place rows status) (items ++ more)
-  right_moves J f items more bound place rows status r none p l b ends gap beats = record {
+      RightlyHanded kind journal feed items → rows_of more ≡ [] → feed.place ≤ place → place ≤ length journal
+      → IfSome bound (λ b. feed.place ≤ b) → EndsAt place (items ++ more) →
+      ((row : Current) → Contains (current journal) row → IsTrue (passes feed.params.filter row.id)
+      → feed.place < row.seq → row.seq ≤ place → ⊥) →
+      All (IsAsked feed.params.heartbeat) more →
+      RightlyHanded kind journal (moved feed bound place rows status) (items ++ more)
+  right_moves journal feed items more bound place rows status r none p l b ends gap beats = record {
     rising = rw same r.rising;
     rows =
         rw same
-        (All-weaker (IsRowOf kind J f) _ (row_moves J f bound place rows status p b) (rows_of items) r.rows);
+        (All-weaker (IsRowOf kind journal feed) _ (row_moves journal feed bound place rows status p b)
+        (rows_of items) r.rows);
     from_since = omega (arith, r.from_since);
     to_length = l;
     ends = ends;
-    whole = λ c h q a z. elim (cases_lt f.place c.seq) [
-      | inl y ↦ absurd (gap c h q y z)
-      | inr y ↦ rw same (r.whole c h q a y)
+    whole = λ row h q a z. elim (cases_lt feed.place row.seq) [
+      | inl y ↦ absurd (gap row h q y z)
+      | inr y ↦ rw same (r.whole row h q a y)
     ];
     limited = rw same r.limited;
-    beats = All-append (IsAsked f.params.heartbeat) items more r.beats beats;
+    beats = All-append (IsAsked feed.params.heartbeat) items more r.beats beats;
   }
     where
       same : rows_of (items ++ more) ≡ rows_of items
       same = rows_of-append items more ∙ (ap (λ rs. rows_of items ++ rs) none ∙ append-nil (rows_of items))
 
   -- the feed moves on to its next row
-  pub right_row : (J : List Edit) (f : Feed) (items : List (Item R)) (row : R) (seq : ℕ) → kind.seq row ≡ seq
-      → (bound : Option ℕ) (rows : ℕ) (status : Status) →
-      RightlyHanded kind J f items → IsPassingRow kind J f row → f.place < seq → seq ≤ length J →
+  pub right_row : (journal : List Edit) (feed : Feed) (items : List (Item R)) (row : R) (seq : ℕ)
+      → kind.seq row ≡ seq → (bound : Option ℕ) (rows : ℕ) (status : Status) →
+      RightlyHanded kind journal feed items → IsPassingRow kind journal feed row → feed.place < seq
+      → seq ≤ length journal →
       IfSome bound (λ b. seq ≤ b) → list_any is_end items ≡ false →
-      ((c : Current) → Contains (current J) c → IsTrue (passes f.params.filter c.id) → f.place < c.seq
-      → c.seq ≤ seq → seq ≡ c.seq) →
-      IfSome f.params.limit (λ limit. length (rows_of items) + 1 ≤ max 1 limit) →
-      RightlyHanded kind J (moved f bound seq rows status) (items ++ Row row ∷ [])
-  right_row J f items row seq at bound rows status r shown above l b no_end gap limit = record {
+      ((c : Current) → Contains (current journal) c → IsTrue (passes feed.params.filter c.id)
+      → feed.place < c.seq → c.seq ≤ seq → seq ≡ c.seq) →
+      IfSome feed.params.limit (λ limit. length (rows_of items) + 1 ≤ max 1 limit) →
+      RightlyHanded kind journal (moved feed bound seq rows status) (items ++ Row row ∷ [])
+  right_row journal feed items row seq at bound rows status r shown above l b no_end gap limit = record {
     rising = rw rows_of-row (all_pairs_push (Follows kind) (rows_of items) row r.rising follows);
     rows =
         rw rows_of-row
-        (All-push (IsRowOf kind J (moved f bound seq rows status)) (rows_of items) row
-        (All-weaker (IsRowOf kind J f) _
-        (row_moves J f bound seq rows status (omega arith) (some_weaker bound _ _ b (λ n h. omega arith)))
+        (All-push (IsRowOf kind journal (moved feed bound seq rows status)) (rows_of items) row
+        (All-weaker (IsRowOf kind journal feed) _
+        (row_moves journal feed bound seq rows status (omega arith)
+        (some_weaker bound _ _ b (λ n h. omega arith)))
         (rows_of items) r.rows) new);
     from_since = omega (arith, r.from_since);
     to_length = l;
     ends = ends_more seq items (Row row ∷ []) no_end tt;
-    whole = λ c h q a z. elim (cases_lt f.place c.seq) [
+    whole = λ c h q a z. elim (cases_lt feed.place c.seq) [
       | inl y ↦
           subst (λ n. Contains (seqs_of kind (items ++ Row row ∷ [])) n) (gap c h q y z)
           (rw seqs (Contains-push (seqs_of kind items) seq))
       | inr y ↦ rw seqs (Contains-append_left (seqs_of kind items) (seq ∷ []) c.seq (r.whole c h q a y))
     ];
     limited =
-        some_weaker f.params.limit _ _ limit
+        some_weaker feed.params.limit _ _ limit
         (λ n h.
         omega (arith, ap length (rows_of-row items row), length-append (rows_of items) (row ∷ []), h));
-    beats = All-push (IsAsked f.params.heartbeat) items (Row row) r.beats tt;
+    beats = All-push (IsAsked feed.params.heartbeat) items (Row row) r.beats tt;
   }
     where
       seqs : seqs_of kind (items ++ Row row ∷ []) ≡ seqs_of kind items ++ seq ∷ []
@@ -137,19 +151,20 @@ module _ {R : Type 0} (kind : RowKind R) where
           ap (map kind.seq) (rows_of-row items row)
           ∙ (map-append kind.seq (rows_of items) (row ∷ []) ∙ ap (λ n. seqs_of kind items ++ n ∷ []) at)
 
-      now : kind.seen row ≡ length J
-      now = row_seen J f row shown
+      now : kind.seen row ≡ length journal
+      now = row_seen journal feed row shown
 
       follows : (k : ℕ) (d : R) → k < length (rows_of items) → Follows kind (get_or (rows_of items) k d) row
       follows k d h = let o = r.rows k d h in record {
         rises = omega (arith, o.reached, at);
-        later = omega (arith, now, seen_within J f _ o);
+        later = omega (arith, now, seen_within journal feed _ o);
       }
 
-      new : IsRowOf kind J (moved f bound seq rows status) row
+      new : IsRowOf kind journal (moved feed bound seq rows status) row
       new = record {
         shown =
-            subst (λ K. IsPassingRow kind K f row) (sym (take-length J) ∙ ap (λ n. take n J) (sym now)) shown;
+            subst (λ K. IsPassingRow kind K feed row)
+            (sym (take-length journal) ∙ ap (λ n. take n journal) (sym now)) shown;
         above = omega (arith, r.from_since, at);
         reached = omega (arith, at);
         bounded = some_weaker bound _ _ b (λ n h. omega (arith, at, h));

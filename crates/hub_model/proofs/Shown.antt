@@ -41,94 +41,104 @@ module _ {X : Type 0} (P : X → Bool) where
         ]
       ]
 
-pub head_is : (p : List Revision) (r : Revision) → is_first r p ≡ true → IsFirst p r
-head_is [] r e = absurd (cc)
-head_is (x ∷ p) r e = sym (same_is r x e)
+pub head_is : (revisions : List Revision) (revision : Revision) → is_first revision revisions ≡ true
+    → IsFirst revisions revision
+head_is [] revision e = absurd (cc)
+head_is (other ∷ revisions) revision e = sym (same_is revision other e)
 
-pub is_head_from : (p : List Revision) (r : Revision) → IsFirst p r → is_first r p ≡ true
-is_head_from [] r i = absurd i
-is_head_from (x ∷ p) r i = subst (λ z. is_first r (z ∷ p) ≡ true) (sym i) (same_self r)
+pub is_head_from : (revisions : List Revision) (revision : Revision) → IsFirst revisions revision
+    → is_first revision revisions ≡ true
+is_head_from [] revision i = absurd i
+is_head_from (other ∷ revisions) revision i =
+    subst (λ z. is_first revision (z ∷ revisions) ≡ true) (sym i) (same_self revision)
 
 -- what is shown of a revision is so
-pub shown_is : (J : List Edit) (id : List ℕ) (r : Revision) (e : Edit) → IsLegal J → shown J id r ≡ Some e
-    → IsShown J id r e
-shown_is J id r e legal h = from (find (is_head r) (edits_of J id)) refl h
+pub shown_is : (journal : List Edit) (id : List ℕ) (revision : Revision) (edit : Edit) → IsLegal journal
+    → shown journal id revision ≡ Some edit → IsShown journal id revision edit
+shown_is journal id revision edit legal h = from (find (is_head revision) (edits_of journal id)) refl h
   where
-    from : (o : Option Edit) → find (is_head r) (edits_of J id) ≡ o → shown_of J id r o ≡ Some e
-        → IsShown J id r e
+    from : (maybe_edit : Option Edit) → find (is_head revision) (edits_of journal id) ≡ maybe_edit
+        → shown_of journal id revision maybe_edit ≡ Some edit → IsShown journal id revision edit
     from None q u = absurd (cc)
     from (Some f) q u =
-        let i = find_is (is_head r) (edits_of J id) f q in
-        let p = edits_in J id f i.1 in
-        let head = head_is f.path r i.0 in
-        let w = line_of_walk J id legal r (f, p, first_in f.path r head) in
-        subst (IsShown J id r) (same_Some _ e u)
+        let i = find_is (is_head revision) (edits_of journal id) f q in
+        let p = edits_in journal id f i.1 in
+        let head = head_is f.path revision i.0 in
+        let w = line_of_walk journal id legal revision (f, p, first_in f.path revision head) in
+        subst (IsShown journal id revision) (same_Some _ edit u)
         (record { named = refl; head = w.0; walk = w.1; doc = (f, p, head, refl, refl) })
 
-pub shown_none : (J : List Edit) (id : List ℕ) (r : Revision) → shown J id r ≡ None
-    → (deleted : Bool) (body : List ℕ) → ¬ HasDoc J id r deleted body
-shown_none J id r h deleted body d = from (find (is_head r) (edits_of J id)) refl h
+pub shown_none : (journal : List Edit) (id : List ℕ) (revision : Revision) → shown journal id revision ≡ None
+    → (deleted : Bool) (body : List ℕ) → ¬ HasDoc journal id revision deleted body
+shown_none journal id revision h deleted body d = from (find (is_head revision) (edits_of journal id)) refl h
   where
-    from : (o : Option Edit) → find (is_head r) (edits_of J id) ≡ o → shown_of J id r o ≡ None → ⊥
+    from : (maybe_edit : Option Edit) → find (is_head revision) (edits_of journal id) ≡ maybe_edit
+        → shown_of journal id revision maybe_edit ≡ None → ⊥
     from None q u =
-        find_not (is_head r) (edits_of J id) q d.0 (in_edits J id d.0 d.1) (is_head_from d.0.path r d.2)
+        find_not (is_head revision) (edits_of journal id) q d.0 (in_edits journal id d.0 d.1)
+        (is_head_from d.0.path revision d.2)
     from (Some f) q u = absurd (cc)
 
 -- the numbered rows
 abbrev IsCurrentFrom : ℕ → List Edit → ℕ → List ℕ → Type 0
-IsCurrentFrom n J seq id =
-    (e : Edit) × (before later : List Edit) × (J ≡ before ++ e ∷ later) × (seq ≡ n + length before)
-    × ((f : Edit) → Contains later f → f.id ≢ e.id) × (e.id ≡ id)
+IsCurrentFrom n journal seq id =
+    (edit : Edit) × (before later : List Edit) × (journal ≡ before ++ edit ∷ later)
+    × (seq ≡ n + length before)
+    × ((other : Edit) → Contains later other → other.id ≢ edit.id) × (edit.id ≡ id)
 
-not_edited : (id : List ℕ) (later : List Edit) → is_edited id later ≡ false → (f : Edit) → Contains later f
-    → f.id ≢ id
-not_edited id later h f c e =
-    both_ways _ h (at_any (λ (g : Edit). bytes_eq id g.id) later f c ((bytes_eq-Decides id f.id).1 (sym e)))
+not_edited : (id : List ℕ) (later : List Edit) → is_edited id later ≡ false → (edit : Edit)
+    → Contains later edit → edit.id ≢ id
+not_edited id later h edit c e =
+    both_ways _ h (at_any (λ (other : Edit). bytes_eq id other.id) later edit c
+    ((bytes_eq-Decides id edit.id).1 (sym e)))
 
-unedited : (id : List ℕ) (later : List Edit) → ((f : Edit) → Contains later f → f.id ≢ id)
+unedited : (id : List ℕ) (later : List Edit) → ((edit : Edit) → Contains later edit → edit.id ≢ id)
     → is_edited id later ≡ false
 unedited id later h = elim (cases_Bool (is_edited id later)) [
   | inl t ↦
-      absurd (let i = any_at (λ (g : Edit). bytes_eq id g.id) later t in
+      absurd (let i = any_at (λ (other : Edit). bytes_eq id other.id) later t in
       h i.0 i.1 (sym ((bytes_eq-Decides id i.0.id).0 i.2)))
   | inr t ↦ t
 ]
 
-from_is : (n : ℕ) (J : List Edit) (c : Current) → Contains (current_from n J) c → IsCurrentFrom n J c.seq c.id
-from_is n [] c h = absurd (contains_none c h)
-from_is n (x ∷ J) c h =
-    elim (from_cases n x J c h) [
+from_is : (n : ℕ) (journal : List Edit) (row : Current) → Contains (current_from n journal) row
+    → IsCurrentFrom n journal row.seq row.id
+from_is n [] row h = absurd (contains_none row h)
+from_is n (edit ∷ journal) row h =
+    elim (from_cases n edit journal row h) [
       | inl p ↦ (
-        x,
+        edit,
         [],
-        J,
+        journal,
         refl,
-        let s : n ≡ c.seq = ap (λ (z : Current). z.seq) p.1 in omega arith,
-        not_edited x.id J p.0,
+        let s : n ≡ row.seq = ap (λ (z : Current). z.seq) p.1 in omega arith,
+        not_edited edit.id journal p.0,
         ap (λ (z : Current). z.id) p.1,
       )
       | inr q ↦
-          let i = from_is (n + 1) J c q in
-          (i.0, x ∷ i.1, i.2, ap (λ (z : List Edit). x ∷ z) i.3, omega (arith, i.4), i.5, i.6)
+          let i = from_is (n + 1) journal row q in
+          (i.0, edit ∷ i.1, i.2, ap (λ (z : List Edit). edit ∷ z) i.3, omega (arith, i.4), i.5, i.6)
     ]
 
-from_current : (n : ℕ) (before later : List Edit) (e : Edit) (seq : ℕ)
-    → seq ≡ n + length before → ((f : Edit) → Contains later f → f.id ≢ e.id)
-    → Contains (current_from n (before ++ e ∷ later)) (record { seq = seq; id = e.id })
-from_current n [] later e seq q h =
-    subst (λ (k : ℕ). Contains (current_from n (e ∷ later)) (record { seq = k; id = e.id })) (omega arith)
-    (from_head n e later (unedited e.id later h))
-from_current n (x ∷ before) later e seq q h =
-    from_rest n x (before ++ e ∷ later) (record { seq = seq; id = e.id })
-    (from_current (n + 1) before later e seq (omega arith) h)
+from_current : (n : ℕ) (before later : List Edit) (edit : Edit) (seq : ℕ)
+    → seq ≡ n + length before → ((f : Edit) → Contains later f → f.id ≢ edit.id)
+    → Contains (current_from n (before ++ edit ∷ later)) (record { seq = seq; id = edit.id })
+from_current n [] later edit seq q h =
+    subst (λ (k : ℕ). Contains (current_from n (edit ∷ later)) (record { seq = k; id = edit.id }))
+    (omega arith)
+    (from_head n edit later (unedited edit.id later h))
+from_current n (other ∷ before) later edit seq q h =
+    from_rest n other (before ++ edit ∷ later) (record { seq = seq; id = edit.id })
+    (from_current (n + 1) before later edit seq (omega arith) h)
 
 -- the current rows are the current entries
-pub current_is : (J : List Edit) (c : Current) → Contains (current J) c
-    → (e : Edit) × IsCurrent J c.seq e × (e.id ≡ c.id)
-current_is J c h = let i = from_is 1 J c h in (i.0, (i.1, i.2, i.3, omega (arith, i.4), i.5), i.6)
+pub current_is : (journal : List Edit) (row : Current) → Contains (current journal) row
+    → (edit : Edit) × IsCurrent journal row.seq edit × (edit.id ≡ row.id)
+current_is journal row h =
+    let i = from_is 1 journal row h in (i.0, (i.1, i.2, i.3, omega (arith, i.4), i.5), i.6)
 
-pub is_current_from : (J : List Edit) (n : ℕ) (e : Edit) → IsCurrent J n e
-    → Contains (current J) (record { seq = n; id = e.id })
-is_current_from J n e (before, later, s, m, none) =
-    subst (λ z. Contains (current z) (record { seq = n; id = e.id }))
-    (sym s) (from_current 1 before later e n (omega arith) none)
+pub is_current_from : (journal : List Edit) (n : ℕ) (edit : Edit) → IsCurrent journal n edit
+    → Contains (current journal) (record { seq = n; id = edit.id })
+is_current_from journal n edit (before, later, s, m, none) =
+    subst (λ z. Contains (current z) (record { seq = n; id = edit.id }))
+    (sym s) (from_current 1 before later edit n (omega arith) none)

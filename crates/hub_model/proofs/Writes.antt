@@ -22,180 +22,212 @@ use Rattle.hub_model.proofs.Tests.{head_new_is, is_known_from, same_self, or_lef
 use Rattle.hub_model.proofs.Leaves.{leaf_is}
 use Rattle.hub_model.proofs.Walks.{walk_history, walk_steps, line_of_walk, legal_histories}
 
-takes_if : (limit : ℕ) (J : List Edit) (e : Edit) (b : Bool) (x y : Stores)
-    → (b ≡ true → Takes limit J e x.outcome x.journal) → (b ≡ false → Takes limit J e y.outcome y.journal)
-    → Takes limit J e (if b then x else y).outcome (if b then x else y).journal
-takes_if limit J e true x y p q = p refl
-takes_if limit J e false x y p q = q refl
+takes_if : (limit : ℕ) (journal : List Edit) (edit : Edit) (b : Bool) (stores other : Stores)
+    → (b ≡ true → Takes limit journal edit stores.outcome stores.journal)
+    → (b ≡ false → Takes limit journal edit other.outcome other.journal)
+    → Takes limit journal edit (if b then stores else other).outcome (if b then stores else other).journal
+takes_if limit journal edit true stores other p q = p refl
+takes_if limit journal edit false stores other p q = q refl
 
-path_head : (p : List Revision) (d : Revision) → IsPath p → IsFirst p (unwrap_or (slice_get p 0) d)
-path_head [] d f = absurd f
-path_head (r ∷ p) d f = refl
+path_head : (revisions : List Revision) (revision : Revision) → IsPath revisions
+    → IsFirst revisions (unwrap_or (slice_get revisions 0) revision)
+path_head [] revision f = absurd f
+path_head (other ∷ revisions) revision f = refl
 
-adds_takes : (limit : ℕ) (J : List Edit) (e : Edit) → IsAcceptable J e
-    → Takes limit J e (adds limit J e).outcome (adds limit J e).journal
-adds_takes limit J e a =
-    takes_if limit J e (nat_le limit (length J)) _ _ (λ t. (a, leb-true limit (length J) t, refl))
-    (λ t. (a, leb-false limit (length J) t, refl, path_head e.path _ a.history.falls))
+adds_takes : (limit : ℕ) (journal : List Edit) (edit : Edit) → IsAcceptable journal edit
+    → Takes limit journal edit (adds limit journal edit).outcome (adds limit journal edit).journal
+adds_takes limit journal edit a =
+    takes_if limit journal edit (nat_le limit (length journal)) _ _
+    (λ t. (a, leb-true limit (length journal) t, refl))
+    (λ t. (a, leb-false limit (length journal) t, refl, path_head edit.path _ a.history.falls))
 
 -- storing a replicated edit
-pub merges_takes : (limit : ℕ) (J : List Edit) (e : Edit) → IsLegal J
-    → Takes limit J e (merges limit J e).outcome (merges limit J e).journal
-merges_takes limit J e legal =
-    takes_if limit J e (is_head_known J e.id e.path) _ _
-    (λ t. let k = head_known_is J e.id e.path t in (k.0, k.1, k.2, refl))
-    (λ t. takes_if limit J e (is_acceptable J e) _ _ (λ u. adds_takes limit J e (acceptable_is J e legal u))
-    (λ u. (head_new_is J e.id e.path t, λ a. both_ways _ u (is_acceptable_from J e a), refl)))
+pub merges_takes : (limit : ℕ) (journal : List Edit) (edit : Edit) → IsLegal journal
+    → Takes limit journal edit (merges limit journal edit).outcome (merges limit journal edit).journal
+merges_takes limit journal edit legal =
+    takes_if limit journal edit (is_head_known journal edit.id edit.path) _ _
+    (λ t. let k = head_known_is journal edit.id edit.path t in (k.0, k.1, k.2, refl))
+    (λ t. takes_if limit journal edit (is_acceptable journal edit) _ _
+    (λ u. adds_takes limit journal edit (acceptable_is journal edit legal u))
+    (λ u. (
+      head_new_is journal edit.id edit.path t,
+      λ a. both_ways _ u (is_acceptable_from journal edit a),
+      refl,
+    )))
 
-pub takes_legal : (limit : ℕ) (J : List Edit) (e : Edit) (o : Outcome Revision) (K : List Edit)
-    → Takes limit J e o K → IsLegal J → IsLegal K
-takes_legal limit J e (Stored r) K t h = subst IsLegal (sym t.2) (legal_more J e h t.0)
-takes_legal limit J e Known K t h = subst IsLegal (sym t.3) h
-takes_legal limit J e (Refused Contradicts) K t h = subst IsLegal (sym t.2) h
-takes_legal limit J e (Refused SequenceFull) K t h = subst IsLegal (sym t.2) h
-takes_legal limit J e (Refused _) K t h = absurd t
+pub takes_legal : (limit : ℕ) (journal : List Edit) (edit : Edit) (o : Outcome Revision)
+    (other_journal : List Edit)
+    → Takes limit journal edit o other_journal → IsLegal journal → IsLegal other_journal
+takes_legal limit journal edit (Stored r) other_journal t h =
+    subst IsLegal (sym t.2) (legal_more journal edit h t.0)
+takes_legal limit journal edit Known other_journal t h = subst IsLegal (sym t.3) h
+takes_legal limit journal edit (Refused Contradicts) other_journal t h = subst IsLegal (sym t.2) h
+takes_legal limit journal edit (Refused SequenceFull) other_journal t h = subst IsLegal (sym t.2) h
+takes_legal limit journal edit (Refused _) other_journal t h = absurd t
 
-pub merges_legal : (limit : ℕ) (J : List Edit) (e : Edit) → IsLegal J → IsLegal (merges limit J e).journal
-merges_legal limit J e h = takes_legal limit J e _ _ (merges_takes limit J e h) h
+pub merges_legal : (limit : ℕ) (journal : List Edit) (edit : Edit) → IsLegal journal
+    → IsLegal (merges limit journal edit).journal
+merges_legal limit journal edit h = takes_legal limit journal edit _ _ (merges_takes limit journal edit h) h
 
 -- storing one replicated edit after the other
-pub merges_answer_each : (limit : ℕ) (J es : List Edit) → length (merges_all limit J es).outcomes ≡ length es
-merges_answer_each limit J [] = refl
-merges_answer_each limit J (e ∷ es) = ap (λ n. suc n) (merges_answer_each limit (merges limit J e).journal es)
+pub merges_answer_each : (limit : ℕ) (journal edits : List Edit)
+    → length (merges_all limit journal edits).outcomes ≡ length edits
+merges_answer_each limit journal [] = refl
+merges_answer_each limit journal (edit ∷ edits) =
+    ap (λ n. suc n) (merges_answer_each limit (merges limit journal edit).journal edits)
 
-pub merges_all_take : (limit : ℕ) (J es : List Edit) → IsLegal J
-    → TakesAll limit J es (merges_all limit J es).outcomes (merges_all limit J es).journal
-merges_all_take limit J [] h = refl
-merges_all_take limit J (e ∷ es) h = (
-  (merges limit J e).journal,
-  merges_takes limit J e h,
-  merges_all_take limit (merges limit J e).journal es (merges_legal limit J e h),
+pub merges_all_take : (limit : ℕ) (journal edits : List Edit) → IsLegal journal
+    → TakesAll limit journal edits (merges_all limit journal edits).outcomes
+    (merges_all limit journal edits).journal
+merges_all_take limit journal [] h = refl
+merges_all_take limit journal (edit ∷ edits) h = (
+  (merges limit journal edit).journal,
+  merges_takes limit journal edit h,
+  merges_all_take limit (merges limit journal edit).journal edits (merges_legal limit journal edit h),
 )
 
-stores_if : (b : Bool) (x y : Stores) → (b ≡ true → IsLegal x.journal) → (b ≡ false → IsLegal y.journal)
-    → IsLegal (if b then x else y).journal
-stores_if true x y p q = p refl
-stores_if false x y p q = q refl
+stores_if : (b : Bool) (stores other : Stores) → (b ≡ true → IsLegal stores.journal)
+    → (b ≡ false → IsLegal other.journal) → IsLegal (if b then stores else other).journal
+stores_if true stores other p q = p refl
+stores_if false stores other p q = q refl
 
-adds_legal : (limit : ℕ) (J : List Edit) (e : Edit) → IsLegal J → IsAcceptable J e
-    → IsLegal (adds limit J e).journal
-adds_legal limit J e h a = takes_legal limit J e _ _ (adds_takes limit J e a) h
+adds_legal : (limit : ℕ) (journal : List Edit) (edit : Edit) → IsLegal journal → IsAcceptable journal edit
+    → IsLegal (adds limit journal edit).journal
+adds_legal limit journal edit h a = takes_legal limit journal edit _ _ (adds_takes limit journal edit a) h
 
 -- the path that a draft extends is empty, or all that stands behind a known revision
 abbrev IsExtended : List Edit → List ℕ → List Revision → Type 0
-IsExtended J id path = (path ≡ []) ⊎ ((r : Revision) × IsKnown J id r × (path ≡ line_of J id r))
+IsExtended journal id path =
+    (path ≡ []) ⊎ ((revision : Revision) × IsKnown journal id revision × (path ≡ line_of journal id revision))
 
-extended_known : (J : List Edit) (id : List ℕ) (ls : List Leaf) (rev : Option Revision) (path : List Revision)
-    → ((r : Revision) → names (revisions_of ls) r ≡ true → IsKnown J id r) → extended J id ls rev ≡ Some path
-    → IsExtended J id path
-extended_known J id ls (Some rev) path k e = from (cases_Bool (names (revisions_of ls) rev))
+extended_known : (journal : List Edit) (id : List ℕ) (leaves : List Leaf) (rev : Option Revision)
+    (path : List Revision)
+    → ((revision : Revision) → names (revisions_of leaves) revision ≡ true → IsKnown journal id revision)
+    → extended journal id leaves rev ≡ Some path → IsExtended journal id path
+extended_known journal id leaves (Some rev) path k e = from (cases_Bool (names (revisions_of leaves) rev))
   where
-    from : ((names (revisions_of ls) rev ≡ true) ⊎ (names (revisions_of ls) rev ≡ false))
-        → IsExtended J id path
+    from : ((names (revisions_of leaves) rev ≡ true) ⊎ (names (revisions_of leaves) rev ≡ false))
+        → IsExtended journal id path
     from (inl t) = inr (rev, k rev t, let e' = rw t at e in cc)
     from (inr t) = absurd (let e' = rw t at e in cc)
-extended_known J id [] None path k e = inl (cc)
-extended_known J id (winner ∷ others) None path k e = from (cases_Bool winner.edit.deleted)
+extended_known journal id [] None path k e = inl (cc)
+extended_known journal id (winner ∷ others) None path k e = from (cases_Bool winner.edit.deleted)
   where
-    from : ((winner.edit.deleted ≡ true) ⊎ (winner.edit.deleted ≡ false)) → IsExtended J id path
+    from : ((winner.edit.deleted ≡ true) ⊎ (winner.edit.deleted ≡ false)) → IsExtended journal id path
     from (inl t) =
         inr (winner.rev, k winner.rev (or_left _ _ (same_self winner.rev)), let e' = rw t at e in cc)
     from (inr t) = absurd (let e' = rw t at e in cc)
 
 -- a new revision in front of the walk of a known one, or alone
-module _ (J : List Edit) (e : Edit) (m : Revision) (legal : IsLegal J) (new : ¬ IsKnown J e.id m) where
-  tree_with : (older : List Revision) → ((s r : Revision) → IsNext older s r → IsBehind J e.id r s)
-      → e.path ≡ m ∷ older → IsTree (J ++ e ∷ []) e.id
+module _ (journal : List Edit) (edit : Edit) (revision : Revision) (legal : IsLegal journal)
+    (new : ¬ IsKnown journal edit.id revision) where
+  tree_with : (older : List Revision) → ((s r : Revision) → IsNext older s r → IsBehind journal edit.id r s)
+      → edit.path ≡ revision ∷ older → IsTree (journal ++ edit ∷ []) edit.id
   tree_with older steps is r other s (f, (c, n), i) (g, (d, k), j) =
       both (step f r c n i) (step g other d k j)
     where
-      step : (f : Edit) (r : Revision) → Contains (J ++ e ∷ []) f → f.id ≡ e.id → IsNext f.path s r
-          → IsBehind J e.id r s ⊎ ((m ≡ s) × IsFirst older r)
+      step : (f : Edit) (r : Revision) → Contains (journal ++ edit ∷ []) f → f.id ≡ edit.id
+          → IsNext f.path s r → IsBehind journal edit.id r s ⊎ ((revision ≡ s) × IsFirst older r)
       step f r c n i = ⊎_elim (λ u. inl (f, (u, n), i))
-          (λ (v : e ≡ f). elim (subst (λ z. IsNext z s r) (ap (λ (z : Edit). z.path) (sym v) ∙ is) i) [
+          (λ (v : edit ≡ f). elim (subst (λ z. IsNext z s r) (ap (λ (z : Edit). z.path) (sym v) ∙ is) i) [
             | inl h ↦ inr h
             | inr h ↦ inl (steps s r h)
           ])
-          (Contains-push_cases J e f c)
+          (Contains-push_cases journal edit f c)
 
-      not_new : (r : Revision) → IsBehind J e.id r s → m ≡ s → ⊥
-      not_new r (f, p, i) q = new (f, p, subst (λ z. Contains f.path z) (sym q) (left f.path i))
+      not_new : (r : Revision) → IsBehind journal edit.id r s → revision ≡ s → ⊥
+      not_new r (f, revisions, i) q =
+          new (f, revisions, subst (λ z. Contains f.path z) (sym q) (left f.path i))
         where
-          left : (p : List Revision) → IsNext p s r → Contains p s
+          left : (revisions : List Revision) → IsNext revisions s r → Contains revisions s
           left [] n = absurd n
-          left (x ∷ p) (inl h) = subst (λ z. Contains (x ∷ p) z) h.0 (contains_here x p)
-          left (x ∷ p) (inr h) = contains_there x s p (left p h)
+          left (x ∷ revisions) (inl h) =
+              subst (λ z. Contains (x ∷ revisions) z) h.0 (contains_here x revisions)
+          left (x ∷ revisions) (inr h) = contains_there x s revisions (left revisions h)
 
-      both : IsBehind J e.id r s ⊎ ((m ≡ s) × IsFirst older r)
-          → IsBehind J e.id other s ⊎ ((m ≡ s) × IsFirst older other) → r ≡ other
-      both (inl a) (inl b) = (legal_sound J legal).tree e.id r other s a b
+      both : IsBehind journal edit.id r s ⊎ ((revision ≡ s) × IsFirst older r)
+          → IsBehind journal edit.id other s ⊎ ((revision ≡ s) × IsFirst older other) → r ≡ other
+      both (inl a) (inl b) = (legal_sound journal legal).tree edit.id r other s a b
       both (inl a) (inr b) = absurd (not_new r a b.0)
       both (inr a) (inl b) = absurd (not_new other b a.0)
       both (inr a) (inr b) = first older a.1 b.1
         where
-          first : (p : List Revision) → IsFirst p r → IsFirst p other → r ≡ other
+          first : (revisions : List Revision) → IsFirst revisions r → IsFirst revisions other → r ≡ other
           first [] x y = absurd x
-          first (z ∷ p) x y = sym x ∙ y
+          first (z ∷ revisions) x y = sym x ∙ y
 
-history_on : (m r : Revision) (p : List Revision) → IsHistory p → IsFirst p r
-    → m.generation ≡ r.generation + 1 → IsHistory (m ∷ p)
-history_on m r [] h i g = absurd i
-history_on m r (x ∷ p) h i g =
-    let e : x.generation ≡ r.generation = ap (λ (z : Revision). z.generation) i in
+history_on : (revision other : Revision) (revisions : List Revision) → IsHistory revisions
+    → IsFirst revisions other → revision.generation ≡ other.generation + 1 → IsHistory (revision ∷ revisions)
+history_on revision other [] h i g = absurd i
+history_on revision other (x ∷ revisions) h i g =
+    let e : x.generation ≡ other.generation = ap (λ (z : Revision). z.generation) i in
     record { falls = (omega arith, h.falls) }
 
-generation_first : (p : List Revision) (r : Revision) → IsFirst p r
-    → generation_of (parent_of p) ≡ r.generation
-generation_first [] r i = absurd i
-generation_first (x ∷ p) r i = ap (λ (z : Revision). z.generation) i
+generation_first : (revisions : List Revision) (revision : Revision) → IsFirst revisions revision
+    → generation_of (parent_of revisions) ≡ revision.generation
+generation_first [] revision i = absurd i
+generation_first (other ∷ revisions) revision i = ap (λ (z : Revision). z.generation) i
 
 -- a draft's edit is acceptable where its revision is new
-made_acceptable : (J : List Edit) (d : Draft) (path : List Revision) → IsLegal J → IsExtended J d.id path
-    → ¬ IsKnown J d.id (made d (parent_of path)) → IsAcceptable J (edit_of d path)
-made_acceptable J d path legal x new = record {
+made_acceptable : (journal : List Edit) (draft : Draft) (path : List Revision) → IsLegal journal
+    → IsExtended journal draft.id path
+    → ¬ IsKnown journal draft.id (made draft (parent_of path)) → IsAcceptable journal (edit_of draft path)
+made_acceptable journal draft path legal x new = record {
   history = history x;
-  new = λ r i k. new (subst (λ z. IsKnown J d.id z) (sym i) k);
-  agrees = tree_with J (edit_of d path) (made d (parent_of path)) legal new path (steps x) refl;
+  new = λ other i k. new (subst (λ revisions. IsKnown journal draft.id revisions) (sym i) k);
+  agrees = tree_with journal (edit_of draft path) (made draft (parent_of path)) legal new path (steps x) refl;
 }
   where
-    history : IsExtended J d.id path → IsHistory (made d (parent_of path) ∷ path)
+    history : IsExtended journal draft.id path → IsHistory (made draft (parent_of path) ∷ path)
     history (inl e) =
-        subst (λ (z : List Revision). IsHistory (made d (parent_of z) ∷ z)) (sym e)
+        subst (λ (revisions : List Revision). IsHistory (made draft (parent_of revisions) ∷ revisions))
+        (sym e)
         (record { falls = omega arith })
-    history (inr (r, k, e)) =
-        let w = line_of_walk J d.id legal r k in
-        let first : IsFirst path r = subst (λ z. IsFirst z r) (sym e) w.0 in
-        history_on (made d (parent_of path)) r path
-        (walk_history J d.id (legal_histories J legal) path r first k
-        (subst (λ z. IsWalk J d.id z) (sym e) w.1))
-        first (ap (λ (n : ℕ). n + 1) (generation_first path r first))
+    history (inr (other, k, e)) =
+        let w = line_of_walk journal draft.id legal other k in
+        let first : IsFirst path other = subst (λ revisions. IsFirst revisions other) (sym e) w.0 in
+        history_on (made draft (parent_of path)) other path
+        (walk_history journal draft.id (legal_histories journal legal) path other first k
+        (subst (λ revisions. IsWalk journal draft.id revisions) (sym e) w.1))
+        first (ap (λ (n : ℕ). n + 1) (generation_first path other first))
 
-    steps : IsExtended J d.id path → (s r : Revision) → IsNext path s r → IsBehind J d.id r s
-    steps (inl e) s r n = absurd (subst (λ z. IsNext z s r) e n)
-    steps (inr (t, k, e)) s r n =
-        walk_steps J d.id path s r (subst (λ z. IsWalk J d.id z) (sym e) (line_of_walk J d.id legal t k).1) n
+    steps : IsExtended journal draft.id path → (revision other : Revision) → IsNext path revision other
+        → IsBehind journal draft.id other revision
+    steps (inl e) revision other n = absurd (subst (λ revisions. IsNext revisions revision other) e n)
+    steps (inr (t, k, e)) revision other n =
+        walk_steps journal draft.id path revision other
+        (subst (λ revisions. IsWalk journal draft.id revisions) (sym e)
+        (line_of_walk journal draft.id legal t k).1) n
 
-pub makes_legal : (limit : ℕ) (J : List Edit) (d : Draft) → IsLegal J → IsLegal (makes limit J d).journal
-makes_legal limit J d h = from (extended J d.id (leaves_of J d.id) d.rev) refl
+pub makes_legal : (limit : ℕ) (journal : List Edit) (draft : Draft) → IsLegal journal
+    → IsLegal (makes limit journal draft).journal
+makes_legal limit journal draft h =
+    from (extended journal draft.id (leaves_of journal draft.id) draft.rev) refl
   where
-    known : (r : Revision) → names (revisions_of (leaves_of J d.id)) r ≡ true → IsKnown J d.id r
-    known r n = (leaf_is J d.id r (names_is (revisions_of (leaves_of J d.id)) r n)).0
+    known : (revision : Revision) → names (revisions_of (leaves_of journal draft.id)) revision ≡ true
+        → IsKnown journal draft.id revision
+    known revision n =
+        (leaf_is journal draft.id revision
+        (names_is (revisions_of (leaves_of journal draft.id)) revision n)).0
 
-    from : (o : Option (List Revision)) → extended J d.id (leaves_of J d.id) d.rev ≡ o
-        → IsLegal (makes_on limit J d o).journal
+    from : (o : Option (List Revision)) → extended journal draft.id (leaves_of journal draft.id) draft.rev ≡ o
+        → IsLegal (makes_on limit journal draft o).journal
     from None e = h
     from (Some path) e =
         stores_if (nat_le 65535 (generation_of (parent_of path))) _ _ (λ t. h) (λ t. stores_if
-        (is_known J d.id (made d (parent_of path))) _ _ (λ u. h) (λ u. adds_legal limit J (edit_of d path) h
-        (made_acceptable J d path h (extended_known J d.id (leaves_of J d.id) d.rev path known e)
-        (λ k. both_ways _ u (is_known_from J d.id (made d (parent_of path)) k)))))
+        (is_known journal draft.id (made draft (parent_of path))) _ _ (λ u. h)
+        (λ u. adds_legal limit journal (edit_of draft path) h
+        (made_acceptable journal draft path h
+        (extended_known journal draft.id (leaves_of journal draft.id) draft.rev path known e)
+        (λ k. both_ways _ u (is_known_from journal draft.id (made draft (parent_of path)) k)))))
 
 -- documents one after the other
 pub all_legal : {A : Type 0} (store : List Edit → A → Stores)
-    → ((J : List Edit) (x : A) → IsLegal J → IsLegal (store J x).journal)
-    → (deleted : Bool) (J : List Edit) (xs : List A) → IsLegal J
-    → IsLegal (stores_all store deleted J xs).journal
-all_legal store each true J [] h = h
-all_legal store each false J [] h = h
-all_legal store each true J (x ∷ xs) h = h
-all_legal store each false J (x ∷ xs) h = all_legal store each false (store J x).journal xs (each J x h)
+    → ((journal : List Edit) (x : A) → IsLegal journal → IsLegal (store journal x).journal)
+    → (deleted : Bool) (journal : List Edit) (xs : List A) → IsLegal journal
+    → IsLegal (stores_all store deleted journal xs).journal
+all_legal store each true journal [] h = h
+all_legal store each false journal [] h = h
+all_legal store each true journal (x ∷ xs) h = h
+all_legal store each false journal (x ∷ xs) h =
+    all_legal store each false (store journal x).journal xs (each journal x h)

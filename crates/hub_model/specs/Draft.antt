@@ -27,9 +27,11 @@ pub record Draft : Type 0 where
 -- 2-a 1-q for the name 2-a. There is no path for the name 1-q, and none without a name, since the winner 2-a
 -- is not deleted.
 abbrev pub extended : List Edit → List ℕ → List Leaf → Option Revision → Option (List Revision)
-extended J id leaves (Some rev) = if names (revisions_of leaves) rev then Some (line_of J id rev) else None
-extended J id [] None = Some []
-extended J id (winner ∷ others) None = if winner.edit.deleted then Some (line_of J id winner.rev) else None
+extended journal id leaves (Some rev) =
+    if names (revisions_of leaves) rev then Some (line_of journal id rev) else None
+extended journal id [] None = Some []
+extended journal id (winner ∷ others) None =
+    if winner.edit.deleted then Some (line_of journal id winner.rev) else None
 
 -- the JSON text of a truth value
 abbrev pub bool_text : Bool → List ℕ
@@ -43,78 +45,91 @@ parent_of path = slice_get path 0
 -- its JSON text
 abbrev pub parent_text : Option Revision → List ℕ
 parent_text None = codes "null"
-parent_text (Some r) = quoted (text_of r)
+parent_text (Some revision) = quoted (text_of revision)
 
 -- `[deleted,parent,id,body]`, which this project hashes. For a new document x with the body {} it is
 -- `[false,null,"x",{}]`, and behind 1-a it is `[false,"1-a","x",{}]`.
 abbrev pub draft_text : Draft → Option Revision → List ℕ
-draft_text d parent =
+draft_text draft parent =
     codes "["
-    ++ (bool_text d.deleted
+    ++ (bool_text draft.deleted
     ++ (codes ","
-    ++ (parent_text parent ++ (codes "," ++ (quoted d.id ++ (codes "," ++ (d.body ++ codes "]")))))))
+    ++ (parent_text parent ++ (codes "," ++ (quoted draft.id ++ (codes "," ++ (draft.body ++ codes "]")))))))
 
 -- the generation of the revision that is extended, 0 where there is none
 abbrev pub generation_of : Option Revision → ℕ
 generation_of None = 0
-generation_of (Some r) = r.generation
+generation_of (Some revision) = revision.generation
 
 -- the draft's revision where it extends this one. A new document x with the body {} gets
 -- 1-6bb47d1c10868be9dedaf96db9579d8b, and behind 1-a it gets 2-7c379ea93cbd7dfe02fff7e52e3793f7.
 abbrev pub made : Draft → Option Revision → Revision
-made d parent =
-    record { generation = generation_of parent + 1; hash = encode_lower (md5 (draft_text d parent)) }
+made draft parent =
+    record { generation = generation_of parent + 1; hash = encode_lower (md5 (draft_text draft parent)) }
 
 -- the edit that a draft becomes where it extends the path
 abbrev pub edit_of : Draft → List Revision → Edit
-edit_of d path =
-    record { id = d.id; path = made d (parent_of path) ∷ path; deleted = d.deleted; body = d.body }
+edit_of draft path =
+    record {
+      id = draft.id;
+      path = made draft (parent_of path)
+          ∷ path;
+      deleted = draft.deleted;
+      body = draft.body;
+    }
 
 -- what storing it answers where it extends this path
 abbrev pub makes_on : ℕ → List Edit → Draft → Option (List Revision) → Stores
-makes_on limit J d None = refuses J Conflict
-makes_on limit J d (Some path) =
-    if nat_le 65535 (generation_of (parent_of path)) then refuses J GenerationLimit
-    else if is_known J d.id (made d (parent_of path)) then refuses J Conflict
-    else adds limit J (edit_of d path)
+makes_on limit journal draft None = refuses journal Conflict
+makes_on limit journal draft (Some path) =
+    if nat_le 65535 (generation_of (parent_of path)) then refuses journal GenerationLimit
+    else if is_known journal draft.id (made draft (parent_of path)) then refuses journal Conflict
+    else adds limit journal (edit_of draft path)
 
 -- what storing it answers, and the journal after it. After an edit with the path 2-b 1-a a draft that names
 -- 1-a is refused as a Conflict (proved: `WritesAnswer`); one that names 2-b is stored, with a revision of
 -- generation 3.
 abbrev pub makes : ℕ → List Edit → Draft → Stores
-makes limit J d = makes_on limit J d (extended J d.id (leaves_of J d.id) d.rev)
+makes limit journal draft =
+    makes_on limit journal draft (extended journal draft.id (leaves_of journal draft.id) draft.rev)
 
 -- There is a path that the draft extends and a generation behind it, so that its revision is to be made: a
 -- draft without `_rev` has one where its document is unknown or its winner deleted, and none where a winner
 -- stands.
 abbrev pub HasNextRevision : List Edit → Draft → Type 0
-HasNextRevision J d =
-    (path : List Revision) × (extended J d.id (leaves_of J d.id) d.rev ≡ Some path)
+HasNextRevision journal draft =
+    (path : List Revision) × (extended journal draft.id (leaves_of journal draft.id) draft.rev ≡ Some path)
     × (generation_of (parent_of path) < 65535)
 
 -- path is what a draft that names this revision extends, or one that names none. After an edit with the path
 -- 2-b 1-a it is 2-b 1-a for the name 2-b, and there is none for the name 1-a, which is no leaf. Without a
 -- name it is 2-b 1-a where that edit deletes, and there is none where it does not.
 abbrev pub Extends : List Edit → List ℕ → Option Revision → List Revision → Type 0
-Extends J id (Some r) path = IsLeaf J id r × IsFirst path r × IsWalk J id path
-Extends J id None path =
-    (((r : Revision) → ¬ IsKnown J id r) × (path ≡ []))
-    ⊎ ((r : Revision) × IsWinner J id r × IsMarked J id r true × IsFirst path r × IsWalk J id path)
+Extends journal id (Some revision) path =
+    IsLeaf journal id revision × IsFirst path revision × IsWalk journal id path
+Extends journal id None path =
+    (((revision : Revision) → ¬ IsKnown journal id revision) × (path ≡ []))
+    ⊎ ((revision : Revision) × IsWinner journal id revision × IsMarked journal id revision true
+    × IsFirst path revision × IsWalk journal id path)
 
--- storing a draft as a relation: after J it may come out so and leave the journal so
+-- storing a draft as a relation: after journal it may come out so and leave the journal so
 abbrev pub Makes : ℕ → List Edit → Draft → Outcome Revision → List Edit → Type 0
-Makes limit J d (Stored r) new =
-    (path : List Revision) × Extends J d.id d.rev path × (generation_of (parent_of path) < 65535)
-    × (r ≡ made d (parent_of path)) × (¬ IsKnown J d.id r) × (length J < limit)
-    × (new ≡ J ++ edit_of d path ∷ [])
-Makes limit J d Known new = ⊥
-Makes limit J d (Refused Conflict) new =
-    (((path : List Revision) → ¬ Extends J d.id d.rev path)
-    ⊎ ((path : List Revision) × Extends J d.id d.rev path × (generation_of (parent_of path) < 65535)
-    × IsKnown J d.id (made d (parent_of path)))) × (new ≡ J)
-Makes limit J d (Refused GenerationLimit) new =
-    (path : List Revision) × Extends J d.id d.rev path × (65535 ≤ generation_of (parent_of path)) × (new ≡ J)
-Makes limit J d (Refused SequenceFull) new =
-    (path : List Revision) × Extends J d.id d.rev path × (generation_of (parent_of path) < 65535)
-    × (¬ IsKnown J d.id (made d (parent_of path))) × (limit ≤ length J) × (new ≡ J)
-Makes limit J d (Refused _) new = ⊥
+Makes limit journal draft (Stored r) new =
+    (path : List Revision) × Extends journal draft.id draft.rev path
+    × (generation_of (parent_of path) < 65535)
+    × (r ≡ made draft (parent_of path)) × (¬ IsKnown journal draft.id r) × (length journal < limit)
+    × (new ≡ journal ++ edit_of draft path ∷ [])
+Makes limit journal draft Known new = ⊥
+Makes limit journal draft (Refused Conflict) new =
+    (((path : List Revision) → ¬ Extends journal draft.id draft.rev path)
+    ⊎ ((path : List Revision) × Extends journal draft.id draft.rev path
+    × (generation_of (parent_of path) < 65535)
+    × IsKnown journal draft.id (made draft (parent_of path)))) × (new ≡ journal)
+Makes limit journal draft (Refused GenerationLimit) new =
+    (path : List Revision) × Extends journal draft.id draft.rev path
+    × (65535 ≤ generation_of (parent_of path)) × (new ≡ journal)
+Makes limit journal draft (Refused SequenceFull) new =
+    (path : List Revision) × Extends journal draft.id draft.rev path
+    × (generation_of (parent_of path) < 65535)
+    × (¬ IsKnown journal draft.id (made draft (parent_of path))) × (limit ≤ length journal) × (new ≡ journal)
+Makes limit journal draft (Refused _) new = ⊥

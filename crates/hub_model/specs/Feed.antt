@@ -76,34 +76,35 @@ is_within (Some bound) n = nat_le n bound
 -- whether the row passes, and lies above the place and not above the bound. With place 3, bound 8 and no
 -- filter the rows at 4 and 8 are in reach, those at 3 and 9 are not.
 abbrev pub is_in_reach : Feed → Current → Bool
-is_in_reach f c = nat_lt f.place c.seq && (is_within f.bound c.seq && passes f.params.filter c.id)
+is_in_reach feed row =
+    nat_lt feed.place row.seq && (is_within feed.bound row.seq && passes feed.params.filter row.id)
 
 -- what a feed has to hand next
 pub data Due : Type 0 where
-  DueRow : (c : Current) → Due
+  DueRow : (row : Current) → Due
   DueEnd : (last_seq : ℕ) → Due
   DueNothing : Due
   DueGone : Due
 
 -- of an open feed: the first row in reach, else an End at the bound, if there is one
 abbrev pub due_open : Option Current → Option ℕ → Due
-due_open (Some c) bound = DueRow c
+due_open (Some row) bound = DueRow row
 due_open None (Some bound) = DueEnd bound
 due_open None None = DueNothing
 
 -- what is due to a feed by its status: only an open one is given rows, one that is ending has its
 -- End left, at its place, and behind that nothing comes
 abbrev pub due_at : Status → List Current → Feed → Due
-due_at Open rows f = due_open (find (is_in_reach f) rows) f.bound
-due_at Ending rows f = DueEnd f.place
-due_at Ended rows f = DueGone
-due_at Finished rows f = DueGone
+due_at Open rows feed = due_open (find (is_in_reach feed) rows) feed.bound
+due_at Ending rows feed = DueEnd feed.place
+due_at Ended rows feed = DueGone
+due_at Finished rows feed = DueGone
 
 -- what a feed has to hand next, of these current rows. For an open feed at place 3 with bound 8, of rows
 -- at 2, 6 and 9: the row at 6. Of rows at 2 and 9: an End at 8. Without the bound it is the row at 9, and of
 -- the row at 2 alone nothing is due.
 abbrev pub due : List Current → Feed → Due
-due rows f = due_at f.status rows f
+due rows feed = due_at feed.status rows feed
 
 -- a longpoll feed takes its bound at its first row. Where it hands that row while there are 4 edits, its
 -- bound is 4 from then on (proved: `LongpollWaits`).
@@ -122,28 +123,28 @@ status_after (Some limit) rows = if nat_le limit rows then Ending else Open
 -- the feed once the row at seq is handed, while there are len edits. A normal feed with place 3, rows 1 and
 -- a limit of 2 that hands the row at 6 has place 6, rows 2, and is ending.
 abbrev pub after_row : Feed → ℕ → ℕ → Feed
-after_row f seq len = record f {
-  bound = bound_after f.params.mode f.bound len;
+after_row feed seq len = record feed {
+  bound = bound_after feed.params.mode feed.bound len;
   place = seq;
-  rows = f.rows + 1;
-  status = status_after f.params.limit (f.rows + 1);
+  rows = feed.rows + 1;
+  status = status_after feed.params.limit (feed.rows + 1);
 }
 
 -- the feed once its End is handed
 abbrev pub after_end : Feed → ℕ → Feed
-after_end f last_seq = record f { place = last_seq; status = Ended }
+after_end feed last_seq = record feed { place = last_seq; status = Ended }
 
 -- the feed once it was found to have nothing to hand. A longpoll feed after 0 that finds nothing that passes
 -- among 3 edits has place 3 (proved: `TimeEnds`).
 abbrev pub after_nothing : Feed → ℕ → Feed
-after_nothing f len = record f { place = len }
+after_nothing feed len = record feed { place = len }
 
 -- the feed once it handed what was due, or was found to have nothing to hand, while there are len edits
 abbrev pub after_due : Feed → Due → ℕ → Feed
-after_due f (DueRow c) len = after_row f c.seq len
-after_due f (DueEnd last_seq) len = after_end f last_seq
-after_due f DueNothing len = after_nothing f len
-after_due f DueGone len = f
+after_due feed (DueRow c) len = after_row feed c.seq len
+after_due feed (DueEnd last_seq) len = after_end feed last_seq
+after_due feed DueNothing len = after_nothing feed len
+after_due feed DueGone len = feed
 
 -- whether its End was handed, or it was dropped
 abbrev pub is_over : Status → Bool
@@ -168,18 +169,18 @@ waits Continuous = true
 -- whether a heartbeat may be handed. For an open continuous feed that asks for heartbeats it may; for a
 -- normal feed it never may, and for one that does not ask neither (proved: `BeatsAreAsked`).
 abbrev pub beat_due : Feed → Bool
-beat_due f = is_open f.status && (waits f.params.mode && f.params.heartbeat)
+beat_due feed = is_open feed.status && (waits feed.params.mode && feed.params.heartbeat)
 
 -- The feed once its time is over: an open feed that waits is ending, another stays as it is. So a longpoll
 -- feed at place 3 has an End at 3 left, and a normal feed goes on with its rows (proved: `TimeEnds`).
 abbrev pub expire : Feed → Feed
-expire f = if is_open f.status && waits f.params.mode then record f { status = Ending } else f
+expire feed = if is_open feed.status && waits feed.params.mode then record feed { status = Ending } else feed
 
 -- The feed once its database is deleted: an open feed is ending. So one that handed the row at 2 of three
 -- has an End at 2 left, with 1 pending (proved: `DeletionEnds`).
 abbrev pub end : Feed → Feed
-end f = if is_open f.status then record f { status = Ending } else f
+end feed = if is_open feed.status then record feed { status = Ending } else feed
 
 -- the feed once its subscriber is gone: nothing more is due to it
 abbrev pub finish : Feed → Feed
-finish f = record f { status = Finished }
+finish feed = record feed { status = Finished }

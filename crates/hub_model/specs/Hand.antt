@@ -18,14 +18,16 @@ item_of show rows DueGone = None
 
 -- what is due to a feed of a journal
 abbrev pub due_in : List Edit → Feed → Due
-due_in J f = due (current J) f
+due_in journal feed = due (current journal) feed
 
 -- the item that a feed of these edits has to hand, if there is one. After edits of a, b and then a again it
 -- is the row of b at 2 for a new normal feed after 0, and an End at 3 with 0 pending once the row of a at 3
 -- was handed (proved: `AgainIsLater`).
 abbrev pub due_item : {R : Type 0} → RowKind R → List Edit → Feed → Option (Item R)
-due_item kind J f = item_of (kind.shown J f.params.style f.params.include_docs) (current J) (due_in J f)
+due_item kind journal feed =
+    item_of (kind.shown journal feed.params.style feed.params.include_docs) (current journal)
+    (due_in journal feed)
 
 -- the item that a feed of a database's changes has to hand, if there is one
 abbrev pub change_due : List Edit → Feed → Option (Item ChangeRow)
-change_due J f = due_item change_rows J f
+change_due journal feed = due_item change_rows journal feed

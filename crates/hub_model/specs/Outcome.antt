@@ -17,43 +17,47 @@ pub record Stores : Type 0 where
 
 -- the document is refused, and the journal stays
 abbrev pub refuses : List Edit → Fault → Stores
-refuses J fault = record { outcome = Refused fault; journal = J }
+refuses journal fault = record { outcome = Refused fault; journal = journal }
 
 -- the edit is added, where the journal has less than `limit` edits
 abbrev pub adds : ℕ → List Edit → Edit → Stores
-adds limit J e =
-    if nat_le limit (length J) then refuses J SequenceFull
+adds limit journal edit =
+    if nat_le limit (length journal) then refuses journal SequenceFull
     else record {
-      outcome = Stored (unwrap_or (head_of e) (record { generation = 0; hash = [] }));
-      journal = J ++ e ∷ [];
+      outcome = Stored (unwrap_or (head_of edit) (record { generation = 0; hash = [] }));
+      journal = journal ++ edit ∷ [];
     }
 
 -- an edit with its history, as a replicator sends it (new_edits=false). After an edit with the path 2-b 1-a
 -- the same one is Known, and one with 3-w 2-b 1-q Contradicts (proved: `WritesAnswer`).
 abbrev pub merges : ℕ → List Edit → Edit → Stores
-merges limit J e =
-    if is_head_known J e.id e.path then record { outcome = Known; journal = J }
-    else if is_acceptable J e then adds limit J e
-    else refuses J Contradicts
+merges limit journal edit =
+    if is_head_known journal edit.id edit.path then record { outcome = Known; journal = journal }
+    else if is_acceptable journal edit then adds limit journal edit
+    else refuses journal Contradicts
 
--- The same as a relation: after J the edit may come out so and leave the journal so. After an edit with the
--- path 2-b 1-a one with 3-w 2-b 1-a may come out as Stored 3-w, and where there is no room as SequenceFull;
--- one with 3-w 2-b 1-q may come out as Contradicts alone, and leaves J.
+-- The same as a relation: after journal the edit may come out so and leave the journal so. After an edit
+-- with the path 2-b 1-a one with 3-w 2-b 1-a may come out as Stored 3-w, and where there is no room as
+-- SequenceFull; one with 3-w 2-b 1-q may come out as Contradicts alone, and leaves journal.
 abbrev pub Takes : ℕ → List Edit → Edit → Outcome Revision → List Edit → Type 0
-Takes limit J e (Stored r) new = IsAcceptable J e × (length J < limit) × (new ≡ J ++ e ∷ []) × IsHead e r
-Takes limit J e Known new = (r : Revision) × IsHead e r × IsKnown J e.id r × (new ≡ J)
-Takes limit J e (Refused Contradicts) new =
-    ((r : Revision) → IsHead e r → ¬ IsKnown J e.id r) × (¬ IsAcceptable J e) × (new ≡ J)
-Takes limit J e (Refused SequenceFull) new = IsAcceptable J e × (limit ≤ length J) × (new ≡ J)
-Takes limit J e (Refused _) new = ⊥
+Takes limit journal edit (Stored revision) new =
+    IsAcceptable journal edit × (length journal < limit) × (new ≡ journal ++ edit ∷ []) × IsHead edit revision
+Takes limit journal edit Known new =
+    (revision : Revision) × IsHead edit revision × IsKnown journal edit.id revision × (new ≡ journal)
+Takes limit journal edit (Refused Contradicts) new =
+    ((revision : Revision) → IsHead edit revision → ¬ IsKnown journal edit.id revision)
+    × (¬ IsAcceptable journal edit) × (new ≡ journal)
+Takes limit journal edit (Refused SequenceFull) new =
+    IsAcceptable journal edit × (limit ≤ length journal) × (new ≡ journal)
+Takes limit journal edit (Refused _) new = ⊥
 
 -- one after the other
 abbrev pub TakesAll : ℕ → List Edit → List Edit → List (Outcome Revision) → List Edit → Type 0
-TakesAll limit J [] [] new = new ≡ J
-TakesAll limit J [] (o ∷ os) new = ⊥
-TakesAll limit J (e ∷ es) [] new = ⊥
-TakesAll limit J (e ∷ es) (o ∷ os) new =
-    (mid : List Edit) × Takes limit J e o mid × TakesAll limit mid es os new
+TakesAll limit journal [] [] new = new ≡ journal
+TakesAll limit journal [] (o ∷ os) new = ⊥
+TakesAll limit journal (edit ∷ edits) [] new = ⊥
+TakesAll limit journal (edit ∷ edits) (o ∷ os) new =
+    (mid : List Edit) × Takes limit journal edit o mid × TakesAll limit mid edits os new
 
 -- what storing several answers, and the journal after them
 pub record StoresAll : Type 0 where
@@ -64,15 +68,15 @@ pub record StoresAll : Type 0 where
 -- one that was deleted each of two documents is refused as Deleted, and the journal stays (proved for one:
 -- `DeletionEnds`).
 abbrev pub stores_all : {A : Type 0} → (List Edit → A → Stores) → Bool → List Edit → List A → StoresAll
-stores_all store deleted J [] = record { outcomes = []; journal = J }
-stores_all store true J (x ∷ xs) =
-    record { outcomes = Refused Deleted ∷ (stores_all store true J xs).outcomes; journal = J }
-stores_all store false J (x ∷ xs) =
-    let here = store J x in
+stores_all store deleted journal [] = record { outcomes = []; journal = journal }
+stores_all store true journal (x ∷ xs) =
+    record { outcomes = Refused Deleted ∷ (stores_all store true journal xs).outcomes; journal = journal }
+stores_all store false journal (x ∷ xs) =
+    let here = store journal x in
     let rest = stores_all store false here.journal xs in
     record { outcomes = here.outcome ∷ rest.outcomes; journal = rest.journal }
 
 -- edits with their histories, one after the other. Of the paths 2-b, 3-c, 3-c 2-b and 4-d 3-c 2-b of one
 -- document it stores all but the third, which is Known (proved: `LateIsStored`).
 abbrev pub merges_all : ℕ → List Edit → List Edit → StoresAll
-merges_all limit J edits = stores_all (merges limit) false J edits
+merges_all limit journal edits = stores_all (merges limit) false journal edits

@@ -56,43 +56,44 @@ module _ {R : Type 0} (kind : RowKind R) where
     pub rises : kind.seq r < kind.seq s
     pub later : kind.seen r ≤ kind.seen s
 
-  -- the row is a current one that passes the feed's filter, as it is shown while J are the edits
+  -- the row is a current one that passes the feed's filter, as it is shown while these are the edits
   abbrev pub IsPassingRow : List Edit → Feed → R → Type 0
-  IsPassingRow J f row = (c : Current) × Contains (current J) c
-      × (row ≡ kind.shown J f.params.style f.params.include_docs c) × IsTrue (passes f.params.filter c.id)
+  IsPassingRow journal feed row = (c : Current) × Contains (current journal) c
+      × (row ≡ kind.shown journal feed.params.style feed.params.include_docs c)
+      × IsTrue (passes feed.params.filter c.id)
 
   -- the row is one of the feed's, and was current when there were `seen` edits. After edits of a, b and then
   -- a again, a row of a at 1 seen at 1 is one for a feed after 0 with place 1. With seen 3 it is none, since
   -- the row of a is at 3 by then.
-  pub record IsRowOf (J : List Edit) (f : Feed) (row : R) : Type 0 where
-    pub shown : IsPassingRow (take (kind.seen row) J) f row
-    pub above : f.since < kind.seq row
-    pub reached : kind.seq row ≤ f.place
-    pub bounded : IfSome f.bound (λ bound. kind.seq row ≤ bound)
+  pub record IsRowOf (journal : List Edit) (feed : Feed) (row : R) : Type 0 where
+    pub shown : IsPassingRow (take (kind.seen row) journal) feed row
+    pub above : feed.since < kind.seq row
+    pub reached : kind.seq row ≤ feed.place
+    pub bounded : IfSome feed.bound (λ bound. kind.seq row ≤ bound)
 
   -- the whole list is right for the feed: nothing wrong in it, and nothing left out up to the place. After
   -- edits of a, b and then a again, and for a feed after 0 with place 3, the rows of b at 2 and of a at 3
   -- are right (proved: `AgainIsLater`). The row at 3 alone is not, since that at 2 is left out; with place 1
   -- the empty list is right.
-  pub record RightlyHanded (J : List Edit) (f : Feed) (items : List (Item R)) : Type 0 where
+  pub record RightlyHanded (journal : List Edit) (feed : Feed) (items : List (Item R)) : Type 0 where
     pub rising : AllPairs Follows (rows_of items)
-    pub rows : All (IsRowOf J f) (rows_of items)
-    pub from_since : f.since ≤ f.place
-    pub to_length : f.place ≤ length J
-    pub ends : EndsAt f.place items
+    pub rows : All (IsRowOf journal feed) (rows_of items)
+    pub from_since : feed.since ≤ feed.place
+    pub to_length : feed.place ≤ length journal
+    pub ends : EndsAt feed.place items
     -- no current row that passes is left out between since and the place
-    pub whole : (c : Current) → Contains (current J) c → IsTrue (passes f.params.filter c.id)
-        → f.since < c.seq
-        → c.seq ≤ f.place → Contains (seqs_of items) c.seq
-    pub limited : IfSome f.params.limit (λ limit. length (rows_of items) ≤ max 1 limit)
-    pub beats : All (IsAsked f.params.heartbeat) items
+    pub whole : (row : Current) → Contains (current journal) row → IsTrue (passes feed.params.filter row.id)
+        → feed.since < row.seq
+        → row.seq ≤ feed.place → Contains (seqs_of items) row.seq
+    pub limited : IfSome feed.params.limit (λ limit. length (rows_of items) ≤ max 1 limit)
+    pub beats : All (IsAsked feed.params.heartbeat) items
 
   -- the list fits the feed: it is rightly handed, and the feed's own numbers agree with it. So two rows fit
   -- a feed with rows 2 and a limit of 2 that is ending. They fit none with rows 1, and none that is still
   -- open.
-  pub record Fits (J : List Edit) (f : Feed) (items : List (Item R)) : Type 0 where
-    pub right : RightlyHanded J f items
-    pub counted : length (rows_of items) ≡ f.rows
-    pub fewer : f.status ≡ Open → IfSome f.params.limit (λ limit. f.rows < max 1 limit)
-    pub over : list_any is_end items ≡ true → is_over f.status ≡ true
-    pub bounded : IfSome f.bound (λ bound. (f.place ≤ bound) × (bound ≤ length J))
+  pub record Fits (journal : List Edit) (feed : Feed) (items : List (Item R)) : Type 0 where
+    pub right : RightlyHanded journal feed items
+    pub counted : length (rows_of items) ≡ feed.rows
+    pub fewer : feed.status ≡ Open → IfSome feed.params.limit (λ limit. feed.rows < max 1 limit)
+    pub over : list_any is_end items ≡ true → is_over feed.status ≡ true
+    pub bounded : IfSome feed.bound (λ bound. (feed.place ≤ bound) × (bound ≤ length journal))

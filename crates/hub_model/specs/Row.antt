@@ -34,19 +34,19 @@ doc_of false leaves = None
 doc_of true [] = None
 doc_of true (winner ∷ others) = Some winner.edit.body
 
--- a current row as it is shown while J is the journal. After edits of a, b and then a again, with 2-b as its
--- newest revision, the row of a has seq 3, changes 2-b, and seen 3 (proved: `AgainIsLater`).
+-- a current row as it is shown while this is the journal. After edits of a, b and then a again, with
+-- 2-b as its newest revision, the row of a has seq 3, changes 2-b, and seen 3 (proved: `AgainIsLater`).
 abbrev pub row_of : List Edit → Style → Bool → Current → ChangeRow
-row_of J style include_docs c = record {
-  seq = c.seq;
-  id = c.id;
-  changes = changes_of style (leaves_of J c.id);
-  deleted = is_deleted (leaves_of J c.id);
-  doc = doc_of include_docs (leaves_of J c.id);
-  seen = length J;
+row_of journal style include_docs row = record {
+  seq = row.seq;
+  id = row.id;
+  changes = changes_of style (leaves_of journal row.id);
+  deleted = is_deleted (leaves_of journal row.id);
+  doc = doc_of include_docs (leaves_of journal row.id);
+  seen = length journal;
 }
 
--- the row is a current one, as it is shown while J is the journal
+-- the row is a current one, as it is shown while this is the journal
 abbrev pub IsRow : List Edit → Style → Bool → ChangeRow → Type 0
-IsRow J style include_docs row =
-    (c : Current) × Contains (current J) c × (row ≡ row_of J style include_docs c)
+IsRow journal style include_docs row =
+    (c : Current) × Contains (current journal) c × (row ≡ row_of journal style include_docs c)

@@ -14,9 +14,9 @@ pub record RowKind (R : Type 0) : Type 0 where
   pub seq : R → ℕ  -- its sequence
   pub seen : R → ℕ  -- how many edits there were when it was made
   -- a row that is shown has its own sequence, and says how many edits there are
-  pub keeps : (edits : List Edit) (style : Style) (include_docs : Bool) (c : Current)
-      → (seq (shown edits style include_docs c) ≡ c.seq)
-      × (seen (shown edits style include_docs c) ≡ length edits)
+  pub keeps : (edits : List Edit) (style : Style) (include_docs : Bool) (row : Current)
+      → (seq (shown edits style include_docs row) ≡ row.seq)
+      × (seen (shown edits style include_docs row) ≡ length edits)
 
 -- the rows of a database's changes
 abbrev pub change_rows : RowKind ChangeRow

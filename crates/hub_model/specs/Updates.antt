@@ -20,11 +20,11 @@ letter_of Deleted = 100
 -- What a note is of: of notes with one id only the last has a current row. That d was created has
 -- the id cd, and that d was deleted the id dd.
 abbrev pub id_of : Note → List ℕ
-id_of n = letter_of n.kind ∷ n.name
+id_of note = letter_of note.kind ∷ note.name
 
 -- a note as an edit of a document of this id, of which nothing else is looked at
 abbrev pub edit_of : Note → Edit
-edit_of n = record { id = id_of n; path = []; deleted = false; body = [] }
+edit_of note = record { id = id_of note; path = []; deleted = false; body = [] }
 
 -- the notes of a log as edits: their current rows are the log's. Where d was created, updated, deleted and
 -- created again, they are updated at 2, deleted at 3 and created at 4: the first creation has no row any
@@ -52,13 +52,13 @@ pub record UpdateRow : Type 0 where
 -- Of four notes the one at 3 with the id dd is shown as Deleted of d, with seq 3 and seen 4
 -- (proved: `UpdatesAgain`).
 abbrev pub update_row_of : List Edit → Style → Bool → Current → UpdateRow
-update_row_of edits style include_docs c = record {
-  db_name = (note_of c.id).name;
-  kind = (note_of c.id).kind;
-  seq = c.seq;
+update_row_of edits style include_docs row = record {
+  db_name = (note_of row.id).name;
+  kind = (note_of row.id).kind;
+  seq = row.seq;
   seen = length edits;
 }
 
 -- a note is read again from its id
 abbrev pub NotesReadBack : Type 0
-NotesReadBack = (n : Note) → note_of (id_of n) ≡ n
+NotesReadBack = (note : Note) → note_of (id_of note) ≡ note

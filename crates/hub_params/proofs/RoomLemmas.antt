@@ -43,9 +43,9 @@ unfolding is_utf8 chars value punctuate lex
 no_json = refl
 
 -- so what is read as JSON has bytes
-pub json_has_bytes : (text : List ℕ) (d : Data) → json_of text ≡ Some d → 0 < length text
-json_has_bytes [] d h = absurd (let e : None ≡ Some d = sym no_json ∙ h in cc)
-json_has_bytes (x ∷ xs) d h = omega arith
+pub json_has_bytes : (text : List ℕ) (content : Data) → json_of text ≡ Some content → 0 < length text
+json_has_bytes [] content h = absurd (let e : None ≡ Some content = sym no_json ∙ h in cc)
+json_has_bytes (x ∷ xs) content h = omega arith
 
 -- ids are given, or a body is
 pub given_or_body : (value : Option (Bor (List ℕ))) (body : List ℕ) (text : Option (List ℕ))

@@ -7,17 +7,17 @@ use Rattle.hub_params.specs.declared.feed_params.FeedParams.{FeedParams}
 
 -- a feed of the definitions that asks so
 abbrev pub params_in : FeedAsked → Params
-params_in a =
+params_in asked =
     record {
-      mode = a.mode;
-      since = a.since;
-      limit = a.limit;
-      style = a.style;
-      include_docs = a.include_docs;
-      filter = a.filter;
-      heartbeat = is_some a.heartbeat;
+      mode = asked.mode;
+      since = asked.since;
+      limit = asked.limit;
+      style = asked.style;
+      include_docs = asked.include_docs;
+      filter = asked.filter;
+      heartbeat = is_some asked.heartbeat;
     }
 
 -- the parameters of the definitions that these stand for
 abbrev pub params_of : FeedParams → Params
-params_of p = params_in (params_asked p)
+params_of params = params_in (params_asked params)

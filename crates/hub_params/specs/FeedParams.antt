@@ -41,8 +41,8 @@ pub record FeedAsked : Type 0 where
 
 -- goes on with what was read, or stops at the fault
 abbrev pub or_fault : {A B : Type 0} → Option A → ParamFault → (A → Result B ParamFault) → Result B ParamFault
-or_fault None e next = Err e
-or_fault (Some a) e next = next a
+or_fault None fault next = Err fault
+or_fault (Some a) fault next = next a
 
 -- goes on with what was read, or keeps its fault
 abbrev pub or_stop : {A B : Type 0} → Result A ParamFault → (A → Result B ParamFault) → Result B ParamFault

@@ -5,14 +5,14 @@ use Rattle.hub_params.specs.declared.feed_params.FeedParams.{FeedParams}
 
 -- what the parameters ask of a feed
 abbrev pub params_asked : FeedParams → FeedAsked
-params_asked p = record {
-  mode = p.mode;
-  since = p.since;
-  limit = p.limit;
-  descending = p.descending;
-  style = p.style;
-  include_docs = p.include_docs;
-  filter = filter_of p.filter;
-  heartbeat = p.heartbeat;
-  timeout = p.timeout;
+params_asked params = record {
+  mode = params.mode;
+  since = params.since;
+  limit = params.limit;
+  descending = params.descending;
+  style = params.style;
+  include_docs = params.include_docs;
+  filter = filter_of params.filter;
+  heartbeat = params.heartbeat;
+  timeout = params.timeout;
 }

@@ -13,7 +13,7 @@ texts_of (item d ds) = option_and_then (λ text. option_map (λ texts. text ∷ 
 
 -- the texts of a list of texts
 abbrev pub texts_in : Data → Option (List (List ℕ))
-texts_in d = option_and_then texts_of (as_array d)
+texts_in content = option_and_then texts_of (as_array content)
 
 -- the ids that the query's doc_ids gives
 abbrev pub ids_in_query : Option (List ℕ) → Option (List (List ℕ))
@@ -22,7 +22,7 @@ ids_in_query value = option_and_then texts_in (option_and_then json_of value)
 -- the ids of the body's doc_ids, or where it has none those of the query
 abbrev pub ids_in_member : Option (List ℕ) → Option Data → Option (List (List ℕ))
 ids_in_member value None = ids_in_query value
-ids_in_member value (Some d) = texts_in d
+ids_in_member value (Some content) = texts_in content
 
 -- the ids that a body which is not empty gives: it is an object
 abbrev pub ids_in_body : Option (List ℕ) → List ℕ → Option (List (List ℕ))

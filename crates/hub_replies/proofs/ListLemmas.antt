@@ -54,7 +54,7 @@ some_ancestors [] h = absurd (omega (arith, h))
 some_ancestors (r ∷ revs) h = refl
 
 -- nothing is said where no replies are left
-pub none_replied : (ds : Items) (rs : List (Option BatchReply)) → length rs < 1 → reply_texts ds rs ≡ []
+pub none_replied : (items : Items) (rs : List (Option BatchReply)) → length rs < 1 → reply_texts items rs ≡ []
 none_replied no_items rs h = refl
-none_replied (item d ds) [] h = refl
-none_replied (item d ds) (r ∷ rs) h = absurd (omega arith)
+none_replied (item d items) [] h = refl
+none_replied (item d items) (maybe_reply ∷ rs) h = absurd (omega arith)

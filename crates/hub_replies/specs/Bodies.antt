@@ -83,15 +83,15 @@ revisions_text revs = list_text (map (λ r. quoted (text_of r)) revs)
 -- the member of the leaves that may be behind, where there are any
 unfoldable pub ancestors_text : List Revision → List ℕ
 ancestors_text [] = []
-ancestors_text (r ∷ revs) = codes ",\"possible_ancestors\":" ++ revisions_text (r ∷ revs)
+ancestors_text (revision ∷ revs) = codes ",\"possible_ancestors\":" ++ revisions_text (revision ∷ revs)
 
 -- the member of a document that misses revisions
 unfoldable pub diff_text : Diff → List ℕ
-diff_text d =
-    quoted d.id
+diff_text diff =
+    quoted diff.id
     ++ (codes ":{\"missing\":"
-    ++ (revisions_text d.missing ++ (ancestors_text d.possible_ancestors ++ codes "}")))
+    ++ (revisions_text diff.missing ++ (ancestors_text diff.possible_ancestors ++ codes "}")))
 
 -- what the documents that were asked for miss, an object with commas (44) between its members
 unfoldable pub diffs_body : List Diff → List ℕ
-diffs_body ds = codes "{" ++ (join_with_byte 44 (map diff_text ds) ++ codes "}\n")
+diffs_body diffs = codes "{" ++ (join_with_byte 44 (map diff_text diffs) ++ codes "}\n")

@@ -12,7 +12,7 @@ use Rattle.hub_replies.specs.Bodies.{edit_text, list_text}
 
 -- the id that an element names, where it is a text
 abbrev pub id_in : Data → Option (List ℕ)
-id_in d = option_and_then as_str (get (codes "_id") d)
+id_in content = option_and_then as_str (get (codes "_id") content)
 
 -- its JSON text
 abbrev pub id_text : Option (List ℕ) → List ℕ
@@ -43,4 +43,4 @@ reply_texts (item d ds) (Some reply ∷ replies) = reply_text (id_in d) reply �
 
 -- the list of them
 unfoldable pub batch_body : Items → List (Option BatchReply) → List ℕ
-batch_body ds replies = list_text (reply_texts ds replies) ++ codes "\n"
+batch_body items replies = list_text (reply_texts items replies) ++ codes "\n"

@@ -28,161 +28,174 @@ module _ (g : ℕ) where
   or_turned true false c = refl
   or_turned false b c = refl
 
-  below_if : (b : Bool) (xs ys : List Leaf) (z : Bool) → has_below g xs ≡ z → has_below g ys ≡ z
-      → has_below g (if b then xs else ys) ≡ z
-  below_if true xs ys z p q = p
-  below_if false xs ys z p q = q
+  below_if : (b : Bool) (leaves others : List Leaf) (z : Bool) → has_below g leaves ≡ z
+      → has_below g others ≡ z → has_below g (if b then leaves else others) ≡ z
+  below_if true leaves others z p q = p
+  below_if false leaves others z p q = q
 
-  placed_below : (l : Leaf) (ls : List Leaf)
-      → has_below g (placed l ls) ≡ (nat_lt l.rev.generation g || has_below g ls)
-  placed_below l [] = refl
-  placed_below l (m ∷ ms) =
-      below_if (comes_before l m) (l ∷ m ∷ ms) (m ∷ placed l ms) _ refl
-      (ap (λ b. nat_lt m.rev.generation g || b) (placed_below l ms)
-      ∙ or_turned (nat_lt l.rev.generation g) (nat_lt m.rev.generation g) (has_below g ms))
+  placed_below : (leaf : Leaf) (others : List Leaf)
+      → has_below g (placed leaf others) ≡ (nat_lt leaf.rev.generation g || has_below g others)
+  placed_below leaf [] = refl
+  placed_below leaf (other ∷ leaves) =
+      below_if (comes_before leaf other) (leaf ∷ other ∷ leaves) (other ∷ placed leaf leaves) _ refl
+      (ap (λ b. nat_lt other.rev.generation g || b) (placed_below leaf leaves)
+      ∙ or_turned (nat_lt leaf.rev.generation g) (nat_lt other.rev.generation g) (has_below g leaves))
 
-  best_below : (ls : List Leaf) → has_below g (best_first ls) ≡ has_below g ls
+  best_below : (leaves : List Leaf) → has_below g (best_first leaves) ≡ has_below g leaves
   best_below [] = refl
-  best_below (l ∷ ls) =
-      placed_below l (best_first ls) ∙ ap (λ b. nat_lt l.rev.generation g || b) (best_below ls)
+  best_below (leaf ∷ leaves) =
+      placed_below leaf (best_first leaves) ∙ ap (λ b. nat_lt leaf.rev.generation g || b) (best_below leaves)
 
-  with_below : (es : List Edit) (e : Edit) (path : List Revision) (ls : List Leaf)
-      → has_below g (with_leaf es e path ls) ≡ (has_below g (with_leaf es e path []) || has_below g ls)
-  with_below es e [] ls = refl
-  with_below es e (r ∷ older) ls = from (list_any (is_behind_head r) es) (nat_lt r.generation g) refl
+  with_below : (edits : List Edit) (edit : Edit) (path : List Revision) (leaves : List Leaf)
+      → has_below g (with_leaf edits edit path leaves) ≡
+      (has_below g (with_leaf edits edit path []) || has_below g leaves)
+  with_below edits edit [] leaves = refl
+  with_below edits edit (revision ∷ older) leaves =
+      from (list_any (is_behind_head revision) edits) (nat_lt revision.generation g) refl
     where
       or_none : (a c : Bool) → (a || c) ≡ ((a || false) || c)
       or_none true c = refl
       or_none false c = refl
 
-      from : (b low : Bool) → nat_lt r.generation g ≡ low
-          → has_below g (if b then ls else (record { rev = r; edit = e } ∷ ls))
-          ≡ (has_below g (if b then [] else (record { rev = r; edit = e } ∷ [])) || has_below g ls)
+      from : (b low : Bool) → nat_lt revision.generation g ≡ low
+          → has_below g (if b then leaves else (record { rev = revision; edit = edit } ∷ leaves))
+          ≡ (has_below g (if b then [] else (record { rev = revision; edit = edit } ∷ [])) || has_below g
+          leaves)
       from true low is = refl
-      from false low is = or_none (nat_lt r.generation g) (has_below g ls)
+      from false low is = or_none (nat_lt revision.generation g) (has_below g leaves)
 
   among_below : (all some : List Branch)
       → has_below g (leaves_among (edits_in all) (edits_in some))
-      ≡ list_any (λ b. has_below g (with_leaf (edits_in all) (edit_of b) b.path [])) some
+      ≡ list_any (λ branch. has_below g (with_leaf (edits_in all) (edit_of branch) branch.path [])) some
   among_below all [] = refl
-  among_below all (b ∷ some) =
-      with_below (edits_in all) (edit_of b) b.path (leaves_among (edits_in all) (edits_in some))
-      ∙ ap (λ low. has_below g (with_leaf (edits_in all) (edit_of b) b.path []) || low) (among_below all some)
+  among_below all (branch ∷ some) =
+      with_below (edits_in all) (edit_of branch) branch.path (leaves_among (edits_in all) (edits_in some))
+      ∙ ap (λ low. has_below g (with_leaf (edits_in all) (edit_of branch) branch.path []) || low)
+      (among_below all some)
 
   -- the branches have a leaf below where one of their heads is one
-  pub some_branch : (bs : List Branch)
-      → list_any (λ b. has_below g (with_leaf (edits_in bs) (edit_of b) b.path [])) bs
-      ≡ has_below g (best_first (leaves_among (edits_in bs) (edits_in bs)))
-  some_branch bs = sym (best_below (leaves_among (edits_in bs) (edits_in bs)) ∙ among_below bs bs)
+  pub some_branch : (branches : List Branch)
+      → list_any (λ b. has_below g (with_leaf (edits_in branches) (edit_of b) b.path [])) branches
+      ≡ has_below g (best_first (leaves_among (edits_in branches) (edits_in branches)))
+  some_branch branches =
+      sym (best_below (leaves_among (edits_in branches) (edits_in branches)) ∙ among_below branches branches)
 
-  with_head : (es : List Edit) (e : Edit) (path : List Revision) (r : Revision) → slice_get path 0 ≡ Some r
-      → (b : Bool) → list_any (is_behind_head r) es ≡ b
-      → has_below g (with_leaf es e path []) ≡ (nat_lt r.generation g && not b)
-  with_head es e [] r h b is = absurd (cc)
-  with_head es e (x ∷ older) r h true is =
-      let t : list_any (is_behind_head x) es ≡ true =
-      subst (λ z. list_any (is_behind_head z) es ≡ true) (sym (same_Some x r h)) is in
-      rw t (and_not (nat_lt r.generation g))
+  with_head : (edits : List Edit) (edit : Edit) (path : List Revision) (revision : Revision)
+      → slice_get path 0 ≡ Some revision → (b : Bool) → list_any (is_behind_head revision) edits ≡ b
+      → has_below g (with_leaf edits edit path []) ≡ (nat_lt revision.generation g && not b)
+  with_head edits edit [] revision h b is = absurd (cc)
+  with_head edits edit (other ∷ older) revision h true is =
+      let t : list_any (is_behind_head other) edits ≡ true =
+      subst (λ z. list_any (is_behind_head z) edits ≡ true) (sym (same_Some other revision h)) is in
+      rw t (and_not (nat_lt revision.generation g))
     where
       and_not : (b : Bool) → false ≡ (b && false)
       and_not true = refl
       and_not false = refl
-  with_head es e (x ∷ older) r h false is =
-      let t : list_any (is_behind_head x) es ≡ false =
-      subst (λ z. list_any (is_behind_head z) es ≡ false) (sym (same_Some x r h)) is in
+  with_head edits edit (other ∷ older) revision h false is =
+      let t : list_any (is_behind_head other) edits ≡ false =
+      subst (λ z. list_any (is_behind_head z) edits ≡ false) (sym (same_Some other revision h)) is in
       rw t
-      (or_and (nat_lt x.generation g)
-      ∙ ap (λ (z : Revision). nat_lt z.generation g && true) (same_Some x r h))
+      (or_and (nat_lt other.generation g)
+      ∙ ap (λ (z : Revision). nat_lt z.generation g && true) (same_Some other revision h))
     where
       or_and : (b : Bool) → (b || false) ≡ (b && true)
       or_and true = refl
       or_and false = refl
 
   -- one branch
-  head_below : (all : List Branch) (b : Branch) (r : Revision) → slice_get b.path 0 ≡ Some r
-      → has_below g (with_leaf (edits_in all) (edit_of b) b.path [])
-      ≡ (nat_lt r.generation g && not (list_any (λ c. is_behind_head r (edit_of c)) all))
-  head_below all b r h =
-      with_head (edits_in all) (edit_of b) b.path r h (list_any (λ c. is_behind_head r (edit_of c)) all)
-      (any_map (is_behind_head r) edit_of all)
+  head_below : (all : List Branch) (branch : Branch) (revision : Revision)
+      → slice_get branch.path 0 ≡ Some revision
+      → has_below g (with_leaf (edits_in all) (edit_of branch) branch.path [])
+      ≡ (nat_lt revision.generation g && not (list_any (λ c. is_behind_head revision (edit_of c)) all))
+  head_below all branch revision h =
+      with_head (edits_in all) (edit_of branch) branch.path revision h
+      (list_any (λ c. is_behind_head revision (edit_of c)) all)
+      (any_map (is_behind_head revision) edit_of all)
 
-  pub low_head : (all : List Branch) (b : Branch) (r : Revision) → slice_get b.path 0 ≡ Some r
-      → r.generation < g
-      → not (list_any (λ c. is_behind_head r (edit_of c)) all)
-      ≡ has_below g (with_leaf (edits_in all) (edit_of b) b.path [])
-  low_head all b r h low = sym (head_below all b r h ∙ rw (lt-ltb r.generation g low) refl)
+  pub low_head : (all : List Branch) (branch : Branch) (revision : Revision)
+      → slice_get branch.path 0 ≡ Some revision → revision.generation < g
+      → not (list_any (λ c. is_behind_head revision (edit_of c)) all)
+      ≡ has_below g (with_leaf (edits_in all) (edit_of branch) branch.path [])
+  low_head all branch revision h low =
+      sym (head_below all branch revision h ∙ rw (lt-ltb revision.generation g low) refl)
 
   -- where there is no leaf below, there is no revision of one
-  pub none_below : (ls : List Leaf) → has_below g ls ≡ false
-      → filter (λ r. nat_lt r.generation g) (revisions_of ls) ≡ []
+  pub none_below : (leaves : List Leaf) → has_below g leaves ≡ false
+      → filter (λ r. nat_lt r.generation g) (revisions_of leaves) ≡ []
   none_below [] f = refl
-  none_below (l ∷ ls) f = elim (cases_Bool (nat_lt l.rev.generation g)) [
+  none_below (leaf ∷ leaves) f = elim (cases_Bool (nat_lt leaf.rev.generation g)) [
     | inl t ↦ absurd (let e = rw t at f in cc)
-    | inr t ↦ rw t (none_below ls (rw t at f))
+    | inr t ↦ rw t (none_below leaves (rw t at f))
   ]
 
   -- and where there is one, there is
-  pub some_below : (ls : List Leaf) → has_below g ls ≡ true
-      → ¬ (filter (λ r. nat_lt r.generation g) (revisions_of ls) ≡ [])
+  pub some_below : (leaves : List Leaf) → has_below g leaves ≡ true
+      → ¬ (filter (λ r. nat_lt r.generation g) (revisions_of leaves) ≡ [])
   some_below [] s = absurd (cc)
-  some_below (l ∷ ls) s = elim (cases_Bool (nat_lt l.rev.generation g)) [
+  some_below (leaf ∷ leaves) s = elim (cases_Bool (nat_lt leaf.rev.generation g)) [
     | inl t ↦ λ e. absurd (let none = rw t at e in cc)
-    | inr t ↦ λ e. some_below ls (rw t at s) (rw t at e)
+    | inr t ↦ λ e. some_below leaves (rw t at s) (rw t at e)
   ]
 
 -- the greatest generation of what is not named, a revision at a time
-module _ (bs : List Branch) (revs : List Revision) (i : ℕ) (r : Revision) (low : i < length revs)
-    (is : r ≡ get_or revs i r) where
-  left : unnamed_in bs (drop i revs) ≡ unnamed_in bs (r ∷ drop (i + 1) revs)
-  left = ap (unnamed_in bs) (drop_more revs i r low ∙ ap (λ s. s ∷ drop (i + 1) revs) (sym is))
+module _ (branches : List Branch) (revs : List Revision) (i : ℕ) (revision : Revision) (low : i < length revs)
+    (is : revision ≡ get_or revs i revision) where
+  left : unnamed_in branches (drop i revs) ≡ unnamed_in branches (revision ∷ drop (i + 1) revs)
+  left = ap (unnamed_in branches) (drop_more revs i revision low ∙ ap (λ s. s ∷ drop (i + 1) revs) (sym is))
 
   pub highest_named : (h all : ℕ)
-      → list_any (λ b. names b.path r) bs ≡ true → max h (highest (unnamed_in bs (drop i revs))) ≡ all
-      → max h (highest (unnamed_in bs (drop (i + 1) revs))) ≡ all
+      → list_any (λ b. names b.path revision) branches ≡ true
+      → max h (highest (unnamed_in branches (drop i revs))) ≡ all
+      → max h (highest (unnamed_in branches (drop (i + 1) revs))) ≡ all
   highest_named h all t so =
-      let known : unnamed_in bs (r ∷ drop (i + 1) revs) ≡ unnamed_in bs (drop (i + 1) revs) = rw t refl in
+      let known : unnamed_in branches (revision ∷ drop (i + 1) revs) ≡ unnamed_in branches
+      (drop (i + 1) revs) = rw t refl in
       sym (ap (λ rs. max h (highest rs)) (left ∙ known)) ∙ so
 
-  pub highest_unnamed : (h all : ℕ) → list_any (λ b. names b.path r) bs ≡ false
-      → max h (highest (unnamed_in bs (drop i revs))) ≡ all
-      → max (max r.generation h) (highest (unnamed_in bs (drop (i + 1) revs))) ≡ all
+  pub highest_unnamed : (h all : ℕ) → list_any (λ b. names b.path revision) branches ≡ false
+      → max h (highest (unnamed_in branches (drop i revs))) ≡ all
+      → max (max revision.generation h) (highest (unnamed_in branches (drop (i + 1) revs))) ≡ all
   highest_unnamed h all f so =
-      let new : unnamed_in bs (r ∷ drop (i + 1) revs) ≡ r ∷ unnamed_in bs (drop (i + 1) revs) = rw f refl in
-      turned r.generation h (highest (unnamed_in bs (drop (i + 1) revs)))
+      let new : unnamed_in branches (revision ∷ drop (i + 1) revs) ≡ revision
+      ∷ unnamed_in branches (drop (i + 1) revs) = rw f refl in
+      turned revision.generation h (highest (unnamed_in branches (drop (i + 1) revs)))
       ∙ (sym (ap (λ rs. max h (highest rs)) (left ∙ new)) ∙ so)
     where
       turned : (a b c : ℕ) → max (max a b) c ≡ max b (max a c)
       turned a b c = omega arith
 
 -- what a tree answers, by its branches
-module _ (bs : List Branch) (es : List Edit) (same : edits_in bs ≡ es) (revs : List Revision) (newest : ℕ)
-    (is : newest ≡ highest (unnamed_in bs revs)) where
-  highest_is : newest ≡ highest (missing es [] revs)
-  highest_is = is ∙ ap highest (missing_by bs revs ∙ ap (λ z. missing z [] revs) same)
+module _ (branches : List Branch) (edits : List Edit) (same : edits_in branches ≡ edits)
+    (revs : List Revision) (newest : ℕ)
+    (is : newest ≡ highest (unnamed_in branches revs)) where
+  highest_is : newest ≡ highest (missing edits [] revs)
+  highest_is = is ∙ ap highest (missing_by branches revs ∙ ap (λ z. missing z [] revs) same)
 
-  leaves_are : best_first (leaves_among (edits_in bs) (edits_in bs)) ≡ leaves_of es []
-  leaves_are = sorted_by bs es same
+  leaves_are : best_first (leaves_among (edits_in branches) (edits_in branches)) ≡ leaves_of edits []
+  leaves_are = sorted_by branches edits same
 
   low_is : (low : Bool)
-      → low ≡ list_any (λ b. has_below newest (with_leaf (edits_in bs) (edit_of b) b.path [])) bs
-      → low ≡ has_below (highest (missing es [] revs)) (leaves_of es [])
-  low_is low h = h ∙ (some_branch newest bs ∙ ap₂ has_below highest_is leaves_are)
+      → low ≡ list_any (λ b. has_below newest (with_leaf (edits_in branches) (edit_of b) b.path [])) branches
+      → low ≡ has_below (highest (missing edits [] revs)) (leaves_of edits [])
+  low_is low h = h ∙ (some_branch newest branches ∙ ap₂ has_below highest_is leaves_are)
 
   pub no_ancestors : (low : Bool)
-      → low ≡ list_any (λ b. has_below newest (with_leaf (edits_in bs) (edit_of b) b.path [])) bs
-      → low ≡ false → possible_ancestors es [] revs ≡ []
+      → low ≡ list_any (λ b. has_below newest (with_leaf (edits_in branches) (edit_of b) b.path [])) branches
+      → low ≡ false → possible_ancestors edits [] revs ≡ []
   no_ancestors low h none =
-      none_below (highest (missing es [] revs)) (leaves_of es []) (sym (low_is low h) ∙ none)
+      none_below (highest (missing edits [] revs)) (leaves_of edits []) (sym (low_is low h) ∙ none)
 
   pub some_ancestors : (low : Bool)
-      → low ≡ list_any (λ b. has_below newest (with_leaf (edits_in bs) (edit_of b) b.path [])) bs → low ≡ true
-      → ¬ (possible_ancestors es [] revs ≡ [])
+      → low ≡ list_any (λ b. has_below newest (with_leaf (edits_in branches) (edit_of b) b.path [])) branches
+      → low ≡ true → ¬ (possible_ancestors edits [] revs ≡ [])
   some_ancestors low h some =
-      some_below (highest (missing es [] revs)) (leaves_of es []) (sym (low_is low h) ∙ some)
+      some_below (highest (missing edits [] revs)) (leaves_of edits []) (sym (low_is low h) ∙ some)
 
-  pub these_ancestors : filter (λ r. nat_lt r.generation newest) (revisions_of (leaves_of es []))
-      ≡ possible_ancestors es [] revs
-  these_ancestors = ap (λ g. filter (λ r. nat_lt r.generation g) (revisions_of (leaves_of es []))) highest_is
+  pub these_ancestors : filter (λ r. nat_lt r.generation newest) (revisions_of (leaves_of edits []))
+      ≡ possible_ancestors edits [] revs
+  these_ancestors =
+      ap (λ g. filter (λ r. nat_lt r.generation g) (revisions_of (leaves_of edits []))) highest_is
 
 -- one branch by its number
 pub low_at : (g : ℕ) (all : List Branch) (at : ℕ) (leaf : Winner)

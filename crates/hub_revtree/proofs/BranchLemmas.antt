@@ -12,21 +12,23 @@ use Rattle.hub_model.specs.Path.{Falls, IsHistory, names}
 use Rattle.hub_revtree.specs.Branch.{Branch, unnamed_in}
 
 -- a history has a revision
-pub some_history : (p : List Revision) → IsHistory p → 0 < length p
+pub some_history : (revisions : List Revision) → IsHistory revisions → 0 < length revisions
 some_history [] h = absurd h.falls
-some_history (x ∷ p) h = omega arith
+some_history (revision ∷ revisions) h = omega arith
 
 -- a path has no more revisions than its head's generation
-pub within_generation : (p : List Revision) (x : Revision) → IsHistory p → slice_get p 0 ≡ Some x
-    → length p ≤ x.generation
-within_generation [] x h e = absurd h.falls
-within_generation (y ∷ p) x h e =
-    let same : y.generation ≡ x.generation = ap (λ (z : Revision). z.generation) (same_Some y x e) in
-    omega (arith, below y p h.falls)
+pub within_generation : (revisions : List Revision) (revision : Revision) → IsHistory revisions
+    → slice_get revisions 0 ≡ Some revision → length revisions ≤ revision.generation
+within_generation [] revision h e = absurd h.falls
+within_generation (other ∷ revisions) revision h e =
+    let same : other.generation ≡ revision.generation = ap (λ (z : Revision). z.generation)
+    (same_Some other revision e) in
+    omega (arith, below other revisions h.falls)
   where
-    below : (y : Revision) (p : List Revision) → Falls y p → length (y ∷ p) ≤ y.generation
-    below y [] f = f
-    below y (z ∷ p) f = omega (arith, below z p f.1, f.0)
+    below : (other : Revision) (revisions : List Revision) → Falls other revisions
+        → length (other ∷ revisions) ≤ other.generation
+    below other [] f = f
+    below other (z ∷ revisions) f = omega (arith, below z revisions f.1, f.0)
 
 -- where an element passes a test, some do
 some_pass : {A : Type 0} (P : A → Bool) (xs : List A) (i : ℕ) (d : A) → i < length xs
@@ -39,28 +41,31 @@ some_pass P (x ∷ xs) (suc i) d low t = elim (cases_Bool (P x)) [
 ]
 
 -- one revision more, that a path names or not
-module _ (bs : List Branch) (revs : List Revision) (i : ℕ) (r : Revision) (low : i < length revs)
-    (is : r ≡ get_or revs i r) where
-  step : (b : Bool) → list_any (λ b. names b.path r) bs ≡ b
-      → unnamed_in bs (take (i + 1) revs) ≡ unnamed_in bs (take i revs) ++ cond (not b) (r ∷ []) []
+module _ (branches : List Branch) (revs : List Revision) (i : ℕ) (revision : Revision) (low : i < length revs)
+    (is : revision ≡ get_or revs i revision) where
+  step : (b : Bool) → list_any (λ b. names b.path revision) branches ≡ b
+      → unnamed_in branches (take (i + 1) revs) ≡ unnamed_in branches (take i revs)
+      ++ cond (not b) (revision ∷ []) []
   step b t =
-      filter_more (λ s. not (list_any (λ b. names b.path s) bs)) revs i r low
-      ∙ (ap (λ s. unnamed_in bs (take i revs) ++ cond (not (list_any (λ b. names b.path s) bs)) (s ∷ []) [])
+      filter_more (λ s. not (list_any (λ b. names b.path s) branches)) revs i revision low
+      ∙ (ap (λ s. unnamed_in branches (take i revs)
+      ++ cond (not (list_any (λ b. names b.path s) branches)) (s ∷ []) [])
       (sym is)
-      ∙ ap (λ x. unnamed_in bs (take i revs) ++ cond (not x) (r ∷ []) []) t)
+      ∙ ap (λ x. unnamed_in branches (take i revs) ++ cond (not x) (revision ∷ []) []) t)
 
-  pub one_named : list_any (λ b. names b.path r) bs ≡ true
-      → unnamed_in bs (take (i + 1) revs) ≡ unnamed_in bs (take i revs)
-  one_named t = step true t ∙ append-nil (unnamed_in bs (take i revs))
+  pub one_named : list_any (λ b. names b.path revision) branches ≡ true
+      → unnamed_in branches (take (i + 1) revs) ≡ unnamed_in branches (take i revs)
+  one_named t = step true t ∙ append-nil (unnamed_in branches (take i revs))
 
-  pub one_unnamed : list_any (λ b. names b.path r) bs ≡ false
-      → unnamed_in bs (take (i + 1) revs) ≡ unnamed_in bs (take i revs) ++ r ∷ []
+  pub one_unnamed : list_any (λ b. names b.path revision) branches ≡ false
+      → unnamed_in branches (take (i + 1) revs) ≡ unnamed_in branches (take i revs) ++ revision ∷ []
   one_unnamed f = step false f
 
-  pub some_unnamed : list_any (λ b. names b.path r) bs ≡ false → ¬ (unnamed_in bs revs ≡ [])
+  pub some_unnamed : list_any (λ b. names b.path revision) branches ≡ false
+      → ¬ (unnamed_in branches revs ≡ [])
   some_unnamed f =
-      some_pass (λ s. not (list_any (λ b. names b.path s) bs)) revs i r low
-      (ap (λ s. not (list_any (λ b. names b.path s) bs)) (sym is) ∙ ap not f)
+      some_pass (λ s. not (list_any (λ b. names b.path s) branches)) revs i revision low
+      (ap (λ s. not (list_any (λ b. names b.path s) branches)) (sym is) ∙ ap not f)
 
 pub any_map : {A B : Type 0} (P : B → Bool) (f : A → B) (xs : List A)
     → list_any P (map f xs) ≡ list_any (λ x. P (f x)) xs

@@ -33,172 +33,191 @@ use Rattle.hub_revtree.proofs.StemLemmas.{one_stem_more, stems_more, take_more, 
 use Rattle.hub_revtree.proofs.TreeLemmas.{known_by}
 
 -- a front of a path falls
-pub take_falls : (n : ℕ) (p : List Revision) → n ≢ 0 → IsPath p → IsPath (take n p)
-take_falls zero p some f = absurd (some refl)
+pub take_falls : (n : ℕ) (revisions : List Revision) → n ≢ 0 → IsPath revisions → IsPath (take n revisions)
+take_falls zero revisions some f = absurd (some refl)
 take_falls (suc n) [] some f = f
-take_falls (suc n) (x ∷ p) some f = falls n x p f
+take_falls (suc n) (revision ∷ revisions) some f = falls n revision revisions f
   where
-    falls : (n : ℕ) (x : Revision) (p : List Revision) → Falls x p → Falls x (take n p)
-    falls zero x p f = least x p f
-    falls (suc n) x [] f = f
-    falls (suc n) x (y ∷ p) f = (f.0, falls n y p f.1)
+    falls : (n : ℕ) (revision : Revision) (revisions : List Revision) → Falls revision revisions
+        → Falls revision (take n revisions)
+    falls zero revision revisions f = least revision revisions f
+    falls (suc n) revision [] f = f
+    falls (suc n) revision (y ∷ revisions) f = (f.0, falls n y revisions f.1)
 
 -- nothing is behind the last of a path in it
-last_next : (p : List Revision) (z r : Revision) → IsPath p → last_in p ≡ Some z → ¬ IsNext p z r
-last_next [] z r f e n = absurd n
-last_next (x ∷ p) z r f e n = from x p f e n
+last_next : (revisions : List Revision) (revision other : Revision) → IsPath revisions
+    → last_in revisions ≡ Some revision → ¬ IsNext revisions revision other
+last_next [] revision other f e n = absurd n
+last_next (x ∷ revisions) revision other f e n = from x revisions f e n
   where
-    low : (x : Revision) (p : List Revision) (y : Revision) → Falls x p → Contains (x ∷ p) y
-        → last_in (x ∷ p) ≡ Some z → z.generation ≤ y.generation
+    low : (x : Revision) (revisions : List Revision) (y : Revision) → Falls x revisions
+        → Contains (x ∷ revisions) y
+        → last_in (x ∷ revisions) ≡ Some revision → revision.generation ≤ y.generation
     low x [] y f c e = elim (contains_cases x y [] c) [
       | inl q ↦
-          let g : z.generation ≡ y.generation =
-          ap (λ (v : Revision). v.generation) (sym (same_Some x z e) ∙ q) in
+          let g : revision.generation ≡ y.generation =
+          ap (λ (v : Revision). v.generation) (sym (same_Some x revision e) ∙ q) in
           omega (arith, g)
       | inr d ↦ absurd (contains_none y d)
     ]
-    low x (w ∷ p) y f c e = elim (contains_cases x y (w ∷ p) c) [
+    low x (w ∷ revisions) y f c e = elim (contains_cases x y (w ∷ revisions) c) [
       | inl q ↦
-          let i = low w p w f.1 (0, omega arith, refl) e in
+          let i = low w revisions w f.1 (0, omega arith, refl) e in
           let g : x.generation ≡ y.generation = ap (λ (v : Revision). v.generation) q in
           omega (arith, i, f.0, g)
-      | inr d ↦ low w p y f.1 d e
+      | inr d ↦ low w revisions y f.1 d e
     ]
 
-    from : (x : Revision) (p : List Revision) → Falls x p → last_in (x ∷ p) ≡ Some z → IsNext (x ∷ p) z r → ⊥
+    from : (x : Revision) (revisions : List Revision) → Falls x revisions
+        → last_in (x ∷ revisions) ≡ Some revision → IsNext (x ∷ revisions) revision other → ⊥
     from x [] f e (inl n) = n.1
     from x [] f e (inr n) = n
-    from x (y ∷ p) f e (inl n) =
-        let i = low y p y f.1 (0, omega arith, refl) e in
-        let g : x.generation ≡ z.generation = ap (λ (v : Revision). v.generation) n.0 in
+    from x (y ∷ revisions) f e (inl n) =
+        let i = low y revisions y f.1 (0, omega arith, refl) e in
+        let g : x.generation ≡ revision.generation = ap (λ (v : Revision). v.generation) n.0 in
         absurd (omega (arith, i, f.0, g))
-    from x (y ∷ p) f e (inr n) = from y p f.1 e n
+    from x (y ∷ revisions) f e (inr n) = from y revisions f.1 e n
 
 -- the last of a path is at its last place
-pub last_at : (p : List Revision) (n : ℕ) (z x : Revision) → length p ≡ n + 1 → slice_get p n ≡ Some z
-    → last_in p ≡ Some x → z ≡ x
-last_at [] n z x many e last = absurd (omega (arith, many))
-last_at (y ∷ []) zero z x many e last = same_Some z x (sym e ∙ last)
-last_at (y ∷ []) (suc n) z x many e last = absurd (omega (arith, many))
-last_at (y ∷ w ∷ p) zero z x many e last = absurd (omega (arith, many))
-last_at (y ∷ w ∷ p) (suc n) z x many e last = last_at (w ∷ p) n z x (omega (arith, many)) e last
+pub last_at : (revisions : List Revision) (n : ℕ) (revision other : Revision) → length revisions ≡ n + 1
+    → slice_get revisions n ≡ Some revision → last_in revisions ≡ Some other → revision ≡ other
+last_at [] n revision other many e last = absurd (omega (arith, many))
+last_at (y ∷ []) zero revision other many e last = same_Some revision other (sym e ∙ last)
+last_at (y ∷ []) (suc n) revision other many e last = absurd (omega (arith, many))
+last_at (y ∷ w ∷ revisions) zero revision other many e last = absurd (omega (arith, many))
+last_at (y ∷ w ∷ revisions) (suc n) revision other many e last =
+    last_at (w ∷ revisions) n revision other (omega (arith, many)) e last
 
 -- a path that has as many revisions as its first one's generation ends with the first generation
-pub ends_first : (p : List Revision) (g : ℕ) (x : Revision)
-    → IsPath p → option_map (λ r. r.generation) (slice_get p 0) ≡ Some g → length p ≡ g → last_in p ≡ Some x
-    → x.generation ≡ 1
-ends_first [] g x f newest long last = absurd f
-ends_first (y ∷ p) g x f newest long last =
-    let same : y.generation ≡ g = same_Some y.generation g newest in
-    omega (arith, last_down y p x f last, same, long)
+pub ends_first : (revisions : List Revision) (g : ℕ) (revision : Revision)
+    → IsPath revisions → option_map (λ r. r.generation) (slice_get revisions 0) ≡ Some g
+    → length revisions ≡ g → last_in revisions ≡ Some revision → revision.generation ≡ 1
+ends_first [] g revision f newest long last = absurd f
+ends_first (other ∷ revisions) g revision f newest long last =
+    let same : other.generation ≡ g = same_Some other.generation g newest in
+    omega (arith, last_down other revisions revision f last, same, long)
 
 -- nothing stands behind the last of such a path
-pub nothing_first : (xs : List Stem) → AreStems xs → IsLegal (edits_in (branches_of xs))
-    → (p : List Revision) (g : ℕ) → IsPath p → option_map (λ r. r.generation) (slice_get p 0) ≡ Some g
-    → length p ≡ g → (x r : Revision) → last_in p ≡ Some x → ¬ IsBrought xs r x
-nothing_first xs a legal p g f newest long x r last b =
-    first_ends (edits_in (branches_of xs)) legal x (ends_first p g x f newest long last) r
-    (brought_behind xs a r x b)
+pub nothing_first : (stems : List Stem) → AreStems stems → IsLegal (edits_in (branches_of stems))
+    → (revisions : List Revision) (g : ℕ) → IsPath revisions
+    → option_map (λ other. other.generation) (slice_get revisions 0) ≡ Some g
+    → length revisions ≡ g → (revision other : Revision) → last_in revisions ≡ Some revision
+    → ¬ IsBrought stems other revision
+nothing_first stems a legal revisions g f newest long revision other last b =
+    first_ends (edits_in (branches_of stems)) legal revision
+    (ends_first revisions g revision f newest long last) other
+    (brought_behind stems a other revision b)
 
 -- a path has a last place
-pub last_place : (p : List Revision) → IsPath p → length p ≡ (length p - 1) + 1
+pub last_place : (revisions : List Revision) → IsPath revisions
+    → length revisions ≡ (length revisions - 1) + 1
 last_place [] f = absurd f
-last_place (x ∷ p) f = omega arith
+last_place (revision ∷ revisions) f = omega arith
 
 -- what the look behind the last says
-pub none_behind : (xs : List Stem) (o : Option Place) (b : Bool) (z x : Revision) → is_some o ≡ not b
-    → IsTrue b → z ≡ x → IfNone o ((r : Revision) → ¬ IsBrought xs r z) → (r : Revision) → ¬ IsBrought xs r x
-none_behind xs None b z x is none same free r i = free r (subst (λ v. IsBrought xs r v) (sym same) i)
-none_behind xs (Some p) true z x is none same free r i = absurd (cc)
-none_behind xs (Some p) false z x is none same free r i = absurd (cc)
+pub none_behind : (stems : List Stem) (maybe_place : Option Place) (b : Bool) (other revision : Revision)
+    → is_some maybe_place ≡ not b
+    → IsTrue b → other ≡ revision → IfNone maybe_place ((r : Revision) → ¬ IsBrought stems r other)
+    → (r : Revision) → ¬ IsBrought stems r revision
+none_behind stems None b other revision is none same free r i =
+    free r (subst (λ v. IsBrought stems r v) (sym same) i)
+none_behind stems (Some place) true other revision is none same free r i = absurd (cc)
+none_behind stems (Some place) false other revision is none same free r i = absurd (cc)
 
 -- the generations of a path fall by one a place
-pub at_place : (p : List Revision) (n : ℕ) (x r : Revision) → IsPath p → slice_get p 0 ≡ Some x
-    → slice_get p n ≡ Some r → n + r.generation ≡ x.generation
-at_place [] n x r f h e = absurd f
-at_place (y ∷ p) zero x r f h e =
-    let same : x.generation ≡ r.generation =
-    ap (λ (z : Revision). z.generation) (same_Some x r (sym h ∙ e)) in
+pub at_place : (revisions : List Revision) (n : ℕ) (revision other : Revision) → IsPath revisions
+    → slice_get revisions 0 ≡ Some revision
+    → slice_get revisions n ≡ Some other → n + other.generation ≡ revision.generation
+at_place [] n revision other f h e = absurd f
+at_place (y ∷ revisions) zero revision other f h e =
+    let same : revision.generation ≡ other.generation =
+    ap (λ (z : Revision). z.generation) (same_Some revision other (sym h ∙ e)) in
     omega (arith, same)
-at_place (y ∷ []) (suc n) x r f h e = absurd (cc)
-at_place (y ∷ z ∷ p) (suc n) x r f h e =
-    let same : y.generation ≡ x.generation = ap (λ (z : Revision). z.generation) (same_Some y x h) in
-    omega (arith, at_place (z ∷ p) n z r f.1 refl e, f.0, same)
+at_place (y ∷ []) (suc n) revision other f h e = absurd (cc)
+at_place (y ∷ z ∷ revisions) (suc n) revision other f h e =
+    let same : y.generation ≡ revision.generation = ap (λ (z : Revision). z.generation)
+    (same_Some y revision h) in
+    omega (arith, at_place (z ∷ revisions) n z other f.1 refl e, f.0, same)
 
 -- a stem that brings a path
-pub record Brings (xs : List Stem) (path : List Revision) (s : Stem) : Type 0 where
-  pub next : IsNextStem xs s
-  pub whole : (branch_of (chain_of (chains_of xs) s)).path ≡ path
+pub record Brings (stems : List Stem) (path : List Revision) (stem : Stem) : Type 0 where
+  pub next : IsNextStem stems stem
+  pub whole : (branch_of (chain_of (chains_of stems) stem)).path ≡ path
 
 -- how a path meets the stems
-pub record Meets (xs : List Stem) (path : List Revision) (at : ℕ) (place : Option Place) (behind : ℕ)
+pub record Meets (stems : List Stem) (path : List Revision) (at : ℕ) (place : Option Place) (behind : ℕ)
     (joins : Bool) : Type 0 where
   pub kept : at ≤ length path
-  pub within : IfSome place (IsWithin xs)
-  pub same : IfSome place (λ p. slice_get path at ≡ rev_at xs (Some p))
-  pub long : behind ≡ length (chain_from (chains_of xs) place)
+  pub within : IfSome place (IsWithin stems)
+  pub same : IfSome place (λ p. slice_get path at ≡ rev_at stems (Some p))
+  pub long : behind ≡ length (chain_from (chains_of stems) place)
   pub rest : length path - at ≤ behind
   pub none : IfNone place (at ≡ length path)
-  pub fresh : joins ≡ false → list_any (has_revision xs) (take at path) ≡ false
+  pub fresh : joins ≡ false → list_any (has_revision stems) (take at path) ≡ false
 
-module _ (xs : List Stem) (a : AreStems xs) (legal : IsLegal (edits_in (branches_of xs)))
+module _ (stems : List Stem) (a : AreStems stems) (legal : IsLegal (edits_in (branches_of stems)))
     (path : List Revision) (deleted : Bool) (body : List ℕ)
-    (ok : IsAcceptable (edits_in (branches_of xs)) (nameless path deleted body)) where
+    (ok : IsAcceptable (edits_in (branches_of stems)) (nameless path deleted body)) where
   abbrev es : List Edit
-  es = edits_in (branches_of xs)
+  es = edits_in (branches_of stems)
 
   abbrev more : List Edit
   more = es ++ nameless path deleted body ∷ []
 
-  old_step : (s r : Revision) → IsBehind es [] r s → IsBehind more [] r s
-  old_step s r (e, (c, n), i) = (e, (Contains-append_left es (nameless path deleted body ∷ []) e c, n), i)
+  old_step : (revision other : Revision) → IsBehind es [] other revision → IsBehind more [] other revision
+  old_step revision other (e, (c, n), i) =
+      (e, (Contains-append_left es (nameless path deleted body ∷ []) e c, n), i)
 
-  new_step : (s r : Revision) → IsNext path s r → IsBehind more [] r s
-  new_step s r i = (nameless path deleted body, (Contains-push es (nameless path deleted body), refl), i)
+  new_step : (revision other : Revision) → IsNext path revision other → IsBehind more [] other revision
+  new_step revision other i =
+      (nameless path deleted body, (Contains-push es (nameless path deleted body), refl), i)
 
-  first_of : (q : List Revision) (x : Revision) → slice_get q 0 ≡ Some x → IsFirst q x
-  first_of [] x e = absurd (cc)
-  first_of (y ∷ q) x e = same_Some y x e
+  first_of : (revisions : List Revision) (revision : Revision) → slice_get revisions 0 ≡ Some revision
+      → IsFirst revisions revision
+  first_of [] revision e = absurd (cc)
+  first_of (other ∷ revisions) revision e = same_Some other revision e
 
   -- what is left of the path is the front of the chain that it meets
-  pub goes_on : (at : ℕ) (p : Place) → IsWithin xs p → slice_get path at ≡ rev_at xs (Some p)
-      → length path - at ≤ length (chain_from (chains_of xs) (Some p))
-      → take (length path - at) (chain_from (chains_of xs) (Some p)) ≡ drop at path
-  goes_on at p w same low =
-      let r = within_rev xs p w in
-      let f = first_from xs p r.0 a r.1 in
+  pub goes_on : (at : ℕ) (place : Place) → IsWithin stems place
+      → slice_get path at ≡ rev_at stems (Some place)
+      → length path - at ≤ length (chain_from (chains_of stems) (Some place))
+      → take (length path - at) (chain_from (chains_of stems) (Some place)) ≡ drop at path
+  goes_on at place w same low =
+      let r = within_rev stems place w in
+      let f = first_from stems place r.0 a r.1 in
       let d = dropped path at r.0 (same ∙ r.1) in
       let count : length path - at ≡ length (r.0 ∷ drop (suc at) path) =
       let l : length (drop at path) ≡ length (r.0 ∷ drop (suc at) path) = ap length d in
       omega (arith, l, length-drop at path) in
-      let long : length (chain_from (chains_of xs) (Some p)) ≡ suc (length f.0) = ap length f.1 in
-      ap₂ (λ (n : ℕ) (q : List Revision). take n q) count f.1
+      let long : length (chain_from (chains_of stems) (Some place)) ≡ suc (length f.0) = ap length f.1 in
+      ap₂ (λ (n : ℕ) (revisions : List Revision). take n revisions) count f.1
       ∙ agree_front r.0 (drop (suc at) path) f.0 (λ s t other n m.
       ok.agrees t other s
       (new_step s t (next_whole at path s t (subst (λ z. IsNext z s t) (sym d) n)))
-      (old_step s other (from_steps xs a p w s other (subst (λ z. IsNext z s other) (sym f.1) m))))
+      (old_step s other (from_steps stems a place w s other (subst (λ z. IsNext z s other) (sym f.1) m))))
       (omega (arith, low, count, long))
       ∙ sym d
 
   -- it meets none with its first
-  pub not_first : (at : ℕ) (p : Place) → IsWithin xs p → slice_get path at ≡ rev_at xs (Some p) → at ≢ 0
-  not_first at p w same none =
-      let r = within_rev xs p w in
+  pub not_first : (at : ℕ) (place : Place) → IsWithin stems place
+      → slice_get path at ≡ rev_at stems (Some place) → at ≢ 0
+  not_first at place w same none =
+      let r = within_rev stems place w in
       ok.new r.0 (first_of path r.0 (subst (λ z. slice_get path z ≡ Some r.0) none (same ∙ r.1)))
-      (known_is es [] r.0 (place_known xs a p r.0 r.1))
+      (known_is es [] r.0 (place_known stems a place r.0 r.1))
 
-  some_path : (p : List Revision) → IsPath p → 0 < length p
+  some_path : (revisions : List Revision) → IsPath revisions → 0 < length revisions
   some_path [] f = absurd f
-  some_path (x ∷ p) f = omega arith
+  some_path (revision ∷ revisions) f = omega arith
 
-  take_head : (n : ℕ) (p : List Revision) (r : Revision) → slice_get (take n p) 0 ≡ Some r
-      → slice_get p 0 ≡ Some r
-  take_head zero p r e = absurd (cc)
-  take_head (suc n) [] r e = absurd (cc)
-  take_head (suc n) (x ∷ p) r e = e
+  take_head : (n : ℕ) (revisions : List Revision) (revision : Revision)
+      → slice_get (take n revisions) 0 ≡ Some revision → slice_get revisions 0 ≡ Some revision
+  take_head zero revisions revision e = absurd (cc)
+  take_head (suc n) [] revision e = absurd (cc)
+  take_head (suc n) (other ∷ revisions) revision e = e
 
   module _ (at : ℕ) (place : Option Place) (behind : ℕ) (joins : Bool)
-      (m : Meets xs path at place behind joins) where
+      (m : Meets stems path at place behind joins) where
     pub some_kept : 1 ≤ at
     some_kept = from place refl
       where
@@ -208,8 +227,8 @@ module _ (xs : List Stem) (a : AreStems xs) (legal : IsLegal (edits_in (branches
             omega (arith, whole, some_path path ok.history.falls)
         from (Some p) q =
             let no =
-            not_first at p (subst (λ o. IfSome o (IsWithin xs)) q m.within)
-            (subst (λ o. IfSome o (λ p. slice_get path at ≡ rev_at xs (Some p))) q m.same) in
+            not_first at p (subst (λ o. IfSome o (IsWithin stems)) q m.within)
+            (subst (λ o. IfSome o (λ p. slice_get path at ≡ rev_at stems (Some p))) q m.same) in
             omega arith
 
     -- there is a revision behind those that it keeps, where it stands on one
@@ -217,11 +236,11 @@ module _ (xs : List Stem) (a : AreStems xs) (legal : IsLegal (edits_in (branches
         → reach ≡ at + behind → IfSome o (λ _. length p < reach)
     stands_low None p reach same own is = tt
     stands_low (Some q) p reach same own is =
-        let w = subst (λ o. IfSome o (IsWithin xs)) (sym same) m.within in
-        let r = within_rev xs q w in
+        let w = subst (λ o. IfSome o (IsWithin stems)) (sym same) m.within in
+        let r = within_rev stems q w in
         let low : at < length path =
         slice_get_within path at r.0
-        (subst (λ o. IfSome o (λ p. slice_get path at ≡ rev_at xs (Some p))) (sym same) m.same ∙ r.1) in
+        (subst (λ o. IfSome o (λ p. slice_get path at ≡ rev_at stems (Some p))) (sym same) m.same ∙ r.1) in
         let size : length p ≡ at = ap length own ∙ length-take-le at path m.kept in
         omega (arith, size, low, m.rest, is)
 
@@ -231,19 +250,19 @@ module _ (xs : List Stem) (a : AreStems xs) (legal : IsLegal (edits_in (branches
       where
         from : (o : Option Place) → place ≡ o → at + behind ≤ x.generation
         from None q =
-            let none : behind ≡ 0 = m.long ∙ ap (λ o. length (chain_from (chains_of xs) o)) q in
+            let none : behind ≡ 0 = m.long ∙ ap (λ o. length (chain_from (chains_of stems) o)) q in
             omega (arith, none, m.kept, within_generation path x ok.history head)
         from (Some p) q =
-            let w = subst (λ o. IfSome o (IsWithin xs)) q m.within in
-            let r = within_rev xs p w in
-            let f = first_from xs p r.0 a r.1 in
+            let w = subst (λ o. IfSome o (IsWithin stems)) q m.within in
+            let r = within_rev stems p w in
+            let f = first_from stems p r.0 a r.1 in
             let here : slice_get path at ≡ Some r.0 =
-            subst (λ o. IfSome o (λ p. slice_get path at ≡ rev_at xs (Some p))) q m.same ∙ r.1 in
+            subst (λ o. IfSome o (λ p. slice_get path at ≡ rev_at stems (Some p))) q m.same ∙ r.1 in
             let falls =
-            steps_fall es legal r.0 f.0 (known_is es [] r.0 (place_known xs a p r.0 r.1))
-            (λ s t n. from_steps xs a p w s t (subst (λ z. IsNext z s t) (sym f.1) n)) in
+            steps_fall es legal r.0 f.0 (known_is es [] r.0 (place_known stems a p r.0 r.1))
+            (λ s t n. from_steps stems a p w s t (subst (λ z. IsNext z s t) (sym f.1) n)) in
             let long : behind ≡ length (r.0 ∷ f.0) =
-            m.long ∙ ap (λ o. length (chain_from (chains_of xs) o)) q ∙ ap length f.1 in
+            m.long ∙ ap (λ o. length (chain_from (chains_of stems) o)) q ∙ ap length f.1 in
             omega (
               arith,
               long,
@@ -251,7 +270,7 @@ module _ (xs : List Stem) (a : AreStems xs) (legal : IsLegal (edits_in (branches
               within_generation (r.0 ∷ f.0) r.0 (record { falls = falls }) refl,
             )
 
-    whole_chain : (rest : List Revision) → rest ≡ chain_from (chains_of xs) place
+    whole_chain : (rest : List Revision) → rest ≡ chain_from (chains_of stems) place
         → take (length path) (take at path ++ rest) ≡ path
     whole_chain rest is =
         take_more (length path) (take at path) rest (omega (arith, m.kept, length-take-le at path m.kept))
@@ -262,7 +281,7 @@ module _ (xs : List Stem) (a : AreStems xs) (legal : IsLegal (edits_in (branches
         left : (o : Option Place) → place ≡ o → take (length path - at) rest ≡ drop at path
         left None q =
             let whole = subst (λ o. IfNone o (at ≡ length path)) q m.none in
-            let none : rest ≡ [] = is ∙ ap (chain_from (chains_of xs)) q in
+            let none : rest ≡ [] = is ∙ ap (chain_from (chains_of stems)) q in
             ap₂ (λ (n : ℕ) (z : List Revision). take n z)
             (let z : length path - at ≡ 0 = omega (arith, whole) in z) none
             ∙ sym (drop_all_of at path whole)
@@ -276,26 +295,28 @@ module _ (xs : List Stem) (a : AreStems xs) (legal : IsLegal (edits_in (branches
             drop_all_of zero (x ∷ p) e = absurd (cc)
             drop_all_of (suc n) (x ∷ p) e = drop_all_of n p (cc)
         left (Some p) q =
-            ap (take (length path - at)) (is ∙ ap (chain_from (chains_of xs)) q)
-            ∙ goes_on at p (subst (λ o. IfSome o (IsWithin xs)) q m.within)
-            (subst (λ o. IfSome o (λ p. slice_get path at ≡ rev_at xs (Some p))) q m.same)
+            ap (take (length path - at)) (is ∙ ap (chain_from (chains_of stems)) q)
+            ∙ goes_on at p (subst (λ o. IfSome o (IsWithin stems)) q m.within)
+            (subst (λ o. IfSome o (λ p. slice_get path at ≡ rev_at stems (Some p))) q m.same)
             (
-            let l : length (chain_from (chains_of xs) place) ≡ length (chain_from (chains_of xs) (Some p)) =
-            ap (λ o. length (chain_from (chains_of xs) o)) q in
+            let l : length (chain_from (chains_of stems) place) ≡ length
+            (chain_from (chains_of stems) (Some p)) =
+            ap (λ o. length (chain_from (chains_of stems) o)) q in
             omega (arith, m.rest, m.long, l))
 
     -- its stem
     pub met_brings : (s : Stem) → s.revisions ≡ take at path → s.parent ≡ place → s.count ≡ length path
-        → s.reach ≡ at + behind → s.joins ≡ joins → Brings xs path s
+        → s.reach ≡ at + behind → s.joins ≡ joins → Brings stems path s
     met_brings s own stands count reach joined = record {
       next = record {
         falling = rw own (take_falls at path (λ z. omega (arith, z, some_kept)) ok.history.falls);
         newest = λ r e. unknown r (take_head at path r (ap (λ z. slice_get z 0) (sym own) ∙ e));
         fresh = λ j. rw own (m.fresh (sym joined ∙ j));
-        within = λ p e. subst (λ o. IfSome o (IsWithin xs)) (sym stands ∙ e) m.within;
+        within = λ p e. subst (λ o. IfSome o (IsWithin stems)) (sym stands ∙ e) m.within;
         lower = λ p r x e h i.
             let there : slice_get path at ≡ Some r =
-            subst (λ o. IfSome o (λ p. slice_get path at ≡ rev_at xs (Some p))) (sym stands ∙ e) m.same ∙ i in
+            subst (λ o. IfSome o (λ p. slice_get path at ≡ rev_at stems (Some p))) (sym stands ∙ e) m.same
+            ∙ i in
             let first = take_head at path x (ap (λ z. slice_get z 0) (sym own) ∙ h) in
             omega (arith, at_place path at x r ok.history.falls first there, some_kept);
         counted = (
@@ -305,50 +326,50 @@ module _ (xs : List Stem) (a : AreStems xs) (legal : IsLegal (edits_in (branches
         );
         reached =
             reach
-            ∙ sym (length-append s.revisions (chain_from (chains_of xs) s.parent)
+            ∙ sym (length-append s.revisions (chain_from (chains_of stems) s.parent)
             ∙ ap₂ (λ (i : ℕ) (j : ℕ). i + j) size
-            (ap (λ o. length (chain_from (chains_of xs) o)) stands ∙ sym m.long));
+            (ap (λ o. length (chain_from (chains_of stems) o)) stands ∙ sym m.long));
       };
       whole =
           ap₂ (λ (n : ℕ) (z : List Revision). take n z) count
-          (ap (λ z. z ++ chain_from (chains_of xs) s.parent) own)
-          ∙ whole_chain (chain_from (chains_of xs) s.parent) (ap (chain_from (chains_of xs)) stands);
+          (ap (λ z. z ++ chain_from (chains_of stems) s.parent) own)
+          ∙ whole_chain (chain_from (chains_of stems) s.parent) (ap (chain_from (chains_of stems)) stands);
     }
       where
         size : length s.revisions ≡ at
         size = ap length own ∙ length-take-le at path m.kept
 
-        unknown : (r : Revision) → slice_get path 0 ≡ Some r → has_revision xs r ≡ false
-        unknown r e = elim (cases_Bool (has_revision xs r)) [
+        unknown : (r : Revision) → slice_get path 0 ≡ Some r → has_revision stems r ≡ false
+        unknown r e = elim (cases_Bool (has_revision stems r)) [
           | inl t ↦
               absurd (ok.new r (first_of path r e)
-              (known_is es [] r (known_by (branches_of xs) r ∙ (named_in xs a r ∙ t))))
+              (known_is es [] r (known_by (branches_of stems) r ∙ (named_in stems a r ∙ t))))
           | inr t ↦ t
         ]
 
         strict : (p : Place) → place ≡ Some p → length s.revisions < s.count
         strict p q =
-            let w = subst (λ o. IfSome o (IsWithin xs)) q m.within in
-            let r = within_rev xs p w in
+            let w = subst (λ o. IfSome o (IsWithin stems)) q m.within in
+            let r = within_rev stems p w in
             let low : at < length path =
             slice_get_within path at r.0
-            (subst (λ o. IfSome o (λ p. slice_get path at ≡ rev_at xs (Some p))) q m.same ∙ r.1) in
+            (subst (λ o. IfSome o (λ p. slice_get path at ≡ rev_at stems (Some p))) q m.same ∙ r.1) in
             omega (arith, size, count, low)
 
-  pub brought_stems : (s : Stem) → Brings xs path s → AreStems (xs ++ s ∷ [])
-  brought_stems s b = stems_more xs s a b.next
+  pub brought_stems : (stem : Stem) → Brings stems path stem → AreStems (stems ++ stem ∷ [])
+  brought_stems stem b = stems_more stems stem a b.next
 
-  pub brought_edit : (s : Stem) → Brings xs path s
-      → edits_in (branches_of (xs ++ s ∷ [])) ≡ es ++ nameless path s.deleted s.body ∷ []
-  brought_edit s b =
-      ap edits_in (one_stem_more xs s)
-      ∙ map-append edit_of (branches_of xs) (branch_of (chain_of (chains_of xs) s) ∷ [])
-      ∙ ap (λ p. es ++ nameless p s.deleted s.body ∷ []) b.whole
+  pub brought_edit : (stem : Stem) → Brings stems path stem
+      → edits_in (branches_of (stems ++ stem ∷ [])) ≡ es ++ nameless path stem.deleted stem.body ∷ []
+  brought_edit stem b =
+      ap edits_in (one_stem_more stems stem)
+      ∙ map-append edit_of (branches_of stems) (branch_of (chain_of (chains_of stems) stem) ∷ [])
+      ∙ ap (λ p. es ++ nameless p stem.deleted stem.body ∷ []) b.whole
 
   -- where nothing stood behind the path's last, it is all that stands behind its first
-  module _ (s : Stem) (b : Brings xs path s) (mark : s.deleted ≡ deleted) (members : s.body ≡ body) where
+  module _ (s : Stem) (b : Brings stems path s) (mark : s.deleted ≡ deleted) (members : s.body ≡ body) where
     abbrev ys : List Stem
-    ys = xs ++ s ∷ []
+    ys = stems ++ s ∷ []
 
     later_is : edits_in (branches_of ys) ≡ more
     later_is = brought_edit s b ∙ ap₂ (λ (d : Bool) (m : List ℕ). es ++ nameless path d m ∷ []) mark members
@@ -361,23 +382,23 @@ module _ (xs : List Stem) (a : AreStems xs) (legal : IsLegal (edits_in (branches
     later_steps t r n = subst (λ z. IsBehind z [] r t) (sym later_is) (new_step t r n)
 
     last_free : (z : Revision) → last_in path ≡ Some z
-        → ((x r : Revision) → last_in path ≡ Some x → ¬ IsBrought xs r x) → (r : Revision)
+        → ((x r : Revision) → last_in path ≡ Some x → ¬ IsBrought stems r x) → (r : Revision)
         → ¬ IsBehind (edits_in (branches_of ys)) [] r z
     last_free z last ends r h = from (subst (λ v. IsBehind v [] r z) later_is h)
       where
         from : IsBehind more [] r z → ⊥
         from (e, (c, n), i) = elim (Contains-push_cases es (nameless path deleted body) e c) [
-          | inl u ↦ ends z r last (behind_brought xs a r z (e, (u, n), i))
+          | inl u ↦ ends z r last (behind_brought stems a r z (e, (u, n), i))
           | inr v ↦
               last_next path z r ok.history.falls last (subst (λ (w : Edit). IsNext w.path z r) (sym v) i)
         ]
 
     newest : newest_rev ys ≡ slice_get path 0
     newest =
-        let last : length ys - 1 ≡ length xs = omega (arith, length-append xs (s ∷ [])) in
+        let last : length ys - 1 ≡ length stems = omega (arith, length-append stems (s ∷ [])) in
         ap (λ n. slice_get (revisions_at ys n) 0) last
-        ∙ ap (λ o. slice_get (revisions_in o) 0) (get_last xs s)
-        ∙ head s.revisions (chain_from (chains_of xs) s.parent) b.next.falling b.next.counted.0 b.whole
+        ∙ ap (λ o. slice_get (revisions_in o) 0) (get_last stems s)
+        ∙ head s.revisions (chain_from (chains_of stems) s.parent) b.next.falling b.next.counted.0 b.whole
       where
         head : (p q : List Revision) → IsPath p → length p ≤ s.count → take s.count (p ++ q) ≡ path
             → slice_get p 0 ≡ slice_get path 0
@@ -390,7 +411,7 @@ module _ (xs : List Stem) (a : AreStems xs) (legal : IsLegal (edits_in (branches
 
     pub brought_line : (line : Option (List (List ℕ)))
         → IfSome line (λ l. map encode_lower l ≡ map (λ r. r.hash) path)
-        → ((x r : Revision) → last_in path ≡ Some x → ¬ IsBrought xs r x) → IsNewestLine line ys
+        → ((x r : Revision) → last_in path ≡ Some x → ¬ IsBrought stems r x) → IsNewestLine line ys
     brought_line None h ends = tt
     brought_line (Some l) h ends = h ∙ ap (map (λ (r : Revision). r.hash)) (sym (from path refl))
       where

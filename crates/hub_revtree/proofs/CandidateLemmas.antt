@@ -34,139 +34,160 @@ use Rattle.hub_revtree.proofs.WinnerLemmas.{above_wins, branch_in, whole}
 
 -- ---- leaves among the branches
 
--- whether r stands behind a head of the branches
+-- whether revision stands behind a head of the branches
 abbrev pub is_passed_in : List Branch → Revision → Bool
-is_passed_in bs r = list_any (λ b. is_behind_head r (edit_of b)) bs
+is_passed_in branches revision = list_any (λ b. is_behind_head revision (edit_of b)) branches
 
-passed_by : (bs : List Branch) (r : Revision)
-    → list_any (is_behind_head r) (edits_of (edits_in bs) []) ≡ is_passed_in bs r
-passed_by bs r =
-    ap (λ es. list_any (is_behind_head r) es) (all_of_one bs) ∙ any_map (is_behind_head r) edit_of bs
+passed_by : (branches : List Branch) (revision : Revision)
+    → list_any (is_behind_head revision) (edits_of (edits_in branches) []) ≡ is_passed_in branches revision
+passed_by branches revision =
+    ap (λ es. list_any (is_behind_head revision) es) (all_of_one branches)
+    ∙ any_map (is_behind_head revision) edit_of branches
 
 -- a branch of this number is one of them
-numbered : (bs : List Branch) (k : ℕ) (b : Branch) → slice_get bs k ≡ Some b → Contains bs b
-numbered [] k b e = absurd (cc)
-numbered (x ∷ bs) zero b e = subst (Contains (x ∷ bs)) (same_Some x b e) (contains_here x bs)
-numbered (x ∷ bs) (suc k) b e = contains_there x b bs (numbered bs k b e)
+numbered : (branches : List Branch) (k : ℕ) (branch : Branch) → slice_get branches k ≡ Some branch
+    → Contains branches branch
+numbered [] k branch e = absurd (cc)
+numbered (other ∷ branches) zero branch e =
+    subst (Contains (other ∷ branches)) (same_Some other branch e) (contains_here other branches)
+numbered (other ∷ branches) (suc k) branch e =
+    contains_there other branch branches (numbered branches k branch e)
 
-first_get : (p : List Revision) (r : Revision) → IsFirst p r → slice_get p 0 ≡ Some r
-first_get [] r i = absurd i
-first_get (x ∷ p) r i = ap Some i
+first_get : (revisions : List Revision) (revision : Revision) → IsFirst revisions revision
+    → slice_get revisions 0 ≡ Some revision
+first_get [] revision i = absurd i
+first_get (other ∷ revisions) revision i = ap Some i
 
-module _ (bs : List Branch) where
+module _ (branches : List Branch) where
   -- a head that stands behind none is a leaf, with its mark
-  branch_marked : (k : ℕ) (w : Winner) → option_and_then head_in (slice_get bs k) ≡ Some w
-      → IsMarked (edits_in bs) [] w.rev w.deleted
-  branch_marked k w h =
-      let i = head_there bs k w h in
-      (edit_of i.0, (in_tree bs w.rev bs i.0 (numbered bs k i.0 i.1), refl), first_of i.0.path w.rev i.2, i.3)
+  branch_marked : (k : ℕ) (winner : Winner) → option_and_then head_in (slice_get branches k) ≡ Some winner
+      → IsMarked (edits_in branches) [] winner.rev winner.deleted
+  branch_marked k winner h =
+      let i = head_there branches k winner h in (
+        edit_of i.0,
+        (in_tree branches winner.rev branches i.0 (numbered branches k i.0 i.1), refl),
+        first_of i.0.path winner.rev i.2,
+        i.3,
+      )
 
-  branch_leaf : (k : ℕ) (w : Winner) → option_and_then head_in (slice_get bs k) ≡ Some w
-      → is_passed_in bs w.rev ≡ false → IsLeaf (edits_in bs) [] w.rev
-  branch_leaf k w h leads =
-      let m = branch_marked k w h in
-      let known = is_known_from (edits_in bs) [] w.rev (m.0, m.1, first_in m.0.path w.rev m.2) in
-      leaf_is (edits_in bs) [] w.rev
-      (names_is (revisions_of (leaves_of (edits_in bs) [])) w.rev
-      (leaf_law (edits_in bs) [] w.rev
-      ∙ and_from (is_known (edits_in bs) [] w.rev) _ known (ap not (passed_by bs w.rev ∙ leads))))
+  branch_leaf : (k : ℕ) (winner : Winner) → option_and_then head_in (slice_get branches k) ≡ Some winner
+      → is_passed_in branches winner.rev ≡ false → IsLeaf (edits_in branches) [] winner.rev
+  branch_leaf k winner h leads =
+      let m = branch_marked k winner h in
+      let known = is_known_from (edits_in branches) [] winner.rev (m.0, m.1, first_in m.0.path winner.rev m.2)
+      in
+      leaf_is (edits_in branches) [] winner.rev
+      (names_is (revisions_of (leaves_of (edits_in branches) [])) winner.rev
+      (leaf_law (edits_in branches) [] winner.rev
+      ∙ and_from (is_known (edits_in branches) [] winner.rev) _ known
+      (ap not (passed_by branches winner.rev ∙ leads))))
 
   -- a leaf stands behind no head
-  leaf_leads : (r : Revision) → IsLeaf (edits_in bs) [] r → is_passed_in bs r ≡ false
-  leaf_leads r leaf =
+  leaf_leads : (revision : Revision) → IsLeaf (edits_in branches) [] revision
+      → is_passed_in branches revision ≡ false
+  leaf_leads revision leaf =
       let named =
-      is_named (revisions_of (leaves_of (edits_in bs) [])) r (is_leaf_from (edits_in bs) [] r leaf) in
+      is_named (revisions_of (leaves_of (edits_in branches) [])) revision
+      (is_leaf_from (edits_in branches) [] revision leaf) in
       let parts =
-      and_parts (is_known (edits_in bs) [] r) (not (list_any (is_behind_head r) (edits_of (edits_in bs) [])))
-      (sym (leaf_law (edits_in bs) [] r) ∙ named) in
-      sym (passed_by bs r) ∙ not_true _ parts.1
+      and_parts (is_known (edits_in branches) [] revision)
+      (not (list_any (is_behind_head revision) (edits_of (edits_in branches) [])))
+      (sym (leaf_law (edits_in branches) [] revision) ∙ named) in
+      sym (passed_by branches revision) ∙ not_true _ parts.1
 
   -- and is the head of a branch with its mark
-  leaf_branch : (r : Revision) (m : Bool) → IsMarked (edits_in bs) [] r m
-      → (k : ℕ) × (option_and_then head_in (slice_get bs k) ≡ Some (record { rev = r; deleted = m }))
-  leaf_branch r m (e, edits, head, mark) =
-      let i = from_tree bs r bs e edits.0 in
-      let there = slice_get_read bs _ i.1.0 i.0 refl i.1.1 (sym i.1.2) in
-      let first : slice_get i.0.path 0 ≡ Some r =
-      first_get i.0.path r (subst (λ (z : Edit). IsFirst z.path r) (sym i.2) head) in
+  leaf_branch : (revision : Revision) (m : Bool) → IsMarked (edits_in branches) [] revision m
+      → (k : ℕ) × (option_and_then head_in (slice_get branches k) ≡ Some
+      (record { rev = revision; deleted = m }))
+  leaf_branch revision m (e, edits, head, mark) =
+      let i = from_tree branches revision branches e edits.0 in
+      let there = slice_get_read branches _ i.1.0 i.0 refl i.1.1 (sym i.1.2) in
+      let first : slice_get i.0.path 0 ≡ Some revision =
+      first_get i.0.path revision (subst (λ (z : Edit). IsFirst z.path revision) (sym i.2) head) in
       let marked : i.0.deleted ≡ m = ap (λ (z : Edit). z.deleted) i.2 ∙ mark in (
         i.1.0,
         ap (option_and_then head_in) there
             ∙ (ap (option_map (λ (z : Revision). record { rev = z; deleted = i.0.deleted })) first
-            ∙ ap (λ d. Some (record { rev = r; deleted = d })) marked),
+            ∙ ap (λ d. Some (record { rev = revision; deleted = d })) marked),
       )
 
 -- ---- the candidates
 
 abbrev items : Candidates → List Candidate
-items c = heap_items c.heap
+items candidates = heap_items candidates.heap
 
-module _ (bs : List Branch) (legal : IsLegal (edits_in bs)) (c : Candidates) (are : AreCandidates bs c)
-    (all : c.count ≡ length bs) where
+module _ (branches : List Branch) (legal : IsLegal (edits_in branches)) (candidates : Candidates)
+    (are : AreCandidates branches candidates)
+    (all : candidates.count ≡ length branches) where
   -- each leaf is among them
-  leaf_in : (r : Revision) (m : Bool) → IsLeaf (edits_in bs) [] r → IsMarked (edits_in bs) [] r m
-      → (k : ℕ) × Contains (items c) (candidate_of k (record { rev = r; deleted = m }))
-  leaf_in r m leaf marked =
-      let i = leaf_branch bs r m marked in (
+  leaf_in : (revision : Revision) (m : Bool) → IsLeaf (edits_in branches) [] revision
+      → IsMarked (edits_in branches) [] revision m
+      → (k : ℕ) × Contains (items candidates) (candidate_of k (record { rev = revision; deleted = m }))
+  leaf_in revision m leaf marked =
+      let i = leaf_branch branches revision m marked in (
         i.0,
-        are.whole i.0 (record { rev = r; deleted = m })
-            (subst (λ n. i.0 < n) (sym all) (within i.0 _ i.1)) i.1 (leaf_leads bs r leaf),
+        are.whole i.0 (record { rev = revision; deleted = m })
+            (subst (λ n. i.0 < n) (sym all) (within i.0 _ i.1)) i.1 (leaf_leads branches revision leaf),
       )
     where
-      within : (k : ℕ) (w : Winner) → option_and_then head_in (slice_get bs k) ≡ Some w → k < length bs
-      within k w h = let i = head_there bs k w h in slice_get_within bs k i.0 i.1
+      within : (k : ℕ) (winner : Winner) → option_and_then head_in (slice_get branches k) ≡ Some winner
+          → k < length branches
+      within k winner h = let i = head_there branches k winner h in slice_get_within branches k i.0 i.1
 
   -- one that is a leaf, and below none, is the best leaf
-  pub top_wins : (top : Candidate) → Contains (items c) top
-      → ((y : Candidate) → Contains (items c) y → is_lt (candidate_cmp top y) ≡ false)
-      → is_passed_in bs top.rev ≡ false
-      → option_and_then head_in (slice_get bs top.number) ≡ winner_of (leaves_of (edits_in bs) [])
+  pub top_wins : (top : Candidate) → Contains (items candidates) top
+      → ((candidate : Candidate) → Contains (items candidates) candidate
+      → is_lt (candidate_cmp top candidate) ≡ false) → is_passed_in branches top.rev ≡ false
+      → option_and_then head_in (slice_get branches top.number) ≡ winner_of (leaves_of (edits_in branches) [])
   top_wins top here greatest leads =
       let head = are.heads top here in
       head
-      ∙ sym (above_wins (edits_in bs) legal (winner_in top)
-      (branch_leaf bs top.number (winner_in top) head leads)
-      (branch_marked bs top.number (winner_in top) head) (λ s m leaf marked less.
+      ∙ sym (above_wins (edits_in branches) legal (winner_in top)
+      (branch_leaf branches top.number (winner_in top) head leads)
+      (branch_marked branches top.number (winner_in top) head) (λ s m leaf marked less.
       let i = leaf_in s m leaf marked in
       both_ways _ (greatest (candidate_of i.0 (record { rev = s; deleted = m })) i.1) (ap is_lt less)))
 
   -- where there is none there is no leaf
-  pub none_wins : items c ≡ [] → (n : ℕ) → n ≡ length bs
-      → option_and_then head_in (slice_get bs n) ≡ winner_of (leaves_of (edits_in bs) [])
+  pub none_wins : items candidates ≡ [] → (n : ℕ) → n ≡ length branches
+      → option_and_then head_in (slice_get branches n) ≡ winner_of (leaves_of (edits_in branches) [])
   none_wins empty n past =
-      ap (option_and_then head_in) (slice_get_past bs n (omega (arith, past)))
-      ∙ sym (from (winner_of (leaves_of (edits_in bs) [])) refl)
+      ap (option_and_then head_in) (slice_get_past branches n (omega (arith, past)))
+      ∙ sym (from (winner_of (leaves_of (edits_in branches) [])) refl)
     where
-      from : (o : Option Winner) → winner_of (leaves_of (edits_in bs) []) ≡ o → o ≡ None
+      from : (maybe_winner : Option Winner) → winner_of (leaves_of (edits_in branches) []) ≡ maybe_winner
+          → maybe_winner ≡ None
       from None e = refl
       from (Some w) e =
-          let win = wins (edits_in bs) legal w e in
+          let win = wins (edits_in branches) legal w e in
           let i = leaf_in w.rev win.0 win.1 win.2 in
           absurd (contains_none _
           (subst (λ z. Contains z (candidate_of i.0 (record { rev = w.rev; deleted = win.0 }))) empty i.1))
 
 -- each has a branch
-pub top_within : (bs : List Branch) (c : Candidates) → AreCandidates bs c → (top : Candidate)
-    → Contains (items c) top → top.number < length bs
-top_within bs c are top here =
-    let i = head_there bs top.number (winner_in top) (are.heads top here) in
-    slice_get_within bs top.number i.0 i.1
+pub top_within : (branches : List Branch) (candidates : Candidates) → AreCandidates branches candidates
+    → (top : Candidate) → Contains (items candidates) top → top.number < length branches
+top_within branches candidates are top here =
+    let i = head_there branches top.number (winner_in top) (are.heads top here) in
+    slice_get_within branches top.number i.0 i.1
 
 -- an upper bound of a list is below none in it
-pub below_bound : (x : Candidate) (xs : List Candidate) → IsUpperBound candidate_cmp x xs → (y : Candidate)
-    → Contains xs y → is_lt (candidate_cmp x y) ≡ false
-below_bound x [] u y c = absurd (contains_none y c)
-below_bound x (z ∷ zs) u y c = elim (contains_cases z y zs c) [
-  | inl e ↦ subst (λ v. is_lt (candidate_cmp x v) ≡ false) e u.0
-  | inr d ↦ below_bound x zs u.1 y d
+pub below_bound : (candidate : Candidate) (others : List Candidate)
+    → IsUpperBound candidate_cmp candidate others → (y : Candidate)
+    → Contains others y → is_lt (candidate_cmp candidate y) ≡ false
+below_bound candidate [] u y c = absurd (contains_none y c)
+below_bound candidate (other ∷ candidates) u y c = elim (contains_cases other y candidates c) [
+  | inl e ↦ subst (λ v. is_lt (candidate_cmp candidate v) ≡ false) e u.0
+  | inr d ↦ below_bound candidate candidates u.1 y d
 ]
 
 -- ---- they stay candidates
 
 -- of no branch
-pub none_looked_at : (bs : List Branch) (c : Candidates) → IsHeap candidate_cmp (items c) → items c ≡ []
-    → c.count ≡ 0 → AreCandidates bs c
-none_looked_at bs c ordered empty none = record {
+pub none_looked_at : (branches : List Branch) (candidates : Candidates)
+    → IsHeap candidate_cmp (items candidates) → items candidates ≡ []
+    → candidates.count ≡ 0 → AreCandidates branches candidates
+none_looked_at branches candidates ordered empty none = record {
   ordered = ordered;
   within = omega (arith, none);
   heads = λ x i. absurd (contains_none x (subst (λ z. Contains z x) empty i));
@@ -174,27 +195,30 @@ none_looked_at bs c ordered empty none = record {
 }
 
 -- one branch more, which was not looked at
-pub branch_more : (bs : List Branch) (b : Branch) (c : Candidates) → AreCandidates bs c
-    → AreCandidates (bs ++ b ∷ []) c
-branch_more bs b c are = record {
+pub branch_more : (branches : List Branch) (branch : Branch) (candidates : Candidates)
+    → AreCandidates branches candidates → AreCandidates (branches ++ branch ∷ []) candidates
+branch_more branches branch candidates are = record {
   ordered = are.ordered;
-  within = omega (arith, are.within, length-append bs (b ∷ []));
+  within = omega (arith, are.within, length-append branches (branch ∷ []));
   heads = λ x i.
       let h = are.heads x i in
-      let there = head_there bs x.number (winner_in x) h in
-      ap (option_and_then head_in) (get_front bs (b ∷ []) x.number there.0 there.1 ∙ sym there.1) ∙ h;
-  whole = λ k w low h leads.
+      let there = head_there branches x.number (winner_in x) h in
+      ap (option_and_then head_in) (get_front branches (branch ∷ []) x.number there.0 there.1 ∙ sym there.1)
+      ∙ h;
+  whole = λ k winner low h leads.
       let front =
-      or_false (is_passed_in bs w.rev) _
-      (sym (list_any-append (λ z. is_behind_head w.rev (edit_of z)) bs (b ∷ [])) ∙ leads) in
-      let there = head_there (bs ++ b ∷ []) k w h in
-      are.whole k w low (older k w low there.0 there.1 h) front.0;
+      or_false (is_passed_in branches winner.rev) _
+      (sym (list_any-append (λ other. is_behind_head winner.rev (edit_of other)) branches (branch ∷ []))
+      ∙ leads) in
+      let there = head_there (branches ++ branch ∷ []) k winner h in
+      are.whole k winner low (older k winner low there.0 there.1 h) front.0;
 }
   where
-    older : (k : ℕ) (w : Winner) → k < c.count → (z : Branch)
-        → slice_get (bs ++ b ∷ []) k ≡ Some z → option_and_then head_in (slice_get (bs ++ b ∷ []) k) ≡ Some w
-        → option_and_then head_in (slice_get bs k) ≡ Some w
-    older k w low z there h = elim (get_pushed bs b k z there) [
+    older : (k : ℕ) (winner : Winner) → k < candidates.count → (other : Branch)
+        → slice_get (branches ++ branch ∷ []) k ≡ Some other
+        → option_and_then head_in (slice_get (branches ++ branch ∷ []) k) ≡ Some winner
+        → option_and_then head_in (slice_get branches k) ≡ Some winner
+    older k winner low other there h = elim (get_pushed branches branch k other there) [
       | inl f ↦ ap (option_and_then head_in) (f ∙ sym there) ∙ h
       | inr f ↦ absurd (omega (arith, f.0, low, are.within))
     ]
@@ -206,78 +230,92 @@ looked k n low = elim (cases_Bool (nat_lt k n)) [
   | inr t ↦ let past = ltb-false k n t in inr (omega (arith, low, past))
 ]
 
-module _ (bs : List Branch) (c d : Candidates) (are : AreCandidates bs c) where
-  module _ (w : Winner) (head : option_and_then head_in (slice_get bs c.count) ≡ Some w)
-      (more : c.count < length bs) (next : d.count ≡ c.count + 1) where
-    same_head : (k : ℕ) (v : Winner) → k ≡ c.count → option_and_then head_in (slice_get bs k) ≡ Some v → w ≡ v
+module _ (branches : List Branch) (candidates other : Candidates)
+    (are : AreCandidates branches candidates) where
+  module _ (w : Winner) (head : option_and_then head_in (slice_get branches candidates.count) ≡ Some w)
+      (more : candidates.count < length branches) (next : other.count ≡ candidates.count + 1) where
+    same_head : (k : ℕ) (v : Winner) → k ≡ candidates.count
+        → option_and_then head_in (slice_get branches k) ≡ Some v → w ≡ v
     same_head k v e h =
-        same_Some w v (sym head ∙ (ap (λ n. option_and_then head_in (slice_get bs n)) (sym e) ∙ h))
+        same_Some w v (sym head ∙ (ap (λ n. option_and_then head_in (slice_get branches n)) (sym e) ∙ h))
 
     -- the next branch was looked at, whose head is no leaf
-    pub looked_past : d.heap ≡ c.heap → is_passed_in bs w.rev ≡ true → AreCandidates bs d
+    pub looked_past : other.heap ≡ candidates.heap → is_passed_in branches w.rev ≡ true
+        → AreCandidates branches other
     looked_past same passed = record {
       ordered = subst (λ z. IsHeap candidate_cmp (heap_items z)) (sym same) are.ordered;
       within = omega (arith, next, more);
       heads = λ x i. are.heads x (subst (λ z. Contains (heap_items z) x) same i);
-      whole = λ k v low h leads. elim (looked k c.count (omega (arith, next, low))) [
+      whole = λ k v low h leads. elim (looked k candidates.count (omega (arith, next, low))) [
         | inl l ↦ subst (λ z. Contains (heap_items z) (candidate_of k v)) (sym same) (are.whole k v l h leads)
         | inr e ↦
             absurd (both_ways _
-            (subst (λ (z : Winner). is_passed_in bs z.rev ≡ false) (sym (same_head k v e h)) leads) passed)
+            (subst (λ (z : Winner). is_passed_in branches z.rev ≡ false) (sym (same_head k v e h)) leads)
+            passed)
       ];
     }
 
     -- the next branch was looked at, and its head put among them
-    pub looked_at : IsHeap candidate_cmp (items d)
-        → IsPermutation (candidate_of c.count w ∷ items c) (items d) → AreCandidates bs d
+    pub looked_at : IsHeap candidate_cmp (items other)
+        → IsPermutation (candidate_of candidates.count w ∷ items candidates) (items other)
+        → AreCandidates branches other
     looked_at ordered same = record {
       ordered = ordered;
       within = omega (arith, next, more);
-      heads = λ x i. elim (contains_cases (candidate_of c.count w) x (items c)
-          (Contains-permutation (items d) (candidate_of c.count w ∷ items c) x
-          (IsPermutation-sym (candidate_of c.count w ∷ items c) (items d) same) i)) [
+      heads = λ x i. elim (contains_cases (candidate_of candidates.count w) x (items candidates)
+          (Contains-permutation (items other) (candidate_of candidates.count w ∷ items candidates) x
+          (IsPermutation-sym (candidate_of candidates.count w ∷ items candidates) (items other) same) i)) [
             | inl e ↦
                 subst (λ (z : Candidate).
-                option_and_then head_in (slice_get bs z.number) ≡ Some (winner_in z)) e head
+                option_and_then head_in (slice_get branches z.number) ≡ Some (winner_in z)) e head
             | inr o ↦ are.heads x o
           ];
-      whole = λ k v low h leads. Contains-permutation (candidate_of c.count w ∷ items c) (items d)
-          (candidate_of k v) same (elim (looked k c.count (omega (arith, next, low))) [
+      whole =
+          λ k v low h leads. Contains-permutation (candidate_of candidates.count w ∷ items candidates)
+          (items other)
+          (candidate_of k v) same (elim (looked k candidates.count (omega (arith, next, low))) [
             | inl l ↦
-                contains_there (candidate_of c.count w) (candidate_of k v) (items c) (are.whole k v l h leads)
+                contains_there (candidate_of candidates.count w) (candidate_of k v) (items candidates)
+                (are.whole k v l h leads)
             | inr e ↦
-                let this : candidate_of c.count w ≡ candidate_of k v =
+                let this : candidate_of candidates.count w ≡ candidate_of k v =
                 ap₂ candidate_of (sym e) (same_head k v e h) in
-                subst (Contains (candidate_of c.count w ∷ items c)) this
-                (contains_here (candidate_of c.count w) (items c))
+                subst (Contains (candidate_of candidates.count w ∷ items candidates)) this
+                (contains_here (candidate_of candidates.count w) (items candidates))
           ]);
     }
 
   -- one that is no leaf was given up
-  pub given_up : (x : Candidate) → IsHeap candidate_cmp (items d) → IsPermutation (items c) (x ∷ items d)
-      → d.count ≡ c.count → is_passed_in bs x.rev ≡ true → AreCandidates bs d
-  given_up x ordered same still passed = record {
+  pub given_up : (candidate : Candidate) → IsHeap candidate_cmp (items other)
+      → IsPermutation (items candidates) (candidate ∷ items other)
+      → other.count ≡ candidates.count → is_passed_in branches candidate.rev ≡ true
+      → AreCandidates branches other
+  given_up candidate ordered same still passed = record {
     ordered = ordered;
     within = omega (arith, still, are.within);
     heads = λ y i. are.heads y
-        (Contains-permutation (x ∷ items d) (items c) y (IsPermutation-sym (items c) (x ∷ items d) same)
-        (contains_there x y (items d) i));
-    whole = λ k v low h leads. elim (contains_cases x (candidate_of k v) (items d)
-        (Contains-permutation (items c) (x ∷ items d) (candidate_of k v) same
+        (Contains-permutation (candidate ∷ items other) (items candidates) y
+        (IsPermutation-sym (items candidates) (candidate ∷ items other) same)
+        (contains_there candidate y (items other) i));
+    whole = λ k v low h leads. elim (contains_cases candidate (candidate_of k v) (items other)
+        (Contains-permutation (items candidates) (candidate ∷ items other) (candidate_of k v) same
         (are.whole k v (omega (arith, still, low)) h leads))) [
-          | inl e ↦ absurd (both_ways _ (ap (λ (z : Candidate). is_passed_in bs z.rev) e ∙ leads) passed)
+          | inl e ↦ absurd (both_ways _
+              (ap (λ (z : Candidate). is_passed_in branches z.rev) e ∙ leads) passed)
           | inr o ↦ o
         ];
   }
 
 -- those that are kept once an edit more has come, of those that were kept
-pub candidates_more : (xs ys : List Branch) (e : Edit) (o p : Option Candidates)
-    → edits_in ys ≡ edits_in xs ++ e ∷ [] → IfSome p (λ d. o ≡ Some d) → IfSome o (AreCandidates xs)
-    → IfSome p (AreCandidates ys)
-candidates_more xs ys e o None same kept are = tt
-candidates_more xs ys e o (Some d) same kept are =
-    subst (λ bs. AreCandidates bs d) (sym (whole xs ys e same))
-    (branch_more xs (branch_in e) d (subst (λ z. IfSome z (AreCandidates xs)) kept are))
+pub candidates_more : (branches others : List Branch) (edit : Edit) (maybe_candidates p : Option Candidates)
+    → edits_in others ≡ edits_in branches ++ edit ∷ []
+    → IfSome p (λ candidates. maybe_candidates ≡ Some candidates)
+    → IfSome maybe_candidates (AreCandidates branches) → IfSome p (AreCandidates others)
+candidates_more branches others edit maybe_candidates None same kept are = tt
+candidates_more branches others edit maybe_candidates (Some candidates) same kept are =
+    subst (λ bs. AreCandidates bs candidates) (sym (whole branches others edit same))
+    (branch_more branches (branch_in edit) candidates
+    (subst (λ z. IfSome z (AreCandidates branches)) kept are))
 
 -- ---- the first of a heap
 
@@ -290,9 +328,9 @@ one_first : {X : Type 0} (xs : List X) (x y : X) → 0 < length xs → x ≡ get
 one_first [] x y some e f = absurd (omega (arith, some))
 one_first (z ∷ xs) x y some e f = e ∙ sym f
 
-same_items : (bs : List Branch) (c d : Candidates) → AreCandidates bs c → items d ≡ items c
-    → d.count ≡ c.count → AreCandidates bs d
-same_items bs c d are same still = record {
+same_items : (branches : List Branch) (candidates other : Candidates) → AreCandidates branches candidates
+    → items other ≡ items candidates → other.count ≡ candidates.count → AreCandidates branches other
+same_items branches candidates other are same still = record {
   ordered = subst (IsHeap candidate_cmp) (sym same) are.ordered;
   within = omega (arith, still, are.within);
   heads = λ x i. are.heads x (subst (λ z. Contains z x) same i);
@@ -301,14 +339,20 @@ same_items bs c d are same still = record {
 }
 
 -- the first was taken from them, which is no leaf
-pub first_given_up : (bs : List Branch) (c d : Candidates) → AreCandidates bs c → (top : Candidate)
-    → 0 < length (items c) → top ≡ get_or (items c) 0 top → is_passed_in bs top.rev ≡ true → d.count ≡ c.count
-    → (o : Option Candidate)
-    → IfSome o (λ x. x ≡ get_or (items c) 0 x) → IfSome o (λ x. IsPermutation (items c) (x ∷ items d))
-    → IfSome o (λ x. PopsGreatest candidate_cmp (items c) x (items d))
-    → IfNone o (HeapUnchanged c.heap d.heap)
-    → AreCandidates bs d
-first_given_up bs c d are top some first passed still None f p g n = same_items bs c d are n.0 still
-first_given_up bs c d are top some first passed still (Some x) f p g n =
-    given_up bs c d are x (g are.ordered).0 p still
-    (subst (λ (z : Candidate). is_passed_in bs z.rev ≡ true) (one_first (items c) top x some first f) passed)
+pub first_given_up : (branches : List Branch) (candidates other : Candidates)
+    → AreCandidates branches candidates → (top : Candidate)
+    → 0 < length (items candidates) → top ≡ get_or (items candidates) 0 top
+    → is_passed_in branches top.rev ≡ true → other.count ≡ candidates.count
+    → (maybe_candidate : Option Candidate)
+    → IfSome maybe_candidate (λ candidate. candidate ≡ get_or (items candidates) 0 candidate)
+    → IfSome maybe_candidate (λ candidate. IsPermutation (items candidates) (candidate ∷ items other))
+    → IfSome maybe_candidate (λ candidate.
+    PopsGreatest candidate_cmp (items candidates) candidate (items other))
+    → IfNone maybe_candidate (HeapUnchanged candidates.heap other.heap)
+    → AreCandidates branches other
+first_given_up branches candidates other are top some first passed still None f p g n =
+    same_items branches candidates other are n.0 still
+first_given_up branches candidates other are top some first passed still (Some candidate) f p g n =
+    given_up branches candidates other are candidate (g are.ordered).0 p still
+    (subst (λ (z : Candidate). is_passed_in branches z.rev ≡ true)
+    (one_first (items candidates) top candidate some first f) passed)

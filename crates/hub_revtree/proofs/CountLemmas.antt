@@ -28,169 +28,184 @@ new_of earlier revs = filter (λ r. not (has_revision earlier r)) revs
 -- how many revisions the stems bring, each counted by the first that has it
 abbrev pub brought_after : List Stem → List Stem → ℕ
 brought_after earlier [] = 0
-brought_after earlier (s ∷ later) =
-    length (new_of earlier s.revisions) + brought_after (earlier ++ s ∷ []) later
+brought_after earlier (stem ∷ later) =
+    length (new_of earlier stem.revisions) + brought_after (earlier ++ stem ∷ []) later
 
 -- one edit more
-count_more : (earlier later : List Edit) (e : Edit)
-    → count_after earlier (later ++ e ∷ [])
-    ≡ count_after earlier later + length (missing (earlier ++ later) [] e.path)
-count_more earlier [] e =
-    let same : length (missing (earlier ++ []) [] e.path) ≡ length (missing earlier [] e.path) =
-    ap (λ es. length (missing es [] e.path)) (append-nil earlier) in
+count_more : (earlier later : List Edit) (edit : Edit)
+    → count_after earlier (later ++ edit ∷ [])
+    ≡ count_after earlier later + length (missing (earlier ++ later) [] edit.path)
+count_more earlier [] edit =
+    let same : length (missing (earlier ++ []) [] edit.path) ≡ length (missing earlier [] edit.path) =
+    ap (λ es. length (missing es [] edit.path)) (append-nil earlier) in
     omega (arith, same)
-count_more earlier (f ∷ later) e =
-    let ih = count_more (earlier ++ f ∷ []) later e in
-    let same : length (missing ((earlier ++ f ∷ []) ++ later) [] e.path)
-    ≡ length (missing (earlier ++ f ∷ later) [] e.path) =
-    ap (λ es. length (missing es [] e.path)) (append_assoc earlier (f ∷ []) later) in
+count_more earlier (other ∷ later) edit =
+    let ih = count_more (earlier ++ other ∷ []) later edit in
+    let same : length (missing ((earlier ++ other ∷ []) ++ later) [] edit.path)
+    ≡ length (missing (earlier ++ other ∷ later) [] edit.path) =
+    ap (λ es. length (missing es [] edit.path)) (append_assoc earlier (other ∷ []) later) in
     omega (arith, ih, same)
 
 -- what is missing of a path is what is new of it
-missing_new : (xs : List Stem) → AreStems xs → (p : List Revision)
-    → missing (edits_in (branches_of xs)) [] p ≡ new_of xs p
-missing_new xs a [] = refl
-missing_new xs a (r ∷ p) =
-    let same : is_known (edits_in (branches_of xs)) [] r ≡ has_revision xs r =
-    known_by (branches_of xs) r ∙ named_in xs a r in
-    rw same (elim (cases_Bool (has_revision xs r)) [
-      | inl t ↦ rw t (missing_new xs a p)
-      | inr t ↦ rw t (ap (λ z. r ∷ z) (missing_new xs a p))
+missing_new : (stems : List Stem) → AreStems stems → (revisions : List Revision)
+    → missing (edits_in (branches_of stems)) [] revisions ≡ new_of stems revisions
+missing_new stems a [] = refl
+missing_new stems a (revision ∷ revisions) =
+    let same : is_known (edits_in (branches_of stems)) [] revision ≡ has_revision stems revision =
+    known_by (branches_of stems) revision ∙ named_in stems a revision in
+    rw same (elim (cases_Bool (has_revision stems revision)) [
+      | inl t ↦ rw t (missing_new stems a revisions)
+      | inr t ↦ rw t (ap (λ z. revision ∷ z) (missing_new stems a revisions))
     ])
 
-new_front : (xs : List Stem) (p q : List Revision)
-    → ((r : Revision) → names q r ≡ true → has_revision xs r ≡ true) → new_of xs (p ++ q) ≡ new_of xs p
-new_front xs [] [] known = refl
-new_front xs [] (r ∷ q) known =
-    rw (known r (or_left (is_same r r) (names q r) (same_self r)))
-    (new_front xs [] q (λ s n. known s (or_right (is_same s r) (names q s) n)))
-new_front xs (r ∷ p) q known = elim (cases_Bool (has_revision xs r)) [
-  | inl t ↦ rw t (new_front xs p q known)
-  | inr t ↦ rw t (ap (λ z. r ∷ z) (new_front xs p q known))
+new_front : (stems : List Stem) (others revisions : List Revision)
+    → ((revision : Revision) → names revisions revision ≡ true → has_revision stems revision ≡ true)
+    → new_of stems (others ++ revisions) ≡ new_of stems others
+new_front stems [] [] known = refl
+new_front stems [] (revision ∷ revisions) known =
+    rw (known revision (or_left (is_same revision revision) (names revisions revision) (same_self revision)))
+    (new_front stems [] revisions (λ s n. known s (or_right (is_same s revision) (names revisions s) n)))
+new_front stems (revision ∷ others) revisions known = elim (cases_Bool (has_revision stems revision)) [
+  | inl t ↦ rw t (new_front stems others revisions known)
+  | inr t ↦ rw t (ap (λ z. revision ∷ z) (new_front stems others revisions known))
 ]
 
 -- all of them are new where no stem has one
-pub all_new : (xs : List Stem) (p : List Revision) → list_any (has_revision xs) p ≡ false → new_of xs p ≡ p
-all_new xs [] f = refl
-all_new xs (r ∷ p) f =
-    let g = or_false (has_revision xs r) (list_any (has_revision xs) p) f in
-    rw g.0 (ap (λ z. r ∷ z) (all_new xs p g.1))
+pub all_new : (stems : List Stem) (revisions : List Revision)
+    → list_any (has_revision stems) revisions ≡ false → new_of stems revisions ≡ revisions
+all_new stems [] f = refl
+all_new stems (revision ∷ revisions) f =
+    let g = or_false (has_revision stems revision) (list_any (has_revision stems) revisions) f in
+    rw g.0 (ap (λ z. revision ∷ z) (all_new stems revisions g.1))
 
 -- a stem's own revisions are in front of its path, and the others are known
-rest_known : (xs : List Stem) (s : Stem) → AreStems (xs ++ s ∷ [])
-    → (rest : List Revision) × ((branch_of (chain_of (chains_of xs) s)).path ≡ s.revisions ++ rest)
-    × ((r : Revision) → names rest r ≡ true → has_revision xs r ≡ true)
-rest_known xs s a =
-    let c = a.counted (length xs) s (get_last xs s) in (
-      take (s.count - length s.revisions) (chain_from (chains_of xs) s.parent),
-      take_more s.count s.revisions (chain_from (chains_of xs) s.parent) c.0,
-      λ r n. sym (chains_name xs r)
-          ∙ from_chain_named (chains_of xs) s.parent r
-          (names_take (s.count - length s.revisions) (chain_from (chains_of xs) s.parent) r n),
+rest_known : (stems : List Stem) (stem : Stem) → AreStems (stems ++ stem ∷ [])
+    → (rest : List Revision) × ((branch_of (chain_of (chains_of stems) stem)).path ≡ stem.revisions ++ rest)
+    × ((revision : Revision) → names rest revision ≡ true → has_revision stems revision ≡ true)
+rest_known stems stem a =
+    let c = a.counted (length stems) stem (get_last stems stem) in (
+      take (stem.count - length stem.revisions) (chain_from (chains_of stems) stem.parent),
+      take_more stem.count stem.revisions (chain_from (chains_of stems) stem.parent) c.0,
+      λ revision n. sym (chains_name stems revision)
+          ∙ from_chain_named (chains_of stems) stem.parent revision
+          (names_take (stem.count - length stem.revisions)
+          (chain_from (chains_of stems) stem.parent) revision n),
     )
 
-brought_more : (earlier later : List Stem) (s : Stem)
-    → brought_after earlier (later ++ s ∷ [])
-    ≡ brought_after earlier later + length (new_of (earlier ++ later) s.revisions)
-brought_more earlier [] s =
-    let same : length (new_of (earlier ++ []) s.revisions) ≡ length (new_of earlier s.revisions) =
-    ap (λ z. length (new_of z s.revisions)) (append-nil earlier) in
+brought_more : (earlier later : List Stem) (stem : Stem)
+    → brought_after earlier (later ++ stem ∷ [])
+    ≡ brought_after earlier later + length (new_of (earlier ++ later) stem.revisions)
+brought_more earlier [] stem =
+    let same : length (new_of (earlier ++ []) stem.revisions) ≡ length (new_of earlier stem.revisions) =
+    ap (λ z. length (new_of z stem.revisions)) (append-nil earlier) in
     omega (arith, same)
-brought_more earlier (t ∷ later) s =
-    let ih = brought_more (earlier ++ t ∷ []) later s in
-    let same : length (new_of ((earlier ++ t ∷ []) ++ later) s.revisions)
-    ≡ length (new_of (earlier ++ t ∷ later) s.revisions) =
-    ap (λ z. length (new_of z s.revisions)) (append_assoc earlier (t ∷ []) later) in
+brought_more earlier (other ∷ later) stem =
+    let ih = brought_more (earlier ++ other ∷ []) later stem in
+    let same : length (new_of ((earlier ++ other ∷ []) ++ later) stem.revisions)
+    ≡ length (new_of (earlier ++ other ∷ later) stem.revisions) =
+    ap (λ z. length (new_of z stem.revisions)) (append_assoc earlier (other ∷ []) later) in
     omega (arith, ih, same)
 
 abbrev AreCounted : List Stem → Type 0
-AreCounted xs = AreStems xs → brought_after [] xs ≡ revision_count (edits_in (branches_of xs))
+AreCounted stems = AreStems stems → brought_after [] stems ≡ revision_count (edits_in (branches_of stems))
 
-counted_more : (xs : List Stem) (s : Stem) → AreCounted xs → AreCounted (xs ++ s ∷ [])
-counted_more xs s ih a =
-    let bs = branches_of xs in
-    let b = branch_of (chain_of (chains_of xs) s) in
-    let rest = rest_known xs s a in
-    let brought : missing (edits_in bs) [] b.path ≡ new_of xs s.revisions =
-    missing_new xs (front xs s a) b.path ∙ (ap (new_of xs) rest.1 ∙ new_front xs s.revisions rest.0 rest.2) in
-    let number : length (missing (edits_in bs) [] b.path) ≡ length (new_of xs s.revisions) =
+counted_more : (stems : List Stem) (stem : Stem) → AreCounted stems → AreCounted (stems ++ stem ∷ [])
+counted_more stems stem ih a =
+    let bs = branches_of stems in
+    let b = branch_of (chain_of (chains_of stems) stem) in
+    let rest = rest_known stems stem a in
+    let brought : missing (edits_in bs) [] b.path ≡ new_of stems stem.revisions =
+    missing_new stems (front stems stem a) b.path
+    ∙ (ap (new_of stems) rest.1 ∙ new_front stems stem.revisions rest.0 rest.2) in
+    let number : length (missing (edits_in bs) [] b.path) ≡ length (new_of stems stem.revisions) =
     ap length brought in
     let more : revision_count (edits_in bs ++ edit_of b ∷ [])
     ≡ revision_count (edits_in bs) + length (missing (edits_in bs) [] b.path) =
     count_more [] (edits_in bs) (edit_of b) in
-    let so_far : brought_after [] xs ≡ revision_count (edits_in bs) = ih (front xs s a) in
-    let whole : brought_after [] (xs ++ s ∷ []) ≡ revision_count (edits_in bs ++ edit_of b ∷ []) =
-    omega (arith, brought_more [] xs s, more, so_far, number) in
-    whole ∙ ap revision_count (sym (ap edits_in (one_stem_more xs s) ∙ map-append edit_of bs (b ∷ [])))
+    let so_far : brought_after [] stems ≡ revision_count (edits_in bs) = ih (front stems stem a) in
+    let whole : brought_after [] (stems ++ stem ∷ []) ≡ revision_count (edits_in bs ++ edit_of b ∷ []) =
+    omega (arith, brought_more [] stems stem, more, so_far, number) in
+    whole ∙ ap revision_count (sym (ap edits_in (one_stem_more stems stem) ∙ map-append edit_of bs (b ∷ [])))
 
 -- each revision is counted once
-pub counted : (xs : List Stem) → AreStems xs
-    → brought_after [] xs ≡ revision_count (edits_in (branches_of xs))
+pub counted : (stems : List Stem) → AreStems stems
+    → brought_after [] stems ≡ revision_count (edits_in (branches_of stems))
 counted = from_end AreCounted (λ a. refl) counted_more
 
 -- one stem more of a sum that stays within its type
-pub brought_one : (xs : List Stem) (k : ℕ) (s : Stem) → slice_get xs k ≡ Some s
-    → brought_after [] (take (k + 1) xs)
-    ≡ brought_after [] (take k xs) + length (new_of (take k xs) s.revisions)
-brought_one xs k s e = ap (brought_after []) (split xs k e) ∙ brought_more [] (take k xs) s
+pub brought_one : (stems : List Stem) (k : ℕ) (stem : Stem) → slice_get stems k ≡ Some stem
+    → brought_after [] (take (k + 1) stems)
+    ≡ brought_after [] (take k stems) + length (new_of (take k stems) stem.revisions)
+brought_one stems k stem e = ap (brought_after []) (split stems k e) ∙ brought_more [] (take k stems) stem
   where
-    more : (xs : List Stem) (k : ℕ) → slice_get xs k ≡ Some s → take (suc k) xs ≡ take k xs ++ s ∷ []
+    more : (stems : List Stem) (k : ℕ) → slice_get stems k ≡ Some stem → take (suc k) stems ≡ take k stems
+        ++ stem ∷ []
     more [] k e = absurd (cc)
-    more (x ∷ xs) zero e = ap (λ z. z ∷ []) (same_Some x s e)
-    more (x ∷ xs) (suc k) e = ap (λ z. x ∷ z) (more xs k e)
+    more (x ∷ stems) zero e = ap (λ z. z ∷ []) (same_Some x stem e)
+    more (x ∷ stems) (suc k) e = ap (λ z. x ∷ z) (more stems k e)
 
-    split : (xs : List Stem) (k : ℕ) → slice_get xs k ≡ Some s → take (k + 1) xs ≡ take k xs ++ s ∷ []
-    split xs k e = rw (add-one k) (more xs k e)
+    split : (stems : List Stem) (k : ℕ) → slice_get stems k ≡ Some stem → take (k + 1) stems ≡ take k stems
+        ++ stem ∷ []
+    split stems k e = rw (add-one k) (more stems k e)
 
-pub saturated_more : (xs : List Stem) (k : ℕ) (s : Stem) (count new next most : ℕ) → slice_get xs k ≡ Some s
-    → count ≡ min (brought_after [] (take k xs)) most → new ≡ length (new_of (take k xs) s.revisions)
-    → next ≡ min (count + new) most → next ≡ min (brought_after [] (take (k + 1) xs)) most
-saturated_more xs k s count new next most e so_far number is =
-    let more = brought_one xs k s e in omega (arith, so_far, number, is, more)
+pub saturated_more : (stems : List Stem) (k : ℕ) (stem : Stem) (count new next most : ℕ)
+    → slice_get stems k ≡ Some stem
+    → count ≡ min (brought_after [] (take k stems)) most → new ≡ length (new_of (take k stems) stem.revisions)
+    → next ≡ min (count + new) most → next ≡ min (brought_after [] (take (k + 1) stems)) most
+saturated_more stems k stem count new next most e so_far number is =
+    let more = brought_one stems k stem e in omega (arith, so_far, number, is, more)
 
-pub saturated_all : (xs : List Stem) (k count most : ℕ) → AreStems xs
-    → length xs ≤ k → count ≡ min (brought_after [] (take k xs)) most
-    → count ≡ min (revision_count (edits_in (branches_of xs))) most
-saturated_all xs k count most a past is =
-    let all : brought_after [] (take k xs) ≡ brought_after [] xs =
-    ap (brought_after []) (take_all k xs past) in
-    omega (arith, is, all, counted xs a)
+pub saturated_all : (stems : List Stem) (k count most : ℕ) → AreStems stems
+    → length stems ≤ k → count ≡ min (brought_after [] (take k stems)) most
+    → count ≡ min (revision_count (edits_in (branches_of stems))) most
+saturated_all stems k count most a past is =
+    let all : brought_after [] (take k stems) ≡ brought_after [] stems =
+    ap (brought_after []) (take_all k stems past) in
+    omega (arith, is, all, counted stems a)
 
 -- some of the stems, the first ones, are such stems too
-are_front : (xs ys : List Stem) → AreStems (xs ++ ys) → AreStems xs
-are_front xs [] a = subst AreStems (append-nil xs) a
-are_front xs (y ∷ ys) a =
-    front xs y (are_front (xs ++ y ∷ []) ys (subst AreStems (sym (append_assoc xs (y ∷ []) ys)) a))
+are_front : (stems others : List Stem) → AreStems (stems ++ others) → AreStems stems
+are_front stems [] a = subst AreStems (append-nil stems) a
+are_front stems (stem ∷ others) a =
+    front stems stem (are_front (stems ++ stem ∷ []) others
+    (subst AreStems (sym (append_assoc stems (stem ∷ []) others)) a))
 
-pub are_taken : (k : ℕ) (xs : List Stem) → AreStems xs → AreStems (take k xs)
-are_taken k xs a = are_front (take k xs) (drop k xs) (subst AreStems (sym (take-append-drop k xs)) a)
+pub are_taken : (k : ℕ) (stems : List Stem) → AreStems stems → AreStems (take k stems)
+are_taken k stems a =
+    are_front (take k stems) (drop k stems) (subst AreStems (sym (take-append-drop k stems)) a)
 
 -- how many of the first revisions are new: no more than they are
-pub new_few : (earlier : List Stem) (p : List Revision) (at count : ℕ)
-    → count ≡ length (new_of earlier (take at p)) → count ≤ at
-new_few earlier p at count so_far =
+pub new_few : (earlier : List Stem) (revisions : List Revision) (at count : ℕ)
+    → count ≡ length (new_of earlier (take at revisions)) → count ≤ at
+new_few earlier revisions at count so_far =
     let all =
     length-filter_both (λ r. not (has_revision earlier r)) (λ r. not (not (has_revision earlier r)))
-    (λ r. refl) (take at p) in
-    omega (arith, so_far, all, length-take at p)
+    (λ r. refl) (take at revisions) in
+    omega (arith, so_far, all, length-take at revisions)
 
-new_next : (earlier : List Stem) (p : List Revision) (at : ℕ) (r : Revision) (known : Bool)
-    → slice_get p at ≡ Some r → has_revision earlier r ≡ known
-    → length (new_of earlier (take (at + 1) p)) ≡ length (new_of earlier (take at p)) + cond (not known) 1 0
-new_next earlier p at r known e is =
-    length-filter_more (λ s. not (has_revision earlier s)) p at r (slice_get_within p at r e)
-    ∙ ap (λ s. length (new_of earlier (take at p)) + cond (not (has_revision earlier s)) 1 0)
-    (get_or_from_slice_get p at r r e)
-    ∙ ap (λ b. length (new_of earlier (take at p)) + cond (not b) 1 0) is
+new_next : (earlier : List Stem) (revisions : List Revision) (at : ℕ) (revision : Revision) (known : Bool)
+    → slice_get revisions at ≡ Some revision → has_revision earlier revision ≡ known
+    → length (new_of earlier (take (at + 1) revisions)) ≡ length (new_of earlier (take at revisions)) + cond
+    (not known) 1 0
+new_next earlier revisions at revision known e is =
+    length-filter_more (λ s. not (has_revision earlier s)) revisions at revision
+    (slice_get_within revisions at revision e)
+    ∙ ap (λ s. length (new_of earlier (take at revisions)) + cond (not (has_revision earlier s)) 1 0)
+    (get_or_from_slice_get revisions at revision revision e)
+    ∙ ap (λ b. length (new_of earlier (take at revisions)) + cond (not b) 1 0) is
 
 -- with the next one, one more where that is new
-pub new_more : (earlier : List Stem) (p : List Revision) (at count : ℕ) (r : Revision)
-    → slice_get p at ≡ Some r → has_revision earlier r ≡ false → count ≡ length (new_of earlier (take at p))
-    → count + 1 ≡ length (new_of earlier (take (at + 1) p))
-new_more earlier p at count r e new so_far = omega (arith, so_far, new_next earlier p at r false e new)
+pub new_more : (earlier : List Stem) (revisions : List Revision) (at count : ℕ) (revision : Revision)
+    → slice_get revisions at ≡ Some revision → has_revision earlier revision ≡ false
+    → count ≡ length (new_of earlier (take at revisions))
+    → count + 1 ≡ length (new_of earlier (take (at + 1) revisions))
+new_more earlier revisions at count revision e new so_far =
+    omega (arith, so_far, new_next earlier revisions at revision false e new)
 
 -- and as many where it is not
-pub new_same : (earlier : List Stem) (p : List Revision) (at count : ℕ) (r : Revision)
-    → slice_get p at ≡ Some r → has_revision earlier r ≡ true → count ≡ length (new_of earlier (take at p))
-    → count ≡ length (new_of earlier (take (at + 1) p))
-new_same earlier p at count r e known so_far = omega (arith, so_far, new_next earlier p at r true e known)
+pub new_same : (earlier : List Stem) (revisions : List Revision) (at count : ℕ) (revision : Revision)
+    → slice_get revisions at ≡ Some revision → has_revision earlier revision ≡ true
+    → count ≡ length (new_of earlier (take at revisions))
+    → count ≡ length (new_of earlier (take (at + 1) revisions))
+new_same earlier revisions at count revision e known so_far =
+    omega (arith, so_far, new_next earlier revisions at revision true e known)

@@ -53,11 +53,13 @@ module _ {K : Type 0} (same : K → K → Bool) (exact : (x y : K) → same x y 
 pub exact_keys : (x y : ℕ) → nat_eq x y ≡ true → x ≡ y
 exact_keys x y t = eqb-true x y t
 
-pub exact_revisions : (r s : Revision) → eq_by_cmp revision_cmp r s ≡ true → r ≡ s
-exact_revisions r s t = revision_equal r s ((Equal-is (revision_cmp r s)).0 t)
+pub exact_revisions : (revision other : Revision) → eq_by_cmp revision_cmp revision other ≡ true
+    → revision ≡ other
+exact_revisions revision other t =
+    revision_equal revision other ((Equal-is (revision_cmp revision other)).0 t)
 
-pub level_self : (r : Revision) → eq_by_cmp revision_cmp r r ≡ true
-level_self r = revisions_level.refl r
+pub level_self : (revision : Revision) → eq_by_cmp revision_cmp revision revision ≡ true
+level_self revision = revisions_level.refl revision
 
 -- where there is one, nothing changes
 pub put_nothing : {K : Type 0} (same : K → K → Bool) → ((x y : K) → same x y ≡ true → x ≡ y)
@@ -83,74 +85,77 @@ put_back same f g h a n m e put back x = elim (cases_Bool (same a x)) [
 
 -- ---- one revision more
 
--- the stem n has r too
-pub record IsOneMore (has more : ℕ → Revision → Type 0) (n : ℕ) (r : Revision) : Type 0 where
-  pub wide : (k : ℕ) (x : Revision) → has k x → more k x
-  pub narrow : (k : ℕ) (x : Revision) → more k x → has k x ⊎ ((k ≡ n) × (x ≡ r))
-  pub own : more n r
-  pub bound : (k : ℕ) (x : Revision) → has k x → k ≤ n
+-- the stem n has revision too
+pub record IsOneMore (has more : ℕ → Revision → Type 0) (n : ℕ) (revision : Revision) : Type 0 where
+  pub wide : (k : ℕ) (other : Revision) → has k other → more k other
+  pub narrow : (k : ℕ) (other : Revision) → more k other → has k other ⊎ ((k ≡ n) × (other ≡ revision))
+  pub own : more n revision
+  pub bound : (k : ℕ) (other : Revision) → has k other → k ≤ n
 
--- no stem before n has r
+-- no stem before n has revision
 abbrev pub IsFresh : (ℕ → Revision → Type 0) → ℕ → Revision → Type 0
-IsFresh has n r = (j : ℕ) → j < n → ¬ has j r
+IsFresh has n revision = (j : ℕ) → j < n → ¬ has j revision
 
 -- the number of x's first stem is told
 abbrev pub IsToldAt : (ℕ → Option ℕ) → (Revision → Option ℕ) → ℕ → Revision → Type 0
-IsToldAt entry other n x = ((key : ℕ) × IsKey x.hash key × (entry key ≡ Some n)) ⊎ (other x ≡ Some n)
+IsToldAt entry other n revision =
+    ((key : ℕ) × IsKey revision.hash key × (entry key ≡ Some n)) ⊎ (other revision ≡ Some n)
 
-module _ (has more : ℕ → Revision → Type 0) (n : ℕ) (r : Revision) (one : IsOneMore has more n r)
+module _ (has more : ℕ → Revision → Type 0) (n : ℕ) (revision : Revision)
+    (one : IsOneMore has more n revision)
     (e f : ℕ → Option ℕ) (o p : Revision → Option ℕ) (t : AreTold has e o)
     (keeps : (key m : ℕ) → e key ≡ Some m → f key ≡ Some m)
-    (new : (key m : ℕ) → f key ≡ Some m → (e key ≡ Some m) ⊎ ((m ≡ n) × IsKey r.hash key))
-    (other_keeps : (x : Revision) (m : ℕ) → o x ≡ Some m → p x ≡ Some m)
-    (other_new : (x : Revision) (m : ℕ) → p x ≡ Some m
-    → (o x ≡ Some m) ⊎ ((m ≡ n) × (x ≡ r) × IsFresh has n r))
-    (own_key : (key : ℕ) → IsKey r.hash key → (m : ℕ) × (f key ≡ Some m) × (m ≤ n))
-    (own_told : IsFresh has n r → IsToldAt f p n r) where
-  more_entries : (key m : ℕ) → f key ≡ Some m → (x : Revision) × more m x × IsKey x.hash key
+    (new : (key m : ℕ) → f key ≡ Some m → (e key ≡ Some m) ⊎ ((m ≡ n) × IsKey revision.hash key))
+    (other_keeps : (other : Revision) (m : ℕ) → o other ≡ Some m → p other ≡ Some m)
+    (other_new : (other : Revision) (m : ℕ) → p other ≡ Some m
+    → (o other ≡ Some m) ⊎ ((m ≡ n) × (other ≡ revision) × IsFresh has n revision))
+    (own_key : (key : ℕ) → IsKey revision.hash key → (m : ℕ) × (f key ≡ Some m) × (m ≤ n))
+    (own_told : IsFresh has n revision → IsToldAt f p n revision) where
+  more_entries : (key m : ℕ) → f key ≡ Some m → (other : Revision) × more m other × IsKey other.hash key
   more_entries key m q = elim (new key m q) [
     | inl i ↦ let w = t.entries key m i in (w.0, one.wide m w.0 w.1, w.2)
-    | inr i ↦ (r, subst (λ k. more k r) (sym i.0) one.own, i.1)
+    | inr i ↦ (revision, subst (λ k. more k revision) (sym i.0) one.own, i.1)
   ]
 
-  more_keyed : (k key : ℕ) (x : Revision) → more k x → IsKey x.hash key
+  more_keyed : (k key : ℕ) (other : Revision) → more k other → IsKey other.hash key
       → (first : ℕ) × (f key ≡ Some first) × (first ≤ k)
-  more_keyed k key x h is = elim (one.narrow k x h) [
-    | inl i ↦ let w = t.keyed k key x i is in (w.0, keeps key w.0 w.1, w.2)
+  more_keyed k key other h is = elim (one.narrow k other h) [
+    | inl i ↦ let w = t.keyed k key other i is in (w.0, keeps key w.0 w.1, w.2)
     | inr i ↦
         let w = own_key key (subst (λ (z : Revision). IsKey z.hash key) i.1 is) in
         (w.0, w.1, omega (arith, w.2, i.0))
   ]
 
-  more_others : (k : ℕ) (x : Revision) → p x ≡ Some k → IsFirstWith more k x
-  more_others k x q = elim (other_new x k q) [
-    | inl i ↦ let w = t.others k x i in (
-      one.wide k x w.0,
-      λ j low g. elim (one.narrow j x g) [
+  more_others : (k : ℕ) (other : Revision) → p other ≡ Some k → IsFirstWith more k other
+  more_others k other q = elim (other_new other k q) [
+    | inl i ↦ let w = t.others k other i in (
+      one.wide k other w.0,
+      λ j low g. elim (one.narrow j other g) [
         | inl h ↦ w.1 j low h
-        | inr h ↦ absurd (omega (arith, low, h.0, one.bound k x w.0))
+        | inr h ↦ absurd (omega (arith, low, h.0, one.bound k other w.0))
       ],
     )
     | inr i ↦ (
-      subst (λ (z : Revision). more k z) (sym i.1) (subst (λ j. more j r) (sym i.0) one.own),
-      λ j low g. elim (one.narrow j x g) [
+      subst (λ (z : Revision). more k z) (sym i.1) (subst (λ j. more j revision) (sym i.0) one.own),
+      λ j low g. elim (one.narrow j other g) [
         | inl h ↦ i.2 j (omega (arith, low, i.0)) (subst (λ (z : Revision). has j z) i.1 h)
         | inr h ↦ absurd (omega (arith, low, i.0, h.0))
       ],
     )
   ]
 
-  more_told : (k : ℕ) (x : Revision) → IsFirstWith more k x → IsToldAt f p k x
-  more_told k x w = elim (one.narrow k x w.0) [
-    | inl h ↦ elim (t.told k x (h, λ j low g. w.1 j low (one.wide j x g))) [
+  more_told : (k : ℕ) (other : Revision) → IsFirstWith more k other → IsToldAt f p k other
+  more_told k other w = elim (one.narrow k other w.0) [
+    | inl h ↦ elim (t.told k other (h, λ j low g. w.1 j low (one.wide j other g))) [
       | inl i ↦ inl (i.0, i.1, keeps i.0 k i.2)
-      | inr i ↦ inr (other_keeps x k i)
+      | inr i ↦ inr (other_keeps other k i)
     ]
     | inr h ↦
         let own =
         own_told (λ j low g.
-        w.1 j (omega (arith, low, h.0)) (one.wide j x (subst (λ (z : Revision). has j z) (sym h.1) g))) in
-        subst (λ (z : Revision). IsToldAt f p k z) (sym h.1) (subst (λ j. IsToldAt f p j r) (sym h.0) own)
+        w.1 j (omega (arith, low, h.0)) (one.wide j other (subst (λ (z : Revision). has j z) (sym h.1) g))) in
+        subst (λ (z : Revision). IsToldAt f p k z) (sym h.1)
+        (subst (λ j. IsToldAt f p j revision) (sym h.0) own)
   ]
 
   pub one_told : AreTold more f p
@@ -172,14 +177,15 @@ least P (suc k) t = elim (cases_Bool (P 0)) [
     none f u i (suc j) low g = i j (omega (arith, low)) g
 
 -- where a stem has a revision, one is the first that has it
-pub first_exists : (xs : List Stem) (j : ℕ) (x : Revision) → Has xs j x
-    → (f : ℕ) × (f ≤ j) × IsFirstWith (Has xs) f x
-first_exists xs j x h = let i = least (λ k. names (revisions_at xs k) x) j h in (i.0, i.1, (i.2, i.3))
+pub first_exists : (stems : List Stem) (j : ℕ) (revision : Revision) → Has stems j revision
+    → (f : ℕ) × (f ≤ j) × IsFirstWith (Has stems) f revision
+first_exists stems j revision h =
+    let i = least (λ k. names (revisions_at stems k) revision) j h in (i.0, i.1, (i.2, i.3))
 
 -- and no other is
-pub first_same : (has : ℕ → Revision → Type 0) (k m : ℕ) (x : Revision) → IsFirstWith has k x
-    → IsFirstWith has m x → k ≡ m
-first_same has k m x i j = elim (cases_Bool (nat_eq k m)) [
+pub first_same : (has : ℕ → Revision → Type 0) (k m : ℕ) (revision : Revision) → IsFirstWith has k revision
+    → IsFirstWith has m revision → k ≡ m
+first_same has k m revision i j = elim (cases_Bool (nat_eq k m)) [
   | inl t ↦ eqb-true k m t
   | inr t ↦ absurd (elim (apart k m t) [
     | inl low ↦ j.1 k low i.0
@@ -197,148 +203,169 @@ first_same has k m x i j = elim (cases_Bool (nat_eq k m)) [
     ]
 
 -- what a place shows its stem has
-pub has_there : (xs : List Stem) (k at : ℕ) (x : Revision) → slice_get (revisions_at xs k) at ≡ Some x
-    → Has xs k x
-has_there xs k at x e = any_at (is_same x) (revisions_at xs k) at x e (same_self x)
+pub has_there : (stems : List Stem) (k at : ℕ) (revision : Revision)
+    → slice_get (revisions_at stems k) at ≡ Some revision → Has stems k revision
+has_there stems k at revision e =
+    any_at (is_same revision) (revisions_at stems k) at revision e (same_self revision)
 
-pub there_has : (xs : List Stem) (k : ℕ) (x : Revision) → Has xs k x
-    → (at : ℕ) × (slice_get (revisions_at xs k) at ≡ Some x)
-there_has xs k x h =
-    let i = any_place (is_same x) (revisions_at xs k) h in (i.0, i.2 ∙ ap Some (sym (same_is x i.1 i.3)))
+pub there_has : (stems : List Stem) (k : ℕ) (revision : Revision) → Has stems k revision
+    → (at : ℕ) × (slice_get (revisions_at stems k) at ≡ Some revision)
+there_has stems k revision h =
+    let i = any_place (is_same revision) (revisions_at stems k) h in
+    (i.0, i.2 ∙ ap Some (sym (same_is revision i.1 i.3)))
 
-pub has_low : (xs : List Stem) (k : ℕ) (x : Revision) → Has xs k x → k < length xs
-has_low xs k x h = from (slice_get xs k) refl h
+pub has_low : (stems : List Stem) (k : ℕ) (revision : Revision) → Has stems k revision → k < length stems
+has_low stems k revision h = from (slice_get stems k) refl h
   where
-    from : (o : Option Stem) → slice_get xs k ≡ o → names (revisions_in o) x ≡ true → k < length xs
+    from : (maybe_stem : Option Stem) → slice_get stems k ≡ maybe_stem
+        → names (revisions_in maybe_stem) revision ≡ true → k < length stems
     from None e t = absurd (cc)
-    from (Some s) e t = slice_get_within xs k s e
+    from (Some s) e t = slice_get_within stems k s e
 
 -- the stems have what one of them has, and no more
-pub has_any : (xs : List Stem) (k : ℕ) (x : Revision) → Has xs k x → has_revision xs x ≡ true
-has_any xs k x h = from (slice_get xs k) refl h
+pub has_any : (stems : List Stem) (k : ℕ) (revision : Revision) → Has stems k revision
+    → has_revision stems revision ≡ true
+has_any stems k revision h = from (slice_get stems k) refl h
   where
-    from : (o : Option Stem) → slice_get xs k ≡ o → names (revisions_in o) x ≡ true → has_revision xs x ≡ true
+    from : (maybe_stem : Option Stem) → slice_get stems k ≡ maybe_stem
+        → names (revisions_in maybe_stem) revision ≡ true → has_revision stems revision ≡ true
     from None e t = absurd (cc)
-    from (Some s) e t = any_at (λ (z : Stem). names z.revisions x) xs k s e t
+    from (Some s) e t = any_at (λ (stem : Stem). names stem.revisions revision) stems k s e t
 
-pub none_has : (xs : List Stem) (x : Revision) → ((k : ℕ) → ¬ Has xs k x) → has_revision xs x ≡ false
-none_has xs x none = elim (cases_Bool (has_revision xs x)) [
-  | inl t ↦ let i = any_place (λ (s : Stem). names s.revisions x) xs t in absurd (none i.0 (rw i.2 i.3))
+pub none_has : (stems : List Stem) (revision : Revision) → ((k : ℕ) → ¬ Has stems k revision)
+    → has_revision stems revision ≡ false
+none_has stems revision none = elim (cases_Bool (has_revision stems revision)) [
+  | inl t ↦ let i =
+      any_place (λ (stem : Stem). names stem.revisions revision) stems t in absurd (none i.0 (rw i.2 i.3))
   | inr t ↦ t
 ]
 
 -- the first ones of the stems
-pub taken_has : (xs : List Stem) (n k : ℕ) (x : Revision) → Has (take n xs) k x → (k < n) × Has xs k x
-taken_has xs n k x h =
-    let low = has_low (take n xs) k x h in
-    let few : k < n = omega (arith, low, length-take n xs) in
-    (few, subst (λ o. names (revisions_in o) x ≡ true) (get_taken n k xs few) h)
+pub taken_has : (stems : List Stem) (n k : ℕ) (revision : Revision) → Has (take n stems) k revision → (k < n)
+    × Has stems k revision
+taken_has stems n k revision h =
+    let low = has_low (take n stems) k revision h in
+    let few : k < n = omega (arith, low, length-take n stems) in
+    (few, subst (λ o. names (revisions_in o) revision ≡ true) (get_taken n k stems few) h)
 
-pub has_taken : (xs : List Stem) (n k : ℕ) (x : Revision) → k < n → Has xs k x → Has (take n xs) k x
-has_taken xs n k x low h = subst (λ o. names (revisions_in o) x ≡ true) (sym (get_taken n k xs low)) h
+pub has_taken : (stems : List Stem) (n k : ℕ) (revision : Revision) → k < n → Has stems k revision
+    → Has (take n stems) k revision
+has_taken stems n k revision low h =
+    subst (λ o. names (revisions_in o) revision ≡ true) (sym (get_taken n k stems low)) h
 
 -- ---- the first ones, and a part of the next one
 
 pub below_last : (k n m : ℕ) → m ≡ n + 1 → nat_eq k n ≡ false → k < m → k < n
 below_last k n m long t low = grind (arith, long, low, t)
 
-pub to_has : (xs : List Stem) (n most k : ℕ) (x : Revision) → HasTo xs n most k x → Has xs k x
-to_has xs n most k x (inl h) = h.1
-to_has xs n most k x (inr h) = subst (λ j. Has xs j x) (sym h.0) (has_there xs n h.1.0 x h.1.2)
+pub to_has : (stems : List Stem) (n most k : ℕ) (revision : Revision) → HasTo stems n most k revision
+    → Has stems k revision
+to_has stems n most k revision (inl h) = h.1
+to_has stems n most k revision (inr h) =
+    subst (λ j. Has stems j revision) (sym h.0) (has_there stems n h.1.0 revision h.1.2)
 
-pub none_to : (xs : List Stem) (n k : ℕ) (x : Revision) → HasTo xs n 0 k x → (k < n) × Has xs k x
-none_to xs n k x (inl h) = h
-none_to xs n k x (inr h) = absurd (omega (arith, h.1.1))
+pub none_to : (stems : List Stem) (n k : ℕ) (revision : Revision) → HasTo stems n 0 k revision → (k < n)
+    × Has stems k revision
+none_to stems n k revision (inl h) = h
+none_to stems n k revision (inr h) = absurd (omega (arith, h.1.1))
 
-pub all_to : (xs : List Stem) (n most k : ℕ) (x : Revision) → length xs ≡ n + 1
-    → length (revisions_at xs n) ≤ most → Has xs k x → HasTo xs n most k x
-all_to xs n most k x long past h = elim (cases_Bool (nat_eq k n)) [
+pub all_to : (stems : List Stem) (n most k : ℕ) (revision : Revision) → length stems ≡ n + 1
+    → length (revisions_at stems n) ≤ most → Has stems k revision → HasTo stems n most k revision
+all_to stems n most k revision long past h = elim (cases_Bool (nat_eq k n)) [
   | inl t ↦
       let same = eqb-true k n t in
-      let i = there_has xs n x (subst (λ j. Has xs j x) same h) in
-      inr (same, (i.0, omega (arith, past, slice_get_within (revisions_at xs n) i.0 x i.1), i.1))
-  | inr t ↦ inl (below_last k n (length xs) long t (has_low xs k x h), h)
+      let i = there_has stems n revision (subst (λ j. Has stems j revision) same h) in
+      inr (same, (i.0, omega (arith, past, slice_get_within (revisions_at stems n) i.0 revision i.1), i.1))
+  | inr t ↦ inl (below_last k n (length stems) long t (has_low stems k revision h), h)
 ]
 
-pub one_to : (xs : List Stem) (n at : ℕ) (r : Revision) → slice_get (revisions_at xs n) at ≡ Some r
-    → IsOneMore (HasTo xs n at) (HasTo xs n (at + 1)) n r
-one_to xs n at r there =
+pub one_to : (stems : List Stem) (n at : ℕ) (other : Revision)
+    → slice_get (revisions_at stems n) at ≡ Some other
+    → IsOneMore (HasTo stems n at) (HasTo stems n (at + 1)) n other
+one_to stems n at other there =
     record { wide = wide; narrow = narrow; own = inr (refl, (at, omega arith, there)); bound = bound }
   where
-    wide : (k : ℕ) (x : Revision) → HasTo xs n at k x → HasTo xs n (at + 1) k x
-    wide k x (inl h) = inl h
-    wide k x (inr h) = inr (h.0, (h.1.0, omega (arith, h.1.1), h.1.2))
+    wide : (k : ℕ) (revision : Revision) → HasTo stems n at k revision → HasTo stems n (at + 1) k revision
+    wide k revision (inl h) = inl h
+    wide k revision (inr h) = inr (h.0, (h.1.0, omega (arith, h.1.1), h.1.2))
 
     below : (a n : ℕ) → a < n + 1 → nat_eq a n ≡ false → a < n
     below a n low t = grind (arith, low, t)
 
-    narrow : (k : ℕ) (x : Revision) → HasTo xs n (at + 1) k x → HasTo xs n at k x ⊎ ((k ≡ n) × (x ≡ r))
-    narrow k x (inl h) = inl (inl h)
-    narrow k x (inr h) = elim (cases_Bool (nat_eq h.1.0 at)) [
+    narrow : (k : ℕ) (revision : Revision) → HasTo stems n (at + 1) k revision → HasTo stems n at k revision
+        ⊎ ((k ≡ n) × (revision ≡ other))
+    narrow k revision (inl h) = inl (inl h)
+    narrow k revision (inr h) = elim (cases_Bool (nat_eq h.1.0 at)) [
       | inl t ↦ inr (
         h.0,
-        same_Some x r (sym h.1.2 ∙ (ap (slice_get (revisions_at xs n)) (eqb-true h.1.0 at t) ∙ there)),
+        same_Some revision other (sym h.1.2
+            ∙ (ap (slice_get (revisions_at stems n)) (eqb-true h.1.0 at t) ∙ there)),
       )
       | inr t ↦ inl (inr (h.0, (h.1.0, below h.1.0 at h.1.1 t, h.1.2)))
     ]
 
-    bound : (k : ℕ) (x : Revision) → HasTo xs n at k x → k ≤ n
-    bound k x (inl h) = omega (arith, h.0)
-    bound k x (inr h) = omega (arith, h.0)
+    bound : (k : ℕ) (revision : Revision) → HasTo stems n at k revision → k ≤ n
+    bound k revision (inl h) = omega (arith, h.0)
+    bound k revision (inr h) = omega (arith, h.0)
 
 -- ---- a revision comes in
 
-module _ (xs : List Stem) (n at : ℕ) (r : Revision) (there : slice_get (revisions_at xs n) at ≡ Some r)
-    (e f : ℕ → Option ℕ) (o p : Revision → Option ℕ) (t : AreTold (HasTo xs n at) e o) where
+module _ (stems : List Stem) (n at : ℕ) (revision : Revision)
+    (there : slice_get (revisions_at stems n) at ≡ Some revision)
+    (e f : ℕ → Option ℕ) (o p : Revision → Option ℕ) (t : AreTold (HasTo stems n at) e o) where
   -- where the others have none, no earlier stem has it
-  fresh_of : ((key m : ℕ) → IsKey r.hash key → e key ≡ Some m → m < n → ¬ Has xs m r) → o r ≡ None
-      → IsFresh (HasTo xs n at) n r
+  fresh_of : ((key m : ℕ) → IsKey revision.hash key → e key ≡ Some m → m < n → ¬ Has stems m revision)
+      → o revision ≡ None → IsFresh (HasTo stems n at) n revision
   fresh_of absent none j low g =
-      let i = first_exists xs j r (to_has xs n at j r g) in
+      let i = first_exists stems j revision (to_has stems n at j revision g) in
       let few : i.0 < n = omega (arith, i.1, low) in
-      elim (t.told i.0 r (inl (few, i.2.0), λ k l h. i.2.1 k l (to_has xs n at k r h))) [
+      elim (t.told i.0 revision (inl (few, i.2.0), λ k l h. i.2.1 k l (to_has stems n at k revision h))) [
         | inl w ↦ absent w.0 i.0 w.1 w.2 few i.2.0
         | inr w ↦ no_number i.0 (sym none ∙ w)
       ]
 
-  module _ (put : (x : Revision) → p x ≡ first_put (eq_by_cmp revision_cmp) o r n x)
-      (absent : (key m : ℕ) → IsKey r.hash key → e key ≡ Some m → m < n → ¬ Has xs m r) where
+  module _ (put : (x : Revision) → p x ≡ first_put (eq_by_cmp revision_cmp) o revision n x)
+      (absent : (key m : ℕ) → IsKey revision.hash key → e key ≡ Some m → m < n → ¬ Has stems m revision) where
     other_keeps : (x : Revision) (m : ℕ) → o x ≡ Some m → p x ≡ Some m
-    other_keeps = put_keeps (eq_by_cmp revision_cmp) exact_revisions o p r n put
+    other_keeps = put_keeps (eq_by_cmp revision_cmp) exact_revisions o p revision n put
 
     other_new : (x : Revision) (m : ℕ) → p x ≡ Some m
-        → (o x ≡ Some m) ⊎ ((m ≡ n) × (x ≡ r) × IsFresh (HasTo xs n at) n r)
-    other_new x m q = elim (put_new (eq_by_cmp revision_cmp) exact_revisions o p r n put x m q) [
+        → (o x ≡ Some m) ⊎ ((m ≡ n) × (x ≡ revision) × IsFresh (HasTo stems n at) n revision)
+    other_new x m q = elim (put_new (eq_by_cmp revision_cmp) exact_revisions o p revision n put x m q) [
       | inl i ↦ inl i
       | inr i ↦ inr (i.0, sym i.1, fresh_of absent i.2)
     ]
 
-    other_own : IsFresh (HasTo xs n at) n r → p r ≡ Some n
+    other_own : IsFresh (HasTo stems n at) n revision → p revision ≡ Some n
     other_own fresh =
-        from (o r) refl (put_own (eq_by_cmp revision_cmp) exact_revisions o p r n put (level_self r))
+        from (o revision) refl (put_own (eq_by_cmp revision_cmp) exact_revisions o p revision n put
+        (level_self revision))
       where
-        from : (q : Option ℕ) → o r ≡ q → p r ≡ Some (unwrap_or q n) → p r ≡ Some n
+        from : (q : Option ℕ) → o revision ≡ q → p revision ≡ Some (unwrap_or q n) → p revision ≡ Some n
         from None i own = own
         from (Some m) i own =
-            let w = t.others m r i in
-            let has : HasTo xs n at m r = w.0 in
+            let w = t.others m revision i in
+            let has : HasTo stems n at m revision = w.0 in
             elim has [
               | inl h ↦ absurd (fresh m h.0 (inl h))
               | inr h ↦ own ∙ ap Some h.0
             ]
 
   -- its hash is no digest's text
-  pub no_key : ((key : ℕ) → ¬ IsKey r.hash key)
-      → ((q : ℕ) → f q ≡ e q) → ((x : Revision) → p x ≡ first_put (eq_by_cmp revision_cmp) o r n x)
-      → AreTold (HasTo xs n (at + 1)) f p
+  pub no_key : ((key : ℕ) → ¬ IsKey revision.hash key)
+      → ((q : ℕ) → f q ≡ e q) →
+      ((other : Revision) → p other ≡ first_put (eq_by_cmp revision_cmp) o revision n other)
+      → AreTold (HasTo stems n (at + 1)) f p
   no_key none same put =
-      let absent : (key m : ℕ) → IsKey r.hash key → e key ≡ Some m → m < n → ¬ Has xs m r =
+      let absent : (key m : ℕ) → IsKey revision.hash key → e key ≡ Some m → m < n → ¬ Has stems m revision =
       λ key m is q low h. none key is in
-      one_told (HasTo xs n at) (HasTo xs n (at + 1)) n r (one_to xs n at r there) e f o p t
+      one_told (HasTo stems n at) (HasTo stems n (at + 1)) n revision
+      (one_to stems n at revision there) e f o p t
       (λ key m q. same key ∙ q) (λ key m q. inl (sym (same key) ∙ q)) (other_keeps put absent)
       (other_new put absent) (λ key is. absurd (none key is)) (λ fresh. inr (other_own put absent fresh))
 
-  module _ (key : ℕ) (is : IsKey r.hash key) (first : ℕ) (put : (q : ℕ) → f q ≡ first_put nat_eq e key n q)
+  module _ (key : ℕ) (is : IsKey revision.hash key) (first : ℕ)
+      (put : (q : ℕ) → f q ≡ first_put nat_eq e key n q)
       (answer : first ≡ unwrap_or (e key) n) where
     entry_first : f key ≡ Some first
     entry_first = put_own nat_eq exact_keys e f key n put (eq-eqb key key refl) ∙ ap Some (sym answer)
@@ -351,34 +378,35 @@ module _ (xs : List Stem) (n at : ℕ) (r : Revision) (there : slice_get (revisi
         from (Some m) i a =
             let w = t.entries key m i in
             let same : first ≡ m = a in
-            omega (arith, same, (one_to xs n at r there).bound m w.0 w.1)
+            omega (arith, same, (one_to stems n at revision there).bound m w.0 w.1)
 
     entry_keeps : (q m : ℕ) → e q ≡ Some m → f q ≡ Some m
     entry_keeps = put_keeps nat_eq exact_keys e f key n put
 
-    entry_new : (q m : ℕ) → f q ≡ Some m → (e q ≡ Some m) ⊎ ((m ≡ n) × IsKey r.hash q)
+    entry_new : (q m : ℕ) → f q ≡ Some m → (e q ≡ Some m) ⊎ ((m ≡ n) × IsKey revision.hash q)
     entry_new q m i = elim (put_new nat_eq exact_keys e f key n put q m i) [
       | inl j ↦ inl j
-      | inr j ↦ inr (j.0, subst (λ z. IsKey r.hash z) j.1 is)
+      | inr j ↦ inr (j.0, subst (λ z. IsKey revision.hash z) j.1 is)
     ]
 
-    own_key : (q : ℕ) → IsKey r.hash q → (m : ℕ) × (f q ≡ Some m) × (m ≤ n)
-    own_key q i = (first, ap f (same_key r.hash q key i is) ∙ entry_first, first_low)
+    own_key : (q : ℕ) → IsKey revision.hash q → (m : ℕ) × (f q ≡ Some m) × (m ≤ n)
+    own_key q i = (first, ap f (same_key revision.hash q key i is) ∙ entry_first, first_low)
 
     -- where the others stay
-    stays : ((x : Revision) → p x ≡ o x) → (IsFresh (HasTo xs n at) n r → IsToldAt f p n r)
-        → AreTold (HasTo xs n (at + 1)) f p
+    stays : ((x : Revision) → p x ≡ o x) → (IsFresh (HasTo stems n at) n revision → IsToldAt f p n revision)
+        → AreTold (HasTo stems n (at + 1)) f p
     stays same own =
-        one_told (HasTo xs n at) (HasTo xs n (at + 1)) n r (one_to xs n at r there) e f o p t entry_keeps
+        one_told (HasTo stems n at) (HasTo stems n (at + 1)) n revision
+        (one_to stems n at revision there) e f o p t entry_keeps
         entry_new (λ x m q. same x ∙ q) (λ x m q. inl (sym (same x) ∙ q)) own_key own
 
     -- the entry is its stem's
-    pub own_entry : first ≡ n → ((x : Revision) → p x ≡ o x) → AreTold (HasTo xs n (at + 1)) f p
+    pub own_entry : first ≡ n → ((x : Revision) → p x ≡ o x) → AreTold (HasTo stems n (at + 1)) f p
     own_entry own same = stays same (λ fresh. inl (key, is, entry_first ∙ ap Some own))
 
     -- the entry is that of an earlier one that has it
-    pub known_entry : ¬ (first ≡ n) → Has xs first r → ((x : Revision) → p x ≡ o x)
-        → AreTold (HasTo xs n (at + 1)) f p
+    pub known_entry : ¬ (first ≡ n) → Has stems first revision → ((x : Revision) → p x ≡ o x)
+        → AreTold (HasTo stems n (at + 1)) f p
     known_entry apart has same =
         let low : first < n = lower first n first_low apart in
         stays same (λ fresh. absurd (fresh first low (inl (low, has))))
@@ -390,92 +418,99 @@ module _ (xs : List Stem) (n at : ℕ) (r : Revision) (there : slice_get (revisi
         ]
 
     -- the entry is that of another revision
-    pub other_entry : ¬ Has xs first r → ((x : Revision) → p x ≡ first_put (eq_by_cmp revision_cmp) o r n x)
-        → AreTold (HasTo xs n (at + 1)) f p
+    pub other_entry : ¬ Has stems first revision
+        → ((x : Revision) → p x ≡ first_put (eq_by_cmp revision_cmp) o revision n x)
+        → AreTold (HasTo stems n (at + 1)) f p
     other_entry none puts =
-        let absent : (q m : ℕ) → IsKey r.hash q → e q ≡ Some m → m < n → ¬ Has xs m r =
+        let absent : (q m : ℕ) → IsKey revision.hash q → e q ≡ Some m → m < n → ¬ Has stems m revision =
         λ q m i there_is low h.
-        none (subst (λ j. Has xs j r)
-        (sym (answer ∙ ap (λ z. unwrap_or z n) (ap e (same_key r.hash key q is i) ∙ there_is))) h) in
-        one_told (HasTo xs n at) (HasTo xs n (at + 1)) n r
-        (one_to xs n at r there) e f o p t entry_keeps entry_new (other_keeps puts absent)
+        none (subst (λ j. Has stems j revision)
+        (sym (answer ∙ ap (λ z. unwrap_or z n) (ap e (same_key revision.hash key q is i) ∙ there_is))) h) in
+        one_told (HasTo stems n at) (HasTo stems n (at + 1)) n revision
+        (one_to stems n at revision there) e f o p t entry_keeps entry_new (other_keeps puts absent)
         (other_new puts absent) own_key (λ fresh. inr (other_own puts absent fresh))
 
 -- what is told of stems is told of the same by another word
 pub told_as : (has more : ℕ → Revision → Type 0) (e : ℕ → Option ℕ) (o : Revision → Option ℕ)
-    → ((k : ℕ) (x : Revision) → has k x → more k x) → ((k : ℕ) (x : Revision) → more k x → has k x)
-    → AreTold has e o → AreTold more e o
+    → ((k : ℕ) (revision : Revision) → has k revision → more k revision)
+    → ((k : ℕ) (revision : Revision) → more k revision → has k revision) → AreTold has e o → AreTold more e o
 told_as has more e o wide narrow t = record {
   entries = λ key m q. let w = t.entries key m q in (w.0, wide m w.0 w.1, w.2);
-  keyed = λ k key x h is. t.keyed k key x (narrow k x h) is;
-  others = λ k x q. let w = t.others k x q in (wide k x w.0, λ j low h. w.1 j low (narrow j x h));
-  told = λ k x w. t.told k x (narrow k x w.0, λ j low h. w.1 j low (wide j x h));
+  keyed = λ k key revision h is. t.keyed k key revision (narrow k revision h) is;
+  others =
+      λ k revision q. let w = t.others k revision q in
+      (wide k revision w.0, λ j low h. w.1 j low (narrow j revision h));
+  told = λ k revision w. t.told k revision (narrow k revision w.0, λ j low h. w.1 j low (wide j revision h));
 }
 
-pub told_start : (xs : List Stem) (n : ℕ) (e : ℕ → Option ℕ) (o : Revision → Option ℕ)
-    → AreTold (Has (take n xs)) e o → AreTold (HasTo xs n 0) e o
-told_start xs n e o t =
-    told_as (Has (take n xs)) (HasTo xs n 0) e o (λ k x h. inl (taken_has xs n k x h))
-    (λ k x h. let i = none_to xs n k x h in has_taken xs n k x i.0 i.1) t
+pub told_start : (stems : List Stem) (n : ℕ) (e : ℕ → Option ℕ) (o : Revision → Option ℕ)
+    → AreTold (Has (take n stems)) e o → AreTold (HasTo stems n 0) e o
+told_start stems n e o t =
+    told_as (Has (take n stems)) (HasTo stems n 0) e o (λ k x h. inl (taken_has stems n k x h))
+    (λ k x h. let i = none_to stems n k x h in has_taken stems n k x i.0 i.1) t
 
-pub told_end : (xs : List Stem) (n most : ℕ) (e : ℕ → Option ℕ) (o : Revision → Option ℕ) → length xs ≡ n + 1
-    → length (revisions_at xs n) ≤ most → AreTold (HasTo xs n most) e o → AreTold (Has xs) e o
-told_end xs n most e o long past t =
-    told_as (HasTo xs n most) (Has xs) e o (to_has xs n most) (λ k x h. all_to xs n most k x long past h) t
+pub told_end : (stems : List Stem) (n most : ℕ) (e : ℕ → Option ℕ) (o : Revision → Option ℕ)
+    → length stems ≡ n + 1
+    → length (revisions_at stems n) ≤ most → AreTold (HasTo stems n most) e o → AreTold (Has stems) e o
+told_end stems n most e o long past t =
+    told_as (HasTo stems n most) (Has stems) e o (to_has stems n most)
+    (λ k x h. all_to stems n most k x long past h) t
 
 -- ---- what a look finds
 
-module _ (xs : List Stem) (e : ℕ → Option ℕ) (o : Revision → Option ℕ)
-    (t : AreTold (Has xs) e o) (r : Revision) where
+module _ (stems : List Stem) (e : ℕ → Option ℕ) (o : Revision → Option ℕ)
+    (t : AreTold (Has stems) e o) (revision : Revision) where
   -- where the entry's stem has it
-  pub entry_place : (key m : ℕ) (place : Place) → IsKey r.hash key → e key ≡ Some m → place.stem ≡ m
-      → slice_get (revisions_at xs place.stem) place.at ≡ Some r → IsFirstPlace xs r place
+  pub entry_place : (key m : ℕ) (place : Place) → IsKey revision.hash key → e key ≡ Some m → place.stem ≡ m
+      → slice_get (revisions_at stems place.stem) place.at ≡ Some revision → IsFirstPlace stems revision place
   entry_place key m place is q same there = (
     there,
     (
-      has_there xs place.stem place.at r there,
+      has_there stems place.stem place.at revision there,
       λ j low h.
-          let i = t.keyed j key r h is in
+          let i = t.keyed j key revision h is in
           let one : m ≡ i.0 = same_Some m i.0 (sym q ∙ i.1) in
           absurd (omega (arith, low, i.2, one, same)),
     ),
   )
 
   -- where the others have it
-  pub other_place : (m : ℕ) (place : Place) → o r ≡ Some m → place.stem ≡ m
-      → slice_get (revisions_at xs place.stem) place.at ≡ Some r → IsFirstPlace xs r place
+  pub other_place : (m : ℕ) (place : Place) → o revision ≡ Some m → place.stem ≡ m
+      → slice_get (revisions_at stems place.stem) place.at ≡ Some revision → IsFirstPlace stems revision place
   other_place m place q same there =
-      (there, subst (λ j. IsFirstWith (Has xs) j r) (sym same) (t.others m r q))
+      (there, subst (λ j. IsFirstWith (Has stems) j revision) (sym same) (t.others m revision q))
 
-  pub other_some : (m : ℕ) (place : Option Place) → o r ≡ Some m
-      → IfSome place (λ p. slice_get (revisions_at xs p.stem) p.at ≡ Some r) → IfSome place (λ p. p.stem ≡ m)
-      → IfSome place (IsFirstPlace xs r)
+  pub other_some : (m : ℕ) (place : Option Place) → o revision ≡ Some m
+      → IfSome place (λ p. slice_get (revisions_at stems p.stem) p.at ≡ Some revision)
+      → IfSome place (λ p. p.stem ≡ m) → IfSome place (IsFirstPlace stems revision)
   other_some m None q there same = tt
   other_some m (Some p) q there same = other_place m p q same there
 
-  pub other_none : (m : ℕ) (place : Option Place) → o r ≡ Some m
-      → IfNone place (names (revisions_at xs m) r ≡ false) → IfNone place (o r ≡ None)
-  other_none m None q none = absurd (both_ways _ none (t.others m r q).0)
+  pub other_none : (m : ℕ) (place : Option Place) → o revision ≡ Some m
+      → IfNone place (names (revisions_at stems m) revision ≡ false) → IfNone place (o revision ≡ None)
+  other_none m None q none = absurd (both_ways _ none (t.others m revision q).0)
   other_none m (Some p) q none = tt
 
   -- where no entry is at its key
-  pub nowhere_keyed : (key : ℕ) → IsKey r.hash key → e key ≡ None → has_revision xs r ≡ false
+  pub nowhere_keyed : (key : ℕ) → IsKey revision.hash key → e key ≡ None → has_revision stems revision ≡ false
   nowhere_keyed key is none =
-      none_has xs r (λ k h. let i = t.keyed k key r h is in no_number i.0 (sym none ∙ i.1))
+      none_has stems revision (λ k h. let i = t.keyed k key revision h is in no_number i.0 (sym none ∙ i.1))
 
   -- where the entry's stem does not have it, nor have the others
-  pub nowhere : ((key m : ℕ) → IsKey r.hash key → e key ≡ Some m → ¬ Has xs m r) → o r ≡ None
-      → has_revision xs r ≡ false
-  nowhere absent none = none_has xs r (λ k h.
-      let i = first_exists xs k r h in
-      elim (t.told i.0 r i.2) [
+  pub nowhere : ((key m : ℕ) → IsKey revision.hash key → e key ≡ Some m → ¬ Has stems m revision)
+      → o revision ≡ None → has_revision stems revision ≡ false
+  nowhere absent none = none_has stems revision (λ k h.
+      let i = first_exists stems k revision h in
+      elim (t.told i.0 revision i.2) [
         | inl w ↦ absent w.0 i.0 w.1 w.2 i.2.0
         | inr w ↦ no_number i.0 (sym none ∙ w)
       ])
 
-  pub nowhere_else : (key m : ℕ) → IsKey r.hash key → e key ≡ Some m → names (revisions_at xs m) r ≡ false
-      → o r ≡ None → has_revision xs r ≡ false
+  pub nowhere_else : (key m : ℕ) → IsKey revision.hash key → e key ≡ Some m
+      → names (revisions_at stems m) revision ≡ false
+      → o revision ≡ None → has_revision stems revision ≡ false
   nowhere_else key m is q absent none =
       nowhere (λ other k i j h. both_ways _ absent
-      (subst (λ z. Has xs z r) (sym (same_Some m k (sym q ∙ (ap e (same_key r.hash key other is i) ∙ j)))) h))
+      (subst (λ z. Has stems z revision)
+      (sym (same_Some m k (sym q ∙ (ap e (same_key revision.hash key other is i) ∙ j)))) h))
       none

@@ -22,124 +22,137 @@ use Rattle.hub_revtree.proofs.LineLemmas.{edit_front}
 use Rattle.hub_revtree.proofs.TreeLemmas.{all_of_one}
 
 -- the branch that a revision heads, as an edit
-pub among : (bs : List Branch) (r : Revision)
-    → option_map edit_of (find (λ b. is_first r b.path) bs) ≡ find (is_head r) (edits_in bs)
-among [] r = refl
-among (b ∷ bs) r = elim (cases_Bool (is_first r b.path)) [
+pub among : (branches : List Branch) (revision : Revision)
+    → option_map edit_of (find (λ branch. is_first revision branch.path) branches) ≡ find (is_head revision)
+    (edits_in branches)
+among [] revision = refl
+among (branch ∷ branches) revision = elim (cases_Bool (is_first revision branch.path)) [
   | inl t ↦ rw t refl
-  | inr t ↦ rw t (among bs r)
+  | inr t ↦ rw t (among branches revision)
 ]
 
-in_two : (o : Option Branch)
-    → option_map (λ b. tip_of (edit_of b)) o ≡ option_map tip_of (option_map edit_of o)
+in_two : (maybe_branch : Option Branch)
+    → option_map (λ branch. tip_of (edit_of branch)) maybe_branch ≡ option_map tip_of
+    (option_map edit_of maybe_branch)
 in_two None = refl
-in_two (Some b) = refl
+in_two (Some branch) = refl
 
 -- the edit of a number
-pub numbered_by : (bs : List Branch) (es : List Edit) (k : ℕ) → edits_in bs ≡ es
-    → option_map (λ b. tip_of (edit_of b)) (slice_get bs k) ≡ option_map tip_of (slice_get es k)
-numbered_by bs es k same =
-    in_two (slice_get bs k)
-    ∙ ap (option_map tip_of) (sym (slice_get-map edit_of bs k) ∙ ap (λ fs. slice_get fs k) same)
+pub numbered_by : (branches : List Branch) (edits : List Edit) (k : ℕ) → edits_in branches ≡ edits
+    → option_map (λ b. tip_of (edit_of b)) (slice_get branches k) ≡ option_map tip_of (slice_get edits k)
+numbered_by branches edits k same =
+    in_two (slice_get branches k)
+    ∙ ap (option_map tip_of) (sym (slice_get-map edit_of branches k) ∙ ap (λ fs. slice_get fs k) same)
 
 -- the edit that a revision heads
-pub headed_by : (bs : List Branch) (es : List Edit) (r : Revision) → edits_in bs ≡ es
-    → option_map (λ b. tip_of (edit_of b)) (find (λ b. is_first r b.path) bs)
-    ≡ option_map tip_of (find (is_head r) (edits_of es []))
-headed_by bs es r same =
-    in_two (find (λ b. is_first r b.path) bs)
+pub headed_by : (branches : List Branch) (edits : List Edit) (revision : Revision) → edits_in branches ≡ edits
+    → option_map (λ b. tip_of (edit_of b)) (find (λ b. is_first revision b.path) branches)
+    ≡ option_map tip_of (find (is_head revision) (edits_of edits []))
+headed_by branches edits revision same =
+    in_two (find (λ b. is_first revision b.path) branches)
     ∙ ap (option_map tip_of)
-    (among bs r
-    ∙ (sym (ap (find (is_head r)) (all_of_one bs)) ∙ ap (λ fs. find (is_head r) (edits_of fs [])) same))
+    (among branches revision
+    ∙ (sym (ap (find (is_head revision)) (all_of_one branches))
+    ∙ ap (λ fs. find (is_head revision) (edits_of fs [])) same))
 
 -- the path of an edit is the front of what the tree has of its revision
-own_path : (es : List Edit) → IsRevTree es → (e : Edit) (r : Revision) → Contains es e → head_of e ≡ Some r
-    → option_map (take (length e.path)) (path_to es r) ≡ Some e.path
-own_path es tree e r c head =
-    let own = edits_in_of es [] e (subst (λ z. Contains z e) (sym tree.one) c) in
-    let known = is_known_from es [] r (e, own, names_is e.path r (named e.path 0 r head)) in
-    let front = edit_front es tree.legal e r own head in
+own_path : (edits : List Edit) → IsRevTree edits → (edit : Edit) (revision : Revision) → Contains edits edit
+    → head_of edit ≡ Some revision
+    → option_map (take (length edit.path)) (path_to edits revision) ≡ Some edit.path
+own_path edits tree edit revision c head =
+    let own = edits_in_of edits [] edit (subst (λ z. Contains z edit) (sym tree.one) c) in
+    let known = is_known_from edits [] revision
+    (edit, own, names_is edit.path revision (named edit.path 0 revision head)) in
+    let front = edit_front edits tree.legal edit revision own head in
     rw known (ap Some (rw known at front))
 
 -- so of what is lent of it
-module _ {A : Type 0} (es : List Edit) (tree : IsRevTree es) (rev : A → Revision) (deleted : A → Bool)
+module _ {A : Type 0} (edits : List Edit) (tree : IsRevTree edits) (rev : A → Revision) (deleted : A → Bool)
     (body : A → List ℕ) (count : A → ℕ) (o : Option A) where
-  lent_path : (p : Option Edit) → ((e : Edit) → p ≡ Some e → Contains es e)
-      → option_map (λ e. tip (rev e) (deleted e) (body e)) o ≡ option_map tip_of p
-      → option_map count o ≡ option_map (λ e. length e.path) p
-      → option_map (λ e. option_map (take (count e)) (path_to es (rev e))) o ≡ option_map (λ e. Some e.path) p
-  lent_path p among same long = from o p refl same long
+  lent_path : (maybe_edit : Option Edit) → ((edit : Edit) → maybe_edit ≡ Some edit → Contains edits edit)
+      → option_map (λ edit. tip (rev edit) (deleted edit) (body edit)) o ≡ option_map tip_of maybe_edit
+      → option_map count o ≡ option_map (λ edit. length edit.path) maybe_edit
+      → option_map (λ edit. option_map (take (count edit)) (path_to edits (rev edit))) o ≡ option_map
+      (λ edit. Some edit.path) maybe_edit
+  lent_path maybe_edit among same long = from o maybe_edit refl same long
     where
       from : (o : Option A) (q : Option Edit)
-          → p ≡ q → option_map (λ e. tip (rev e) (deleted e) (body e)) o ≡ option_map tip_of q
-          → option_map count o ≡ option_map (λ e. length e.path) q
-          → option_map (λ e. option_map (take (count e)) (path_to es (rev e))) o
-          ≡ option_map (λ e. Some e.path) q
-      from None None is e l = refl
-      from None (Some f) is e l = absurd (cc)
-      from (Some x) None is e l = absurd (cc)
-      from (Some x) (Some f) is e l =
-          let same : tip (rev x) (deleted x) (body x) ≡ tip_of f = same_Some _ _ e in
+          → maybe_edit ≡ q → option_map
+          (λ edit. tip (rev edit) (deleted edit) (body edit)) o ≡ option_map tip_of q
+          → option_map count o ≡ option_map (λ edit. length edit.path) q
+          → option_map (λ edit. option_map (take (count edit)) (path_to edits (rev edit))) o
+          ≡ option_map (λ edit. Some edit.path) q
+      from None None is edit l = refl
+      from None (Some f) is edit l = absurd (cc)
+      from (Some x) None is edit l = absurd (cc)
+      from (Some x) (Some f) is edit l =
+          let same : tip (rev x) (deleted x) (body x) ≡ tip_of f = same_Some _ _ edit in
           let many : count x ≡ length f.path = same_Some _ _ l in
           ap Some
-          (ap (λ n. option_map (take n) (path_to es (rev x))) many
-          ∙ own_path es tree f (rev x) (among f is) (sym (ap (λ (t : Tip). t.rev) same)))
+          (ap (λ n. option_map (take n) (path_to edits (rev x))) many
+          ∙ own_path edits tree f (rev x) (among f is) (sym (ap (λ (t : Tip). t.rev) same)))
 
   pub numbered_path : (k : ℕ)
-      → option_map (λ e. tip (rev e) (deleted e) (body e)) o ≡ option_map tip_of (slice_get es k)
-      → option_map count o ≡ option_map (λ e. length e.path) (slice_get es k)
-      → option_map (λ e. option_map (take (count e)) (path_to es (rev e))) o
-      ≡ option_map (λ e. Some e.path) (slice_get es k)
-  numbered_path k same long = lent_path (slice_get es k) (λ e is. there es k e is) same long
+      → option_map (λ e. tip (rev e) (deleted e) (body e)) o ≡ option_map tip_of (slice_get edits k)
+      → option_map count o ≡ option_map (λ e. length e.path) (slice_get edits k)
+      → option_map (λ e. option_map (take (count e)) (path_to edits (rev e))) o
+      ≡ option_map (λ e. Some e.path) (slice_get edits k)
+  numbered_path k same long = lent_path (slice_get edits k) (λ e is. there edits k e is) same long
 
-  pub headed_path : (r : Revision)
+  pub headed_path : (revision : Revision)
       → option_map (λ e. tip (rev e) (deleted e) (body e)) o
-      ≡ option_map tip_of (find (is_head r) (edits_of es []))
-      → option_map count o ≡ option_map (λ e. length e.path) (find (is_head r) (edits_of es []))
-      → option_map (λ e. option_map (take (count e)) (path_to es (rev e))) o
-      ≡ option_map (λ e. Some e.path) (find (is_head r) (edits_of es []))
-  headed_path r same long =
-      lent_path (find (is_head r) (edits_of es []))
-      (λ e is. subst (λ z. Contains z e) tree.one (find_is (is_head r) (edits_of es []) e is).1) same long
+      ≡ option_map tip_of (find (is_head revision) (edits_of edits []))
+      → option_map count o ≡ option_map (λ e. length e.path) (find (is_head revision) (edits_of edits []))
+      → option_map (λ e. option_map (take (count e)) (path_to edits (rev e))) o
+      ≡ option_map (λ e. Some e.path) (find (is_head revision) (edits_of edits []))
+  headed_path revision same long =
+      lent_path (find (is_head revision) (edits_of edits []))
+      (λ e is. subst (λ z. Contains z e) tree.one (find_is (is_head revision) (edits_of edits []) e is).1)
+      same long
 
-long_in : (o : Option Branch)
-    → option_map (λ b. length b.path) o ≡ option_map (λ e. length e.path) (option_map edit_of o)
+long_in : (maybe_branch : Option Branch)
+    → option_map (λ branch. length branch.path) maybe_branch ≡ option_map (λ e. length e.path)
+    (option_map edit_of maybe_branch)
 long_in None = refl
-long_in (Some b) = refl
+long_in (Some branch) = refl
 
 -- and of how long their paths are
-pub numbered_long : (bs : List Branch) (es : List Edit) (k : ℕ) → edits_in bs ≡ es
-    → option_map (λ b. length b.path) (slice_get bs k) ≡ option_map (λ e. length e.path) (slice_get es k)
-numbered_long bs es k same =
-    long_in (slice_get bs k)
-    ∙ ap (option_map (λ e. length e.path)) (sym (slice_get-map edit_of bs k) ∙ ap (λ fs. slice_get fs k) same)
-
-pub headed_long : (bs : List Branch) (es : List Edit) (r : Revision) → edits_in bs ≡ es
-    → option_map (λ b. length b.path) (find (λ b. is_first r b.path) bs)
-    ≡ option_map (λ e. length e.path) (find (is_head r) (edits_of es []))
-headed_long bs es r same =
-    long_in (find (λ b. is_first r b.path) bs)
+pub numbered_long : (branches : List Branch) (edits : List Edit) (k : ℕ) → edits_in branches ≡ edits
+    → option_map (λ b. length b.path) (slice_get branches k) ≡ option_map (λ e. length e.path)
+    (slice_get edits k)
+numbered_long branches edits k same =
+    long_in (slice_get branches k)
     ∙ ap (option_map (λ e. length e.path))
-    (among bs r
-    ∙ (sym (ap (find (is_head r)) (all_of_one bs)) ∙ ap (λ fs. find (is_head r) (edits_of fs [])) same))
+    (sym (slice_get-map edit_of branches k) ∙ ap (λ fs. slice_get fs k) same)
+
+pub headed_long : (branches : List Branch) (edits : List Edit) (revision : Revision)
+    → edits_in branches ≡ edits
+    → option_map (λ b. length b.path) (find (λ b. is_first revision b.path) branches)
+    ≡ option_map (λ e. length e.path) (find (is_head revision) (edits_of edits []))
+headed_long branches edits revision same =
+    long_in (find (λ b. is_first revision b.path) branches)
+    ∙ ap (option_map (λ e. length e.path))
+    (among branches revision
+    ∙ (sym (ap (find (is_head revision)) (all_of_one branches))
+    ∙ ap (λ fs. find (is_head revision) (edits_of fs [])) same))
 
 -- the edit of a leaf is the one that its revision heads
-module _ (J : List Edit) (id : List ℕ) (legal : IsLegal J) where
-  pub leaf_headed : (l : Leaf) → Contains (leaves_of J id) l
-      → find (is_head l.rev) (edits_of J id) ≡ Some l.edit
-  leaf_headed l c = from (find (is_head l.rev) (edits_of J id)) refl
+module _ (journal : List Edit) (id : List ℕ) (legal : IsLegal journal) where
+  pub leaf_headed : (leaf : Leaf) → Contains (leaves_of journal id) leaf
+      → find (is_head leaf.rev) (edits_of journal id) ≡ Some leaf.edit
+  leaf_headed leaf c = from (find (is_head leaf.rev) (edits_of journal id)) refl
     where
-      from : (o : Option Edit) → find (is_head l.rev) (edits_of J id) ≡ o
-          → find (is_head l.rev) (edits_of J id) ≡ Some l.edit
+      from : (maybe_edit : Option Edit) → find (is_head leaf.rev) (edits_of journal id) ≡ maybe_edit
+          → find (is_head leaf.rev) (edits_of journal id) ≡ Some leaf.edit
       from None q =
-          let e = leaf_edit J id legal l c in
+          let e = leaf_edit journal id legal leaf c in
           absurd
-          (find_not (is_head l.rev) (edits_of J id) q l.edit (in_edits J id l.edit e.0)
-          (is_head_from l.edit.path l.rev e.1))
+          (find_not (is_head leaf.rev) (edits_of journal id) q leaf.edit (in_edits journal id leaf.edit e.0)
+          (is_head_from leaf.edit.path leaf.rev e.1))
       from (Some f) q =
-          let e = leaf_edit J id legal l c in
-          let i = find_is (is_head l.rev) (edits_of J id) f q in
+          let e = leaf_edit journal id legal leaf c in
+          let i = find_is (is_head leaf.rev) (edits_of journal id) f q in
           q
           ∙ ap Some
-          ((legal_sound J legal).once id l.rev f l.edit (edits_in_of J id f i.1) e.0
-          (head_is f.path l.rev i.0) e.1)
+          ((legal_sound journal legal).once id leaf.rev f leaf.edit (edits_in_of journal id f i.1) e.0
+          (head_is f.path leaf.rev i.0) e.1)

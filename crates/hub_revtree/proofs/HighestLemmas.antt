@@ -19,36 +19,42 @@ use Rattle.hub_revtree.proofs.StemLemmas.{named_in, one_stem_more}
 use Rattle.hub_revtree.proofs.StemLooks.{behind_in, first_there}
 
 -- a path is up to its first generation
-behind_below : (p : List Revision) (x r : Revision) → IsPath p → slice_get p 0 ≡ Some x
-    → names (drop 1 p) r ≡ true → r.generation < x.generation
-behind_below [] x r f e n = absurd f
-behind_below (y ∷ p) x r f e n =
-    let same : y.generation ≡ x.generation = ap (λ (z : Revision). z.generation) (same_Some y x e) in
-    omega (arith, same, falls_below y p r f (names_is p r n))
+behind_below : (revisions : List Revision) (revision other : Revision) → IsPath revisions
+    → slice_get revisions 0 ≡ Some revision
+    → names (drop 1 revisions) other ≡ true → other.generation < revision.generation
+behind_below [] revision other f e n = absurd f
+behind_below (y ∷ revisions) revision other f e n =
+    let same : y.generation ≡ revision.generation = ap (λ (z : Revision). z.generation)
+    (same_Some y revision e) in
+    omega (arith, same, falls_below y revisions other f (names_is revisions other n))
 
-named_up_to : (p : List Revision) (x r : Revision) → IsPath p → slice_get p 0 ≡ Some x → names p r ≡ true
-    → r.generation ≤ x.generation
-named_up_to [] x r f e n = absurd f
-named_up_to (y ∷ p) x r f e n = elim (cases_Bool (is_same r y)) [
+named_up_to : (revisions : List Revision) (revision other : Revision) → IsPath revisions
+    → slice_get revisions 0 ≡ Some revision → names revisions other ≡ true
+    → other.generation ≤ revision.generation
+named_up_to [] revision other f e n = absurd f
+named_up_to (y ∷ revisions) revision other f e n = elim (cases_Bool (is_same other y)) [
   | inl t ↦
-      let same : r.generation ≡ x.generation =
-      ap (λ (z : Revision). z.generation) (same_is r y t ∙ same_Some y x e) in
+      let same : other.generation ≡ revision.generation =
+      ap (λ (z : Revision). z.generation) (same_is other y t ∙ same_Some y revision e) in
       omega (arith, same)
-  | inr t ↦ let low = behind_below (y ∷ p) x r f e (rw t at n) in omega (arith, low)
+  | inr t ↦ let low = behind_below (y ∷ revisions) revision other f e (rw t at n) in omega (arith, low)
 ]
 
 -- what stands behind a stem's newest revision is of a lower generation
-pub behind_is_lower : (xs : List Stem) (k : ℕ) (s : Stem) (x r : Revision) → AreStems xs
-    → slice_get xs k ≡ Some s → slice_get s.revisions 0 ≡ Some x → is_behind_newest xs r s ≡ true
-    → r.generation < x.generation
-behind_is_lower xs k s x r a e h t = elim (cases_Bool (names (drop 1 s.revisions) r)) [
-  | inl u ↦ behind_below s.revisions x r (a.falling k s e) h u
-  | inr u ↦ from s.parent refl (rw u at t)
-]
+pub behind_is_lower : (stems : List Stem) (k : ℕ) (stem : Stem) (revision other : Revision) → AreStems stems
+    → slice_get stems k ≡ Some stem → slice_get stem.revisions 0 ≡ Some revision
+    → is_behind_newest stems other stem ≡ true → other.generation < revision.generation
+behind_is_lower stems k stem revision other a e h t =
+    elim (cases_Bool (names (drop 1 stem.revisions) other)) [
+      | inl u ↦ behind_below stem.revisions revision other (a.falling k stem e) h u
+      | inr u ↦ from stem.parent refl (rw u at t)
+    ]
   where
-    from : (o : Option Place) → s.parent ≡ o → is_at xs r o ≡ true → r.generation < x.generation
+    from : (maybe_place : Option Place) → stem.parent ≡ maybe_place → is_at stems other maybe_place ≡ true
+        → other.generation < revision.generation
     from None q v = absurd (cc)
-    from (Some p) q v = a.lower k s p r x e q h (first_there p.at (revisions_at xs p.stem) r v)
+    from (Some p) q v =
+        a.lower k stem p other revision e q h (first_there p.at (revisions_at stems p.stem) other v)
 
 either : {A : Type 0} (P : A → Bool) (xs : List A) (x : A) → list_any P (xs ++ x ∷ []) ≡ true
     → list_any P xs ≡ false → P x ≡ true
@@ -60,27 +66,35 @@ either P xs x t f =
     last false e = e
 
 -- one stem more
-pub up_to_more : (xs : List Stem) (s : Stem) (path : List Revision) (x : Revision) (highest next : ℕ)
-    → AreStems xs → AreStems (xs ++ s ∷ []) → AreUpTo xs highest → IsPath path → slice_get path 0 ≡ Some x
-    → (branch_of (chain_of (chains_of xs) s)).path ≡ path → next ≡ max x.generation highest
-    → AreUpTo (xs ++ s ∷ []) next
-up_to_more xs s path x highest next a more up falls head whole is = record {
-  known = λ r t. elim (cases_Bool (has_revision xs r)) [
+pub up_to_more : (stems : List Stem) (stem : Stem) (path : List Revision) (revision : Revision)
+    (highest next : ℕ)
+    → AreStems stems → AreStems (stems ++ stem ∷ []) → AreUpTo stems highest → IsPath path
+    → slice_get path 0 ≡ Some revision
+    → (branch_of (chain_of (chains_of stems) stem)).path ≡ path → next ≡ max revision.generation highest
+    → AreUpTo (stems ++ stem ∷ []) next
+up_to_more stems stem path revision highest next a more up falls head whole is = record {
+  known = λ r t. elim (cases_Bool (has_revision stems r)) [
     | inl u ↦ omega (arith, up.known r u, is)
     | inr u ↦
         let new =
-        either (λ b. names b.path r) (branches_of xs) (branch_of (chain_of (chains_of xs) s))
-        (ap (list_any (λ b. names b.path r)) (sym (one_stem_more xs s))
-        ∙ (named_in (xs ++ s ∷ []) more r ∙ t)) (named_in xs a r ∙ u) in
-        omega (arith, named_up_to path x r falls head (subst (λ p. names p r ≡ true) whole new), is)
+        either (λ b. names b.path r) (branches_of stems) (branch_of (chain_of (chains_of stems) stem))
+        (ap (list_any (λ b. names b.path r)) (sym (one_stem_more stems stem))
+        ∙ (named_in (stems ++ stem ∷ []) more r ∙ t)) (named_in stems a r ∙ u) in
+        omega (arith, named_up_to path revision r falls head (subst (λ p. names p r ≡ true) whole new), is)
   ];
-  behind = λ r t. elim (cases_Bool (list_any (is_behind_newest xs r) xs)) [
+  behind = λ r t. elim (cases_Bool (list_any (is_behind_newest stems r) stems)) [
     | inl u ↦ omega (arith, up.behind r u, is)
     | inr u ↦
         let new =
-        either (λ b. is_behind_head r (edit_of b)) (branches_of xs) (branch_of (chain_of (chains_of xs) s))
-        (ap (list_any (λ b. is_behind_head r (edit_of b))) (sym (one_stem_more xs s))
-        ∙ (behind_in (xs ++ s ∷ []) more r ∙ t)) (behind_in xs a r ∙ u) in
-        omega (arith, behind_below path x r falls head (subst (λ p. names (drop 1 p) r ≡ true) whole new), is)
+        either (λ b. is_behind_head r (edit_of b)) (branches_of stems)
+        (branch_of (chain_of (chains_of stems) stem))
+        (ap (list_any (λ b. is_behind_head r (edit_of b))) (sym (one_stem_more stems stem))
+        ∙ (behind_in (stems ++ stem ∷ []) more r ∙ t)) (behind_in stems a r ∙ u) in
+        omega (
+          arith,
+          behind_below path revision r falls head
+              (subst (λ p. names (drop 1 p) r ≡ true) whole new),
+          is,
+        )
   ];
 }

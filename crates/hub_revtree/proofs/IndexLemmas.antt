@@ -14,41 +14,43 @@ use Rattle.hub_revtree.proofs.FirstLemmas.{has_there, put_nothing}
 use Rattle.hub_revtree.proofs.RunLemmas.{take_least}
 use Rattle.hub_revtree.proofs.StemLooks.{read_stem}
 
-pub nothing_told : (xs : List Stem) (e : ℕ → Option ℕ) (o : Revision → Option ℕ) → ((key : ℕ) → e key ≡ None)
-    → ((r : Revision) → o r ≡ None) → AreTold (Has (take 0 xs)) e o
-nothing_told xs e o none others = record {
+pub nothing_told : (stems : List Stem) (e : ℕ → Option ℕ) (o : Revision → Option ℕ)
+    → ((key : ℕ) → e key ≡ None)
+    → ((revision : Revision) → o revision ≡ None) → AreTold (Has (take 0 stems)) e o
+nothing_told stems e o none others = record {
   entries = λ key m q. absurd (differ m (sym (none key) ∙ q));
-  keyed = λ k key r h is. absurd (empty k r h);
-  others = λ k r q. absurd (differ k (sym (others r) ∙ q));
-  told = λ k r w. absurd (empty k r w.0);
+  keyed = λ k key revision h is. absurd (empty k revision h);
+  others = λ k revision q. absurd (differ k (sym (others revision) ∙ q));
+  told = λ k revision w. absurd (empty k revision w.0);
 }
   where
     differ : (m : ℕ) → ◌≡◌ {A = Option ℕ} None (Some m) → ⊥
     differ m q = absurd (cc)
 
-    empty : (k : ℕ) (r : Revision) → Has (take 0 xs) k r → ⊥
-    empty k r h = absurd (cc)
+    empty : (k : ℕ) (revision : Revision) → Has (take 0 stems) k revision → ⊥
+    empty k revision h = absurd (cc)
 
-pub nothing_linked : (xs : List Stem) (l : Revision → Option ℕ) → ((r : Revision) → l r ≡ None)
-    → AreLinked (Has (take 0 xs)) (take 0 xs) l
-nothing_linked xs l none = record {
-  links = λ k r q. absurd (differ k (sym (none r) ∙ q));
-  linked = λ k r h g. absurd (empty k r h);
+pub nothing_linked : (stems : List Stem) (l : Revision → Option ℕ)
+    → ((revision : Revision) → l revision ≡ None) → AreLinked (Has (take 0 stems)) (take 0 stems) l
+nothing_linked stems l none = record {
+  links = λ k revision q. absurd (differ k (sym (none revision) ∙ q));
+  linked = λ k revision h g. absurd (empty k revision h);
 }
   where
     differ : (m : ℕ) → ◌≡◌ {A = Option ℕ} None (Some m) → ⊥
     differ m q = absurd (cc)
 
-    empty : (k : ℕ) (r : Revision) → Has (take 0 xs) k r → ⊥
-    empty k r h = absurd (cc)
+    empty : (k : ℕ) (revision : Revision) → Has (take 0 stems) k revision → ⊥
+    empty k revision h = absurd (cc)
 
 -- all but the last of the first stems
-pub one_shorter : (xs : List Stem) (k : ℕ) → k < length xs
-    → take (length (take (k + 1) xs) - 1) (take (k + 1) xs) ≡ take k xs
-one_shorter xs k low =
-    let all : length (take (k + 1) xs) - 1 ≡ k = omega (arith, low, length-take (k + 1) xs) in
+pub one_shorter : (stems : List Stem) (k : ℕ) → k < length stems
+    → take (length (take (k + 1) stems) - 1) (take (k + 1) stems) ≡ take k stems
+one_shorter stems k low =
+    let all : length (take (k + 1) stems) - 1 ≡ k = omega (arith, low, length-take (k + 1) stems) in
     let few : min k (k + 1) ≡ k = omega arith in
-    ap (λ j. take j (take (k + 1) xs)) all ∙ (sym (take_least k (k + 1) xs) ∙ ap (λ j. take j xs) few)
+    ap (λ j. take j (take (k + 1) stems)) all
+    ∙ (sym (take_least k (k + 1) stems) ∙ ap (λ j. take j stems) few)
 
 -- a map that has a number there keeps it
 pub put_known : {K : Type 0} (same : K → K → Bool) → ((x y : K) → same x y ≡ true → x ≡ y)
@@ -64,28 +66,32 @@ none_there None t = refl
 none_there (Some x) t = absurd (cc)
 
 -- what a stem that is read has at a place
-pub read_there : (xs : List Stem) (k at : ℕ) (s : Stem) (r : Revision) → k < length xs → s ≡ get_or xs k s
-    → slice_get s.revisions at ≡ Some r → slice_get (revisions_at xs k) at ≡ Some r
-read_there xs k at s r low is there =
-    ap (λ o. slice_get (revisions_in o) at) (read_stem xs k s low is) ∙ there
+pub read_there : (stems : List Stem) (k at : ℕ) (stem : Stem) (revision : Revision) → k < length stems
+    → stem ≡ get_or stems k stem
+    → slice_get stem.revisions at ≡ Some revision → slice_get (revisions_at stems k) at ≡ Some revision
+read_there stems k at stem revision low is there =
+    ap (λ o. slice_get (revisions_in o) at) (read_stem stems k stem low is) ∙ there
 
-pub read_back : (xs : List Stem) (k at : ℕ) (s : Stem) (r : Revision) → k < length xs → s ≡ get_or xs k s
-    → slice_get (revisions_at xs k) at ≡ Some r → slice_get s.revisions at ≡ Some r
-read_back xs k at s r low is there =
-    ap (λ o. slice_get (revisions_in o) at) (sym (read_stem xs k s low is)) ∙ there
+pub read_back : (stems : List Stem) (k at : ℕ) (stem : Stem) (revision : Revision) → k < length stems
+    → stem ≡ get_or stems k stem
+    → slice_get (revisions_at stems k) at ≡ Some revision → slice_get stem.revisions at ≡ Some revision
+read_back stems k at stem revision low is there =
+    ap (λ o. slice_get (revisions_in o) at) (sym (read_stem stems k stem low is)) ∙ there
 
-pub read_long : (xs : List Stem) (k : ℕ) (s : Stem) → k < length xs → s ≡ get_or xs k s
-    → length (revisions_at xs k) ≡ length s.revisions
-read_long xs k s low is = ap (λ o. length (revisions_in o)) (read_stem xs k s low is)
+pub read_long : (stems : List Stem) (k : ℕ) (stem : Stem) → k < length stems → stem ≡ get_or stems k stem
+    → length (revisions_at stems k) ≡ length stem.revisions
+read_long stems k stem low is = ap (λ o. length (revisions_in o)) (read_stem stems k stem low is)
 
 -- what a look in a stem shows
-pub placed_has : (xs : List Stem) (k : ℕ) (r : Revision) (o : Option Place)
-    → IfSome o (λ p. slice_get (revisions_at xs p.stem) p.at ≡ Some r) → IfSome o (λ p. p.stem ≡ k)
-    → is_some o ≡ true → Has xs k r
-placed_has xs k r None there same t = absurd (cc)
-placed_has xs k r (Some p) there same t = subst (λ j. Has xs j r) same (has_there xs p.stem p.at r there)
+pub placed_has : (stems : List Stem) (k : ℕ) (revision : Revision) (maybe_place : Option Place)
+    → IfSome maybe_place (λ place. slice_get (revisions_at stems place.stem) place.at ≡ Some revision)
+    → IfSome maybe_place (λ place. place.stem ≡ k) → is_some maybe_place ≡ true → Has stems k revision
+placed_has stems k revision None there same t = absurd (cc)
+placed_has stems k revision (Some place) there same t =
+    subst (λ j. Has stems j revision) same (has_there stems place.stem place.at revision there)
 
-pub placed_none : (xs : List Stem) (k : ℕ) (r : Revision) (o : Option Place)
-    → IfNone o (names (revisions_at xs k) r ≡ false) → is_some o ≡ false → ¬ Has xs k r
-placed_none xs k r None none t h = both_ways _ none h
-placed_none xs k r (Some p) none t h = absurd (cc)
+pub placed_none : (stems : List Stem) (k : ℕ) (revision : Revision) (maybe_place : Option Place)
+    → IfNone maybe_place (names (revisions_at stems k) revision ≡ false) → is_some maybe_place ≡ false
+    → ¬ Has stems k revision
+placed_none stems k revision None none t h = both_ways _ none h
+placed_none stems k revision (Some place) none t h = absurd (cc)

@@ -33,180 +33,204 @@ pub place_in : {A : Type 0} (xs : List A) (x : A) → Contains xs x → (k : ℕ
 place_in xs x (k, low, e) = (k, slice_get_read xs _ k x refl low (sym e))
 
 -- steps of parts of a list
-pub next_whole : (n : ℕ) (p : List Revision) (s r : Revision) → IsNext (drop n p) s r → IsNext p s r
-next_whole zero p s r i = i
-next_whole (suc n) [] s r i = absurd i
-next_whole (suc n) (x ∷ p) s r i = inr (next_whole n p s r i)
+pub next_whole : (n : ℕ) (revisions : List Revision) (revision other : Revision)
+    → IsNext (drop n revisions) revision other → IsNext revisions revision other
+next_whole zero revisions revision other i = i
+next_whole (suc n) [] revision other i = absurd i
+next_whole (suc n) (x ∷ revisions) revision other i = inr (next_whole n revisions revision other i)
 
-first_taken : (n : ℕ) (p : List Revision) (r : Revision) → IsFirst (take n p) r → IsFirst p r
-first_taken zero p r i = absurd i
-first_taken (suc n) [] r i = absurd i
-first_taken (suc n) (x ∷ p) r i = i
+first_taken : (n : ℕ) (revisions : List Revision) (revision : Revision) → IsFirst (take n revisions) revision
+    → IsFirst revisions revision
+first_taken zero revisions revision i = absurd i
+first_taken (suc n) [] revision i = absurd i
+first_taken (suc n) (other ∷ revisions) revision i = i
 
-pub next_taken : (n : ℕ) (p : List Revision) (s r : Revision) → IsNext (take n p) s r → IsNext p s r
-next_taken zero p s r i = absurd i
-next_taken (suc n) [] s r i = absurd i
-next_taken (suc n) (x ∷ p) s r (inl i) = inl (i.0, first_taken n p r i.1)
-next_taken (suc n) (x ∷ p) s r (inr i) = inr (next_taken n p s r i)
+pub next_taken : (n : ℕ) (revisions : List Revision) (revision other : Revision)
+    → IsNext (take n revisions) revision other → IsNext revisions revision other
+next_taken zero revisions revision other i = absurd i
+next_taken (suc n) [] revision other i = absurd i
+next_taken (suc n) (x ∷ revisions) revision other (inl i) = inl (i.0, first_taken n revisions other i.1)
+next_taken (suc n) (x ∷ revisions) revision other (inr i) = inr (next_taken n revisions revision other i)
 
-first_more : (p q : List Revision) (r : Revision) → IsFirst p r → IsFirst (p ++ q) r
-first_more [] q r i = absurd i
-first_more (x ∷ p) q r i = i
+first_more : (others revisions : List Revision) (revision : Revision) → IsFirst others revision
+    → IsFirst (others ++ revisions) revision
+first_more [] revisions revision i = absurd i
+first_more (other ∷ others) revisions revision i = i
 
-pub next_more : (p q : List Revision) (s r : Revision) → IsNext p s r → IsNext (p ++ q) s r
-next_more [] q s r i = absurd i
-next_more (x ∷ p) q s r (inl i) = inl (i.0, first_more p q r i.1)
-next_more (x ∷ p) q s r (inr i) = inr (next_more p q s r i)
+pub next_more : (others revisions : List Revision) (revision other : Revision) → IsNext others revision other
+    → IsNext (others ++ revisions) revision other
+next_more [] revisions revision other i = absurd i
+next_more (x ∷ others) revisions revision other (inl i) = inl (i.0, first_more others revisions other i.1)
+next_more (x ∷ others) revisions revision other (inr i) = inr (next_more others revisions revision other i)
 
 -- a step of two lists is one of the first and the second's first, or of the second
-pub next_parts : (p q : List Revision) (s r : Revision) → IsNext (p ++ q) s r
-    → IsNext (p ++ take 1 q) s r ⊎ IsNext q s r
-next_parts [] q s r i = inr i
-next_parts (x ∷ []) [] s r i = inl i
-next_parts (x ∷ []) (y ∷ q) s r (inl i) = inl (inl i)
-next_parts (x ∷ []) (y ∷ q) s r (inr i) = inr i
-next_parts (x ∷ y ∷ p) q s r (inl i) = inl (inl i)
-next_parts (x ∷ y ∷ p) q s r (inr i) = elim (next_parts (y ∷ p) q s r i) [
-  | inl j ↦ inl (inr j)
-  | inr j ↦ inr j
-]
+pub next_parts : (others revisions : List Revision) (revision other : Revision)
+    → IsNext (others ++ revisions) revision other
+    → IsNext (others ++ take 1 revisions) revision other ⊎ IsNext revisions revision other
+next_parts [] revisions revision other i = inr i
+next_parts (x ∷ []) [] revision other i = inl i
+next_parts (x ∷ []) (y ∷ revisions) revision other (inl i) = inl (inl i)
+next_parts (x ∷ []) (y ∷ revisions) revision other (inr i) = inr i
+next_parts (x ∷ y ∷ others) revisions revision other (inl i) = inl (inl i)
+next_parts (x ∷ y ∷ others) revisions revision other (inr i) =
+    elim (next_parts (y ∷ others) revisions revision other i) [
+      | inl j ↦ inl (inr j)
+      | inr j ↦ inr j
+    ]
 
 -- the last of what is left is the last
-pub last_left : (n : ℕ) (p : List Revision) → n < length p → last_in (drop n p) ≡ last_in p
-last_left zero p low = refl
+pub last_left : (n : ℕ) (revisions : List Revision) → n < length revisions
+    → last_in (drop n revisions) ≡ last_in revisions
+last_left zero revisions low = refl
 last_left (suc n) [] low = absurd (omega arith)
-last_left (suc n) (x ∷ []) low = absurd (omega arith)
-last_left (suc n) (x ∷ y ∷ p) low = last_left n (y ∷ p) (omega arith)
+last_left (suc n) (revision ∷ []) low = absurd (omega arith)
+last_left (suc n) (revision ∷ other ∷ revisions) low = last_left n (other ∷ revisions) (omega arith)
 
-pub last_append : (p : List Revision) (x : Revision) (q : List Revision)
-    → last_in (p ++ x ∷ q) ≡ last_in (x ∷ q)
-last_append [] x q = refl
-last_append (y ∷ []) x q = refl
-last_append (y ∷ z ∷ p) x q = last_append (z ∷ p) x q
+pub last_append : (others : List Revision) (revision : Revision) (revisions : List Revision)
+    → last_in (others ++ revision ∷ revisions) ≡ last_in (revision ∷ revisions)
+last_append [] revision revisions = refl
+last_append (other ∷ []) revision revisions = refl
+last_append (other ∷ z ∷ others) revision revisions = last_append (z ∷ others) revision revisions
 
 -- whether the look found it
-pub is_placed : (xs : List Stem) (r : Revision) (o : Option Place)
-    → IfSome o (λ p. slice_get (revisions_at xs p.stem) p.at ≡ Some r) → IfNone o (has_revision xs r ≡ false)
-    → is_some o ≡ has_revision xs r
-is_placed xs r None found none = sym none
-is_placed xs r (Some p) found none =
-    let i = within_stem xs p (slice_get_within (revisions_at xs p.stem) p.at r found) in
-    sym (any_at (λ s. names s.revisions r) xs p.stem i.0 i.1 (named i.0.revisions p.at r (rw i.1 at found)))
+pub is_placed : (stems : List Stem) (revision : Revision) (maybe_place : Option Place)
+    → IfSome maybe_place (λ place. slice_get (revisions_at stems place.stem) place.at ≡ Some revision)
+    → IfNone maybe_place (has_revision stems revision ≡ false)
+    → is_some maybe_place ≡ has_revision stems revision
+is_placed stems revision None found none = sym none
+is_placed stems revision (Some place) found none =
+    let i = within_stem stems place (slice_get_within (revisions_at stems place.stem) place.at revision found)
+    in
+    sym (any_at (λ s. names s.revisions revision) stems place.stem i.0 i.1
+    (named i.0.revisions place.at revision (rw i.1 at found)))
 
-module _ (xs : List Stem) (a : AreStems xs) where
+module _ (stems : List Stem) (a : AreStems stems) where
   abbrev bs : List Branch
-  bs = branches_of xs
+  bs = branches_of stems
 
   -- a branch is an edit of the document
-  own_edit : (es : List Edit) → edits_of es [] ≡ es → (e : Edit) → Contains es e → Edits es [] e
-  own_edit es one e c = edits_in_of es [] e (subst (λ z. Contains z e) (sym one) c)
+  own_edit : (edits : List Edit) → edits_of edits [] ≡ edits → (edit : Edit) → Contains edits edit
+      → Edits edits [] edit
+  own_edit edits one edit c = edits_in_of edits [] edit (subst (λ z. Contains z edit) (sym one) c)
 
-  pub own : (k : ℕ) (b : Branch) → slice_get bs k ≡ Some b → Edits (edits_in bs) [] (edit_of b)
-  own k b e =
-      own_edit (edits_in bs) (all_of_one bs) (edit_of b)
-      (in_tree bs (record { generation = 0; hash = [] }) bs b (there bs k b e))
+  pub own : (k : ℕ) (branch : Branch) → slice_get bs k ≡ Some branch → Edits (edits_in bs) [] (edit_of branch)
+  own k branch e =
+      own_edit (edits_in bs) (all_of_one bs) (edit_of branch)
+      (in_tree bs (record { generation = 0; hash = [] }) bs branch (there bs k branch e))
 
   -- what a stem brought stands so in its branch
-  pub brought_behind : (r s : Revision) → IsBrought xs r s → IsBehind (edits_in bs) [] r s
-  brought_behind r s (k, stem, e, n) =
-      let f = own_front xs a k stem e in
-      let b = branch_of (chain_of (chains_of xs) stem) in (
+  pub brought_behind : (revision other : Revision) → IsBrought stems revision other
+      → IsBehind (edits_in bs) [] revision other
+  brought_behind revision other (k, stem, e, n) =
+      let f = own_front stems a k stem e in
+      let b = branch_of (chain_of (chains_of stems) stem) in (
         edit_of b,
-        own k b (shown_at xs a k stem e),
-        subst (λ z. IsNext z s r) (sym f.1) (next_more (own_path xs stem) f.0 s r n),
+        own k b (shown_at stems a k stem e),
+        subst (λ z. IsNext z other revision) (sym f.1) (next_more (own_path stems stem) f.0 other revision n),
       )
 
-  one_first : (o : Option Place) → ((p : Place) → o ≡ Some p → IsWithin xs p)
-      → one_of (rev_at xs o) ≡ take 1 (chain_from (chains_of xs) o)
+  one_first : (maybe_place : Option Place)
+      → ((place : Place) → maybe_place ≡ Some place → IsWithin stems place)
+      → one_of (rev_at stems maybe_place) ≡ take 1 (chain_from (chains_of stems) maybe_place)
   one_first None w = refl
-  one_first (Some p) w =
-      let r = within_rev xs p (w p refl) in
-      let f = first_from xs p r.0 a r.1 in
+  one_first (Some place) w =
+      let r = within_rev stems place (w place refl) in
+      let f = first_from stems place r.0 a r.1 in
       ap one_of r.1 ∙ ap (take 1) (sym f.1)
 
   -- what stands so in a chain is what a stem brought
-  pub chain_brought : (n k : ℕ) (stem : Stem) → k < n → slice_get xs k ≡ Some stem → (r s : Revision)
-      → IsNext (chain_of (chains_of xs) stem).whole s r → IsBrought xs r s
-  chain_brought zero k stem low e r s i = absurd (omega arith)
-  chain_brought (suc n) k stem low e r s i =
-      elim (next_parts stem.revisions (chain_from (chains_of xs) stem.parent) s r i) [
+  pub chain_brought : (n k : ℕ) (stem : Stem) → k < n → slice_get stems k ≡ Some stem
+      → (revision other : Revision)
+      → IsNext (chain_of (chains_of stems) stem).whole other revision → IsBrought stems revision other
+  chain_brought zero k stem low e revision other i = absurd (omega arith)
+  chain_brought (suc n) k stem low e revision other i =
+      elim (next_parts stem.revisions (chain_from (chains_of stems) stem.parent) other revision i) [
         | inl j ↦ (
           k,
           stem,
           e,
-          subst (λ z. IsNext (stem.revisions ++ z) s r)
+          subst (λ z. IsNext (stem.revisions ++ z) other revision)
               (sym (one_first stem.parent (λ p q. (a.earlier k stem p e q).1))) j,
         )
         | inr j ↦ further (chain_brought n) stem.parent refl j
       ]
     where
-      further : ((j : ℕ) (t : Stem) → j < n → slice_get xs j ≡ Some t → (r s : Revision)
-          → IsNext (chain_of (chains_of xs) t).whole s r → IsBrought xs r s)
-          → (o : Option Place) → stem.parent ≡ o → IsNext (chain_from (chains_of xs) o) s r → IsBrought xs r s
+      further : ((j : ℕ) (t : Stem) → j < n → slice_get stems j ≡ Some t → (revision other : Revision)
+          → IsNext (chain_of (chains_of stems) t).whole other revision → IsBrought stems revision other)
+          → (maybe_place : Option Place) → stem.parent ≡ maybe_place
+          → IsNext (chain_from (chains_of stems) maybe_place) other revision → IsBrought stems revision other
       further ih None q j = absurd j
       further ih (Some p) q j =
           let before = a.earlier k stem p e q in
-          let i = within_stem xs p before.1 in
-          ih p.stem i.0 (omega (arith, before.0, low)) i.1 r s
-          (subst (λ o. IsNext (whole_in o) s r) (chained_at xs a p.stem i.0 i.1)
-          (next_whole p.at (whole_in (slice_get (chains_of xs) p.stem)) s r j))
+          let i = within_stem stems p before.1 in
+          ih p.stem i.0 (omega (arith, before.0, low)) i.1 revision other
+          (subst (λ maybe_place. IsNext (whole_in maybe_place) other revision)
+          (chained_at stems a p.stem i.0 i.1)
+          (next_whole p.at (whole_in (slice_get (chains_of stems) p.stem)) other revision j))
 
-  pub from_branch : (e : Edit) → Contains (edits_in bs) e
-      → (k : ℕ) × (b : Branch) × (slice_get bs k ≡ Some b) × (edit_of b ≡ e)
-  from_branch e c =
-      let i = place_in (edits_in bs) e c in
+  pub from_branch : (edit : Edit) → Contains (edits_in bs) edit
+      → (k : ℕ) × (branch : Branch) × (slice_get bs k ≡ Some branch) × (edit_of branch ≡ edit)
+  from_branch edit c =
+      let i = place_in (edits_in bs) edit c in
       from i.0 (slice_get bs i.0) refl (sym (slice_get-map edit_of bs i.0) ∙ i.1)
     where
-      from : (k : ℕ) (o : Option Branch) → slice_get bs k ≡ o → option_map edit_of o ≡ Some e
-          → (k : ℕ) × (b : Branch) × (slice_get bs k ≡ Some b) × (edit_of b ≡ e)
+      from : (k : ℕ) (maybe_branch : Option Branch) → slice_get bs k ≡ maybe_branch
+          → option_map edit_of maybe_branch ≡ Some edit
+          → (k : ℕ) × (branch : Branch) × (slice_get bs k ≡ Some branch) × (edit_of branch ≡ edit)
       from k None q h = absurd (cc)
-      from k (Some b) q h = (k, b, q, same_Some (edit_of b) e h)
+      from k (Some branch) q h = (k, branch, q, same_Some (edit_of branch) edit h)
 
   -- so what stands directly behind a revision is what a stem brought
-  pub behind_brought : (r s : Revision) → IsBehind (edits_in bs) [] r s → IsBrought xs r s
-  behind_brought r s (e, own, n) =
+  pub behind_brought : (revision other : Revision) → IsBehind (edits_in bs) [] revision other
+      → IsBrought stems revision other
+  behind_brought revision other (e, own, n) =
       let i = from_branch e own.0 in
       let low = slice_get_within bs i.0 i.1 i.2 in
-      let t = get_some xs i.0 (omega (arith, low, as_many xs)) in
-      let same : branch_of (chain_of (chains_of xs) t.0) ≡ i.1 =
-      same_Some _ i.1 (sym (shown_at xs a i.0 t.0 t.1) ∙ i.2) in
-      let path : e.path ≡ take t.0.count (chain_of (chains_of xs) t.0).whole =
+      let t = get_some stems i.0 (omega (arith, low, as_many stems)) in
+      let same : branch_of (chain_of (chains_of stems) t.0) ≡ i.1 =
+      same_Some _ i.1 (sym (shown_at stems a i.0 t.0 t.1) ∙ i.2) in
+      let path : e.path ≡ take t.0.count (chain_of (chains_of stems) t.0).whole =
       ap (λ (z : Edit). z.path) (sym i.3) ∙ ap (λ (z : Branch). z.path) (sym same) in
-      chain_brought (i.0 + 1) i.0 t.0 (omega arith) t.1 r s
-      (next_taken t.0.count (chain_of (chains_of xs) t.0).whole s r (subst (λ z. IsNext z s r) path n))
+      chain_brought (i.0 + 1) i.0 t.0 (omega arith) t.1 revision other
+      (next_taken t.0.count (chain_of (chains_of stems) t.0).whole other revision
+      (subst (λ z. IsNext z other revision) path n))
 
   -- a revision at a place is known
-  pub place_known : (p : Place) (r : Revision) → rev_at xs (Some p) ≡ Some r
-      → is_known (edits_in bs) [] r ≡ true
-  place_known p r placed =
-      let i = within_stem xs p (rev_within xs p r placed) in
-      known_by bs r
-      ∙ (named_in xs a r
-      ∙ any_at (λ s. names s.revisions r) xs p.stem i.0 i.1 (named i.0.revisions p.at r (rw i.1 at placed)))
+  pub place_known : (place : Place) (revision : Revision) → rev_at stems (Some place) ≡ Some revision
+      → is_known (edits_in bs) [] revision ≡ true
+  place_known place revision placed =
+      let i = within_stem stems place (rev_within stems place revision placed) in
+      known_by bs revision
+      ∙ (named_in stems a revision
+      ∙ any_at (λ s. names s.revisions revision) stems place.stem i.0 i.1
+      (named i.0.revisions place.at revision (rw i.1 at placed)))
 
   -- a chain's steps
-  pub from_steps : (p : Place) → IsWithin xs p → (s r : Revision)
-      → IsNext (chain_from (chains_of xs) (Some p)) s r → IsBehind (edits_in bs) [] r s
-  from_steps p w s r n =
-      let i = within_stem xs p w in
-      brought_behind r s
-      (chain_brought (p.stem + 1) p.stem i.0 (omega arith) i.1 r s
-      (subst (λ o. IsNext (whole_in o) s r) (chained_at xs a p.stem i.0 i.1)
-      (next_whole p.at (whole_in (slice_get (chains_of xs) p.stem)) s r n)))
+  pub from_steps : (place : Place) → IsWithin stems place → (revision other : Revision)
+      → IsNext (chain_from (chains_of stems) (Some place)) revision other
+      → IsBehind (edits_in bs) [] other revision
+  from_steps place w revision other n =
+      let i = within_stem stems place w in
+      brought_behind other revision
+      (chain_brought (place.stem + 1) place.stem i.0 (omega arith) i.1 other revision
+      (subst (λ o. IsNext (whole_in o) revision other) (chained_at stems a place.stem i.0 i.1)
+      (next_whole place.at (whole_in (slice_get (chains_of stems) place.stem)) revision other n)))
 
   -- nothing stands behind a revision that is not known
-  pub no_line : (r : Revision) → has_revision xs r ≡ false → line_to (edits_in bs) (Some r) ≡ []
-  no_line r f =
-      let unknown : is_known (edits_in bs) [] r ≡ false = known_by bs r ∙ (named_in xs a r ∙ f) in
+  pub no_line : (revision : Revision) → has_revision stems revision ≡ false
+      → line_to (edits_in bs) (Some revision) ≡ []
+  no_line revision f =
+      let unknown : is_known (edits_in bs) [] revision ≡ false = known_by bs revision
+      ∙ (named_in stems a revision ∙ f) in
       rw unknown refl
 
   module _ (legal : IsLegal (edits_in bs)) where
     -- what is told of a revision
-    pub told_at : (s r : Revision) → IsBrought xs r s → behind_in s (edits_in bs) ≡ Some r
+    pub told_at : (s r : Revision) → IsBrought stems r s → behind_in s (edits_in bs) ≡ Some r
     told_at s r b =
         ap (behind_in s) (sym (all_of_one bs)) ∙ told_is (edits_in bs) legal s r (brought_behind r s b)
 
-    pub none_told_at : (s : Revision) → ((r : Revision) → ¬ IsBrought xs r s)
+    pub none_told_at : (s : Revision) → ((r : Revision) → ¬ IsBrought stems r s)
         → behind_in s (edits_in bs) ≡ None
     none_told_at s none =
         ap (behind_in s) (sym (all_of_one bs))
@@ -214,61 +238,63 @@ module _ (xs : List Stem) (a : AreStems xs) where
 
     -- what a look beyond tells
     pub found_behind : (z : Revision) (o : Option Place)
-        → IfSome o (λ p. IsWithin xs p × ((r : Revision) → rev_at xs (Some p) ≡ Some r → IsBrought xs r z))
-        → IfNone o ((r : Revision) → ¬ IsBrought xs r z) → rev_at xs o ≡ behind_in z (edits_in bs)
+        → IfSome o (λ p. IsWithin stems p
+        × ((r : Revision) → rev_at stems (Some p) ≡ Some r → IsBrought stems r z))
+        → IfNone o ((r : Revision) → ¬ IsBrought stems r z) → rev_at stems o ≡ behind_in z (edits_in bs)
     found_behind z None found none = sym (none_told_at z none)
     found_behind z (Some p) found none =
-        let r = within_rev xs p found.0 in r.1 ∙ sym (told_at z r.0 (found.1 r.0 r.1))
+        let r = within_rev stems p found.0 in r.1 ∙ sym (told_at z r.0 (found.1 r.0 r.1))
 
     -- the chain from a place on, and the line from what stands behind its last, are all that stands behind
     -- the place's
-    pub place_line : (p : Place) (r : Revision) → rev_at xs (Some p) ≡ Some r → (o : Option Place)
-        → ((x : Revision) → last_in (chain_from (chains_of xs) (Some p)) ≡ Some x
-        → rev_at xs o ≡ behind_in x (edits_in bs))
+    pub place_line : (p : Place) (r : Revision) → rev_at stems (Some p) ≡ Some r → (o : Option Place)
+        → ((x : Revision) → last_in (chain_from (chains_of stems) (Some p)) ≡ Some x
+        → rev_at stems o ≡ behind_in x (edits_in bs))
         → line_to (edits_in bs) (Some r)
-        ≡ chain_from (chains_of xs) (Some p) ++ line_to (edits_in bs) (rev_at xs o)
+        ≡ chain_from (chains_of stems) (Some p) ++ line_to (edits_in bs) (rev_at stems o)
     place_line p r placed o behind =
-        let f = first_from xs p r a placed in
+        let f = first_from stems p r a placed in
         let z = has_last r f.0 in
         let told = behind z.0 (ap last_in f.1 ∙ z.1) in
         line_front (edits_in bs) legal r f.0 (known_is (edits_in bs) [] r (place_known p r placed))
-        (λ s t n. from_steps p (rev_within xs p r placed) s t (subst (λ z. IsNext z s t) (sym f.1) n))
-        z.0 z.1 (rev_at xs o) (ap (behind_in z.0) (all_of_one bs) ∙ sym told)
-        ∙ ap (λ q. q ++ line_to (edits_in bs) (rev_at xs o)) (sym f.1)
+        (λ s t n. from_steps p (rev_within stems p r placed) s t (subst (λ z. IsNext z s t) (sym f.1) n))
+        z.0 z.1 (rev_at stems o) (ap (behind_in z.0) (all_of_one bs) ∙ sym told)
+        ∙ ap (λ q. q ++ line_to (edits_in bs) (rev_at stems o)) (sym f.1)
 
     -- a chain that has as many revisions as its newest's generation ends with the first one
-    pub chain_ends : (k : ℕ) (stem : Stem) (g : ℕ) → slice_get xs k ≡ Some stem
+    pub chain_ends : (k : ℕ) (stem : Stem) (g : ℕ) → slice_get stems k ≡ Some stem
         → option_map (λ r. r.generation) (slice_get stem.revisions 0) ≡ Some g
         → g ≡ stem.reach → (n : ℕ) → n < length stem.revisions → (x : Revision)
-        → last_in (drop n (whole_in (slice_get (chains_of xs) k))) ≡ Some x → (r : Revision)
+        → last_in (drop n (whole_in (slice_get (chains_of stems) k))) ≡ Some x → (r : Revision)
         → ¬ IsBehind (edits_in bs) [] r x
     chain_ends k stem g e newest long n low x last =
-        from (chain_of (chains_of xs) stem).whole refl
+        from (chain_of (chains_of stems) stem).whole refl
       where
-        same : slice_get (chains_of xs) k ≡ Some (chain_of (chains_of xs) stem)
-        same = chained_at xs a k stem e
+        same : slice_get (chains_of stems) k ≡ Some (chain_of (chains_of stems) stem)
+        same = chained_at stems a k stem e
 
-        from : (w : List Revision) → (chain_of (chains_of xs) stem).whole ≡ w → (r : Revision)
+        from : (w : List Revision) → (chain_of (chains_of stems) stem).whole ≡ w → (r : Revision)
             → ¬ IsBehind (edits_in bs) [] r x
         from [] q =
             absurd (
-            let no : length (stem.revisions ++ chain_from (chains_of xs) stem.parent) ≡ 0 = ap length q in
-            omega (arith, no, length-append stem.revisions (chain_from (chains_of xs) stem.parent), low))
+            let no : length (stem.revisions ++ chain_from (chains_of stems) stem.parent) ≡ 0 = ap length q in
+            omega (arith, no, length-append stem.revisions (chain_from (chains_of stems) stem.parent), low))
         from (y ∷ w) q =
-            let head = first_of stem.revisions (chain_from (chains_of xs) stem.parent) y w q newest in
+            let head = first_of stem.revisions (chain_from (chains_of stems) stem.parent) y w q newest in
             let place : Place = record { stem = k; at = 0 } in
-            let here : rev_at xs (Some place) ≡ Some y = ap (λ o. slice_get (revisions_in o) 0) e ∙ head.0 in
-            let whole : chain_from (chains_of xs) (Some place) ≡ y ∷ w = ap whole_in same ∙ q in
+            let here : rev_at stems (Some place) ≡ Some y = ap (λ o. slice_get (revisions_in o) 0) e
+            ∙ head.0 in
+            let whole : chain_from (chains_of stems) (Some place) ≡ y ∷ w = ap whole_in same ∙ q in
             let falls =
             steps_fall (edits_in bs) legal y w (known_is (edits_in bs) [] y (place_known place y here))
             (λ s t m.
-            from_steps place (rev_within xs place y here) s t (subst (λ z. IsNext z s t) (sym whole) m)) in
+            from_steps place (rev_within stems place y here) s t (subst (λ z. IsNext z s t) (sym whole) m)) in
             let size : stem.reach ≡ length (y ∷ w) =
             a.reached k stem e ∙ ap (λ o. length (whole_in o)) same ∙ ap length q in
             let rest : n < length (y ∷ w) =
-            let l : length (stem.revisions ++ chain_from (chains_of xs) stem.parent) ≡ length (y ∷ w) =
+            let l : length (stem.revisions ++ chain_from (chains_of stems) stem.parent) ≡ length (y ∷ w) =
             ap length q in
-            omega (arith, l, length-append stem.revisions (chain_from (chains_of xs) stem.parent), low) in
+            omega (arith, l, length-append stem.revisions (chain_from (chains_of stems) stem.parent), low) in
             let ends : last_in (y ∷ w) ≡ Some x =
             sym (last_left n (y ∷ w) rest)
             ∙ ap (λ z. last_in (drop n z)) (sym (ap whole_in same ∙ q))
@@ -285,12 +311,12 @@ module _ (xs : List Stem) (a : AreStems xs) where
                 (ap Some same, ap (λ (v : Revision). v.generation) (sym same) ∙ same_Some z.generation g h)
 
     -- nothing stands behind a chain that ends with the first generation
-    pub nothing_beyond : (p : Place) (stem : Stem) (g : ℕ) → slice_get xs p.stem ≡ Some stem
-        → IsWithin xs p → option_map (λ r. r.generation) (slice_get stem.revisions 0) ≡ Some g
-        → g ≡ stem.reach → (x : Revision) → last_in (chain_from (chains_of xs) (Some p)) ≡ Some x
-        → rev_at xs None ≡ behind_in x (edits_in bs)
+    pub nothing_beyond : (p : Place) (stem : Stem) (g : ℕ) → slice_get stems p.stem ≡ Some stem
+        → IsWithin stems p → option_map (λ r. r.generation) (slice_get stem.revisions 0) ≡ Some g
+        → g ≡ stem.reach → (x : Revision) → last_in (chain_from (chains_of stems) (Some p)) ≡ Some x
+        → rev_at stems None ≡ behind_in x (edits_in bs)
     nothing_beyond p stem g e w newest long x last =
-        let i = within_stem xs p w in
+        let i = within_stem stems p w in
         let low : p.at < length stem.revisions =
         let same : length i.0.revisions ≡ length stem.revisions =
         ap (λ (z : Stem). length z.revisions) (same_Some i.0 stem (sym i.1 ∙ e)) in
@@ -299,28 +325,29 @@ module _ (xs : List Stem) (a : AreStems xs) where
         ∙ told_none (edits_in bs) legal x (chain_ends p.stem stem g e newest long p.at low x last))
 
     -- a walk goes on behind a chain
-    module _ (o after : Option Place) (p : Place) (is : o ≡ Some p) (w : IsWithin xs p)
-        (behind : (x : Revision) → last_in (chain_from (chains_of xs) (Some p)) ≡ Some x
-        → rev_at xs after ≡ behind_in x (edits_in bs)) where
-      pub walk_step : line_to (edits_in bs) (rev_at xs o)
-          ≡ chain_from (chains_of xs) (Some p) ++ line_to (edits_in bs) (rev_at xs after)
+    module _ (o after : Option Place) (p : Place) (is : o ≡ Some p) (w : IsWithin stems p)
+        (behind : (x : Revision) → last_in (chain_from (chains_of stems) (Some p)) ≡ Some x
+        → rev_at stems after ≡ behind_in x (edits_in bs)) where
+      pub walk_step : line_to (edits_in bs) (rev_at stems o)
+          ≡ chain_from (chains_of stems) (Some p) ++ line_to (edits_in bs) (rev_at stems after)
       walk_step =
-          let r = within_rev xs p w in
-          ap (λ z. line_to (edits_in bs) (rev_at xs z)) is
+          let r = within_rev stems p w in
+          ap (λ z. line_to (edits_in bs) (rev_at stems z)) is
           ∙ ap (line_to (edits_in bs)) r.1
           ∙ place_line p r.0 r.1 after behind
 
       -- as long as the chain, and what is told behind it
-      pub walk_long : length (line_to (edits_in bs) (rev_at xs o))
-          ≡ length (chain_from (chains_of xs) (Some p)) + length (line_to (edits_in bs) (rev_at xs after))
+      pub walk_long : length (line_to (edits_in bs) (rev_at stems o))
+          ≡ length (chain_from (chains_of stems) (Some p)) + length
+          (line_to (edits_in bs) (rev_at stems after))
       walk_long =
           ap length walk_step
-          ∙ length-append (chain_from (chains_of xs) (Some p)) (line_to (edits_in bs) (rev_at xs after))
+          ∙ length-append (chain_from (chains_of stems) (Some p)) (line_to (edits_in bs) (rev_at stems after))
 
-      pub walk_less : length (line_to (edits_in bs) (rev_at xs after))
-          < length (line_to (edits_in bs) (rev_at xs o))
+      pub walk_less : length (line_to (edits_in bs) (rev_at stems after))
+          < length (line_to (edits_in bs) (rev_at stems o))
       walk_less =
-          let r = within_rev xs p w in
-          let f = first_from xs p r.0 a r.1 in
-          let some : length (chain_from (chains_of xs) (Some p)) ≡ suc (length f.0) = ap length f.1 in
+          let r = within_rev stems p w in
+          let f = first_from stems p r.0 a r.1 in
+          let some : length (chain_from (chains_of stems) (Some p)) ≡ suc (length f.0) = ap length f.1 in
           omega (arith, some, walk_long)

@@ -14,6 +14,8 @@ same_key hash a b i j =
     ∙ sym j.number
 
 -- the key of what stands at a place
-pub key_there : (p : List Revision) (k : ℕ) (x r : Revision) (key : Option ℕ) → slice_get p k ≡ Some x
-    → HasKey x.hash key → slice_get p k ≡ Some r → HasKey r.hash key
-key_there p k x r key e has f = subst (λ (z : Revision). HasKey z.hash key) (same_Some x r (sym e ∙ f)) has
+pub key_there : (revisions : List Revision) (k : ℕ) (revision other : Revision) (key : Option ℕ)
+    → slice_get revisions k ≡ Some revision
+    → HasKey revision.hash key → slice_get revisions k ≡ Some other → HasKey other.hash key
+key_there revisions k revision other key e has f =
+    subst (λ (z : Revision). HasKey z.hash key) (same_Some revision other (sym e ∙ f)) has

@@ -20,12 +20,14 @@ abbrev one : Leaf → Winner
 one leaf = record { rev = leaf.rev; deleted = leaf.edit.deleted }
 
 -- the first of the leaves after one is put in its place
-placed_first : (l : Leaf) (ls : List Leaf) → winner_of (placed l ls) ≡ Some (better_of (one l) (winner_of ls))
-placed_first l [] = refl
-placed_first l (m ∷ ms) = from (comes_before l m)
+placed_first : (leaf : Leaf) (others : List Leaf)
+    → winner_of (placed leaf others) ≡ Some (better_of (one leaf) (winner_of others))
+placed_first leaf [] = refl
+placed_first leaf (other ∷ leaves) = from (comes_before leaf other)
   where
     from : (b : Bool)
-        → winner_of (if b then (l ∷ m ∷ ms) else (m ∷ placed l ms)) ≡ Some (if b then one l else one m)
+        → winner_of (if b then (leaf ∷ other ∷ leaves) else (other ∷ placed leaf leaves)) ≡ Some
+        (if b then one leaf else one other)
     from true = refl
     from false = refl
 
@@ -33,114 +35,127 @@ placed_first l (m ∷ ms) = from (comes_before l m)
 abbrev pub best_of : List Branch → List Branch → Option Winner
 best_of all some = winner_of (best_first (leaves_among (edits_in all) (edits_in some)))
 
-with_path : (es : List Edit) (e : Edit) (path : List Revision) (r : Revision) (ls : List Leaf)
-    → slice_get path 0 ≡ Some r → (b : Bool) → list_any (is_behind_head r) es ≡ b
-    → winner_of (best_first (with_leaf es e path ls))
-    ≡ (if b then winner_of (best_first ls)
-    else Some (better_of (record { rev = r; deleted = e.deleted }) (winner_of (best_first ls))))
-with_path es e [] r ls h b is = absurd (cc)
-with_path es e (x ∷ older) r ls h true is =
-    let t : list_any (is_behind_head x) es ≡ true =
-    subst (λ z. list_any (is_behind_head z) es ≡ true) (sym (same_Some x r h)) is in
+with_path : (edits : List Edit) (edit : Edit) (path : List Revision) (revision : Revision)
+    (leaves : List Leaf)
+    → slice_get path 0 ≡ Some revision → (b : Bool) → list_any (is_behind_head revision) edits ≡ b
+    → winner_of (best_first (with_leaf edits edit path leaves))
+    ≡ (if b then winner_of (best_first leaves)
+    else Some (better_of (record { rev = revision; deleted = edit.deleted }) (winner_of (best_first leaves))))
+with_path edits edit [] revision leaves h b is = absurd (cc)
+with_path edits edit (other ∷ older) revision leaves h true is =
+    let t : list_any (is_behind_head other) edits ≡ true =
+    subst (λ z. list_any (is_behind_head z) edits ≡ true) (sym (same_Some other revision h)) is in
     rw t refl
-with_path es e (x ∷ older) r ls h false is =
-    let t : list_any (is_behind_head x) es ≡ false =
-    subst (λ z. list_any (is_behind_head z) es ≡ false) (sym (same_Some x r h)) is in
+with_path edits edit (other ∷ older) revision leaves h false is =
+    let t : list_any (is_behind_head other) edits ≡ false =
+    subst (λ z. list_any (is_behind_head z) edits ≡ false) (sym (same_Some other revision h)) is in
     rw t
-    (placed_first (record { rev = x; edit = e }) (best_first ls)
-    ∙ ap (λ z. Some (better_of (record { rev = z; deleted = e.deleted }) (winner_of (best_first ls))))
-    (same_Some x r h))
+    (placed_first (record { rev = other; edit = edit }) (best_first leaves)
+    ∙ ap (λ z. Some (better_of (record { rev = z; deleted = edit.deleted }) (winner_of (best_first leaves))))
+    (same_Some other revision h))
 
-pub one_more : (all some : List Branch) (branch : Branch) (r : Revision) → slice_get branch.path 0 ≡ Some r
-    → (b : Bool) → list_any (λ c. is_behind_head r (edit_of c)) all ≡ b
+pub one_more : (all some : List Branch) (branch : Branch) (revision : Revision)
+    → slice_get branch.path 0 ≡ Some revision
+    → (b : Bool) → list_any (λ c. is_behind_head revision (edit_of c)) all ≡ b
     → best_of all (branch ∷ some)
     ≡ (if b then best_of all some
-    else Some (better_of (record { rev = r; deleted = branch.deleted }) (best_of all some)))
-one_more all some branch r h b is =
-    with_path (edits_in all) (edit_of branch) branch.path r (leaves_among (edits_in all) (edits_in some)) h b
-    (any_map (is_behind_head r) edit_of all ∙ is)
+    else Some (better_of (record { rev = revision; deleted = branch.deleted }) (best_of all some)))
+one_more all some branch revision h b is =
+    with_path (edits_in all) (edit_of branch) branch.path revision
+    (leaves_among (edits_in all) (edits_in some)) h b
+    (any_map (is_behind_head revision) edit_of all ∙ is)
 
 -- a head that is not above the best of the branches after it changes nothing
-pub passed_over : (all some : List Branch) (branch : Branch) (r : Revision) (best : Option Winner)
-    → slice_get branch.path 0 ≡ Some r → best_of all some ≡ best
-    → is_better_than (record { rev = r; deleted = branch.deleted }) best ≡ false
+pub passed_over : (all some : List Branch) (branch : Branch) (revision : Revision) (best : Option Winner)
+    → slice_get branch.path 0 ≡ Some revision → best_of all some ≡ best
+    → is_better_than (record { rev = revision; deleted = branch.deleted }) best ≡ false
     → best_of all (branch ∷ some) ≡ best
-passed_over all some branch r None h same low = absurd (cc)
-passed_over all some branch r (Some w) h same low =
-    one_more all some branch r h (list_any (λ c. is_behind_head r (edit_of c)) all) refl
-    ∙ from (list_any (λ c. is_behind_head r (edit_of c)) all)
+passed_over all some branch revision None h same low = absurd (cc)
+passed_over all some branch revision (Some winner) h same low =
+    one_more all some branch revision h (list_any (λ c. is_behind_head revision (edit_of c)) all) refl
+    ∙ from (list_any (λ c. is_behind_head revision (edit_of c)) all)
   where
-    kept : Some (better_of (record { rev = r; deleted = branch.deleted }) (best_of all some)) ≡ Some w
+    kept : Some (better_of (record { rev = revision; deleted = branch.deleted }) (best_of all some)) ≡ Some
+        winner
     kept = rw (same, low) refl
 
     from : (b : Bool)
         → (if b then best_of all some
-        else Some (better_of (record { rev = r; deleted = branch.deleted }) (best_of all some)))
-        ≡ Some w
+        else Some (better_of (record { rev = revision; deleted = branch.deleted }) (best_of all some)))
+        ≡ Some winner
     from true = same
     from false = kept
 
 -- and one that is, and stands behind none, is the best
-pub passed_by : (all some : List Branch) (branch : Branch) (r : Revision) (best : Option Winner)
-    → slice_get branch.path 0 ≡ Some r → list_any (λ c. is_behind_head r (edit_of c)) all ≡ false
-    → best_of all some ≡ best
-    → is_better_than (record { rev = r; deleted = branch.deleted }) best ≡ true
-    → best_of all (branch ∷ some) ≡ Some (record { rev = r; deleted = branch.deleted })
-passed_by all some branch r None h leaf same high = one_more all some branch r h false leaf ∙ rw same refl
-passed_by all some branch r (Some w) h leaf same high =
-    one_more all some branch r h false leaf ∙ rw (same, high) refl
+pub passed_by : (all some : List Branch) (branch : Branch) (revision : Revision) (best : Option Winner)
+    → slice_get branch.path 0 ≡ Some revision
+    → list_any (λ c. is_behind_head revision (edit_of c)) all ≡ false → best_of all some ≡ best
+    → is_better_than (record { rev = revision; deleted = branch.deleted }) best ≡ true
+    → best_of all (branch ∷ some) ≡ Some (record { rev = revision; deleted = branch.deleted })
+passed_by all some branch revision None h leaf same high =
+    one_more all some branch revision h false leaf ∙ rw same refl
+passed_by all some branch revision (Some winner) h leaf same high =
+    one_more all some branch revision h false leaf ∙ rw (same, high) refl
 
 -- the branches from one on that are leaves, in their order
 abbrev pub found_of : List Branch → List Branch → List Winner
 found_of all some = winners_of (leaves_among (edits_in all) (edits_in some))
 
-found_with : (es : List Edit) (e : Edit) (path : List Revision) (r : Revision) (ls : List Leaf)
-    → slice_get path 0 ≡ Some r → (b : Bool) → list_any (is_behind_head r) es ≡ b
-    → winners_of (with_leaf es e path ls)
-    ≡ (if b then winners_of ls else (record { rev = r; deleted = e.deleted } ∷ winners_of ls))
-found_with es e [] r ls h b is = absurd (cc)
-found_with es e (x ∷ older) r ls h true is =
-    let t : list_any (is_behind_head x) es ≡ true =
-    subst (λ z. list_any (is_behind_head z) es ≡ true) (sym (same_Some x r h)) is in
+found_with : (edits : List Edit) (edit : Edit) (path : List Revision) (revision : Revision)
+    (leaves : List Leaf)
+    → slice_get path 0 ≡ Some revision → (b : Bool) → list_any (is_behind_head revision) edits ≡ b
+    → winners_of (with_leaf edits edit path leaves)
+    ≡ (if b then winners_of leaves else
+    (record { rev = revision; deleted = edit.deleted } ∷ winners_of leaves))
+found_with edits edit [] revision leaves h b is = absurd (cc)
+found_with edits edit (other ∷ older) revision leaves h true is =
+    let t : list_any (is_behind_head other) edits ≡ true =
+    subst (λ z. list_any (is_behind_head z) edits ≡ true) (sym (same_Some other revision h)) is in
     rw t refl
-found_with es e (x ∷ older) r ls h false is =
-    let t : list_any (is_behind_head x) es ≡ false =
-    subst (λ z. list_any (is_behind_head z) es ≡ false) (sym (same_Some x r h)) is in
-    rw t (ap (λ (z : Revision). record { rev = z; deleted = e.deleted } ∷ winners_of ls) (same_Some x r h))
+found_with edits edit (other ∷ older) revision leaves h false is =
+    let t : list_any (is_behind_head other) edits ≡ false =
+    subst (λ z. list_any (is_behind_head z) edits ≡ false) (sym (same_Some other revision h)) is in
+    rw t (ap (λ (z : Revision). record { rev = z; deleted = edit.deleted } ∷ winners_of leaves)
+    (same_Some other revision h))
 
-found_more : (all some : List Branch) (branch : Branch) (r : Revision) → slice_get branch.path 0 ≡ Some r
-    → (b : Bool) → list_any (λ c. is_behind_head r (edit_of c)) all ≡ b
+found_more : (all some : List Branch) (branch : Branch) (revision : Revision)
+    → slice_get branch.path 0 ≡ Some revision
+    → (b : Bool) → list_any (λ c. is_behind_head revision (edit_of c)) all ≡ b
     → found_of all (branch ∷ some)
-    ≡ (if b then found_of all some else (record { rev = r; deleted = branch.deleted } ∷ found_of all some))
-found_more all some branch r h b is =
-    found_with (edits_in all) (edit_of branch) branch.path r (leaves_among (edits_in all) (edits_in some)) h b
-    (any_map (is_behind_head r) edit_of all ∙ is)
+    ≡ (if b then found_of all some else
+    (record { rev = revision; deleted = branch.deleted } ∷ found_of all some))
+found_more all some branch revision h b is =
+    found_with (edits_in all) (edit_of branch) branch.path revision
+    (leaves_among (edits_in all) (edits_in some)) h b
+    (any_map (is_behind_head revision) edit_of all ∙ is)
 
 -- the revisions of the leaves
-pub revs_of : (ls : List Leaf) → map (λ w. w.rev) (winners_of ls) ≡ revisions_of ls
+pub revs_of : (leaves : List Leaf) → map (λ w. w.rev) (winners_of leaves) ≡ revisions_of leaves
 revs_of [] = refl
-revs_of (l ∷ ls) = ap (λ rs. l.rev ∷ rs) (revs_of ls)
+revs_of (leaf ∷ leaves) = ap (λ rs. leaf.rev ∷ rs) (revs_of leaves)
 
 -- the branch of a number, with its head
 pub head_there : (all : List Branch) (k : ℕ) (leaf : Winner)
     → option_and_then head_in (slice_get all k) ≡ Some leaf
-    → (b : Branch) × (slice_get all k ≡ Some b) × (slice_get b.path 0 ≡ Some leaf.rev)
-    × (b.deleted ≡ leaf.deleted)
+    → (branch : Branch) × (slice_get all k ≡ Some branch) × (slice_get branch.path 0 ≡ Some leaf.rev)
+    × (branch.deleted ≡ leaf.deleted)
 head_there all k leaf h = from (slice_get all k) refl h
   where
-    first : (b : Branch) (r : Option Revision)
-        → option_map (λ z. record { rev = z; deleted = b.deleted }) r ≡ Some leaf
-        → (r ≡ Some leaf.rev) × (b.deleted ≡ leaf.deleted)
-    first b None q = absurd (cc)
-    first b (Some z) q =
-        let same : ◌≡◌ {A = Winner} (record { rev = z; deleted = b.deleted }) leaf = same_Some _ leaf q in
-        (ap (λ (w : Winner). Some w.rev) same, ap (λ (w : Winner). w.deleted) same)
+    first : (branch : Branch) (maybe_revision : Option Revision)
+        → option_map (λ z. record { rev = z; deleted = branch.deleted }) maybe_revision ≡ Some leaf
+        → (maybe_revision ≡ Some leaf.rev) × (branch.deleted ≡ leaf.deleted)
+    first branch None q = absurd (cc)
+    first branch (Some z) q =
+        let same : ◌≡◌ {A = Winner} (record { rev = z; deleted = branch.deleted }) leaf = same_Some _ leaf q
+        in
+        (ap (λ (winner : Winner). Some winner.rev) same, ap (λ (winner : Winner). winner.deleted) same)
 
-    from : (o : Option Branch) → slice_get all k ≡ o → option_and_then head_in o ≡ Some leaf
-        → (b : Branch) × (slice_get all k ≡ Some b) × (slice_get b.path 0 ≡ Some leaf.rev)
-        × (b.deleted ≡ leaf.deleted)
+    from : (maybe_branch : Option Branch) → slice_get all k ≡ maybe_branch
+        → option_and_then head_in maybe_branch ≡ Some leaf
+        → (branch : Branch) × (slice_get all k ≡ Some branch) × (slice_get branch.path 0 ≡ Some leaf.rev)
+        × (branch.deleted ≡ leaf.deleted)
     from None e q = absurd (cc)
-    from (Some b) e q = let f = first b (slice_get b.path 0) q in (b, e, f.0, f.1)
+    from (Some branch) e q = let f = first branch (slice_get branch.path 0) q in (branch, e, f.0, f.1)
 
 -- before the newest there is no best leaf, and no edit has the number behind the last
 pub none_yet : (all : List Branch) (from number : ℕ) → from ≡ length all → number ≡ length all
@@ -153,8 +168,8 @@ none_yet all from number end past = (
 -- going through the branches from the newest
 module _ (all : List Branch) (at : ℕ) (leaf : Winner) (some : 0 < at)
     (head : option_and_then head_in (slice_get all (at - 1)) ≡ Some leaf) where
-  abbrev here : (b : Branch) × (slice_get all (at - 1) ≡ Some b) × (slice_get b.path 0 ≡ Some leaf.rev)
-      × (b.deleted ≡ leaf.deleted)
+  abbrev here : (branch : Branch) × (slice_get all (at - 1) ≡ Some branch)
+      × (slice_get branch.path 0 ≡ Some leaf.rev) × (branch.deleted ≡ leaf.deleted)
   here = head_there all (at - 1) leaf head
 
   one_left : drop (at - 1) all ≡ here.0 ∷ drop at all
@@ -187,18 +202,18 @@ module _ (all : List Branch) (at : ℕ) (leaf : Winner) (some : 0 < at)
       (ap (λ w. is_better_than w best) as_leaf ∙ high)
       ∙ ap Some as_leaf
 
-  pub found_behind : (ws : List Winner) → ws ≡ reverse (found_of all (drop at all))
+  pub found_behind : (winners : List Winner) → winners ≡ reverse (found_of all (drop at all))
       → list_any (λ c. is_behind_head leaf.rev (edit_of c)) all ≡ true
-      → ws ≡ reverse (found_of all (drop (at - 1) all))
-  found_behind ws same behind =
+      → winners ≡ reverse (found_of all (drop (at - 1) all))
+  found_behind winners same behind =
       same
       ∙ ap reverse
       (sym (ap (found_of all) one_left ∙ found_more all (drop at all) here.0 leaf.rev here.2 true behind))
 
-  pub found_taken : (ws : List Winner) → ws ≡ reverse (found_of all (drop at all))
+  pub found_taken : (winners : List Winner) → winners ≡ reverse (found_of all (drop at all))
       → list_any (λ c. is_behind_head leaf.rev (edit_of c)) all ≡ false
-      → ws ++ leaf ∷ [] ≡ reverse (found_of all (drop (at - 1) all))
-  found_taken ws same leads =
+      → winners ++ leaf ∷ [] ≡ reverse (found_of all (drop (at - 1) all))
+  found_taken winners same leads =
       ap (λ z. z ++ leaf ∷ []) same
       ∙ sym (ap reverse
       (ap (found_of all) one_left

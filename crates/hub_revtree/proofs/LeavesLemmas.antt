@@ -19,10 +19,11 @@ use Rattle.hub_revtree.specs.Winner.{winners_of}
 
 -- how leaves stand, the best first
 abbrev pub rank : Winner → Winner → Ordering
-rank w v = leaf_cmp v.deleted v.rev w.deleted w.rev
+rank winner other = leaf_cmp other.deleted other.rev winner.deleted winner.rev
 
 abbrev as_leaf : Winner → Leaf
-as_leaf w = record { rev = w.rev; edit = record { id = []; path = []; deleted = w.deleted; body = [] } }
+as_leaf winner =
+    record { rev = winner.rev; edit = record { id = []; path = []; deleted = winner.deleted; body = [] } }
 
 abbrev one : Leaf → Winner
 one leaf = record { rev = leaf.rev; deleted = leaf.edit.deleted }
@@ -30,168 +31,194 @@ one leaf = record { rev = leaf.rev; deleted = leaf.edit.deleted }
 rank_total : IsTotalOrder rank
 rank_total = back_total (on_total as_leaf order_total)
 
-marks_equal : (d : Bool) (r : Revision) (e : Bool) (s : Revision) → leaf_cmp d r e s ≡ Equal → d ≡ e
-marks_equal true r true s h = refl
-marks_equal true r false s h = absurd (cc)
-marks_equal false r true s h = absurd (cc)
-marks_equal false r false s h = refl
+marks_equal : (d : Bool) (revision : Revision) (e : Bool) (other : Revision)
+    → leaf_cmp d revision e other ≡ Equal → d ≡ e
+marks_equal true revision true other h = refl
+marks_equal true revision false other h = absurd (cc)
+marks_equal false revision true other h = absurd (cc)
+marks_equal false revision false other h = refl
 
-exact : (w v : Winner) → rank w v ≡ Equal → w ≡ v
-exact w v h =
-    ap₂ (λ (r : Revision) (d : Bool). record { rev = r; deleted = d })
-    (sym (leaf_equal v.deleted v.rev w.deleted w.rev h)) (sym (marks_equal v.deleted v.rev w.deleted w.rev h))
+exact : (winner other : Winner) → rank winner other ≡ Equal → winner ≡ other
+exact winner other h =
+    ap₂ (λ (revision : Revision) (d : Bool). record { rev = revision; deleted = d })
+    (sym (leaf_equal other.deleted other.rev winner.deleted winner.rev h))
+    (sym (marks_equal other.deleted other.rev winner.deleted winner.rev h))
 
 -- a leaf that is below none of these
 abbrev UpTo : Winner → List Winner → Type 0
-UpTo x [] = Unit {0}
-UpTo x (y ∷ ys) = (is_gt (rank x y) ≡ false) × UpTo x ys
+UpTo other [] = Unit {0}
+UpTo other (winner ∷ winners) = (is_gt (rank other winner) ≡ false) × UpTo other winners
 
 -- each leaf is below none that comes later
 abbrev Rises : List Winner → Type 0
 Rises [] = Unit {0}
-Rises (x ∷ xs) = UpTo x xs × Rises xs
+Rises (winner ∷ winners) = UpTo winner winners × Rises winners
 
 -- the other way round
-turned : (x y : Winner) → rank x y ≡ ordering_reverse (rank y x)
+turned : (winner other : Winner) → rank winner other ≡ ordering_reverse (rank other winner)
 turned = rank_total.antisymm
 
-not_gt : (o p : Ordering) → p ≡ ordering_reverse o → is_gt o ≡ true → is_gt p ≡ false
-not_gt Less p e t = absurd (cc)
-not_gt Equal p e t = absurd (cc)
-not_gt Greater p e t = rw e refl
+not_gt : (other ordering : Ordering) → ordering ≡ ordering_reverse other → is_gt other ≡ true
+    → is_gt ordering ≡ false
+not_gt Less ordering e t = absurd (cc)
+not_gt Equal ordering e t = absurd (cc)
+not_gt Greater ordering e t = rw e refl
 
-not_lt : (o p : Ordering) → p ≡ ordering_reverse o → is_lt o ≡ false → is_gt p ≡ false
-not_lt Less p e t = absurd (cc)
-not_lt Equal p e t = rw e refl
-not_lt Greater p e t = rw e refl
+not_lt : (other ordering : Ordering) → ordering ≡ ordering_reverse other → is_lt other ≡ false
+    → is_gt ordering ≡ false
+not_lt Less ordering e t = absurd (cc)
+not_lt Equal ordering e t = rw e refl
+not_lt Greater ordering e t = rw e refl
 
-tied : (o p : Ordering) → p ≡ ordering_reverse o → is_gt o ≡ false → is_gt p ≡ false → o ≡ Equal
-tied Less p e t u = absurd (clash (sym (ap is_gt e) ∙ u))
+tied : (other ordering : Ordering) → ordering ≡ ordering_reverse other → is_gt other ≡ false
+    → is_gt ordering ≡ false → other ≡ Equal
+tied Less ordering e t u = absurd (clash (sym (ap is_gt e) ∙ u))
   where
     clash : true ≡ false → ⊥
     clash e = cc
-tied Equal p e t u = refl
-tied Greater p e t u = absurd (cc)
+tied Equal ordering e t u = refl
+tied Greater ordering e t u = absurd (cc)
 
 -- ---- what is put in its place keeps the order and the leaves
 
-up_to_more : (x y : Winner) (ys : List Winner) → is_gt (rank x y) ≡ false → UpTo y ys → UpTo x ys
-up_to_more x y [] l u = tt
-up_to_more x y (z ∷ zs) l u = (upto rank_total x y z l u.0, up_to_more x y zs l u.1)
+up_to_more : (x winner : Winner) (others : List Winner) → is_gt (rank x winner) ≡ false → UpTo winner others
+    → UpTo x others
+up_to_more x winner [] l u = tt
+up_to_more x winner (other ∷ winners) l u =
+    (upto rank_total x winner other l u.0, up_to_more x winner winners l u.1)
 
-put_up_to : (x : Winner) (l : Leaf) (ms : List Leaf) → is_gt (rank x (one l)) ≡ false → UpTo x (winners_of ms)
-    → UpTo x (winners_of (placed l ms))
-put_up_to x l [] low u = (low, tt)
-put_up_to x l (m ∷ ms) low u = elim (cases_Bool (comes_before l m)) [
+put_up_to : (winner : Winner) (other : Leaf) (leaves : List Leaf) → is_gt (rank winner (one other)) ≡ false
+    → UpTo winner (winners_of leaves) → UpTo winner (winners_of (placed other leaves))
+put_up_to winner other [] low u = (low, tt)
+put_up_to winner other (leaf ∷ leaves) low u = elim (cases_Bool (comes_before other leaf)) [
   | inl t ↦ rw t (low, u)
-  | inr f ↦ rw f (u.0, put_up_to x l ms low u.1)
+  | inr f ↦ rw f (u.0, put_up_to winner other leaves low u.1)
 ]
 
-put_rises : (l : Leaf) (ms : List Leaf) → Rises (winners_of ms) → Rises (winners_of (placed l ms))
-put_rises l [] r = (tt, tt)
-put_rises l (m ∷ ms) r = elim (cases_Bool (comes_before l m)) [
+put_rises : (other : Leaf) (leaves : List Leaf) → Rises (winners_of leaves)
+    → Rises (winners_of (placed other leaves))
+put_rises other [] r = (tt, tt)
+put_rises other (leaf ∷ leaves) r = elim (cases_Bool (comes_before other leaf)) [
   | inl t ↦
-      let low : is_gt (rank (one l) (one m)) ≡ false =
-      not_gt (rank (one m) (one l)) (rank (one l) (one m)) (turned (one l) (one m)) t in
-      rw t ((low, up_to_more (one l) (one m) (winners_of ms) low r.0), r)
-  | inr f ↦ rw f (put_up_to (one m) l ms f r.0, put_rises l ms r.1)
+      let low : is_gt (rank (one other) (one leaf)) ≡ false =
+      not_gt (rank (one leaf) (one other)) (rank (one other) (one leaf)) (turned (one other) (one leaf)) t in
+      rw t ((low, up_to_more (one other) (one leaf) (winners_of leaves) low r.0), r)
+  | inr f ↦ rw f (put_up_to (one leaf) other leaves f r.0, put_rises other leaves r.1)
 ]
 
-best_rises : (ls : List Leaf) → Rises (winners_of (best_first ls))
+best_rises : (leaves : List Leaf) → Rises (winners_of (best_first leaves))
 best_rises [] = tt
-best_rises (l ∷ ls) = put_rises l (best_first ls) (best_rises ls)
+best_rises (leaf ∷ leaves) = put_rises leaf (best_first leaves) (best_rises leaves)
 
-put_sum : (f : Winner → ℕ) (l : Leaf) (ms : List Leaf)
-    → sum_by f (winners_of (placed l ms)) ≡ f (one l) + sum_by f (winners_of ms)
-put_sum f l [] = sum_by-cons f (one l) []
-put_sum f l (m ∷ ms) = elim (cases_Bool (comes_before l m)) [
-  | inl t ↦ rw t (sum_by-cons f (one l) (winners_of (m ∷ ms)))
+put_sum : (f : Winner → ℕ) (other : Leaf) (leaves : List Leaf)
+    → sum_by f (winners_of (placed other leaves)) ≡ f (one other) + sum_by f (winners_of leaves)
+put_sum f other [] = sum_by-cons f (one other) []
+put_sum f other (leaf ∷ leaves) = elim (cases_Bool (comes_before other leaf)) [
+  | inl t ↦ rw t (sum_by-cons f (one other) (winners_of (leaf ∷ leaves)))
   | inr g ↦
       rw g
       (omega (
         arith,
-        sum_by-cons f (one m) (winners_of (placed l ms)),
-        put_sum f l ms,
-        sum_by-cons f (one m) (winners_of ms),
+        sum_by-cons f (one leaf) (winners_of (placed other leaves)),
+        put_sum f other leaves,
+        sum_by-cons f (one leaf) (winners_of leaves),
       ))
 ]
 
-best_sum : (f : Winner → ℕ) (ls : List Leaf)
-    → sum_by f (winners_of (best_first ls)) ≡ sum_by f (winners_of ls)
+best_sum : (f : Winner → ℕ) (leaves : List Leaf)
+    → sum_by f (winners_of (best_first leaves)) ≡ sum_by f (winners_of leaves)
 best_sum f [] = refl
-best_sum f (l ∷ ls) =
-    omega (arith, put_sum f l (best_first ls), best_sum f ls, sum_by-cons f (one l) (winners_of ls))
+best_sum f (leaf ∷ leaves) =
+    omega (
+      arith,
+      put_sum f leaf (best_first leaves),
+      best_sum f leaves,
+      sum_by-cons f (one leaf) (winners_of leaves),
+    )
 
 -- ---- two rising lists of the same leaves are one
 
--- one for each leaf above x
+-- one for each leaf above winner
 abbrev below : Winner → Winner → ℕ
-below x y = cond (is_gt (rank x y)) 1 0
+below winner other = cond (is_gt (rank winner other)) 1 0
 
-none_below : (x : Winner) (ys : List Winner) → UpTo x ys → sum_by (below x) ys ≡ 0
-none_below x [] u = refl
-none_below x (y ∷ ys) u =
-    let here : below x y ≡ 0 = rw u.0 refl in
-    omega (arith, sum_by-cons (below x) y ys, here, none_below x ys u.1)
+none_below : (other : Winner) (winners : List Winner) → UpTo other winners → sum_by (below other) winners ≡ 0
+none_below other [] u = refl
+none_below other (winner ∷ winners) u =
+    let here : below other winner ≡ 0 = rw u.0 refl in
+    omega (arith, sum_by-cons (below other) winner winners, here, none_below other winners u.1)
 
-first_up_to : (x : Winner) (xs : List Winner) (y : Winner) (ys : List Winner) → UpTo x xs
-    → sum_by (below x) (x ∷ xs) ≡ sum_by (below x) (y ∷ ys) → is_gt (rank x y) ≡ false
-first_up_to x xs y ys u same =
-    let here : below x x ≡ 0 = rw (tied_itself rank_total x) refl in
-    let there : below x y ≡ 0 =
-    omega (arith, here, sum_by-cons (below x) x xs, none_below x xs u, same, sum_by-cons (below x) y ys) in
-    elim (cases_Bool (is_gt (rank x y))) [
+first_up_to : (winner : Winner) (winners : List Winner) (other : Winner) (others : List Winner)
+    → UpTo winner winners
+    → sum_by (below winner) (winner ∷ winners) ≡ sum_by (below winner) (other ∷ others)
+    → is_gt (rank winner other) ≡ false
+first_up_to winner winners other others u same =
+    let here : below winner winner ≡ 0 = rw (tied_itself rank_total winner) refl in
+    let there : below winner other ≡ 0 =
+    omega (
+      arith,
+      here,
+      sum_by-cons (below winner) winner winners,
+      none_below winner winners u,
+      same,
+      sum_by-cons (below winner) other others,
+    ) in
+    elim (cases_Bool (is_gt (rank winner other))) [
       | inl t ↦ absurd (omega (arith, rw t at there))
       | inr f ↦ f
     ]
 
-one_rises : (xs ys : List Winner) → Rises xs → Rises ys → ((f : Winner → ℕ) → sum_by f xs ≡ sum_by f ys)
-    → xs ≡ ys
+one_rises : (others winners : List Winner) → Rises others → Rises winners
+    → ((f : Winner → ℕ) → sum_by f others ≡ sum_by f winners) → others ≡ winners
 one_rises [] [] r s same = refl
-one_rises [] (y ∷ ys) r s same = absurd (omega (arith, same (λ _. 1), sum_by-cons (λ _. 1) y ys))
-one_rises (x ∷ xs) [] r s same = absurd (omega (arith, same (λ _. 1), sum_by-cons (λ _. 1) x xs))
-one_rises (x ∷ xs) (y ∷ ys) r s same =
-    let low = first_up_to x xs y ys r.0 (same (below x)) in
-    let high = first_up_to y ys x xs s.0 (sym (same (below y))) in
-    let first : x ≡ y = exact x y (tied (rank x y) (rank y x) (turned y x) low high) in
-    let rest : xs ≡ ys =
-    one_rises xs ys r.1 s.1
-    (λ f. omega (arith, same f, sum_by-cons f x xs, sum_by-cons f y ys, ap f first)) in
+one_rises [] (winner ∷ winners) r s same =
+    absurd (omega (arith, same (λ _. 1), sum_by-cons (λ _. 1) winner winners))
+one_rises (other ∷ others) [] r s same =
+    absurd (omega (arith, same (λ _. 1), sum_by-cons (λ _. 1) other others))
+one_rises (other ∷ others) (winner ∷ winners) r s same =
+    let low = first_up_to other others winner winners r.0 (same (below other)) in
+    let high = first_up_to winner winners other others s.0 (sym (same (below winner))) in
+    let first : other ≡ winner = exact other winner
+    (tied (rank other winner) (rank winner other) (turned winner other) low high) in
+    let rest : others ≡ winners =
+    one_rises others winners r.1 s.1
+    (λ f. omega (arith, same f, sum_by-cons f other others, sum_by-cons f winner winners, ap f first)) in
     ap₂ (λ (z : Winner) (zs : List Winner). z ∷ zs) first rest
 
 -- ---- sorted leaves
 
-sorted_up_to : (x : Winner) (ys : List Winner) → All (λ y. is_lt (rank y x) ≡ false) ys → UpTo x ys
-sorted_up_to x [] all = tt
-sorted_up_to x (y ∷ ys) all = (
-  not_lt (rank y x) (rank x y) (turned x y) (all 0 y (omega arith)),
-  sorted_up_to x ys (All-tail (λ y. is_lt (rank y x) ≡ false) y ys all),
+sorted_up_to : (other : Winner) (winners : List Winner)
+    → All (λ winner. is_lt (rank winner other) ≡ false) winners → UpTo other winners
+sorted_up_to other [] all = tt
+sorted_up_to other (winner ∷ winners) all = (
+  not_lt (rank winner other) (rank other winner) (turned other winner) (all 0 winner (omega arith)),
+  sorted_up_to other winners (All-tail (λ winner. is_lt (rank winner other) ≡ false) winner winners all),
 )
 
-sorted_rises : (xs : List Winner)
-    → ((i j : ℕ) (d : Winner) → i ≤ j → j < length xs → is_lt (rank (get_or xs j d) (get_or xs i d)) ≡ false)
-    → Rises xs
+sorted_rises : (winners : List Winner)
+    → ((i j : ℕ) (other : Winner) → i ≤ j → j < length winners
+    → is_lt (rank (get_or winners j other) (get_or winners i other)) ≡ false) → Rises winners
 sorted_rises [] far = tt
-sorted_rises (x ∷ xs) far = (
-  sorted_up_to x xs (λ k d l. far 0 (suc k) d (omega arith) (omega arith)),
-  sorted_rises xs (λ i j d l m. far (suc i) (suc j) d (omega arith) (omega arith)),
+sorted_rises (winner ∷ winners) far = (
+  sorted_up_to winner winners (λ k other l. far 0 (suc k) other (omega arith) (omega arith)),
+  sorted_rises winners (λ i j other l m. far (suc i) (suc j) other (omega arith) (omega arith)),
 )
 
 -- the test that a sort of leaves is by
 abbrev pub is_before : Winner → Winner → Bool
-is_before w v = is_lt (rank w v)
+is_before winner other = is_lt (rank winner other)
 
 pub is_order : IsStrictWeakOrder is_before
-is_order = ranks_by rank_total (λ (w : Winner). w)
+is_order = ranks_by rank_total (λ (winner : Winner). winner)
 
 -- sorted leaves that were found from the newest on are the leaves, best first
-pub sorted_is : (ls : List Leaf) (ws vs : List Winner) → ws ≡ reverse (winners_of ls) → IsPermutation ws vs
-    → IsSortedBy is_before vs → vs ≡ winners_of (best_first ls)
-sorted_is ls ws vs is same sorted =
-    one_rises vs (winners_of (best_first ls))
-    (sorted_rises vs (sorted_far is_before is_order vs sorted)) (best_rises ls)
-    (λ f. sum_by-IsPermutation f ws vs same
+pub sorted_is : (leaves : List Leaf) (winners others : List Winner) → winners ≡ reverse (winners_of leaves)
+    → IsPermutation winners others → IsSortedBy is_before others → others ≡ winners_of (best_first leaves)
+sorted_is leaves winners others is same sorted =
+    one_rises others (winners_of (best_first leaves))
+    (sorted_rises others (sorted_far is_before is_order others sorted)) (best_rises leaves)
+    (λ f. sum_by-IsPermutation f winners others same
     ∙ (ap (sum_by f) is
-    ∙ (sum_by-IsPermutation f (winners_of ls) (reverse (winners_of ls))
-    (IsPermutation-reverse (winners_of ls))
-    ∙ sym (best_sum f ls))))
+    ∙ (sum_by-IsPermutation f (winners_of leaves) (reverse (winners_of leaves))
+    (IsPermutation-reverse (winners_of leaves))
+    ∙ sym (best_sum f leaves))))

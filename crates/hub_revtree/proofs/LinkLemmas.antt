@@ -26,251 +26,281 @@ no_some t = absurd (cc)
 
 -- ---- a revision stands at one place of a path
 
-fallen : (x : Revision) (p : List Revision) (at : ℕ) (r : Revision) → Falls x p
-    → slice_get (x ∷ p) at ≡ Some r → r.generation + at ≡ x.generation
-fallen x p zero r f e =
-    let g : x.generation ≡ r.generation = ap (λ (z : Revision). z.generation) (same_Some x r e) in
+fallen : (revision : Revision) (revisions : List Revision) (at : ℕ) (other : Revision)
+    → Falls revision revisions
+    → slice_get (revision ∷ revisions) at ≡ Some other → other.generation + at ≡ revision.generation
+fallen revision revisions zero other f e =
+    let g : revision.generation ≡ other.generation = ap (λ (z : Revision). z.generation)
+    (same_Some revision other e) in
     omega (arith, g)
-fallen x [] (suc at) r f e = absurd (cc)
-fallen x (y ∷ p) (suc at) r f e = let g = fallen y p at r f.1 e in omega (arith, g, f.0)
+fallen revision [] (suc at) other f e = absurd (cc)
+fallen revision (y ∷ revisions) (suc at) other f e =
+    let g = fallen y revisions at other f.1 e in omega (arith, g, f.0)
 
-pub one_place : (p : List Revision) (i j : ℕ) (r : Revision) → IsPath p → slice_get p i ≡ Some r
-    → slice_get p j ≡ Some r → i ≡ j
-one_place [] i j r f d e = absurd f
-one_place (x ∷ p) i j r f d e = omega (arith, fallen x p i r f d, fallen x p j r f e)
+pub one_place : (revisions : List Revision) (i j : ℕ) (revision : Revision) → IsPath revisions
+    → slice_get revisions i ≡ Some revision → slice_get revisions j ≡ Some revision → i ≡ j
+one_place [] i j revision f d e = absurd f
+one_place (other ∷ revisions) i j revision f d e =
+    omega (arith, fallen other revisions i revision f d, fallen other revisions j revision f e)
 
 -- ---- stems that go on
 
 -- what has one behind it goes on
-pub brought_goes : (xs : List Stem) → AreStems xs → (x r : Revision) → (b : IsBrought xs x r)
-    → GoesOn xs b.0 r
-brought_goes xs a x r b =
+pub brought_goes : (stems : List Stem) → AreStems stems → (revision other : Revision)
+    → (b : IsBrought stems revision other) → GoesOn stems b.0 other
+brought_goes stems a revision other b =
     let k = b.0 in
     let s = b.1 in
     let e = b.2 in
-    let i = there_has xs k r (brought_has xs x r b) in
-    let there : slice_get s.revisions i.0 ≡ Some r = rw e at i.1 in
+    let i = there_has stems k other (brought_has stems revision other b) in
+    let there : slice_get s.revisions i.0 ≡ Some other = rw e at i.1 in
     (s, i.0, e, there, from s.parent refl i.0 there)
   where
-    from : (o : Option Place) → b.1.parent ≡ o → (at : ℕ) → slice_get b.1.revisions at ≡ Some r
-        → (at + 1 < length b.1.revisions) ⊎ IsSome b.1.parent
+    from : (maybe_place : Option Place) → b.1.parent ≡ maybe_place → (at : ℕ)
+        → slice_get b.1.revisions at ≡ Some other → (at + 1 < length b.1.revisions) ⊎ IsSome b.1.parent
     from (Some p) q at there = inr (ap is_some q)
     from None q at there = elim (cases_Bool (nat_lt (at + 1) (length b.1.revisions))) [
       | inl t ↦ inl (ltb-true (at + 1) (length b.1.revisions) t)
       | inr t ↦
           absurd ((rw q
-          at (none_parent xs a b.0 b.1 b.2 r at there (ltb-false (at + 1) (length b.1.revisions) t)))
-          b.1 x b.2 b.3)
+          at (none_parent stems a b.0 b.1 b.2 other at there (ltb-false (at + 1) (length b.1.revisions) t)))
+          b.1 revision b.2 b.3)
     ]
 
 -- what goes on among the first stems does among all
-goes_whole : (xs : List Stem) (n k : ℕ) (x : Revision) → GoesOn (take n xs) k x → GoesOn xs k x
-goes_whole xs n k x (s, at, e, there, more) =
-    let low = taken_has xs n k x (rw e (any_at (is_same x) s.revisions at x there (same_self x))) in
-    (s, at, sym (get_taken n k xs low.0) ∙ e, there, more)
+goes_whole : (stems : List Stem) (n k : ℕ) (revision : Revision) → GoesOn (take n stems) k revision
+    → GoesOn stems k revision
+goes_whole stems n k revision (s, at, e, there, more) =
+    let low = taken_has stems n k revision
+    (rw e (any_at (is_same revision) s.revisions at revision there (same_self revision))) in
+    (s, at, sym (get_taken n k stems low.0) ∙ e, there, more)
 
-goes_taken : (xs : List Stem) (n k : ℕ) (x : Revision) → k < n → GoesOn xs k x → GoesOn (take n xs) k x
-goes_taken xs n k x low (s, at, e, there, more) = (s, at, get_taken n k xs low ∙ e, there, more)
+goes_taken : (stems : List Stem) (n k : ℕ) (revision : Revision) → k < n → GoesOn stems k revision
+    → GoesOn (take n stems) k revision
+goes_taken stems n k revision low (s, at, e, there, more) = (s, at, get_taken n k stems low ∙ e, there, more)
 
-first_whole : (xs : List Stem) (n k : ℕ) (x : Revision) → IsFirstWith (Has (take n xs)) k x
-    → IsFirstWith (Has xs) k x
-first_whole xs n k x w =
-    let i = taken_has xs n k x w.0 in
-    (i.1, λ j low h. w.1 j low (has_taken xs n j x (omega (arith, low, i.0)) h))
+first_whole : (stems : List Stem) (n k : ℕ) (revision : Revision)
+    → IsFirstWith (Has (take n stems)) k revision → IsFirstWith (Has stems) k revision
+first_whole stems n k revision w =
+    let i = taken_has stems n k revision w.0 in
+    (i.1, λ j low h. w.1 j low (has_taken stems n j revision (omega (arith, low, i.0)) h))
 
 -- ---- links of one stem more
 
-pub link_start : (xs : List Stem) (n : ℕ) (link : Revision → Option ℕ)
-    → AreLinked (Has (take n xs)) (take n xs) link → AreLinked (HasTo xs n 0) xs link
-link_start xs n link l = record {
-  links = λ m x q. goes_whole xs n m x (l.links m x q);
+pub link_start : (stems : List Stem) (n : ℕ) (link : Revision → Option ℕ)
+    → AreLinked (Has (take n stems)) (take n stems) link → AreLinked (HasTo stems n 0) stems link
+link_start stems n link l = record {
+  links = λ m x q. goes_whole stems n m x (l.links m x q);
   linked = λ k x h g.
-      let i = none_to xs n k x h in
-      elim (l.linked k x (has_taken xs n k x i.0 i.1) (goes_taken xs n k x i.0 g)) [
-        | inl w ↦ inl (w.0, first_whole xs n w.0 x w.1, goes_whole xs n w.0 x w.2)
+      let i = none_to stems n k x h in
+      elim (l.linked k x (has_taken stems n k x i.0 i.1) (goes_taken stems n k x i.0 g)) [
+        | inl w ↦ inl (w.0, first_whole stems n w.0 x w.1, goes_whole stems n w.0 x w.2)
         | inr w ↦ inr w
       ];
 }
 
-pub link_end : (xs : List Stem) (n most : ℕ) (link : Revision → Option ℕ) → length xs ≡ n + 1
-    → length (revisions_at xs n) ≤ most → AreLinked (HasTo xs n most) xs link → AreLinked (Has xs) xs link
-link_end xs n most link long past l = record {
+pub link_end : (stems : List Stem) (n most : ℕ) (link : Revision → Option ℕ) → length stems ≡ n + 1
+    → length (revisions_at stems n) ≤ most → AreLinked (HasTo stems n most) stems link
+    → AreLinked (Has stems) stems link
+link_end stems n most link long past l = record {
   links = l.links;
-  linked = λ k x h g. l.linked k x (all_to xs n most k x long past h) g;
+  linked = λ k x h g. l.linked k x (all_to stems n most k x long past h) g;
 }
 
 -- a stem that joins none needs no links
-pub link_fresh : (xs : List Stem) → AreStems xs → (n : ℕ) (s : Stem) (link : Revision → Option ℕ)
-    → length xs ≡ n + 1 → slice_get xs n ≡ Some s → s.joins ≡ false → AreLinked (HasTo xs n 0) xs link
-    → AreLinked (Has xs) xs link
-link_fresh xs a n s link long e joins l = record {
+pub link_fresh : (stems : List Stem) → AreStems stems → (n : ℕ) (stem : Stem) (link : Revision → Option ℕ)
+    → length stems ≡ n + 1 → slice_get stems n ≡ Some stem → stem.joins ≡ false
+    → AreLinked (HasTo stems n 0) stems link → AreLinked (Has stems) stems link
+link_fresh stems a n stem link long e joins l = record {
   links = l.links;
   linked = λ k x h g. elim (cases_Bool (nat_eq k n)) [
     | inl t ↦
         let same = eqb-true k n t in
-        let own : Has xs n x = subst (λ j. Has xs j x) same h in
-        let none : has_revision (take n xs) x ≡ false =
-        none_of (has_revision (take n xs)) s.revisions x (a.fresh n s e joins) (rw e at own) in
+        let own : Has stems n x = subst (λ j. Has stems j x) same h in
+        let none : has_revision (take n stems) x ≡ false =
+        none_of (has_revision (take n stems)) stem.revisions x (a.fresh n stem e joins) (rw e at own) in
         inl (
           k,
           (
             h,
             λ j low i.
-                both_ways _ none (has_any (take n xs) j x (has_taken xs n j x (omega (arith, low, same)) i)),
+                both_ways _ none (has_any (take n stems) j x
+                (has_taken stems n j x (omega (arith, low, same)) i)),
           ),
           g,
         )
-    | inr t ↦ l.linked k x (inl (below_last k n (length xs) long t (has_low xs k x h), h)) g
+    | inr t ↦ l.linked k x (inl (below_last k n (length stems) long t (has_low stems k x h), h)) g
   ];
 }
 
 -- a revision comes in
-module _ (xs : List Stem) (n at : ℕ) (r : Revision) (there : slice_get (revisions_at xs n) at ≡ Some r)
-    (link more : Revision → Option ℕ) (l : AreLinked (HasTo xs n at) xs link) where
-  pub link_more : ((x : Revision) (m : ℕ) → link x ≡ Some m → more x ≡ Some m)
-      → ((x : Revision) (m : ℕ) → more x ≡ Some m → (link x ≡ Some m) ⊎ ((m ≡ n) × (x ≡ r) × GoesOn xs n r))
-      → (GoesOn xs n r → ((first : ℕ) × IsFirstWith (Has xs) first r × GoesOn xs first r) ⊎ IsSome (more r))
-      → AreLinked (HasTo xs n (at + 1)) xs more
+module _ (stems : List Stem) (n at : ℕ) (revision : Revision)
+    (there : slice_get (revisions_at stems n) at ≡ Some revision)
+    (link more : Revision → Option ℕ) (l : AreLinked (HasTo stems n at) stems link) where
+  pub link_more : ((other : Revision) (m : ℕ) → link other ≡ Some m → more other ≡ Some m)
+      → ((other : Revision) (m : ℕ) → more other ≡ Some m → (link other ≡ Some m)
+      ⊎ ((m ≡ n) × (other ≡ revision) × GoesOn stems n revision))
+      → (GoesOn stems n revision
+      → ((first : ℕ) × IsFirstWith (Has stems) first revision × GoesOn stems first revision)
+      ⊎ IsSome (more revision)) → AreLinked (HasTo stems n (at + 1)) stems more
   link_more keeps new own = record {
-    links = λ m x q. elim (new x m q) [
-      | inl i ↦ l.links m x i
-      | inr i ↦ subst (λ (z : Revision). GoesOn xs m z) (sym i.1) (subst (λ j. GoesOn xs j r) (sym i.0) i.2)
+    links = λ m other q. elim (new other m q) [
+      | inl i ↦ l.links m other i
+      | inr i ↦ subst (λ (z : Revision). GoesOn stems m z) (sym i.1)
+          (subst (λ j. GoesOn stems j revision) (sym i.0) i.2)
     ];
-    linked = λ k x h g. elim ((one_to xs n at r there).narrow k x h) [
-      | inl i ↦ elim (l.linked k x i g) [
+    linked = λ k other h g. elim ((one_to stems n at revision there).narrow k other h) [
+      | inl i ↦ elim (l.linked k other i g) [
         | inl w ↦ inl w
-        | inr w ↦ inr (still x (link x) refl w)
+        | inr w ↦ inr (still other (link other) refl w)
       ]
       | inr i ↦
-          let goes = subst (λ j. GoesOn xs j r) i.0 (subst (λ (z : Revision). GoesOn xs k z) i.1 g) in
+          let goes = subst (λ j. GoesOn stems j revision) i.0
+          (subst (λ (z : Revision). GoesOn stems k z) i.1 g) in
           subst (λ (z : Revision).
-          ((first : ℕ) × IsFirstWith (Has xs) first z × GoesOn xs first z) ⊎ IsSome (more z))
+          ((first : ℕ) × IsFirstWith (Has stems) first z × GoesOn stems first z) ⊎ IsSome (more z))
           (sym i.1) (own goes)
     ];
   }
     where
-      still : (x : Revision) (o : Option ℕ) → link x ≡ o → IsSome (link x) → IsSome (more x)
-      still x None e t = absurd (no_some (rw e at t))
-      still x (Some m) e t = ap is_some (keeps x m e)
+      still : (other : Revision) (o : Option ℕ) → link other ≡ o → IsSome (link other) → IsSome (more other)
+      still other None e t = absurd (no_some (rw e at t))
+      still other (Some m) e t = ap is_some (keeps other m e)
 
-  pub link_same : ((x : Revision) → more x ≡ link x)
-      → (GoesOn xs n r → ((first : ℕ) × IsFirstWith (Has xs) first r × GoesOn xs first r))
-      → AreLinked (HasTo xs n (at + 1)) xs more
-  link_same same own = link_more (λ x m q. same x ∙ q) (λ x m q. inl (sym (same x) ∙ q)) (λ g. inl (own g))
+  pub link_same : ((other : Revision) → more other ≡ link other)
+      → (GoesOn stems n revision
+      → ((first : ℕ) × IsFirstWith (Has stems) first revision × GoesOn stems first revision))
+      → AreLinked (HasTo stems n (at + 1)) stems more
+  link_same same own =
+      link_more (λ other m q. same other ∙ q) (λ other m q. inl (sym (same other) ∙ q)) (λ g. inl (own g))
 
-  pub link_put : ((x : Revision) → more x ≡ first_put (eq_by_cmp revision_cmp) link r n x) → GoesOn xs n r
-      → AreLinked (HasTo xs n (at + 1)) xs more
+  pub link_put : ((other : Revision) → more other ≡ first_put (eq_by_cmp revision_cmp) link revision n other)
+      → GoesOn stems n revision → AreLinked (HasTo stems n (at + 1)) stems more
   link_put put g =
-      link_more (put_keeps (eq_by_cmp revision_cmp) exact_revisions link more r n put) new (λ h.
-      inr (ap is_some (put_own (eq_by_cmp revision_cmp) exact_revisions link more r n put (level_self r))))
+      link_more (put_keeps (eq_by_cmp revision_cmp) exact_revisions link more revision n put) new (λ h.
+      inr (ap is_some (put_own (eq_by_cmp revision_cmp) exact_revisions link more revision n put
+      (level_self revision))))
     where
-      new : (x : Revision) (m : ℕ) → more x ≡ Some m → (link x ≡ Some m) ⊎ ((m ≡ n) × (x ≡ r) × GoesOn xs n r)
-      new x m q = elim (put_new (eq_by_cmp revision_cmp) exact_revisions link more r n put x m q) [
-        | inl i ↦ inl i
-        | inr i ↦ inr (i.0, sym i.1, g)
-      ]
+      new : (other : Revision) (m : ℕ) → more other ≡ Some m → (link other ≡ Some m)
+          ⊎ ((m ≡ n) × (other ≡ revision) × GoesOn stems n revision)
+      new other m q =
+          elim (put_new (eq_by_cmp revision_cmp) exact_revisions link more revision n put other m q) [
+            | inl i ↦ inl i
+            | inr i ↦ inr (i.0, sym i.1, g)
+          ]
 
 -- ---- what a look finds
 
 -- a revision that heads a stem heads the first one that has it
-module _ (xs : List Stem) (a : AreStems xs) (r : Revision) where
-  head_first : (k : ℕ) (s : Stem) → slice_get xs k ≡ Some s → is_first r s.revisions ≡ true
-      → IsFirstWith (Has xs) k r
-  head_first k s e first =
-      let none = a.newest k s r e (first_there 0 s.revisions r first) in (
-        rw e (first_named s.revisions r first),
-        λ j low h. both_ways _ none (has_any (take k xs) j r (has_taken xs k j r low h)),
+module _ (stems : List Stem) (a : AreStems stems) (revision : Revision) where
+  head_first : (k : ℕ) (stem : Stem) → slice_get stems k ≡ Some stem → is_first revision stem.revisions ≡ true
+      → IsFirstWith (Has stems) k revision
+  head_first k stem e first =
+      let none = a.newest k stem revision e (first_there 0 stem.revisions revision first) in (
+        rw e (first_named stem.revisions revision first),
+        λ j low h. both_ways _ none (has_any (take k stems) j revision (has_taken stems k j revision low h)),
       )
 
-  no_heads : ((k : ℕ) (s : Stem) → slice_get xs k ≡ Some s → is_first r s.revisions ≡ true → ⊥)
-      → None ≡ find (λ z. is_first r z.revisions) xs
+  no_heads : ((k : ℕ) (stem : Stem) → slice_get stems k ≡ Some stem → is_first revision stem.revisions ≡ true
+      → ⊥) → None ≡ find (λ other. is_first revision other.revisions) stems
   no_heads none =
-      none_found (λ (z : Stem). is_first r z.revisions) xs
-      (elim (cases_Bool (list_any (λ (z : Stem). is_first r z.revisions) xs)) [
+      none_found (λ (other : Stem). is_first revision other.revisions) stems
+      (elim (cases_Bool (list_any (λ (other : Stem). is_first revision other.revisions) stems)) [
         | inl t ↦
-            let i = any_place (λ (z : Stem). is_first r z.revisions) xs t in absurd (none i.0 i.1 i.2 i.3)
+            let i = any_place (λ (other : Stem). is_first revision other.revisions) stems t in
+            absurd (none i.0 i.1 i.2 i.3)
         | inr t ↦ t
       ])
 
-  pub heads_nothing : has_revision xs r ≡ false → None ≡ find (λ z. is_first r z.revisions) xs
+  pub heads_nothing : has_revision stems revision ≡ false
+      → None ≡ find (λ z. is_first revision z.revisions) stems
   heads_nothing absent =
-      no_heads (λ k s e first. both_ways _ absent (has_any xs k r (head_first k s e first).0))
+      no_heads (λ k s e first. both_ways _ absent (has_any stems k revision (head_first k s e first).0))
 
-  pub heads_inner : (place : Place) → IsFirstPlace xs r place → ¬ (place.at ≡ 0)
-      → None ≡ find (λ z. is_first r z.revisions) xs
+  pub heads_inner : (place : Place) → IsFirstPlace stems revision place → ¬ (place.at ≡ 0)
+      → None ≡ find (λ z. is_first revision z.revisions) stems
   heads_inner place w inner = no_heads (λ k s e first.
-      let same : k ≡ place.stem = first_same (Has xs) k place.stem r (head_first k s e first) w.1 in
-      let there : slice_get s.revisions place.at ≡ Some r =
+      let same : k ≡ place.stem = first_same (Has stems) k place.stem revision (head_first k s e first) w.1 in
+      let there : slice_get s.revisions place.at ≡ Some revision =
       ap (λ o. slice_get (revisions_in o) place.at) (sym e)
-      ∙ (ap (λ j. slice_get (revisions_at xs j) place.at) same ∙ w.0) in
-      inner (one_place s.revisions place.at 0 r (a.falling k s e) there (first_there 0 s.revisions r first)))
+      ∙ (ap (λ j. slice_get (revisions_at stems j) place.at) same ∙ w.0) in
+      inner (one_place s.revisions place.at 0 revision (a.falling k s e) there
+      (first_there 0 s.revisions revision first)))
 
-  pub heads_there : (place : Place) (s : Stem) → IsFirstPlace xs r place → place.at ≡ 0
-      → slice_get xs place.stem ≡ Some s → Some s ≡ find (λ z. is_first r z.revisions) xs
-  heads_there place s w head e =
-      let there : slice_get s.revisions 0 ≡ Some r =
+  pub heads_there : (place : Place) (stem : Stem) → IsFirstPlace stems revision place → place.at ≡ 0
+      → slice_get stems place.stem ≡ Some stem
+      → Some stem ≡ find (λ other. is_first revision other.revisions) stems
+  heads_there place stem w head e =
+      let there : slice_get stem.revisions 0 ≡ Some revision =
       ap (λ o. slice_get (revisions_in o) 0) (sym e)
-      ∙ (ap (slice_get (revisions_at xs place.stem)) (sym head) ∙ w.0) in
-      head_found xs a r place.stem s e (first_is s.revisions there)
+      ∙ (ap (slice_get (revisions_at stems place.stem)) (sym head) ∙ w.0) in
+      head_found stems a revision place.stem stem e (first_is stem.revisions there)
     where
-      first_is : (p : List Revision) → slice_get p 0 ≡ Some r → is_first r p ≡ true
+      first_is : (revisions : List Revision) → slice_get revisions 0 ≡ Some revision
+          → is_first revision revisions ≡ true
       first_is [] e = absurd (cc)
-      first_is (x ∷ p) e = subst (λ (z : Revision). is_same r z ≡ true) (sym (same_Some x r e)) (same_self r)
+      first_is (x ∷ revisions) e =
+          subst (λ (other : Revision). is_same revision other ≡ true) (sym (same_Some x revision e))
+          (same_self revision)
 
   -- nothing stands behind what no stem has, nor behind what ends in its first stem and has no link
-  pub nothing_behind : has_revision xs r ≡ false → (x : Revision) → ¬ IsBrought xs x r
-  nothing_behind absent x b = both_ways _ absent (has_any xs b.0 r (brought_has xs x r b))
+  pub nothing_behind : has_revision stems revision ≡ false → (other : Revision)
+      → ¬ IsBrought stems other revision
+  nothing_behind absent other b =
+      both_ways _ absent (has_any stems b.0 revision (brought_has stems other revision b))
 
-  pub nothing_linked : (link : Revision → Option ℕ) (first : ℕ) → AreLinked (Has xs) xs link
-      → IsFirstWith (Has xs) first r → ¬ GoesOn xs first r → link r ≡ None → (x : Revision)
-      → ¬ IsBrought xs x r
-  nothing_linked link first l w ends none x b =
-      elim (l.linked b.0 r (brought_has xs x r b) (brought_goes xs a x r b)) [
-        | inl i ↦ ends (subst (λ j. GoesOn xs j r) (first_same (Has xs) i.0 first r i.1 w) i.2)
+  pub nothing_linked : (link : Revision → Option ℕ) (first : ℕ) → AreLinked (Has stems) stems link
+      → IsFirstWith (Has stems) first revision → ¬ GoesOn stems first revision → link revision ≡ None
+      → (other : Revision) → ¬ IsBrought stems other revision
+  nothing_linked link first l w ends none other b =
+      elim (l.linked b.0 revision (brought_has stems other revision b)
+      (brought_goes stems a other revision b)) [
+        | inl i ↦ ends (subst (λ j. GoesOn stems j revision)
+            (first_same (Has stems) i.0 first revision i.1 w) i.2)
         | inr i ↦ no_some (rw none at i)
       ]
 
 -- a link leads to a stem that goes on
-pub link_low : (xs : List Stem) (k : ℕ) (x : Revision) → GoesOn xs k x → k < length xs
-link_low xs k x g = slice_get_within xs k g.0 g.2
+pub link_low : (stems : List Stem) (k : ℕ) (revision : Revision) → GoesOn stems k revision → k < length stems
+link_low stems k revision g = slice_get_within stems k g.0 g.2
 
 -- what a stem that has a revision at a place shows
-module _ (xs : List Stem) (a : AreStems xs) (k : ℕ) (s : Stem)
-    (e : slice_get xs k ≡ Some s) (x : Revision) where
-  pub goes_absent : names s.revisions x ≡ false → ¬ GoesOn xs k x
+module _ (stems : List Stem) (a : AreStems stems) (k : ℕ) (stem : Stem)
+    (e : slice_get stems k ≡ Some stem) (revision : Revision) where
+  pub goes_absent : names stem.revisions revision ≡ false → ¬ GoesOn stems k revision
   goes_absent f g =
       both_ways _ f
-      (subst (λ (z : Stem). names z.revisions x ≡ true) (same_Some g.0 s (sym g.2 ∙ e))
-      (any_at (is_same x) g.0.revisions g.1 x g.3 (same_self x)))
+      (subst (λ (other : Stem). names other.revisions revision ≡ true) (same_Some g.0 stem (sym g.2 ∙ e))
+      (any_at (is_same revision) g.0.revisions g.1 revision g.3 (same_self revision)))
 
-  module _ (at : ℕ) (here : slice_get s.revisions at ≡ Some x) where
-    pub goes_inner : at + 1 < length s.revisions → GoesOn xs k x
-    goes_inner low = (s, at, e, here, inl low)
+  module _ (at : ℕ) (here : slice_get stem.revisions at ≡ Some revision) where
+    pub goes_inner : at + 1 < length stem.revisions → GoesOn stems k revision
+    goes_inner low = (stem, at, e, here, inl low)
 
-    pub goes_parent : IfSome s.parent (λ _. GoesOn xs k x)
-    goes_parent = from s.parent refl
+    pub goes_parent : IfSome stem.parent (λ _. GoesOn stems k revision)
+    goes_parent = from stem.parent refl
       where
-        from : (o : Option Place) → s.parent ≡ o → IfSome o (λ _. GoesOn xs k x)
+        from : (o : Option Place) → stem.parent ≡ o → IfSome o (λ _. GoesOn stems k revision)
         from None q = tt
-        from (Some p) q = (s, at, e, here, inr (ap is_some q))
+        from (Some p) q = (stem, at, e, here, inr (ap is_some q))
 
-    pub ends_parent : length s.revisions ≤ at + 1 → IfNone s.parent (¬ GoesOn xs k x)
-    ends_parent past = from s.parent refl
+    pub ends_parent : length stem.revisions ≤ at + 1 → IfNone stem.parent (¬ GoesOn stems k revision)
+    ends_parent past = from stem.parent refl
       where
-        ends : s.parent ≡ None → ¬ GoesOn xs k x
+        ends : stem.parent ≡ None → ¬ GoesOn stems k revision
         ends q g =
-            let same : g.0 ≡ s = same_Some g.0 s (sym g.2 ∙ e) in
+            let same : g.0 ≡ stem = same_Some g.0 stem (sym g.2 ∙ e) in
             let one : g.1 ≡ at =
-            one_place s.revisions g.1 at x (a.falling k s e)
-            (subst (λ (z : Stem). slice_get z.revisions g.1 ≡ Some x) same g.3) here in
-            let more : (g.1 + 1 < length s.revisions) ⊎ IsSome s.parent =
+            one_place stem.revisions g.1 at revision (a.falling k stem e)
+            (subst (λ (z : Stem). slice_get z.revisions g.1 ≡ Some revision) same g.3) here in
+            let more : (g.1 + 1 < length stem.revisions) ⊎ IsSome stem.parent =
             subst (λ (z : Stem). (g.1 + 1 < length z.revisions) ⊎ IsSome z.parent) same g.4 in
             elim more [
               | inl low ↦ absurd (omega (arith, low, one, past))
               | inr some ↦ no_some (rw q at some)
             ]
 
-        from : (o : Option Place) → s.parent ≡ o → IfNone o (¬ GoesOn xs k x)
+        from : (o : Option Place) → stem.parent ≡ o → IfNone o (¬ GoesOn stems k revision)
         from None q = ends q
         from (Some p) q = tt
 

@@ -35,34 +35,38 @@ use Rattle.hub_revtree.proofs.StemLooks.{behind_in, first_named, first_there, he
 
 -- ---- what is noted changes nothing else
 
-revs_plain : (xs : List Stem) (k : ℕ) → revisions_at (map plain xs) k ≡ revisions_at xs k
+revs_plain : (stems : List Stem) (k : ℕ) → revisions_at (map plain stems) k ≡ revisions_at stems k
 revs_plain [] k = refl
-revs_plain (x ∷ xs) zero = refl
-revs_plain (x ∷ xs) (suc k) = revs_plain xs k
+revs_plain (stem ∷ stems) zero = refl
+revs_plain (stem ∷ stems) (suc k) = revs_plain stems k
 
-chains_plain : (cs : List Chain) (xs : List Stem) → chains_after cs (map plain xs) ≡ chains_after cs xs
-chains_plain cs [] = refl
-chains_plain cs (x ∷ xs) = chains_plain (cs ++ chain_of cs x ∷ []) xs
+chains_plain : (chains : List Chain) (stems : List Stem)
+    → chains_after chains (map plain stems) ≡ chains_after chains stems
+chains_plain chains [] = refl
+chains_plain chains (stem ∷ stems) = chains_plain (chains ++ chain_of chains stem ∷ []) stems
 
-has_plain : (xs : List Stem) (r : Revision) → has_revision (map plain xs) r ≡ has_revision xs r
-has_plain [] r = refl
-has_plain (x ∷ xs) r = ap (λ b. names x.revisions r || b) (has_plain xs r)
+has_plain : (stems : List Stem) (revision : Revision)
+    → has_revision (map plain stems) revision ≡ has_revision stems revision
+has_plain [] revision = refl
+has_plain (stem ∷ stems) revision = ap (λ b. names stem.revisions revision || b) (has_plain stems revision)
 
 heads_of : {A : Type 0} (x y : A) (xs ys : List A) → x ∷ xs ≡ y ∷ ys → (x ≡ y) × (xs ≡ ys)
 heads_of x y xs ys e = (cc, cc)
 
-get_plain : (xs ys : List Stem) → map plain xs ≡ map plain ys → (k : ℕ) (t : Stem) → slice_get ys k ≡ Some t
-    → (s : Stem) × (slice_get xs k ≡ Some s) × (plain s ≡ plain t)
+get_plain : (others stems : List Stem) → map plain others ≡ map plain stems → (k : ℕ) (t : Stem)
+    → slice_get stems k ≡ Some t → (s : Stem) × (slice_get others k ≡ Some s) × (plain s ≡ plain t)
 get_plain [] [] same k t e = absurd (cc)
-get_plain [] (y ∷ ys) same k t e = absurd (cc)
-get_plain (x ∷ xs) [] same k t e = absurd (cc)
-get_plain (x ∷ xs) (y ∷ ys) same zero t e = (
-  x,
+get_plain [] (stem ∷ stems) same k t e = absurd (cc)
+get_plain (other ∷ others) [] same k t e = absurd (cc)
+get_plain (other ∷ others) (stem ∷ stems) same zero t e = (
+  other,
   refl,
-  (heads_of (plain x) (plain y) (map plain xs) (map plain ys) same).0 ∙ ap plain (same_Some y t e),
+  (heads_of (plain other) (plain stem) (map plain others) (map plain stems) same).0
+      ∙ ap plain (same_Some stem t e),
 )
-get_plain (x ∷ xs) (y ∷ ys) same (suc k) t e =
-    get_plain xs ys (heads_of (plain x) (plain y) (map plain xs) (map plain ys) same).1 k t e
+get_plain (other ∷ others) (stem ∷ stems) same (suc k) t e =
+    get_plain others stems (heads_of (plain other) (plain stem) (map plain others) (map plain stems) same).1 k
+    t e
 
 any_same : {A : Type 0} (P Q : A → Bool) → ((x : A) → P x ≡ Q x) → (xs : List A)
     → list_any P xs ≡ list_any Q xs
@@ -76,170 +80,186 @@ any_alike P Q (x ∷ xs) h =
     ap (λ b. b || list_any P xs) (h zero x refl)
     ∙ ap (λ b. Q x || b) (any_alike P Q xs (λ k y e. h (suc k) y e))
 
-module _ (xs ys : List Stem) (same : map plain xs ≡ map plain ys) where
-  pub revs_same : (k : ℕ) → revisions_at xs k ≡ revisions_at ys k
-  revs_same k = sym (revs_plain xs k) ∙ (ap (λ z. revisions_at z k) same ∙ revs_plain ys k)
+module _ (stems others : List Stem) (same : map plain stems ≡ map plain others) where
+  pub revs_same : (k : ℕ) → revisions_at stems k ≡ revisions_at others k
+  revs_same k = sym (revs_plain stems k) ∙ (ap (λ z. revisions_at z k) same ∙ revs_plain others k)
 
-  pub chains_same : chains_of xs ≡ chains_of ys
-  chains_same = sym (chains_plain [] xs) ∙ (ap chains_of same ∙ chains_plain [] ys)
+  pub chains_same : chains_of stems ≡ chains_of others
+  chains_same = sym (chains_plain [] stems) ∙ (ap chains_of same ∙ chains_plain [] others)
 
-  pub branches_same : branches_of xs ≡ branches_of ys
+  pub branches_same : branches_of stems ≡ branches_of others
   branches_same = ap (map branch_of) chains_same
 
-  pub has_same : (r : Revision) → has_revision xs r ≡ has_revision ys r
-  has_same r = sym (has_plain xs r) ∙ (ap (λ z. has_revision z r) same ∙ has_plain ys r)
+  pub has_same : (revision : Revision) → has_revision stems revision ≡ has_revision others revision
+  has_same revision =
+      sym (has_plain stems revision) ∙ (ap (λ z. has_revision z revision) same ∙ has_plain others revision)
 
-  pub long_same : length xs ≡ length ys
-  long_same = sym (length-map xs plain) ∙ (ap (λ (z : List Stem). length z) same ∙ length-map ys plain)
+  pub long_same : length stems ≡ length others
+  long_same =
+      sym (length-map stems plain) ∙ (ap (λ (rest : List Stem). length rest) same ∙ length-map others plain)
 
-  taken_same : (k : ℕ) → map plain (take k xs) ≡ map plain (take k ys)
-  taken_same k = sym (take-map plain k xs) ∙ (ap (take k) same ∙ take-map plain k ys)
+  taken_same : (k : ℕ) → map plain (take k stems) ≡ map plain (take k others)
+  taken_same k = sym (take-map plain k stems) ∙ (ap (take k) same ∙ take-map plain k others)
 
-  at_same : (o : Option Place) → rev_at xs o ≡ rev_at ys o
+  at_same : (maybe_place : Option Place) → rev_at stems maybe_place ≡ rev_at others maybe_place
   at_same None = refl
-  at_same (Some p) = ap (λ q. slice_get q p.at) (revs_same p.stem)
+  at_same (Some place) = ap (λ q. slice_get q place.at) (revs_same place.stem)
 
-  pub is_at_same : (r : Revision) (o : Option Place) → is_at xs r o ≡ is_at ys r o
-  is_at_same r None = refl
-  is_at_same r (Some p) = ap (λ q. is_first r (drop p.at q)) (revs_same p.stem)
+  pub is_at_same : (revision : Revision) (maybe_place : Option Place)
+      → is_at stems revision maybe_place ≡ is_at others revision maybe_place
+  is_at_same revision None = refl
+  is_at_same revision (Some place) = ap (λ q. is_first revision (drop place.at q)) (revs_same place.stem)
 
-  pub within_same : (p : Place) → IsWithin xs p → IsWithin ys p
-  within_same p w = subst (λ q. p.at < length q) (revs_same p.stem) w
+  pub within_same : (place : Place) → IsWithin stems place → IsWithin others place
+  within_same place w = subst (λ q. place.at < length q) (revs_same place.stem) w
 
-  behind_plain : (r : Revision) (zs : List Stem)
-      → list_any (is_behind_newest xs r) (map plain zs) ≡ list_any (is_behind_newest ys r) zs
-  behind_plain r [] = refl
-  behind_plain r (z ∷ zs) =
-      ap (λ b. (names (drop 1 z.revisions) r || b) || list_any (is_behind_newest xs r) (map plain zs))
-      (is_at_same r z.parent)
-      ∙ ap (λ b. is_behind_newest ys r z || b) (behind_plain r zs)
+  behind_plain : (revision : Revision) (rest : List Stem)
+      → list_any (is_behind_newest stems revision) (map plain rest) ≡ list_any
+      (is_behind_newest others revision) rest
+  behind_plain revision [] = refl
+  behind_plain revision (stem ∷ rest) =
+      ap (λ b. (names (drop 1 stem.revisions) revision || b) || list_any (is_behind_newest stems revision)
+      (map plain rest))
+      (is_at_same revision stem.parent)
+      ∙ ap (λ b. is_behind_newest others revision stem || b) (behind_plain revision rest)
 
-pub all_within_same : (xs ys : List Stem) → map plain xs ≡ map plain ys → (o : Option Place)
-    → IfSome o (IsWithin xs) → IfSome o (IsWithin ys)
-all_within_same xs ys same None w = tt
-all_within_same xs ys same (Some p) w = within_same xs ys same p w
+pub all_within_same : (stems others : List Stem) → map plain stems ≡ map plain others
+    → (maybe_place : Option Place)
+    → IfSome maybe_place (IsWithin stems) → IfSome maybe_place (IsWithin others)
+all_within_same stems others same None w = tt
+all_within_same stems others same (Some place) w = within_same stems others same place w
 
-at_itself : (xs : List Stem) (r : Revision) (zs : List Stem)
-    → list_any (is_behind_newest xs r) (map plain zs) ≡ list_any (is_behind_newest xs r) zs
-at_itself xs r zs = behind_plain xs xs refl r zs
+at_itself : (stems : List Stem) (revision : Revision) (others : List Stem)
+    → list_any (is_behind_newest stems revision) (map plain others) ≡ list_any
+    (is_behind_newest stems revision) others
+at_itself stems revision others = behind_plain stems stems refl revision others
 
-pub inner_same : (xs ys : List Stem) → map plain xs ≡ map plain ys → (r : Revision)
-    → is_inner xs r ≡ is_inner ys r
-inner_same xs ys same r =
-    sym (at_itself xs r xs) ∙ (ap (list_any (is_behind_newest xs r)) same ∙ behind_plain xs ys same r ys)
+pub inner_same : (stems others : List Stem) → map plain stems ≡ map plain others → (revision : Revision)
+    → is_inner stems revision ≡ is_inner others revision
+inner_same stems others same revision =
+    sym (at_itself stems revision stems)
+    ∙ (ap (list_any (is_behind_newest stems revision)) same ∙ behind_plain stems others same revision others)
 
-pub stems_same : (xs ys : List Stem) → map plain xs ≡ map plain ys → AreStems xs → AreStems ys
-stems_same xs ys same a = record {
+pub stems_same : (stems others : List Stem) → map plain stems ≡ map plain others → AreStems stems
+    → AreStems others
+stems_same stems others same a = record {
   falling = λ k t e.
-      let i = get_plain xs ys same k t e in
-      subst (λ (z : Stem). IsPath z.revisions) i.2 (a.falling k i.0 i.1);
+      let i = get_plain stems others same k t e in
+      subst (λ (stem : Stem). IsPath stem.revisions) i.2 (a.falling k i.0 i.1);
   newest = λ k t r e h.
-      let i = get_plain xs ys same k t e in
-      sym (has_same (take k xs) (take k ys) (taken_same xs ys same k) r)
-      ∙ a.newest k i.0 r i.1 (ap (λ (z : Stem). slice_get z.revisions 0) i.2 ∙ h);
+      let i = get_plain stems others same k t e in
+      sym (has_same (take k stems) (take k others) (taken_same stems others same k) r)
+      ∙ a.newest k i.0 r i.1 (ap (λ (stem : Stem). slice_get stem.revisions 0) i.2 ∙ h);
   fresh = λ k t e j.
-      let i = get_plain xs ys same k t e in
-      sym (any_same (has_revision (take k xs)) (has_revision (take k ys))
-      (has_same (take k xs) (take k ys) (taken_same xs ys same k)) t.revisions)
-      ∙ (ap (λ (z : Stem). list_any (has_revision (take k xs)) z.revisions) (sym i.2)
-      ∙ a.fresh k i.0 i.1 (ap (λ (z : Stem). z.joins) i.2 ∙ j));
-  earlier = λ k t p e q.
-      let i = get_plain xs ys same k t e in
-      let b = a.earlier k i.0 p i.1 (ap (λ (z : Stem). z.parent) i.2 ∙ q) in
-      (b.0, within_same xs ys same p b.1);
-  lower = λ k t p r x e q h v.
-      let i = get_plain xs ys same k t e in
-      a.lower k i.0 p r x i.1 (ap (λ (z : Stem). z.parent) i.2 ∙ q)
-      (ap (λ (z : Stem). slice_get z.revisions 0) i.2 ∙ h) (at_same xs ys same (Some p) ∙ v);
+      let i = get_plain stems others same k t e in
+      sym (any_same (has_revision (take k stems)) (has_revision (take k others))
+      (has_same (take k stems) (take k others) (taken_same stems others same k)) t.revisions)
+      ∙ (ap (λ (stem : Stem). list_any (has_revision (take k stems)) stem.revisions) (sym i.2)
+      ∙ a.fresh k i.0 i.1 (ap (λ (stem : Stem). stem.joins) i.2 ∙ j));
+  earlier = λ k t place e q.
+      let i = get_plain stems others same k t e in
+      let b = a.earlier k i.0 place i.1 (ap (λ (stem : Stem). stem.parent) i.2 ∙ q) in
+      (b.0, within_same stems others same place b.1);
+  lower = λ k t place r x e q h v.
+      let i = get_plain stems others same k t e in
+      a.lower k i.0 place r x i.1 (ap (λ (stem : Stem). stem.parent) i.2 ∙ q)
+      (ap (λ (stem : Stem). slice_get stem.revisions 0) i.2 ∙ h) (at_same stems others same (Some place) ∙ v);
   counted = λ k t e.
-      let i = get_plain xs ys same k t e in
-      subst (λ (z : Stem). (length z.revisions ≤ z.count) × (z.count ≤ z.reach)
-      × ((p : Place) → z.parent ≡ Some p → length z.revisions < z.count))
+      let i = get_plain stems others same k t e in
+      subst (λ (stem : Stem). (length stem.revisions ≤ stem.count) × (stem.count ≤ stem.reach)
+      × ((place : Place) → stem.parent ≡ Some place → length stem.revisions < stem.count))
       i.2 (a.counted k i.0 i.1);
   reached = λ k t e.
-      let i = get_plain xs ys same k t e in
-      ap (λ (z : Stem). z.reach) (sym i.2)
-      ∙ (a.reached k i.0 i.1 ∙ ap (λ cs. length (whole_in (slice_get cs k))) (chains_same xs ys same));
+      let i = get_plain stems others same k t e in
+      ap (λ (stem : Stem). stem.reach) (sym i.2)
+      ∙ (a.reached k i.0 i.1 ∙ ap (λ cs. length (whole_in (slice_get cs k))) (chains_same stems others same));
 }
 
-pub up_to_same : (xs ys : List Stem) (highest : ℕ) → map plain xs ≡ map plain ys → AreUpTo xs highest
-    → AreUpTo ys highest
-up_to_same xs ys highest same up = record {
-  known = λ r t. up.known r (has_same xs ys same r ∙ t);
-  behind = λ r t. up.behind r (inner_same xs ys same r ∙ t);
+pub up_to_same : (stems others : List Stem) (highest : ℕ) → map plain stems ≡ map plain others
+    → AreUpTo stems highest → AreUpTo others highest
+up_to_same stems others highest same up = record {
+  known = λ r t. up.known r (has_same stems others same r ∙ t);
+  behind = λ r t. up.behind r (inner_same stems others same r ∙ t);
 }
 
-newest_same : (xs ys : List Stem) → map plain xs ≡ map plain ys → newest_rev xs ≡ newest_rev ys
-newest_same xs ys same =
-    ap (λ n. slice_get (revisions_at xs (n - 1)) 0) (long_same xs ys same)
-    ∙ ap (λ q. slice_get q 0) (revs_same xs ys same (length ys - 1))
+newest_same : (stems others : List Stem) → map plain stems ≡ map plain others
+    → newest_rev stems ≡ newest_rev others
+newest_same stems others same =
+    ap (λ n. slice_get (revisions_at stems (n - 1)) 0) (long_same stems others same)
+    ∙ ap (λ q. slice_get q 0) (revs_same stems others same (length others - 1))
 
-pub line_same : (xs ys : List Stem) (line : Option (List (List ℕ))) → map plain xs ≡ map plain ys
-    → IsNewestLine line xs → IsNewestLine line ys
-line_same xs ys None same h = tt
-line_same xs ys (Some l) same h =
+pub line_same : (stems others : List Stem) (line : Option (List (List ℕ)))
+    → map plain stems ≡ map plain others → IsNewestLine line stems → IsNewestLine line others
+line_same stems others None same h = tt
+line_same stems others (Some l) same h =
     h
-    ∙ ap₂ (λ (bs : List Branch) (o : Option Revision).
-    map (λ (r : Revision). r.hash) (line_to (edits_in bs) o))
-    (branches_same xs ys same) (newest_same xs ys same)
+    ∙ ap₂ (λ (branches : List Branch) (maybe_revision : Option Revision).
+    map (λ (revision : Revision). revision.hash) (line_to (edits_in branches) maybe_revision))
+    (branches_same stems others same) (newest_same stems others same)
 
-module _ (f g : ℕ → Revision → Type 0) (to : (n : ℕ) (r : Revision) → f n r → g n r)
-    (back : (n : ℕ) (r : Revision) → g n r → f n r) where
-  first_to : (n : ℕ) (r : Revision) → IsFirstWith f n r → IsFirstWith g n r
-  first_to n r first = (to n r first.0, λ earlier low has. first.1 earlier low (back earlier r has))
+module _ (f g : ℕ → Revision → Type 0) (to : (n : ℕ) (revision : Revision) → f n revision → g n revision)
+    (back : (n : ℕ) (revision : Revision) → g n revision → f n revision) where
+  first_to : (n : ℕ) (revision : Revision) → IsFirstWith f n revision → IsFirstWith g n revision
+  first_to n revision first =
+      (to n revision first.0, λ earlier low has. first.1 earlier low (back earlier revision has))
 
   told_to : (entry : ℕ → Option ℕ) (other : Revision → Option ℕ)
-      → ((n : ℕ) (r : Revision) → IsFirstWith g n r → IsFirstWith f n r)
+      → ((n : ℕ) (revision : Revision) → IsFirstWith g n revision → IsFirstWith f n revision)
       → AreTold f entry other → AreTold g entry other
   told_to entry other first_back t = record {
     entries = λ key n e. let i = t.entries key n e in (i.0, to n i.0 i.1, i.2);
-    keyed = λ n key r has k. t.keyed n key r (back n r has) k;
-    others = λ n r e. first_to n r (t.others n r e);
-    told = λ n r first. t.told n r (first_back n r first);
+    keyed = λ n key revision has k. t.keyed n key revision (back n revision has) k;
+    others = λ n revision e. first_to n revision (t.others n revision e);
+    told = λ n revision first. t.told n revision (first_back n revision first);
   }
 
-has_on : (xs ys : List Stem) → map plain xs ≡ map plain ys → (n : ℕ) (r : Revision) → Has xs n r → Has ys n r
-has_on xs ys same n r has = ap (λ q. names q r) (sym (revs_same xs ys same n)) ∙ has
+has_on : (stems others : List Stem) → map plain stems ≡ map plain others → (n : ℕ) (revision : Revision)
+    → Has stems n revision → Has others n revision
+has_on stems others same n revision has =
+    ap (λ q. names q revision) (sym (revs_same stems others same n)) ∙ has
 
-goes_on : (xs ys : List Stem) → map plain xs ≡ map plain ys → (n : ℕ) (r : Revision) → GoesOn xs n r
-    → GoesOn ys n r
-goes_on xs ys same n r g =
-    let i = get_plain ys xs (sym same) n g.0 g.2 in (
+goes_on : (stems others : List Stem) → map plain stems ≡ map plain others → (n : ℕ) (revision : Revision)
+    → GoesOn stems n revision → GoesOn others n revision
+goes_on stems others same n revision g =
+    let i = get_plain others stems (sym same) n g.0 g.2 in (
       i.0,
       g.1,
       i.1,
-      ap (λ (z : Stem). slice_get z.revisions g.1) i.2 ∙ g.3,
-      subst (λ (z : Stem). (g.1 + 1 < length z.revisions) ⊎ IsSome z.parent) (sym i.2) g.4,
+      ap (λ (stem : Stem). slice_get stem.revisions g.1) i.2 ∙ g.3,
+      subst (λ (stem : Stem). (g.1 + 1 < length stem.revisions) ⊎ IsSome stem.parent) (sym i.2) g.4,
     )
 
-linked_same : (xs ys : List Stem) (link : Revision → Option ℕ) → map plain xs ≡ map plain ys
-    → AreLinked (Has xs) xs link → AreLinked (Has ys) ys link
-linked_same xs ys link same l = record {
-  links = λ n r e. goes_on xs ys same n r (l.links n r e);
+linked_same : (stems others : List Stem) (link : Revision → Option ℕ) → map plain stems ≡ map plain others
+    → AreLinked (Has stems) stems link → AreLinked (Has others) others link
+linked_same stems others link same l = record {
+  links = λ n r e. goes_on stems others same n r (l.links n r e);
   linked =
-      λ n r has g. elim (l.linked n r (has_on ys xs (sym same) n r has) (goes_on ys xs (sym same) n r g)) [
+      λ n r has g. elim (l.linked n r (has_on others stems (sym same) n r has)
+      (goes_on others stems (sym same) n r g)) [
         | inl i ↦ inl (
           i.0,
-          first_to (Has xs) (Has ys) (has_on xs ys same) (has_on ys xs (sym same)) i.0 r i.1,
-          goes_on xs ys same i.0 r i.2,
+          first_to (Has stems) (Has others) (has_on stems others same)
+              (has_on others stems (sym same)) i.0 r i.1,
+          goes_on stems others same i.0 r i.2,
         )
         | inr i ↦ inr i
       ];
 }
 
-index_same : (index : Index) (xs ys : List Stem) → map plain xs ≡ map plain ys → IsIndex index xs
-    → IsIndex index ys
-index_same index xs ys same i = (
-  told_to (Has xs) (Has ys) (has_on xs ys same) (has_on ys xs (sym same)) (entry_in index) (other_in index)
-      (first_to (Has ys) (Has xs) (has_on ys xs (sym same)) (has_on xs ys same)) i.0,
-  linked_same xs ys (link_in index) same i.1,
+index_same : (index : Index) (stems others : List Stem) → map plain stems ≡ map plain others
+    → IsIndex index stems → IsIndex index others
+index_same index stems others same i = (
+  told_to (Has stems) (Has others) (has_on stems others same) (has_on others stems (sym same))
+      (entry_in index) (other_in index)
+      (first_to (Has others) (Has stems) (has_on others stems (sym same)) (has_on stems others same)) i.0,
+  linked_same stems others (link_in index) same i.1,
 )
 
-pub indexed_same : (xs ys : List Stem) (index : Option Index) → map plain xs ≡ map plain ys
-    → IsIndexed index xs → IsIndexed index ys
-indexed_same xs ys None same i = tt
-indexed_same xs ys (Some index) same i =
-    (index_same index xs ys same i.0, line_same xs ys index.line same i.1)
+pub indexed_same : (stems others : List Stem) (index : Option Index) → map plain stems ≡ map plain others
+    → IsIndexed index stems → IsIndexed index others
+indexed_same stems others None same i = tt
+indexed_same stems others (Some index) same i =
+    (index_same index stems others same i.0, line_same stems others index.line same i.1)
 
 -- ---- the notes
 
@@ -265,173 +285,197 @@ get_set_other (x ∷ xs) (suc k) v zero n = refl
 get_set_other (x ∷ xs) (suc k) v (suc j) n = get_set_other xs k v j (λ e. n (ap suc e))
 
 -- the mark alone is set
-pub set_plain : (xs : List Stem) (k : ℕ) (s : Stem) → slice_get xs k ≡ Some s
-    → map plain (slice_set xs k (with_note true s)) ≡ map plain xs
-set_plain [] k s e = absurd (cc)
-set_plain (x ∷ xs) zero s e = ap (λ z. plain z ∷ map plain xs) (sym (same_Some x s e))
-set_plain (x ∷ xs) (suc k) s e = ap (λ z. plain x ∷ z) (set_plain xs k s e)
+pub set_plain : (stems : List Stem) (k : ℕ) (other : Stem) → slice_get stems k ≡ Some other
+    → map plain (slice_set stems k (with_note true other)) ≡ map plain stems
+set_plain [] k other e = absurd (cc)
+set_plain (stem ∷ stems) zero other e = ap (λ z. plain z ∷ map plain stems) (sym (same_Some stem other e))
+set_plain (stem ∷ stems) (suc k) other e = ap (λ z. plain stem ∷ z) (set_plain stems k other e)
 
-pub first_test : (p : List Revision) (n : ℕ) (x r : Revision) → slice_get p n ≡ Some x
-    → is_first r (drop n p) ≡ is_same r x
-first_test p n x r e = ap (is_first r) (dropped_one p n x e)
+pub first_test : (revisions : List Revision) (n : ℕ) (revision other : Revision)
+    → slice_get revisions n ≡ Some revision → is_first other (drop n revisions) ≡ is_same other revision
+first_test revisions n revision other e = ap (is_first other) (dropped_one revisions n revision e)
 
 -- two stems do not have one newest revision
-earlier_head : (xs : List Stem) → AreStems xs → (j k : ℕ) (s t : Stem) (r : Revision) → j < k
-    → slice_get xs j ≡ Some s → slice_get xs k ≡ Some t → slice_get s.revisions 0 ≡ Some r
-    → slice_get t.revisions 0 ≡ Some r → ⊥
-earlier_head xs a j k s t r low e f h i =
-    let first : is_first r s.revisions ≡ true = first_test s.revisions 0 r r h ∙ same_self r in
-    absurd (both_ways _ (a.newest k t r f i)
-    (any_at (λ (z : Stem). names z.revisions r) (take k xs) j s (get_taken k j xs low ∙ e)
-    (first_named s.revisions r first)))
+earlier_head : (stems : List Stem) → AreStems stems → (j k : ℕ) (stem other : Stem) (revision : Revision)
+    → j < k
+    → slice_get stems j ≡ Some stem → slice_get stems k ≡ Some other
+    → slice_get stem.revisions 0 ≡ Some revision → slice_get other.revisions 0 ≡ Some revision → ⊥
+earlier_head stems a j k stem other revision low e f h i =
+    let first : is_first revision stem.revisions ≡ true = first_test stem.revisions 0 revision revision h
+    ∙ same_self revision in
+    absurd (both_ways _ (a.newest k other revision f i)
+    (any_at (λ (z : Stem). names z.revisions revision) (take k stems) j stem (get_taken k j stems low ∙ e)
+    (first_named stem.revisions revision first)))
 
-one_head : (xs : List Stem) → AreStems xs → (j k : ℕ) (s t : Stem) (r : Revision) → j ≢ k
-    → slice_get xs j ≡ Some s → slice_get xs k ≡ Some t → slice_get s.revisions 0 ≡ Some r
-    → slice_get t.revisions 0 ≡ Some r → ⊥
-one_head xs a j k s t r n e f h i = elim (cases_Bool (nat_lt j k)) [
-  | inl u ↦ earlier_head xs a j k s t r (ltb-true j k u) e f h i
+one_head : (stems : List Stem) → AreStems stems → (j k : ℕ) (stem t : Stem) (revision : Revision) → j ≢ k
+    → slice_get stems j ≡ Some stem → slice_get stems k ≡ Some t → slice_get stem.revisions 0 ≡ Some revision
+    → slice_get t.revisions 0 ≡ Some revision → ⊥
+one_head stems a j k stem t revision n e f h i = elim (cases_Bool (nat_lt j k)) [
+  | inl u ↦ earlier_head stems a j k stem t revision (ltb-true j k u) e f h i
   | inr u ↦
-      earlier_head xs a k j t s r
+      earlier_head stems a k j t stem revision
       (let past = ltb-false j k u in let other = n in grind (arith, past, other)) f e i h
 ]
 
 -- the stem of a place whose revision is its newest is noted
-pub noted_first : (xs ys : List Stem) (p : Place) (s : Stem) → AreStems xs → slice_get xs p.stem ≡ Some s
-    → p.at ≡ 0 → ys ≡ slice_set xs p.stem (with_note true s) → Notes xs (λ r. is_at xs r (Some p)) ys
-noted_first xs ys p s a e first is P covers noted k t r f h = elim (cases_Bool (nat_eq k p.stem)) [
-  | inl u ↦
-      let same : k ≡ p.stem = eqb-true k p.stem u in
-      let low = slice_get_within xs p.stem s e in
-      let now : with_note true s ≡ t =
-      same_Some _ t
-      (sym (get_set xs p.stem (with_note true s) low)
-      ∙ (sym (ap (λ z. slice_get z p.stem) is) ∙ (ap (slice_get ys) (sym same) ∙ f))) in
-      let head : slice_get s.revisions 0 ≡ Some r = ap (λ (z : Stem). slice_get z.revisions 0) now ∙ h in
-      let here : is_at xs r (Some p) ≡ true =
-      ap (λ o. is_first r (drop p.at (revisions_in o))) e
-      ∙ (ap (λ n. is_first r (drop n s.revisions)) first
-      ∙ (first_test s.revisions 0 r r head ∙ same_self r)) in
-      ap (λ (z : Stem). z.inner) (sym now) ∙ sym (or_left (is_at xs r (Some p)) (P r) here)
-  | inr u ↦
-      let other : k ≢ p.stem = eqb-false k p.stem u in
-      let was : slice_get xs k ≡ Some t =
-      sym (get_set_other xs p.stem (with_note true s) k other) ∙ (ap (λ z. slice_get z k) (sym is) ∙ f) in
-      noted k t r was h
-      ∙ either_or (is_at xs r (Some p)) (P r) (λ v.
-      let there : slice_get s.revisions 0 ≡ Some r =
-      ap (λ n. slice_get s.revisions n) (sym first)
-      ∙ first_there p.at s.revisions r (ap (λ o. is_first r (drop p.at (revisions_in o))) (sym e) ∙ v) in
-      absurd (one_head xs a k p.stem t s r other was e h there))
-]
+pub noted_first : (stems others : List Stem) (place : Place) (stem : Stem) → AreStems stems
+    → slice_get stems place.stem ≡ Some stem
+    → place.at ≡ 0 → others ≡ slice_set stems place.stem (with_note true stem)
+    → Notes stems (λ r. is_at stems r (Some place)) others
+noted_first stems others place stem a e first is P covers noted k t r f h =
+    elim (cases_Bool (nat_eq k place.stem)) [
+      | inl u ↦
+          let same : k ≡ place.stem = eqb-true k place.stem u in
+          let low = slice_get_within stems place.stem stem e in
+          let now : with_note true stem ≡ t =
+          same_Some _ t
+          (sym (get_set stems place.stem (with_note true stem) low)
+          ∙ (sym (ap (λ z. slice_get z place.stem) is) ∙ (ap (slice_get others) (sym same) ∙ f))) in
+          let head : slice_get stem.revisions 0 ≡ Some r =
+          ap (λ (z : Stem). slice_get z.revisions 0) now ∙ h in
+          let here : is_at stems r (Some place) ≡ true =
+          ap (λ o. is_first r (drop place.at (revisions_in o))) e
+          ∙ (ap (λ n. is_first r (drop n stem.revisions)) first
+          ∙ (first_test stem.revisions 0 r r head ∙ same_self r)) in
+          ap (λ (z : Stem). z.inner) (sym now) ∙ sym (or_left (is_at stems r (Some place)) (P r) here)
+      | inr u ↦
+          let other : k ≢ place.stem = eqb-false k place.stem u in
+          let was : slice_get stems k ≡ Some t =
+          sym (get_set_other stems place.stem (with_note true stem) k other)
+          ∙ (ap (λ z. slice_get z k) (sym is) ∙ f) in
+          noted k t r was h
+          ∙ either_or (is_at stems r (Some place)) (P r) (λ v.
+          let there : slice_get stem.revisions 0 ≡ Some r =
+          ap (λ n. slice_get stem.revisions n) (sym first)
+          ∙ first_there place.at stem.revisions r
+          (ap (λ o. is_first r (drop place.at (revisions_in o))) (sym e) ∙ v) in
+          absurd (one_head stems a k place.stem t stem r other was e h there))
+    ]
 
 -- a revision behind a newest one is noted where it is a newest one
-pub noted_later : (xs : List Stem) (p : Place) (s : Stem) → slice_get xs p.stem ≡ Some s → ¬ (p.at ≡ 0)
-    → Notes xs (λ r. is_at xs r (Some p)) xs
-noted_later xs p s e later P covers noted k t r f h =
+pub noted_later : (stems : List Stem) (place : Place) (stem : Stem) → slice_get stems place.stem ≡ Some stem
+    → ¬ (place.at ≡ 0) → Notes stems (λ r. is_at stems r (Some place)) stems
+noted_later stems place stem e later P covers noted k t r f h =
     noted k t r f h
-    ∙ either_or (is_at xs r (Some p)) (P r) (λ v. covers r
-    (any_at (is_behind_newest xs r) xs p.stem s e
-    (or_left (names (drop 1 s.revisions) r) (is_at xs r s.parent)
-    (behind p.at later s.revisions (ap (λ o. is_first r (drop p.at (revisions_in o))) (sym e) ∙ v)))))
+    ∙ either_or (is_at stems r (Some place)) (P r) (λ v. covers r
+    (any_at (is_behind_newest stems r) stems place.stem stem e
+    (or_left (names (drop 1 stem.revisions) r) (is_at stems r stem.parent)
+    (behind place.at later stem.revisions
+    (ap (λ o. is_first r (drop place.at (revisions_in o))) (sym e) ∙ v)))))
   where
-    behind : (n : ℕ) → ¬ (n ≡ 0) → (q : List Revision) → is_first r (drop n q) ≡ true
-        → names (drop 1 q) r ≡ true
-    behind zero some q v = absurd (some refl)
+    behind : (n : ℕ) → ¬ (n ≡ 0) → (revisions : List Revision) → is_first r (drop n revisions) ≡ true
+        → names (drop 1 revisions) r ≡ true
+    behind zero some revisions v = absurd (some refl)
     behind (suc n) some [] v = absurd (cc)
-    behind (suc n) some (x ∷ q) v = names_drop n q r (first_named (drop n q) r v)
+    behind (suc n) some (x ∷ revisions) v = names_drop n revisions r (first_named (drop n revisions) r v)
 
 -- ---- notes one after the other
 
-pub no_notes : (xs : List Stem) → Notes xs (λ r. false) xs
-no_notes xs P covers noted = noted
+pub no_notes : (stems : List Stem) → Notes stems (λ r. false) stems
+no_notes stems P covers noted = noted
 
-pub notes_as : (xs ys : List Stem) (P Q : Revision → Bool) → ((r : Revision) → P r ≡ Q r) → Notes xs P ys
-    → Notes xs Q ys
-notes_as xs ys P Q alike notes T covers noted k t r e h =
-    notes T covers noted k t r e h ∙ ap (λ b. b || T r) (alike r)
+pub notes_as : (stems others : List Stem) (P Q : Revision → Bool)
+    → ((revision : Revision) → P revision ≡ Q revision) → Notes stems P others → Notes stems Q others
+notes_as stems others P Q alike notes T covers noted k t revision e h =
+    notes T covers noted k t revision e h ∙ ap (λ b. b || T revision) (alike revision)
 
-pub notes_on : (xs ys zs : List Stem) (P Q : Revision → Bool) → map plain ys ≡ map plain xs → Notes xs P ys
-    → Notes ys Q zs → Notes xs (λ r. Q r || P r) zs
-notes_on xs ys zs P Q same first then T covers noted k t r e h =
-    then (λ z. P z || T z) (λ z u. or_right (P z) (T z) (covers z (sym (inner_same ys xs same z) ∙ u)))
+pub notes_on : (stems others rest : List Stem) (P Q : Revision → Bool) → map plain others ≡ map plain stems
+    → Notes stems P others → Notes others Q rest → Notes stems (λ r. Q r || P r) rest
+notes_on stems others rest P Q same first then T covers noted k t r e h =
+    then (λ z. P z || T z) (λ z u. or_right (P z) (T z) (covers z (sym (inner_same others stems same z) ∙ u)))
     (first T covers noted) k t r e h
     ∙ sym (or_assoc (Q r) (P r) (T r))
 
 -- the revisions from the last one to the second
-pub last_noted : (xs : List Stem) (p : List Revision) (n : ℕ) → length p ≤ n
-    → Notes xs (λ r. names (drop n p) r) xs
-last_noted xs p n past =
-    notes_as xs xs (λ r. false) (λ r. names (drop n p) r)
-    (λ r. sym (ap (λ q. names q r) (drop_all n p past))) (no_notes xs)
+pub last_noted : (stems : List Stem) (revisions : List Revision) (n : ℕ) → length revisions ≤ n
+    → Notes stems (λ r. names (drop n revisions) r) stems
+last_noted stems revisions n past =
+    notes_as stems stems (λ r. false) (λ r. names (drop n revisions) r)
+    (λ r. sym (ap (λ q. names q r) (drop_all n revisions past))) (no_notes stems)
 
-pub one_noted : (xs ys zs : List Stem) (p : List Revision) (n : ℕ) (x : Revision) → 0 < n
-    → slice_get p (n - 1) ≡ Some x → map plain ys ≡ map plain xs → Notes xs (λ r. names (drop n p) r) ys
-    → Notes ys (λ r. is_same r x) zs
-    → Notes xs (λ r. names (drop (n - 1) p) r) zs
-one_noted xs ys zs p n x some e same before now =
-    notes_as xs zs (λ r. is_same r x || names (drop n p) r) (λ r. names (drop (n - 1) p) r)
+pub one_noted : (stems others rest : List Stem) (revisions : List Revision) (n : ℕ) (revision : Revision)
+    → 0 < n
+    → slice_get revisions (n - 1) ≡ Some revision → map plain others ≡ map plain stems
+    → Notes stems (λ r. names (drop n revisions) r) others → Notes others (λ r. is_same r revision) rest
+    → Notes stems (λ r. names (drop (n - 1) revisions) r) rest
+one_noted stems others rest revisions n revision some e same before now =
+    notes_as stems rest (λ r. is_same r revision || names (drop n revisions) r)
+    (λ r. names (drop (n - 1) revisions) r)
     (λ r. sym (ap (λ q. names q r)
     (let next : suc (n - 1) ≡ n = omega (arith, some) in
-    dropped_one p (n - 1) x e ∙ ap (λ m. x ∷ drop m p) next)))
-    (notes_on xs ys zs (λ r. names (drop n p) r) (λ r. is_same r x) same before now)
+    dropped_one revisions (n - 1) revision e ∙ ap (λ m. revision ∷ drop m revisions) next)))
+    (notes_on stems others rest (λ r. names (drop n revisions) r) (λ r. is_same r revision) same before now)
 
 -- of a revision that no stem has there is none to note
-pub unknown_noted : (xs : List Stem) (P : Revision → Bool)
-    → ((r : Revision) → P r ≡ true → has_revision xs r ≡ false) → Notes xs P xs
-unknown_noted xs P unknown T covers noted k t r e h =
-    noted k t r e h
-    ∙ either_or (P r) (T r) (λ v.
-    let first : is_first r t.revisions ≡ true = first_test t.revisions 0 r r h ∙ same_self r in
-    absurd (both_ways _ (unknown r v)
-    (any_at (λ (z : Stem). names z.revisions r) xs k t e (first_named t.revisions r first))))
+pub unknown_noted : (stems : List Stem) (P : Revision → Bool)
+    → ((revision : Revision) → P revision ≡ true → has_revision stems revision ≡ false) → Notes stems P stems
+unknown_noted stems P unknown T covers noted k t revision e h =
+    noted k t revision e h
+    ∙ either_or (P revision) (T revision) (λ v.
+    let first : is_first revision t.revisions ≡ true = first_test t.revisions 0 revision revision h
+    ∙ same_self revision in
+    absurd (both_ways _ (unknown revision v)
+    (any_at (λ (stem : Stem). names stem.revisions revision) stems k t e
+    (first_named t.revisions revision first))))
 
 -- ---- one stem more
 
 -- what was lent of a vector comes back
-pub lent_back : (P : List Stem → Type 0) (ys rest : List Stem) (n : ℕ) → length ys ≡ n → P ys
-    → P (take n (ys ++ rest))
-lent_back P ys rest n long p =
-    subst P (sym (ap (λ k. take k (ys ++ rest)) (sym long) ∙ take-append_seam ys rest)) p
+pub lent_back : (P : List Stem → Type 0) (stems rest : List Stem) (n : ℕ) → length stems ≡ n → P stems
+    → P (take n (stems ++ rest))
+lent_back P stems rest n long p =
+    subst P (sym (ap (λ k. take k (stems ++ rest)) (sym long) ∙ take-append_seam stems rest)) p
 
 -- where a place is told, it is one of the stems
-pub within_told : (xs : List Stem) (o : Option Place) → ((p : Place) → o ≡ Some p → IsWithin xs p)
-    → IfSome o (IsWithin xs)
-within_told xs None h = tt
-within_told xs (Some p) h = h p refl
+pub within_told : (stems : List Stem) (maybe_place : Option Place)
+    → ((place : Place) → maybe_place ≡ Some place → IsWithin stems place)
+    → IfSome maybe_place (IsWithin stems)
+within_told stems None h = tt
+within_told stems (Some place) h = h place refl
 
 -- the index of the stems before the newest
-pub indexed_front : (xs ys : List Stem) (s : Stem) (index : Option Index) → map plain ys ≡ map plain xs
-    → IsIndexed index xs → IsIndexed index (take (length (ys ++ s ∷ []) - 1) (ys ++ s ∷ []))
-indexed_front xs ys s index same i =
-    let n : length (ys ++ s ∷ []) - 1 ≡ length ys = omega (arith, length-append ys (s ∷ [])) in
-    subst (IsIndexed index) (sym (ap (λ k. take k (ys ++ s ∷ [])) n ∙ take-append_seam ys (s ∷ [])))
-    (indexed_same xs ys index (sym same) i)
+pub indexed_front : (stems others : List Stem) (stem : Stem) (index : Option Index)
+    → map plain others ≡ map plain stems
+    → IsIndexed index stems → IsIndexed index (take (length (others ++ stem ∷ []) - 1) (others ++ stem ∷ []))
+indexed_front stems others stem index same i =
+    let n : length (others ++ stem ∷ []) - 1 ≡ length others = omega (arith, length-append others (stem ∷ []))
+    in
+    subst (IsIndexed index) (sym
+    (ap (λ k. take k (others ++ stem ∷ [])) n ∙ take-append_seam others (stem ∷ [])))
+    (indexed_same stems others index (sym same) i)
 
-within_at : (xs ys : List Stem) (r : Revision) (o : Option Place) → IfSome o (IsWithin xs)
-    → is_at (xs ++ ys) r o ≡ is_at xs r o
-within_at xs ys r None w = refl
-within_at xs ys r (Some p) w =
-    let i = within_stem xs p w in
-    ap (λ o. is_first r (drop p.at (revisions_in o))) (get_front xs ys p.stem i.0 i.1 ∙ sym i.1)
+within_at : (stems others : List Stem) (revision : Revision) (maybe_place : Option Place)
+    → IfSome maybe_place (IsWithin stems)
+    → is_at (stems ++ others) revision maybe_place ≡ is_at stems revision maybe_place
+within_at stems others revision None w = refl
+within_at stems others revision (Some place) w =
+    let i = within_stem stems place w in
+    ap (λ maybe_place. is_first revision (drop place.at (revisions_in maybe_place)))
+    (get_front stems others place.stem i.0 i.1 ∙ sym i.1)
 
-all_within : (xs : List Stem) → AreStems xs → (k : ℕ) (s : Stem) → slice_get xs k ≡ Some s
-    → IfSome s.parent (IsWithin xs)
-all_within xs a k s e = from s.parent refl
+all_within : (stems : List Stem) → AreStems stems → (k : ℕ) (stem : Stem) → slice_get stems k ≡ Some stem
+    → IfSome stem.parent (IsWithin stems)
+all_within stems a k stem e = from stem.parent refl
   where
-    from : (o : Option Place) → s.parent ≡ o → IfSome o (IsWithin xs)
+    from : (maybe_place : Option Place) → stem.parent ≡ maybe_place → IfSome maybe_place (IsWithin stems)
     from None q = tt
-    from (Some p) q = (a.earlier k s p e q).1
+    from (Some p) q = (a.earlier k stem p e q).1
 
-inner_more : (xs : List Stem) (s : Stem) (r : Revision) → AreStems xs → IfSome s.parent (IsWithin xs)
-    → is_inner (xs ++ s ∷ []) r ≡ ((is_at xs r s.parent || names (drop 1 s.revisions) r) || is_inner xs r)
-inner_more xs s r a w =
-    list_any-append (is_behind_newest (xs ++ s ∷ []) r) xs (s ∷ [])
-    ∙ (ap (λ b. b || (is_behind_newest (xs ++ s ∷ []) r s || false))
-    (any_alike (is_behind_newest (xs ++ s ∷ []) r) (is_behind_newest xs r) xs (λ k u e.
-    ap (λ b. names (drop 1 u.revisions) r || b) (within_at xs (s ∷ []) r u.parent (all_within xs a k u e))))
-    ∙ (ap (λ b. is_inner xs r || ((names (drop 1 s.revisions) r || b) || false))
-    (within_at xs (s ∷ []) r s.parent w)
-    ∙ turned (is_inner xs r) (names (drop 1 s.revisions) r) (is_at xs r s.parent)))
+inner_more : (stems : List Stem) (stem : Stem) (revision : Revision) → AreStems stems
+    → IfSome stem.parent (IsWithin stems)
+    → is_inner (stems ++ stem ∷ []) revision ≡
+    ((is_at stems revision stem.parent || names (drop 1 stem.revisions) revision) || is_inner stems revision)
+inner_more stems stem revision a w =
+    list_any-append (is_behind_newest (stems ++ stem ∷ []) revision) stems (stem ∷ [])
+    ∙ (ap (λ b. b || (is_behind_newest (stems ++ stem ∷ []) revision stem || false))
+    (any_alike (is_behind_newest (stems ++ stem ∷ []) revision) (is_behind_newest stems revision) stems
+    (λ k u e.
+    ap (λ b. names (drop 1 u.revisions) revision || b)
+    (within_at stems (stem ∷ []) revision u.parent (all_within stems a k u e))))
+    ∙ (ap (λ b. is_inner stems revision || ((names (drop 1 stem.revisions) revision || b) || false))
+    (within_at stems (stem ∷ []) revision stem.parent w)
+    ∙ turned (is_inner stems revision) (names (drop 1 stem.revisions) revision)
+    (is_at stems revision stem.parent)))
   where
     turned : (a b c : Bool) → (a || ((b || c) || false)) ≡ ((c || b) || a)
     turned true true true = refl
@@ -444,127 +488,145 @@ inner_more xs s r a w =
     turned false false false = refl
 
 -- what stands behind a newest revision is known
-behind_known : (xs : List Stem) → AreStems xs → (r : Revision) → is_inner xs r ≡ true
-    → has_revision xs r ≡ true
-behind_known xs a r t =
-    let i = any_place (is_behind_newest xs r) xs t in
-    elim (cases_Bool (names (drop 1 i.1.revisions) r)) [
-      | inl u ↦ any_at (λ (z : Stem). names z.revisions r) xs i.0 i.1 i.2 (names_drop 1 i.1.revisions r u)
-      | inr u ↦ from i.1.parent (all_within xs a i.0 i.1 i.2) (rw u at i.3)
+behind_known : (stems : List Stem) → AreStems stems → (revision : Revision) → is_inner stems revision ≡ true
+    → has_revision stems revision ≡ true
+behind_known stems a revision t =
+    let i = any_place (is_behind_newest stems revision) stems t in
+    elim (cases_Bool (names (drop 1 i.1.revisions) revision)) [
+      | inl u ↦ any_at (λ (stem : Stem). names stem.revisions revision) stems i.0 i.1 i.2
+          (names_drop 1 i.1.revisions revision u)
+      | inr u ↦ from i.1.parent (all_within stems a i.0 i.1 i.2) (rw u at i.3)
     ]
   where
-    from : (o : Option Place) → IfSome o (IsWithin xs) → is_at xs r o ≡ true → has_revision xs r ≡ true
+    from : (maybe_place : Option Place) → IfSome maybe_place (IsWithin stems)
+        → is_at stems revision maybe_place ≡ true → has_revision stems revision ≡ true
     from None w v = absurd (cc)
     from (Some p) w v =
-        let j = within_stem xs p w in
-        any_at (λ (z : Stem). names z.revisions r) xs p.stem j.0 j.1
-        (names_drop p.at j.0.revisions r
-        (first_named (drop p.at j.0.revisions) r
-        (ap (λ o. is_first r (drop p.at (revisions_in o))) (sym j.1) ∙ v)))
+        let j = within_stem stems p w in
+        any_at (λ (stem : Stem). names stem.revisions revision) stems p.stem j.0 j.1
+        (names_drop p.at j.0.revisions revision
+        (first_named (drop p.at j.0.revisions) revision
+        (ap (λ maybe_place. is_first revision (drop p.at (revisions_in maybe_place))) (sym j.1) ∙ v)))
 
 -- the newest revision of the newest stem stands behind none
-newest_leads : (xs : List Stem) (s : Stem) (r : Revision) → AreStems xs → AreStems (xs ++ s ∷ [])
-    → slice_get s.revisions 0 ≡ Some r → is_inner (xs ++ s ∷ []) r ≡ false
-newest_leads xs s r a more h = elim (cases_Bool (is_inner (xs ++ s ∷ []) r)) [
+newest_leads : (stems : List Stem) (stem : Stem) (revision : Revision) → AreStems stems
+    → AreStems (stems ++ stem ∷ [])
+    → slice_get stem.revisions 0 ≡ Some revision → is_inner (stems ++ stem ∷ []) revision ≡ false
+newest_leads stems stem revision a more h = elim (cases_Bool (is_inner (stems ++ stem ∷ []) revision)) [
   | inl t ↦
-      let i = any_place (is_behind_newest (xs ++ s ∷ []) r) (xs ++ s ∷ []) t in
-      elim (get_pushed xs s i.0 i.1 i.2) [
+      let i = any_place (is_behind_newest (stems ++ stem ∷ []) revision) (stems ++ stem ∷ []) t in
+      elim (get_pushed stems stem i.0 i.1 i.2) [
         | inl f ↦
-            let old : is_behind_newest xs r i.1 ≡ true =
-            ap (λ b. names (drop 1 i.1.revisions) r || b)
-            (sym (within_at xs (s ∷ []) r i.1.parent (all_within xs a i.0 i.1 f)))
+            let old : is_behind_newest stems revision i.1 ≡ true =
+            ap (λ b. names (drop 1 i.1.revisions) revision || b)
+            (sym (within_at stems (stem ∷ []) revision i.1.parent (all_within stems a i.0 i.1 f)))
             ∙ i.3 in
-            let known = behind_known xs a r (any_at (is_behind_newest xs r) xs i.0 i.1 f old) in
-            let new : has_revision xs r ≡ false =
-            ap (λ z. has_revision z r) (sym (take-append_seam xs (s ∷ [])))
-            ∙ more.newest (length xs) s r (get_last xs s) h in
+            let known = behind_known stems a revision
+            (any_at (is_behind_newest stems revision) stems i.0 i.1 f old) in
+            let new : has_revision stems revision ≡ false =
+            ap (λ z. has_revision z revision) (sym (take-append_seam stems (stem ∷ [])))
+            ∙ more.newest (length stems) stem revision (get_last stems stem) h in
             absurd (both_ways _ new known)
         | inr f ↦
             let low =
-            behind_is_lower (xs ++ s ∷ []) (length xs) s r r more (get_last xs s) h
-            (ap (is_behind_newest (xs ++ s ∷ []) r) f.1 ∙ i.3) in
+            behind_is_lower (stems ++ stem ∷ []) (length stems) stem revision revision more
+            (get_last stems stem) h
+            (ap (is_behind_newest (stems ++ stem ∷ []) revision) f.1 ∙ i.3) in
             absurd (omega (arith, low))
       ]
   | inr t ↦ t
 ]
 
-pub plain_more : (xs ys : List Stem) (s : Stem) → map plain ys ≡ map plain xs
-    → map plain (xs ++ s ∷ []) ≡ map plain (ys ++ s ∷ [])
-plain_more xs ys s same =
-    map-append plain xs (s ∷ [])
-    ∙ (ap (λ z. z ++ plain s ∷ []) (sym same) ∙ sym (map-append plain ys (s ∷ [])))
+pub plain_more : (stems others : List Stem) (stem : Stem) → map plain others ≡ map plain stems
+    → map plain (stems ++ stem ∷ []) ≡ map plain (others ++ stem ∷ [])
+plain_more stems others stem same =
+    map-append plain stems (stem ∷ [])
+    ∙ (ap (λ z. z ++ plain stem ∷ []) (sym same) ∙ sym (map-append plain others (stem ∷ [])))
 
-pub marked_more : (xs ys : List Stem) (s : Stem) → AreStems xs → AreStems (xs ++ s ∷ [])
-    → IfSome s.parent (IsWithin xs) → map plain ys ≡ map plain xs → AreMarked xs → s.inner ≡ false
-    → Notes xs (λ r. is_at xs r s.parent || names (drop 1 s.revisions) r) ys → AreMarked (ys ++ s ∷ [])
-marked_more xs ys s a more w same marked leaf notes k t r e h = elim (get_pushed ys s k t e) [
-  | inl f ↦ notes (is_inner xs) (λ z u. u) marked k t r f h ∙ (sym (inner_more xs s r a w) ∙ there)
-  | inr f ↦
-      ap (λ (z : Stem). z.inner) (sym f.1)
-      ∙ (leaf
-      ∙ (sym (newest_leads xs s r a more (ap (λ (z : Stem). slice_get z.revisions 0) f.1 ∙ h)) ∙ there))
-]
+pub marked_more : (stems others : List Stem) (stem : Stem) → AreStems stems → AreStems (stems ++ stem ∷ [])
+    → IfSome stem.parent (IsWithin stems) → map plain others ≡ map plain stems → AreMarked stems
+    → stem.inner ≡ false
+    → Notes stems (λ r. is_at stems r stem.parent || names (drop 1 stem.revisions) r) others
+    → AreMarked (others ++ stem ∷ [])
+marked_more stems others stem a more w same marked leaf notes k t r e h =
+    elim (get_pushed others stem k t e) [
+      | inl f ↦ notes (is_inner stems) (λ other u. u) marked k t r f h
+          ∙ (sym (inner_more stems stem r a w) ∙ there)
+      | inr f ↦
+          ap (λ (other : Stem). other.inner) (sym f.1)
+          ∙ (leaf
+          ∙ (sym (newest_leads stems stem r a more
+          (ap (λ (other : Stem). slice_get other.revisions 0) f.1 ∙ h))
+          ∙ there))
+    ]
   where
-    there : is_inner (xs ++ s ∷ []) r ≡ is_inner (ys ++ s ∷ []) r
-    there = inner_same (xs ++ s ∷ []) (ys ++ s ∷ []) (plain_more xs ys s same) r
+    there : is_inner (stems ++ stem ∷ []) r ≡ is_inner (others ++ stem ∷ []) r
+    there = inner_same (stems ++ stem ∷ []) (others ++ stem ∷ []) (plain_more stems others stem same) r
 
 -- ---- what the marks tell
 
-module _ (xs : List Stem) (a : AreStems xs) (marked : AreMarked xs) where
-  leaf_test : (r : Revision) → (known behind : Bool) → has_revision xs r ≡ known → is_inner xs r ≡ behind
-      → (list_any (λ b. names b.path r) (branches_of xs)
-      && not (list_any (λ b. is_behind_head r (edit_of b)) (branches_of xs)))
+module _ (stems : List Stem) (a : AreStems stems) (marked : AreMarked stems) where
+  leaf_test : (revision : Revision) → (known behind : Bool) → has_revision stems revision ≡ known
+      → is_inner stems revision ≡ behind → (list_any (λ b. names b.path revision) (branches_of stems)
+      && not (list_any (λ b. is_behind_head revision (edit_of b)) (branches_of stems)))
       ≡ (known && not behind)
-  leaf_test r known behind k b =
-      ap (λ z. z && not (list_any (λ b. is_behind_head r (edit_of b)) (branches_of xs))) (named_in xs a r ∙ k)
-      ∙ ap (λ z. known && not z) (behind_in xs a r ∙ b)
+  leaf_test revision known behind k b =
+      ap (λ z. z && not (list_any (λ b. is_behind_head revision (edit_of b)) (branches_of stems)))
+      (named_in stems a revision ∙ k) ∙ ap (λ z. known && not z) (behind_in stems a revision ∙ b)
 
   -- a stem that a revision heads
-  pub found_leaf : (r : Revision) (s : Stem) → Some s ≡ find (λ z. is_first r z.revisions) xs
-      → not s.inner ≡ (list_any (λ b. names b.path r) (branches_of xs)
-      && not (list_any (λ b. is_behind_head r (edit_of b)) (branches_of xs)))
-  found_leaf r s e =
-      let i = find_is (λ (z : Stem). is_first r z.revisions) xs s (sym e) in
-      let there = slice_get_read xs _ i.1.0 s refl i.1.1 (sym i.1.2) in
+  pub found_leaf : (revision : Revision) (stem : Stem)
+      → Some stem ≡ find (λ other. is_first revision other.revisions) stems
+      → not stem.inner ≡ (list_any (λ b. names b.path revision) (branches_of stems)
+      && not (list_any (λ b. is_behind_head revision (edit_of b)) (branches_of stems)))
+  found_leaf revision stem e =
+      let i = find_is (λ (other : Stem). is_first revision other.revisions) stems stem (sym e) in
+      let there = slice_get_read stems _ i.1.0 stem refl i.1.1 (sym i.1.2) in
       let known =
-      any_at (λ (z : Stem). names z.revisions r) xs i.1.0 s there (first_named s.revisions r i.0) in
-      sym (leaf_test r true s.inner known (sym (marked i.1.0 s r there (first_there 0 s.revisions r i.0))))
+      any_at (λ (other : Stem). names other.revisions revision) stems i.1.0 stem there
+      (first_named stem.revisions revision i.0) in
+      sym (leaf_test revision true stem.inner known
+      (sym (marked i.1.0 stem revision there (first_there 0 stem.revisions revision i.0))))
 
   -- and where there is none
-  pub found_none : (r : Revision) → None ≡ find (λ z. is_first r z.revisions) xs
-      → false ≡ (list_any (λ b. names b.path r) (branches_of xs)
-      && not (list_any (λ b. is_behind_head r (edit_of b)) (branches_of xs)))
-  found_none r e = elim (cases_Bool (has_revision xs r)) [
+  pub found_none : (revision : Revision) → None ≡ find (λ stem. is_first revision stem.revisions) stems
+      → false ≡ (list_any (λ b. names b.path revision) (branches_of stems)
+      && not (list_any (λ b. is_behind_head revision (edit_of b)) (branches_of stems)))
+  found_none revision e = elim (cases_Bool (has_revision stems revision)) [
     | inl t ↦
-        let i = any_place (λ (z : Stem). names z.revisions r) xs t in
-        let later = behind_first i.1.revisions i.3 (passed xs i.0 i.1 e i.2) in
-        sym (leaf_test r true true t
-        (any_at (is_behind_newest xs r) xs i.0 i.1 i.2
-        (or_left (names (drop 1 i.1.revisions) r) (is_at xs r i.1.parent) later)))
-    | inr t ↦ sym (leaf_test r false (is_inner xs r) t refl)
+        let i = any_place (λ (stem : Stem). names stem.revisions revision) stems t in
+        let later = behind_first i.1.revisions i.3 (passed stems i.0 i.1 e i.2) in
+        sym (leaf_test revision true true t
+        (any_at (is_behind_newest stems revision) stems i.0 i.1 i.2
+        (or_left (names (drop 1 i.1.revisions) revision) (is_at stems revision i.1.parent) later)))
+    | inr t ↦ sym (leaf_test revision false (is_inner stems revision) t refl)
   ]
     where
-      behind_first : (q : List Revision) → names q r ≡ true → is_first r q ≡ false → names (drop 1 q) r ≡ true
+      behind_first : (revisions : List Revision) → names revisions revision ≡ true
+          → is_first revision revisions ≡ false → names (drop 1 revisions) revision ≡ true
       behind_first [] h f = absurd (cc)
-      behind_first (x ∷ q) h f = rw f at h
+      behind_first (x ∷ revisions) h f = rw f at h
 
-      passed : (zs : List Stem) (k : ℕ) (s : Stem) → None ≡ find (λ z. is_first r z.revisions) zs
-          → slice_get zs k ≡ Some s → is_first r s.revisions ≡ false
-      passed [] k s e h = absurd (cc)
-      passed (z ∷ zs) zero s e h = elim (cases_Bool (is_first r z.revisions)) [
+      passed : (others : List Stem) (k : ℕ) (other : Stem)
+          → None ≡ find (λ stem. is_first revision stem.revisions) others
+          → slice_get others k ≡ Some other → is_first revision other.revisions ≡ false
+      passed [] k other e h = absurd (cc)
+      passed (stem ∷ others) zero other e h = elim (cases_Bool (is_first revision stem.revisions)) [
         | inl t ↦ absurd (let none = rw t at e in cc)
-        | inr t ↦ ap (λ (y : Stem). is_first r y.revisions) (sym (same_Some z s h)) ∙ t
+        | inr t ↦ ap (λ (y : Stem). is_first revision y.revisions) (sym (same_Some stem other h)) ∙ t
       ]
-      passed (z ∷ zs) (suc k) s e h = elim (cases_Bool (is_first r z.revisions)) [
+      passed (stem ∷ others) (suc k) other e h = elim (cases_Bool (is_first revision stem.revisions)) [
         | inl t ↦ absurd (let none = rw t at e in cc)
-        | inr t ↦ passed zs k s (rw t at e) h
+        | inr t ↦ passed others k other (rw t at e) h
       ]
 
-  pub inner_at : (k : ℕ) (s : Stem) (w : Winner)
-      → slice_get xs k ≡ Some s → option_and_then head_in (slice_get (branches_of xs) k) ≡ Some w
-      → s.inner ≡ list_any (λ b. is_behind_head w.rev (edit_of b)) (branches_of xs)
-  inner_at k s w e there =
-      let head = get_some s.revisions 0 (some_path s.revisions (a.falling k s e)) in
-      let same : head.0 ≡ w.rev =
-      ap (λ (z : Winner). z.rev) (same_Some _ w (sym (head_at xs a k s head.0 e head.1) ∙ there)) in
-      marked k s w.rev e (head.1 ∙ ap Some same) ∙ sym (behind_in xs a w.rev)
+  pub inner_at : (k : ℕ) (stem : Stem) (winner : Winner)
+      → slice_get stems k ≡ Some stem
+      → option_and_then head_in (slice_get (branches_of stems) k) ≡ Some winner
+      → stem.inner ≡ list_any (λ b. is_behind_head winner.rev (edit_of b)) (branches_of stems)
+  inner_at k stem winner e there =
+      let head = get_some stem.revisions 0 (some_path stem.revisions (a.falling k stem e)) in
+      let same : head.0 ≡ winner.rev =
+      ap (λ (other : Winner). other.rev)
+      (same_Some _ winner (sym (head_at stems a k stem head.0 e head.1) ∙ there)) in
+      marked k stem winner.rev e (head.1 ∙ ap Some same) ∙ sym (behind_in stems a winner.rev)

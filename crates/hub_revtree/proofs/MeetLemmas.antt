@@ -29,41 +29,44 @@ use Rattle.hub_revtree.proofs.TreeLemmas.{all_of_one, known_by}
 -- ---- how far two lists are one
 
 -- lists that begin with one revision, and of which the steps agree, are one
-pub common_agrees : (x : Revision) (p q : List Revision)
-    → ((s r other : Revision) → IsNext (x ∷ p) s r → IsNext (x ∷ q) s other → r ≡ other)
-    → common (x ∷ p) (x ∷ q) ≢ None
-common_agrees x [] q agree none = absurd (let h = rw (same_self x) at none in cc)
-common_agrees x (y ∷ p) [] agree none = absurd (let h = rw (same_self x) at none in cc)
-common_agrees x (y ∷ p) (z ∷ q) agree none =
-    let same : y ≡ z = agree x y z (inl (refl, refl)) (inl (refl, refl)) in
-    let h : option_map suc (common (y ∷ p) (z ∷ q)) ≡ None = rw (same_self x) at none in
-    common_agrees y p q
-    (λ s r other n m. agree s r other (inr n) (inr (subst (λ v. IsNext (v ∷ q) s other) same m)))
-    (none_of (common (y ∷ p) (y ∷ q))
-    (subst (λ v. option_map suc (common (y ∷ p) (v ∷ q)) ≡ None) (sym same) h))
+pub common_agrees : (revision : Revision) (others revisions : List Revision)
+    → ((s r other : Revision) → IsNext (revision ∷ others) s r → IsNext (revision ∷ revisions) s other
+    → r ≡ other) → common (revision ∷ others) (revision ∷ revisions) ≢ None
+common_agrees revision [] revisions agree none = absurd (let h = rw (same_self revision) at none in cc)
+common_agrees revision (y ∷ others) [] agree none = absurd (let h = rw (same_self revision) at none in cc)
+common_agrees revision (y ∷ others) (z ∷ revisions) agree none =
+    let same : y ≡ z = agree revision y z (inl (refl, refl)) (inl (refl, refl)) in
+    let h : option_map suc (common (y ∷ others) (z ∷ revisions)) ≡ None = rw (same_self revision) at none in
+    common_agrees y others revisions
+    (λ s r other n m. agree s r other (inr n) (inr (subst (λ v. IsNext (v ∷ revisions) s other) same m)))
+    (none_of (common (y ∷ others) (y ∷ revisions))
+    (subst (λ v. option_map suc (common (y ∷ others) (v ∷ revisions)) ≡ None) (sym same) h))
 
 -- the shorter one is a front of the other
-pub agree_front : (x : Revision) (p q : List Revision)
-    → ((s r other : Revision) → IsNext (x ∷ p) s r → IsNext (x ∷ q) s other → r ≡ other) → length p ≤ length q
-    → take (length (x ∷ p)) (x ∷ q) ≡ x ∷ p
-agree_front x [] q agree low = refl
-agree_front x (y ∷ p) [] agree low = absurd (omega arith)
-agree_front x (y ∷ p) (z ∷ q) agree low =
-    let same : z ≡ y = sym (agree x y z (inl (refl, refl)) (inl (refl, refl))) in
-    ap (λ w. x ∷ w)
-    (ap (λ v. take (length (y ∷ p)) (v ∷ q)) same
-    ∙ agree_front y p q
-    (λ s r other n m. agree s r other (inr n) (inr (subst (λ v. IsNext (v ∷ q) s other) (sym same) m)))
+pub agree_front : (revision : Revision) (others revisions : List Revision)
+    → ((s r other : Revision) → IsNext (revision ∷ others) s r → IsNext (revision ∷ revisions) s other
+    → r ≡ other) → length others ≤ length revisions
+    → take (length (revision ∷ others)) (revision ∷ revisions) ≡ revision ∷ others
+agree_front revision [] revisions agree low = refl
+agree_front revision (y ∷ others) [] agree low = absurd (omega arith)
+agree_front revision (y ∷ others) (z ∷ revisions) agree low =
+    let same : z ≡ y = sym (agree revision y z (inl (refl, refl)) (inl (refl, refl))) in
+    ap (λ w. revision ∷ w)
+    (ap (λ v. take (length (y ∷ others)) (v ∷ revisions)) same
+    ∙ agree_front y others revisions
+    (λ s r other n m. agree s r other (inr n)
+    (inr (subst (λ v. IsNext (v ∷ revisions) s other) (sym same) m)))
     (omega arith))
 
 -- a list from a place on
-pub dropped : (p : List Revision) (n : ℕ) (r : Revision) → slice_get p n ≡ Some r
-    → drop n p ≡ r ∷ drop (suc n) p
-dropped p n r e = dropped_one p n r e
+pub dropped : (revisions : List Revision) (n : ℕ) (revision : Revision)
+    → slice_get revisions n ≡ Some revision → drop n revisions ≡ revision ∷ drop (suc n) revisions
+dropped revisions n revision e = dropped_one revisions n revision e
 
 -- a longer front
-pub take_parts : (n m : ℕ) (p : List Revision) → take (n + m) p ≡ take n p ++ take m (drop n p)
-take_parts zero m p = ap (λ k. take k p) (zero-plus m)
+pub take_parts : (n m : ℕ) (revisions : List Revision) → take (n + m) revisions ≡ take n revisions
+    ++ take m (drop n revisions)
+take_parts zero m revisions = ap (λ k. take k revisions) (zero-plus m)
   where
     zero-plus : (m : ℕ) → 0 + m ≡ m
     zero-plus m = omega arith
@@ -77,80 +80,89 @@ take_parts (suc n) m [] =
     none : (m : ℕ) → ◌≡◌ {A = List Revision} (take m []) []
     none zero = refl
     none (suc m) = refl
-take_parts (suc n) m (x ∷ p) = ap (λ k. take k (x ∷ p)) (sums n m) ∙ ap (λ z. x ∷ z) (take_parts n m p)
+take_parts (suc n) m (revision ∷ revisions) =
+    ap (λ k. take k (revision ∷ revisions)) (sums n m) ∙ ap (λ z. revision ∷ z) (take_parts n m revisions)
   where
     sums : (n m : ℕ) → suc n + m ≡ suc (n + m)
     sums n m = omega arith
 
 -- a step of two lists
-pub next_two : (p q : List Revision) (s r : Revision) → IsNext (p ++ q) s r
-    → IsNext p s r ⊎ (((last_in p ≡ Some s) × (slice_get q 0 ≡ Some r)) ⊎ IsNext q s r)
-next_two [] q s r i = inr (inr i)
-next_two (x ∷ []) q s r (inl i) = inr (inl (ap Some i.0, first_get q i.1))
+pub next_two : (others revisions : List Revision) (revision other : Revision)
+    → IsNext (others ++ revisions) revision other
+    → IsNext others revision other
+    ⊎ (((last_in others ≡ Some revision) × (slice_get revisions 0 ≡ Some other))
+    ⊎ IsNext revisions revision other)
+next_two [] revisions revision other i = inr (inr i)
+next_two (x ∷ []) revisions revision other (inl i) = inr (inl (ap Some i.0, first_get revisions i.1))
   where
-    first_get : (q : List Revision) → IsFirst q r → slice_get q 0 ≡ Some r
+    first_get : (revisions : List Revision) → IsFirst revisions other → slice_get revisions 0 ≡ Some other
     first_get [] f = absurd f
-    first_get (y ∷ q) f = ap Some f
-next_two (x ∷ []) q s r (inr i) = inr (inr i)
-next_two (x ∷ y ∷ p) q s r (inl i) = inl (inl i)
-next_two (x ∷ y ∷ p) q s r (inr i) = elim (next_two (y ∷ p) q s r i) [
-  | inl j ↦ inl (inr j)
-  | inr j ↦ inr j
-]
+    first_get (y ∷ revisions) f = ap Some f
+next_two (x ∷ []) revisions revision other (inr i) = inr (inr i)
+next_two (x ∷ y ∷ others) revisions revision other (inl i) = inl (inl i)
+next_two (x ∷ y ∷ others) revisions revision other (inr i) =
+    elim (next_two (y ∷ others) revisions revision other i) [
+      | inl j ↦ inl (inr j)
+      | inr j ↦ inr j
+    ]
 
-take_first : (n : ℕ) (p : List Revision) → 0 < n → slice_get (take n p) 0 ≡ slice_get p 0
-take_first zero p some = absurd (omega arith)
+take_first : (n : ℕ) (revisions : List Revision) → 0 < n
+    → slice_get (take n revisions) 0 ≡ slice_get revisions 0
+take_first zero revisions some = absurd (omega arith)
 take_first (suc n) [] some = refl
-take_first (suc n) (x ∷ p) some = refl
+take_first (suc n) (revision ∷ revisions) some = refl
 
 -- a chain has a revision at least
-pub some_chain : (xs : List Stem) → AreStems xs → (p : Place) → IsWithin xs p
-    → 0 < length (chain_from (chains_of xs) (Some p))
-some_chain xs a p w =
-    let r = within_rev xs p w in
-    let f = first_from xs p r.0 a r.1 in
-    let long : length (chain_from (chains_of xs) (Some p)) ≡ suc (length f.0) = ap length f.1 in
+pub some_chain : (stems : List Stem) → AreStems stems → (place : Place) → IsWithin stems place
+    → 0 < length (chain_from (chains_of stems) (Some place))
+some_chain stems a place w =
+    let r = within_rev stems place w in
+    let f = first_from stems place r.0 a r.1 in
+    let long : length (chain_from (chains_of stems) (Some place)) ≡ suc (length f.0) = ap length f.1 in
     omega (arith, long)
 
 -- ---- the look at a path, up to a place
 
 -- the path's steps so far agree with the stored ones, and of the last revision so far is told what is behind
 -- it
-pub record Agrees (xs : List Stem) (path : List Revision) (at : ℕ) (next : Option Place) : Type 0 where
+pub record Agrees (stems : List Stem) (path : List Revision) (at : ℕ) (next : Option Place) : Type 0 where
   pub steps : (s r other : Revision) → IsNext (take at path) s r
-      → IsBehind (edits_in (branches_of xs)) [] other s → r ≡ other
-  pub behind : (x : Revision) → last_in (take at path) ≡ Some x
-      → rev_at xs next ≡ behind_in x (edits_in (branches_of xs))
+      → IsBehind (edits_in (branches_of stems)) [] other s → r ≡ other
+  pub behind : (revision : Revision) → last_in (take at path) ≡ Some revision
+      → rev_at stems next ≡ behind_in revision (edits_in (branches_of stems))
   pub first : at ≡ 0 → next ≡ None
-  pub within : IfSome next (IsWithin xs)
+  pub within : IfSome next (IsWithin stems)
   pub short : at ≤ length path
 
 -- the path's next revision stands at the place, or the place is the one told of what is behind the last so
 -- far
-pub record Goes (xs : List Stem) (path : List Revision) (at : ℕ) (next : Option Place)
-    (p : Place) : Type 0 where
-  pub so_far : Agrees xs path at next
+pub record Goes (stems : List Stem) (path : List Revision) (at : ℕ) (next : Option Place)
+    (place : Place) : Type 0 where
+  pub so_far : Agrees stems path at next
   pub first : Revision
   pub here : slice_get path at ≡ Some first
-  pub told : IfSome next (λ q. Some p ≡ Some q)
-  pub found : IfNone next (rev_at xs (Some p) ≡ Some first)
-  pub within : IsWithin xs p
+  pub told : IfSome next (λ q. Some place ≡ Some q)
+  pub found : IfNone next (rev_at stems (Some place) ≡ Some first)
+  pub within : IsWithin stems place
 
-module _ (xs : List Stem) (a : AreStems xs) (legal : IsLegal (edits_in (branches_of xs)))
+module _ (stems : List Stem) (a : AreStems stems) (legal : IsLegal (edits_in (branches_of stems)))
     (path : List Revision) where
   abbrev es : List Edit
-  es = edits_in (branches_of xs)
+  es = edits_in (branches_of stems)
 
   -- what is behind a revision is had by a stem
-  behind_had : (s r : Revision) → IsBehind es [] r s → has_revision xs s ≡ true
-  behind_had s r (e, own, n) =
-      sym (named_in xs a s)
-      ∙ (sym (known_by (branches_of xs) s) ∙ is_known_from es [] s (e, own, next_left e.path s r n))
+  behind_had : (revision other : Revision) → IsBehind es [] other revision
+      → has_revision stems revision ≡ true
+  behind_had revision other (e, own, n) =
+      sym (named_in stems a revision)
+      ∙ (sym (known_by (branches_of stems) revision)
+      ∙ is_known_from es [] revision (e, own, next_left e.path revision other n))
 
-  told : (s r : Revision) → IsBehind es [] r s → behind_in s es ≡ Some r
-  told s r b = ap (behind_in s) (sym (all_of_one (branches_of xs))) ∙ told_is es legal s r b
+  told : (revision other : Revision) → IsBehind es [] other revision → behind_in revision es ≡ Some other
+  told revision other b =
+      ap (behind_in revision) (sym (all_of_one (branches_of stems))) ∙ told_is es legal revision other b
 
-  pub agrees_none : Agrees xs path 0 None
+  pub agrees_none : Agrees stems path 0 None
   agrees_none = record {
     steps = λ s r other n b. absurd n;
     behind = λ x e. absurd (cc);
@@ -160,57 +172,61 @@ module _ (xs : List Stem) (a : AreStems xs) (legal : IsLegal (edits_in (branches
   }
 
   -- the step to the next revision
-  seam : (at : ℕ) (next : Option Place) → Agrees xs path at next → (s r other : Revision)
-      → last_in (take at path) ≡ Some s → IfSome next (λ p. rev_at xs (Some p) ≡ Some r)
-      → IsBehind es [] other s → r ≡ other
-  seam at next g s r other last same b = from next refl same
+  seam : (at : ℕ) (next : Option Place) → Agrees stems path at next → (revision r other : Revision)
+      → last_in (take at path) ≡ Some revision → IfSome next (λ p. rev_at stems (Some p) ≡ Some r)
+      → IsBehind es [] other revision → r ≡ other
+  seam at next g revision r other last same b = from next refl same
     where
-      is : rev_at xs next ≡ Some other
-      is = g.behind s last ∙ told s other b
+      is : rev_at stems next ≡ Some other
+      is = g.behind revision last ∙ told revision other b
 
-      from : (o : Option Place) → next ≡ o → IfSome o (λ p. rev_at xs (Some p) ≡ Some r) → r ≡ other
+      from : (maybe_place : Option Place) → next ≡ maybe_place
+          → IfSome maybe_place (λ p. rev_at stems (Some p) ≡ Some r) → r ≡ other
       from None q h =
-          let t : ◌≡◌ {A = Option Revision} None (Some other) = ap (rev_at xs) (sym q) ∙ is in absurd (cc)
-      from (Some p) q h = same_Some r other (sym h ∙ (ap (rev_at xs) (sym q) ∙ is))
+          let t : ◌≡◌ {A = Option Revision} None (Some other) = ap (rev_at stems) (sym q) ∙ is in absurd (cc)
+      from (Some p) q h = same_Some r other (sym h ∙ (ap (rev_at stems) (sym q) ∙ is))
 
   -- more of the path, of which the steps agree
-  more_steps : (at n : ℕ) (next : Option Place) → Agrees xs path at next
+  more_steps : (at n : ℕ) (next : Option Place) → Agrees stems path at next
       → ((r : Revision) → slice_get (take n (drop at path)) 0 ≡ Some r
-      → IfSome next (λ p. rev_at xs (Some p) ≡ Some r))
-      → ((s r other : Revision) → IsNext (take n (drop at path)) s r → IsBehind es [] other s → r ≡ other)
-      → (s r other : Revision) → IsNext (take (at + n) path) s r → IsBehind es [] other s → r ≡ other
-  more_steps at n next g begins later s r other i b =
-      elim (next_two (take at path) (take n (drop at path)) s r
-      (subst (λ z. IsNext z s r) (take_parts at n path) i)) [
-        | inl j ↦ g.steps s r other j b
+      → IfSome next (λ p. rev_at stems (Some p) ≡ Some r))
+      → ((revision r other : Revision) → IsNext (take n (drop at path)) revision r
+      → IsBehind es [] other revision → r ≡ other)
+      → (revision r other : Revision) → IsNext (take (at + n) path) revision r → IsBehind es [] other revision
+      → r ≡ other
+  more_steps at n next g begins later revision r other i b =
+      elim (next_two (take at path) (take n (drop at path)) revision r
+      (subst (λ z. IsNext z revision r) (take_parts at n path) i)) [
+        | inl j ↦ g.steps revision r other j b
         | inr j ↦ elim j [
-          | inl k ↦ seam at next g s r other k.0 (begins r k.1) b
-          | inr k ↦ later s r other k b
+          | inl k ↦ seam at next g revision r other k.0 (begins r k.1) b
+          | inr k ↦ later revision r other k b
         ]
       ]
 
   -- a revision that no path names
-  pub agrees_unknown : (at : ℕ) (next : Option Place) (r : Revision) → Agrees xs path at next
-      → IfSome next (λ q. None ≡ Some q) → slice_get path at ≡ Some r → has_revision xs r ≡ false
-      → Agrees xs path (at + 1) None
-  agrees_unknown at (Some q) r g is here new = absurd (cc)
-  agrees_unknown at None r g is here new = record {
+  pub agrees_unknown : (at : ℕ) (next : Option Place) (revision : Revision) → Agrees stems path at next
+      → IfSome next (λ place. None ≡ Some place) → slice_get path at ≡ Some revision
+      → has_revision stems revision ≡ false → Agrees stems path (at + 1) None
+  agrees_unknown at (Some place) revision g is here new = absurd (cc)
+  agrees_unknown at None revision g is here new = record {
     steps = more_steps at 1 None g (λ t e. tt) (λ s t other n b. absurd (one_left s t n));
     behind = λ x e.
-        let same : r ≡ x =
-        same_Some r x
+        let same : revision ≡ x =
+        same_Some revision x
         (sym (ap last_in (take_parts at 1 path ∙ ap (λ z. take at path ++ z) one)
-        ∙ last_append (take at path) r [])
+        ∙ last_append (take at path) revision [])
         ∙ e) in
-        sym (none_told_at xs a legal x (λ t b. both_ways _ (subst (λ z. has_revision xs z ≡ false) same new)
-        (behind_had x t (brought_behind xs a t x b))));
+        sym (none_told_at stems a legal x
+        (λ t b. both_ways _ (subst (λ z. has_revision stems z ≡ false) same new)
+        (behind_had x t (brought_behind stems a t x b))));
     first = λ z. refl;
     within = tt;
-    short = let low = slice_get_within path at r here in omega (arith, low);
+    short = let low = slice_get_within path at revision here in omega (arith, low);
   }
     where
-      one : take 1 (drop at path) ≡ r ∷ []
-      one = ap (take 1) (dropped path at r here)
+      one : take 1 (drop at path) ≡ revision ∷ []
+      one = ap (take 1) (dropped path at revision here)
 
       one_left : (s t : Revision) → IsNext (take 1 (drop at path)) s t → ⊥
       one_left s t n = elim (subst (λ z. IsNext z s t) one n) [
@@ -219,9 +235,9 @@ module _ (xs : List Stem) (a : AreStems xs) (legal : IsLegal (edits_in (branches
       ]
 
   -- a chain that the path follows
-  module _ (at : ℕ) (next : Option Place) (p : Place) (g : Goes xs path at next p) where
+  module _ (at : ℕ) (next : Option Place) (p : Place) (g : Goes stems path at next p) where
     abbrev chain : List Revision
-    chain = chain_from (chains_of xs) (Some p)
+    chain = chain_from (chains_of stems) (Some p)
 
     abbrev rest : List Revision
     rest = drop at path
@@ -240,32 +256,32 @@ module _ (xs : List Stem) (a : AreStems xs) (legal : IsLegal (edits_in (branches
       c = common_some rest chain n (ap (λ z. common z chain) (sym (take_rest path at)) ∙ one)
 
       pub some_common : 0 < n
-      some_common = omega (arith, c.0, rest_long, some_chain xs a p g.within)
+      some_common = omega (arith, c.0, rest_long, some_chain stems a p g.within)
 
       pub within_common : at + n ≤ length path
       within_common = omega (arith, c.0, length-drop at path, low)
 
       begins : (r : Revision) → slice_get (take n rest) 0 ≡ Some r
-          → IfSome next (λ q. rev_at xs (Some q) ≡ Some r)
+          → IfSome next (λ q. rev_at stems (Some q) ≡ Some r)
       begins r e = from next refl
         where
           first : slice_get chain 0 ≡ Some r
           first = sym (take_first n chain some_common) ∙ ap (λ z. slice_get z 0) (sym c.1) ∙ e
 
-          here : rev_at xs (Some p) ≡ Some r
+          here : rev_at stems (Some p) ≡ Some r
           here =
-              let q = within_rev xs p g.within in
-              let f = first_from xs p q.0 a q.1 in
+              let q = within_rev stems p g.within in
+              let f = first_from stems p q.0 a q.1 in
               q.1 ∙ ap Some (same_Some q.0 r (sym (ap (λ z. slice_get z 0) f.1) ∙ first))
 
-          from : (o : Option Place) → next ≡ o → IfSome o (λ q. rev_at xs (Some q) ≡ Some r)
+          from : (o : Option Place) → next ≡ o → IfSome o (λ q. rev_at stems (Some q) ≡ Some r)
           from None q = tt
-          from (Some q) e = subst (λ z. rev_at xs (Some z) ≡ Some r) (told_place q e) here
+          from (Some q) e = subst (λ z. rev_at stems (Some z) ≡ Some r) (told_place q e) here
 
       follows : (s r other : Revision) → IsNext (take n rest) s r → IsBehind es [] other s → r ≡ other
       follows s r other i b =
           (legal_sound es legal).tree [] r other s
-          (from_steps xs a p g.within s r (next_taken n chain s r (subst (λ z. IsNext z s r) c.1 i))) b
+          (from_steps stems a p g.within s r (next_taken n chain s r (subst (λ z. IsNext z s r) c.1 i))) b
 
       pub all_agree : at + n ≡ length path → (s r other : Revision) → IsNext path s r → IsBehind es [] other s
           → r ≡ other
@@ -273,9 +289,9 @@ module _ (xs : List Stem) (a : AreStems xs) (legal : IsLegal (edits_in (branches
           more_steps at n next g.so_far begins follows s r other
           (subst (λ z. IsNext z s r) (sym (take_all (at + n) path (omega (arith, whole)))) i) b
 
-      pub agrees_more : (after : Option Place) → at + n ≢ length path → IfSome after (IsWithin xs)
-          → ((x : Revision) → last_in chain ≡ Some x → rev_at xs after ≡ behind_in x es)
-          → Agrees xs path (at + n) after
+      pub agrees_more : (after : Option Place) → at + n ≢ length path → IfSome after (IsWithin stems)
+          → ((x : Revision) → last_in chain ≡ Some x → rev_at stems after ≡ behind_in x es)
+          → Agrees stems path (at + n) after
       agrees_more after some within behind = record {
         steps = more_steps at n next g.so_far begins follows;
         behind = λ x e. behind x (sym ends ∙ e);
@@ -289,24 +305,24 @@ module _ (xs : List Stem) (a : AreStems xs) (legal : IsLegal (edits_in (branches
 
           ends : last_in (take (at + n) path) ≡ last_in chain
           ends =
-              let r = within_rev xs p g.within in
-              let f = first_from xs p r.0 a r.1 in
+              let r = within_rev stems p g.within in
+              let f = first_from stems p r.0 a r.1 in
               ap last_in (take_parts at n path ∙ ap (λ z. take at path ++ z) (whole ∙ f.1))
               ∙ last_append (take at path) r.0 f.0
               ∙ ap last_in (sym f.1)
 
     -- a path that differs from it agrees with none
     pub differs : IsHistory path → common (take (length path - at) rest) chain ≡ None
-        → false ≡ list_all (λ b. agrees path b.path) (branches_of xs)
-    differs history none = elim (cases_Bool (list_all (λ b. agrees path b.path) (branches_of xs))) [
+        → false ≡ list_all (λ b. agrees path b.path) (branches_of stems)
+    differs history none = elim (cases_Bool (list_all (λ b. agrees path b.path) (branches_of stems))) [
       | inl all ↦ absurd (
-          let r = within_rev xs p g.within in
-          let f = first_from xs p r.0 a r.1 in
+          let r = within_rev stems p g.within in
+          let f = first_from stems p r.0 a r.1 in
           let d = dropped path at g.first g.here in
           let same : r.0 ≡ g.first = begun all r.0 r.1 in
           common_agrees g.first (drop (suc at) path) f.0 (λ s t other n m.
           steps_agree all s t other (next_whole at path s t (subst (λ z. IsNext z s t) (sym d) n))
-          (from_steps xs a p g.within s other
+          (from_steps stems a p g.within s other
           (subst (λ z. IsNext z s other) (sym (f.1 ∙ ap (λ v. v ∷ f.0) same)) m)))
           (ap₂ (λ (u : List Revision) (v : List Revision). common u v) (sym (take_rest path at ∙ d))
           (sym (f.1 ∙ ap (λ v. v ∷ f.0) same))
@@ -314,27 +330,27 @@ module _ (xs : List Stem) (a : AreStems xs) (legal : IsLegal (edits_in (branches
       | inr some ↦ sym some
     ]
       where
-        steps_agree : list_all (λ b. agrees path b.path) (branches_of xs) ≡ true → (s t other : Revision)
+        steps_agree : list_all (λ b. agrees path b.path) (branches_of stems) ≡ true → (s t other : Revision)
             → IsNext path s t → IsBehind es [] other s → t ≡ other
         steps_agree all s t other n (e, own, m) =
-            let i = from_branch xs a e own.0 in
+            let i = from_branch stems a e own.0 in
             agrees_is path i.1.path
-            (at_all (λ (b : Branch). agrees path b.path) (branches_of xs) all i.1
-            (there (branches_of xs) i.0 i.1 i.2)) history.falls
+            (at_all (λ (b : Branch). agrees path b.path) (branches_of stems) all i.1
+            (there (branches_of stems) i.0 i.1 i.2)) history.falls
             ((legal_sound es legal).paths (edit_of i.1) (own_is i.0 i.1 i.2)) s t other n
             (subst (λ (z : Edit). IsNext z.path s other) (sym i.3) m)
           where
-            own_is : (k : ℕ) (b : Branch) → slice_get (branches_of xs) k ≡ Some b → Contains es (edit_of b)
-            own_is k b q = (own_of xs a k b q).0
+            own_is : (k : ℕ) (b : Branch) → slice_get (branches_of stems) k ≡ Some b → Contains es (edit_of b)
+            own_is k b q = (own_of stems a k b q).0
 
-        begun : list_all (λ b. agrees path b.path) (branches_of xs) ≡ true → (r : Revision)
-            → rev_at xs (Some p) ≡ Some r → r ≡ g.first
+        begun : list_all (λ b. agrees path b.path) (branches_of stems) ≡ true → (r : Revision)
+            → rev_at stems (Some p) ≡ Some r → r ≡ g.first
         begun all r placed = from next refl
           where
             from : (o : Option Place) → next ≡ o → r ≡ g.first
             from None q =
                 same_Some r g.first
-                (sym placed ∙ subst (λ o. IfNone o (rev_at xs (Some p) ≡ Some g.first)) q g.found)
+                (sym placed ∙ subst (λ o. IfNone o (rev_at stems (Some p) ≡ Some g.first)) q g.found)
             from (Some q) e = before at refl
               where
                 last_of : (k : ℕ) → at ≡ suc k → (y : Revision) × (last_in (take at path) ≡ Some y)
@@ -365,21 +381,23 @@ module _ (xs : List Stem) (a : AreStems xs) (legal : IsLegal (edits_in (branches
                     let y = last_of k z in
                     let b =
                     told_behind es legal y.0 r
-                    (ap (behind_in y.0) (all_of_one (branches_of xs))
+                    (ap (behind_in y.0) (all_of_one (branches_of stems))
                     ∙ (sym (g.so_far.behind y.0 y.1)
-                    ∙ ap (rev_at xs) (e ∙ ap Some (sym (told_place q e)))
+                    ∙ ap (rev_at stems) (e ∙ ap Some (sym (told_place q e)))
                     ∙ placed)) in
                     sym (steps_agree all y.0 g.first r (step_at y.0 y.1) b)
 
   -- a path whose steps agree with the stored ones agrees with all
-  pub agree_all : ((s r other : Revision) → IsNext path s r → IsBehind es [] other s → r ≡ other)
-      → true ≡ list_all (λ b. agrees path b.path) (branches_of xs)
-  agree_all steps = sym (all_at (λ (b : Branch). agrees path b.path) (branches_of xs) (λ b c.
-      let i = place_in (branches_of xs) b c in
-      is_agreeing path b.path (λ s r other n m. steps s r other n (edit_of b, own_of xs a i.0 b i.1, m))))
+  pub agree_all : ((revision r other : Revision) → IsNext path revision r → IsBehind es [] other revision
+      → r ≡ other) → true ≡ list_all (λ branch. agrees path branch.path) (branches_of stems)
+  agree_all steps =
+      sym (all_at (λ (branch : Branch). agrees path branch.path) (branches_of stems) (λ branch c.
+      let i = place_in (branches_of stems) branch c in
+      is_agreeing path branch.path
+      (λ revision r other n m. steps revision r other n (edit_of branch, own_of stems a i.0 branch i.1, m))))
 
-  pub agrees_whole : (at : ℕ) (next : Option Place) → Agrees xs path at next → length path ≤ at
-      → true ≡ list_all (λ b. agrees path b.path) (branches_of xs)
+  pub agrees_whole : (at : ℕ) (next : Option Place) → Agrees stems path at next → length path ≤ at
+      → true ≡ list_all (λ b. agrees path b.path) (branches_of stems)
   agrees_whole at next g past =
       agree_all (λ s r other n b.
       g.steps s r other (subst (λ z. IsNext z s r) (sym (take_all at path past)) n) b)

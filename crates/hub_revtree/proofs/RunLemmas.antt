@@ -18,16 +18,17 @@ use Rattle.hub_revtree.specs.Run.{revisions_from}
 use Rattle.hub_revtree.proofs.BranchLemmas.{within_generation}
 
 -- each generation of a path is above 0
-pub least : (y : Revision) (q : List Revision) → Falls y q → 1 ≤ y.generation
-least y [] f = f
-least y (z ∷ q) f = omega (arith, f.0)
+pub least : (revision : Revision) (revisions : List Revision) → Falls revision revisions
+    → 1 ≤ revision.generation
+least revision [] f = f
+least revision (other ∷ revisions) f = omega (arith, f.0)
 
 -- the revision that is read at a place
-pub first_drop : (p : List Revision) (k : ℕ) (r x : Revision) → slice_get p k ≡ Some x
-    → is_first r (drop k p) ≡ is_same r x
-first_drop [] k r x e = absurd (cc)
-first_drop (y ∷ p) zero r x e = ap (is_same r) (same_Some y x e)
-first_drop (y ∷ p) (suc k) r x e = first_drop p k r x e
+pub first_drop : (revisions : List Revision) (k : ℕ) (revision other : Revision)
+    → slice_get revisions k ≡ Some other → is_first revision (drop k revisions) ≡ is_same revision other
+first_drop [] k revision other e = absurd (cc)
+first_drop (y ∷ revisions) zero revision other e = ap (is_same revision) (same_Some y other e)
+first_drop (y ∷ revisions) (suc k) revision other e = first_drop revisions k revision other e
 
 -- lists by place
 pub get_some : {A : Type 0} (xs : List A) (k : ℕ) → k < length xs → (x : A) × (slice_get xs k ≡ Some x)
@@ -47,12 +48,12 @@ as_many_digests n [] = refl
 as_many_digests n (d ∷ ds) = ap suc (as_many_digests (n - 1) ds)
 
 -- a run of digests
-module _ (p : List Revision) (n : ℕ) (ds : List (List ℕ)) (is : revisions_from n ds ≡ p) where
-  pub digest_length : length p ≡ length ds
+module _ (revisions : List Revision) (n : ℕ) (ds : List (List ℕ)) (is : revisions_from n ds ≡ revisions) where
+  pub digest_length : length revisions ≡ length ds
   digest_length = ap length (sym is) ∙ as_many_digests n ds
 
   -- the generations stay above 0
-  pub digest_low : (k : ℕ) → IsPath p → k < length p → k < n
+  pub digest_low : (k : ℕ) → IsPath revisions → k < length revisions → k < n
   digest_low k path low = from n ds k (subst IsPath (sym is) path) (omega (arith, low, digest_length))
     where
       from : (n : ℕ) (ds : List (List ℕ)) (k : ℕ) → IsPath (revisions_from n ds) → k < length ds → k < n
@@ -63,8 +64,8 @@ module _ (p : List Revision) (n : ℕ) (ds : List (List ℕ)) (is : revisions_fr
           omega (arith, path.0, from (n - 1) (e ∷ ds) k path.1 (omega arith))
 
   -- the one at a place
-  pub digest_read : (k : ℕ) (d : List ℕ) → k < length p → d ≡ get_or ds k d
-      → slice_get p k ≡ Some (record { generation = n - k; hash = encode_lower d })
+  pub digest_read : (k : ℕ) (d : List ℕ) → k < length revisions → d ≡ get_or ds k d
+      → slice_get revisions k ≡ Some (record { generation = n - k; hash = encode_lower d })
   digest_read k d low read =
       ap (λ q. slice_get q k) (sym is) ∙ from n ds k (omega (arith, low, digest_length)) read
     where
@@ -80,24 +81,27 @@ module _ (p : List Revision) (n : ℕ) (ds : List (List ℕ)) (is : revisions_fr
           from (n - 1) ds k (omega arith) read
           ∙ ap (λ g. Some (record { generation = g; hash = encode_lower d })) down
 
-  pub digest_first : (k : ℕ) (d : List ℕ) (r : Revision) → k < length p → d ≡ get_or ds k d
-      → is_first r (drop k p) ≡ (nat_eq r.generation (n - k) && bytes_eq r.hash (encode_lower d))
-  digest_first k d r low read = first_drop p k r _ (digest_read k d low read)
+  pub digest_first : (k : ℕ) (d : List ℕ) (revision : Revision) → k < length revisions → d ≡ get_or ds k d
+      → is_first revision (drop k revisions) ≡
+      (nat_eq revision.generation (n - k) && bytes_eq revision.hash (encode_lower d))
+  digest_first k d revision low read = first_drop revisions k revision _ (digest_read k d low read)
 
-  pub digest_newest : IsPath p → option_map (λ r. r.generation) (slice_get p 0) ≡ Some n
+  pub digest_newest : IsPath revisions
+      → option_map (λ revision. revision.generation) (slice_get revisions 0) ≡ Some n
   digest_newest path =
-      ap (λ q. option_map (λ (r : Revision). r.generation) (slice_get q 0)) (sym is)
+      ap (λ q. option_map (λ (revision : Revision). revision.generation) (slice_get q 0)) (sym is)
       ∙ from ds (subst IsPath (sym is) path)
     where
       from : (ds : List (List ℕ)) → IsPath (revisions_from n ds)
-          → option_map (λ (r : Revision). r.generation) (slice_get (revisions_from n ds) 0) ≡ Some n
+          → option_map (λ (revision : Revision). revision.generation)
+          (slice_get (revisions_from n ds) 0) ≡ Some n
       from [] path = absurd path
       from (d ∷ ds) path = refl
 
   -- the texts of the digests from a place on
   pub digests_more : (new old q : List (List ℕ)) (k : ℕ)
       → q ≡ ds → new ≡ old ++ take (length q - k) (drop k q)
-      → map encode_lower new ≡ map encode_lower old ++ map (λ r. r.hash) (drop k p)
+      → map encode_lower new ≡ map encode_lower old ++ map (λ revision. revision.hash) (drop k revisions)
   digests_more new old q k same more =
       ap (map encode_lower)
       (more
@@ -105,17 +109,18 @@ module _ (p : List Revision) (n : ℕ) (ds : List (List ℕ)) (is : revisions_fr
       (take_all (length q - k) (drop k q) (omega (arith, length-drop k q)) ∙ ap (drop k) same))
       ∙ map-append encode_lower old (drop k ds)
       ∙ ap (λ z. map encode_lower old ++ z)
-      (from n ds k ∙ ap (λ q. map (λ (r : Revision). r.hash) (drop k q)) is)
+      (from n ds k ∙ ap (λ q. map (λ (revision : Revision). revision.hash) (drop k q)) is)
     where
       from : (n : ℕ) (ds : List (List ℕ)) (k : ℕ)
-          → map encode_lower (drop k ds) ≡ map (λ (r : Revision). r.hash) (drop k (revisions_from n ds))
+          → map encode_lower (drop k ds) ≡ map (λ (revision : Revision). revision.hash)
+          (drop k (revisions_from n ds))
       from n [] zero = refl
       from n [] (suc k) = refl
       from n (d ∷ ds) zero = ap (λ z. encode_lower d ∷ z) (from (n - 1) ds 0)
       from n (d ∷ ds) (suc k) = from (n - 1) ds k
 
   -- the first of the digests
-  pub digests_cut : (k : ℕ) → revisions_from n (take k ds) ≡ take k p
+  pub digests_cut : (k : ℕ) → revisions_from n (take k ds) ≡ take k revisions
   digests_cut k = from n ds k ∙ ap (take k) is
     where
       from : (n : ℕ) (ds : List (List ℕ)) (k : ℕ)
@@ -126,52 +131,63 @@ module _ (p : List Revision) (n : ℕ) (ds : List (List ℕ)) (is : revisions_fr
           ap (λ z. record { generation = n; hash = encode_lower d } ∷ z) (from (n - 1) ds k)
 
 -- a run of texts
-pub texts_read : (p q : List Revision) (k : ℕ) (x : Revision) → q ≡ p → k < length p → x ≡ get_or q k x
-    → slice_get p k ≡ Some x
-texts_read p q k x is low read =
-    let same : length q ≡ length p = ap length is in
-    subst (λ z. slice_get z k ≡ Some x) is (slice_get_read q _ k x refl (omega (arith, low, same)) read)
+pub texts_read : (revisions others : List Revision) (k : ℕ) (revision : Revision) → others ≡ revisions
+    → k < length revisions → revision ≡ get_or others k revision → slice_get revisions k ≡ Some revision
+texts_read revisions others k revision is low read =
+    let same : length others ≡ length revisions = ap length is in
+    subst (λ z. slice_get z k ≡ Some revision) is
+    (slice_get_read others _ k revision refl (omega (arith, low, same)) read)
 
 -- the newest one, by its generation
-pub newest_of : (p : List Revision) (n : ℕ) → option_map (λ r. r.generation) (slice_get p 0) ≡ Some n
-    → (x : Revision) × (slice_get p 0 ≡ Some x) × (x.generation ≡ n)
+pub newest_of : (revisions : List Revision) (n : ℕ)
+    → option_map (λ r. r.generation) (slice_get revisions 0) ≡ Some n
+    → (revision : Revision) × (slice_get revisions 0 ≡ Some revision) × (revision.generation ≡ n)
 newest_of [] n e = absurd (cc)
-newest_of (x ∷ p) n e = (x, refl, same_Some x.generation n e)
+newest_of (revision ∷ revisions) n e = (revision, refl, same_Some revision.generation n e)
 
 -- a revision stands where its generation tells, or nowhere
-module _ (p : List Revision) (path : IsPath p)
-    (n : ℕ) (newest : option_map (λ r. r.generation) (slice_get p 0) ≡ Some n) (r : Revision) where
-  pub too_new : n < r.generation → names p r ≡ false
-  too_new high = let x = newest_of p n newest in above_head p x.0 r path x.1 (omega (arith, high, x.2))
+module _ (revisions : List Revision) (path : IsPath revisions)
+    (n : ℕ) (newest : option_map (λ revision. revision.generation) (slice_get revisions 0) ≡ Some n)
+    (revision : Revision) where
+  pub too_new : n < revision.generation → names revisions revision ≡ false
+  too_new high =
+      let x = newest_of revisions n newest in
+      above_head revisions x.0 revision path x.1 (omega (arith, high, x.2))
 
-  module _ (k : ℕ) (down : k ≡ n - r.generation) where
-    pub too_old : length p ≤ k → names p r ≡ false
-    too_old past = let x = newest_of p n newest in past_end p x.0 r k path x.1 (omega (arith, down, x.2)) past
+  module _ (k : ℕ) (down : k ≡ n - revision.generation) where
+    pub too_old : length revisions ≤ k → names revisions revision ≡ false
+    too_old past =
+        let x = newest_of revisions n newest in
+        past_end revisions x.0 revision k path x.1 (omega (arith, down, x.2)) past
 
-    pub is_there : (b : Bool) → b ≡ is_first r (drop k p) → k < length p
-        → IfSome (then_some b k) (λ j. slice_get p j ≡ Some r)
+    pub is_there : (b : Bool) → b ≡ is_first revision (drop k revisions) → k < length revisions
+        → IfSome (then_some b k) (λ j. slice_get revisions j ≡ Some revision)
     is_there false is low = tt
     is_there true is low =
-        let x = get_some p k low in
-        x.1 ∙ ap Some (sym (same_is r x.0 (sym (first_drop p k r x.0 x.1) ∙ sym is)))
+        let x = get_some revisions k low in
+        x.1 ∙ ap Some (sym (same_is revision x.0 (sym (first_drop revisions k revision x.0 x.1) ∙ sym is)))
 
-    pub is_absent : (b : Bool) → b ≡ is_first r (drop k p) → IfNone (then_some b k) (names p r ≡ false)
+    pub is_absent : (b : Bool) → b ≡ is_first revision (drop k revisions)
+        → IfNone (then_some b k) (names revisions revision ≡ false)
     is_absent true is = tt
     is_absent false is =
-        let x = newest_of p n newest in
-        not_named p x.0 r k path x.1 (omega (arith, down, x.2))
-        (λ e. both_ways (is_first r (drop k p)) (sym is) (first_drop p k r r e ∙ same_self r))
+        let x = newest_of revisions n newest in
+        not_named revisions x.0 revision k path x.1 (omega (arith, down, x.2))
+        (λ e. both_ways (is_first revision (drop k revisions)) (sym is)
+        (first_drop revisions k revision revision e ∙ same_self revision))
 
 -- one revision on
-pub one_on : (p line : List Revision) (k : ℕ) (r : Revision) → slice_get p k ≡ Some r
-    → (line ++ r ∷ []) ++ drop (k + 1) p ≡ line ++ drop k p
-one_on p line k r e =
+pub one_on : (revisions line : List Revision) (k : ℕ) (revision : Revision)
+    → slice_get revisions k ≡ Some revision
+    → (line ++ revision ∷ []) ++ drop (k + 1) revisions ≡ line ++ drop k revisions
+one_on revisions line k revision e =
     rw (add-one k)
-    (append_assoc line (r ∷ []) (drop (suc k) p) ∙ ap (λ z. line ++ z) (sym (dropped_one p k r e)))
+    (append_assoc line (revision ∷ []) (drop (suc k) revisions)
+    ∙ ap (λ z. line ++ z) (sym (dropped_one revisions k revision e)))
 
 -- the digests of a path's front are a run of it
-nothing_left : (ds : List (List ℕ)) (k : ℕ) → map encode_lower ds ≡ map (λ (r : Revision). r.hash) (take k [])
-    → ds ≡ []
+nothing_left : (ds : List (List ℕ)) (k : ℕ)
+    → map encode_lower ds ≡ map (λ (revision : Revision). revision.hash) (take k []) → ds ≡ []
 nothing_left [] k e = refl
 nothing_left (d ∷ ds) zero e = absurd (cc)
 nothing_left (d ∷ ds) (suc k) e = absurd (cc)
@@ -180,55 +196,64 @@ none_taken : (k : ℕ) → [] ≡ take {A = Revision} k []
 none_taken zero = refl
 none_taken (suc k) = refl
 
-front_kept : (x : Revision) (p : List Revision) (ds : List (List ℕ)) (k : ℕ)
-    → Falls x p → map encode_lower ds ≡ map (λ r. r.hash) (take k (x ∷ p))
-    → revisions_from x.generation ds ≡ take k (x ∷ p)
-front_kept x p [] zero f e = refl
-front_kept x p [] (suc k) f e = absurd (cc)
-front_kept x p (d ∷ ds) zero f e = absurd (cc)
-front_kept x [] (d ∷ ds) (suc k) f e =
-    let h : encode_lower d ≡ x.hash = (cc) in
+front_kept : (revision : Revision) (revisions : List Revision) (ds : List (List ℕ)) (k : ℕ)
+    → Falls revision revisions → map encode_lower ds ≡ map (λ r. r.hash) (take k (revision ∷ revisions))
+    → revisions_from revision.generation ds ≡ take k (revision ∷ revisions)
+front_kept revision revisions [] zero f e = refl
+front_kept revision revisions [] (suc k) f e = absurd (cc)
+front_kept revision revisions (d ∷ ds) zero f e = absurd (cc)
+front_kept revision [] (d ∷ ds) (suc k) f e =
+    let h : encode_lower d ≡ revision.hash = (cc) in
     let tail : map encode_lower ds ≡ map (λ (r : Revision). r.hash) (take k []) = (cc) in
-    ap₂ (λ (h : List ℕ) (q : List Revision). record { generation = x.generation; hash = h } ∷ q) h
-    (ap (revisions_from (x.generation - 1)) (nothing_left ds k tail) ∙ none_taken k)
-front_kept x (y ∷ p) (d ∷ ds) (suc k) f e =
-    let h : encode_lower d ≡ x.hash = (cc) in
-    let tail : map encode_lower ds ≡ map (λ (r : Revision). r.hash) (take k (y ∷ p)) = (cc) in
-    let down : x.generation - 1 ≡ y.generation = omega (arith, f.0) in
-    ap₂ (λ (h : List ℕ) (q : List Revision). record { generation = x.generation; hash = h } ∷ q) h
-    (ap (λ g. revisions_from g ds) down ∙ front_kept y p ds k f.1 tail)
+    ap₂ (λ (h : List ℕ) (others : List Revision). record { generation = revision.generation; hash = h }
+    ∷ others) h
+    (ap (revisions_from (revision.generation - 1)) (nothing_left ds k tail) ∙ none_taken k)
+front_kept revision (other ∷ revisions) (d ∷ ds) (suc k) f e =
+    let h : encode_lower d ≡ revision.hash = (cc) in
+    let tail : map encode_lower ds ≡ map (λ (r : Revision). r.hash) (take k (other ∷ revisions)) = (cc) in
+    let down : revision.generation - 1 ≡ other.generation = omega (arith, f.0) in
+    ap₂ (λ (h : List ℕ) (others : List Revision). record { generation = revision.generation; hash = h }
+    ∷ others) h
+    (ap (λ g. revisions_from g ds) down ∙ front_kept other revisions ds k f.1 tail)
 
-pub digests_whole : (x : Revision) (p : List Revision) (n : ℕ) (ds : List (List ℕ)) → IsPath (x ∷ p)
-    → n ≡ x.generation → map encode_lower ds ≡ map (λ r. r.hash) (x ∷ p) → revisions_from n ds ≡ x ∷ p
-digests_whole x p n ds path up e =
-    let all : take (length (x ∷ p)) (x ∷ p) ≡ x ∷ p = take_all (length (x ∷ p)) (x ∷ p) (omega arith) in
+pub digests_whole : (revision : Revision) (revisions : List Revision) (n : ℕ) (ds : List (List ℕ))
+    → IsPath (revision ∷ revisions)
+    → n ≡ revision.generation → map encode_lower ds ≡ map (λ r. r.hash) (revision ∷ revisions)
+    → revisions_from n ds ≡ revision ∷ revisions
+digests_whole revision revisions n ds path up e =
+    let all : take (length (revision ∷ revisions)) (revision ∷ revisions) ≡ revision
+    ∷ revisions = take_all (length (revision ∷ revisions)) (revision ∷ revisions) (omega arith) in
     ap (λ g. revisions_from g ds) up
-    ∙ front_kept x p ds (length (x ∷ p)) path (e ∙ ap (map (λ r. r.hash)) (sym all))
-    ∙ all
+    ∙ front_kept revision revisions ds (length (revision ∷ revisions)) path
+    (e ∙ ap (map (λ r. r.hash)) (sym all)) ∙ all
 
-pub digests_kept : (p : List Revision) (x : Revision) (n : ℕ) (ds : List (List ℕ)) (k : ℕ)
-    → IsPath p → x ≡ get_or p 0 x → n ≡ x.generation → map encode_lower ds ≡ map (λ r. r.hash) (take k p)
-    → revisions_from n ds ≡ take k p
-digests_kept [] x n ds k path first up e = absurd path
-digests_kept (y ∷ p) x n ds k path first up e =
+pub digests_kept : (revisions : List Revision) (revision : Revision) (n : ℕ) (ds : List (List ℕ)) (k : ℕ)
+    → IsPath revisions → revision ≡ get_or revisions 0 revision → n ≡ revision.generation
+    → map encode_lower ds ≡ map (λ r. r.hash) (take k revisions) → revisions_from n ds ≡ take k revisions
+digests_kept [] revision n ds k path first up e = absurd path
+digests_kept (other ∷ revisions) revision n ds k path first up e =
     ap (λ g. revisions_from g ds) (up ∙ ap (λ (z : Revision). z.generation) first)
-    ∙ front_kept y p ds k path e
+    ∙ front_kept other revisions ds k path e
 
 -- what a run on a line has
-pub line_whole : (x : Revision) (p : List Revision) (ds : List (List ℕ)) → IsPath (x ∷ p)
-    → map encode_lower ds ≡ map (λ r. r.hash) p → revisions_from (x.generation - 1) ds ≡ p
-line_whole x [] ds path e = ap (revisions_from (x.generation - 1)) (nothing_left ds 0 e)
-line_whole x (y ∷ p) ds path e =
-    let down : x.generation - 1 ≡ y.generation = omega (arith, path.0) in
-    digests_whole y p (x.generation - 1) ds path.1 down e
+pub line_whole : (revision : Revision) (revisions : List Revision) (ds : List (List ℕ))
+    → IsPath (revision ∷ revisions)
+    → map encode_lower ds ≡ map (λ r. r.hash) revisions
+    → revisions_from (revision.generation - 1) ds ≡ revisions
+line_whole revision [] ds path e = ap (revisions_from (revision.generation - 1)) (nothing_left ds 0 e)
+line_whole revision (other ∷ revisions) ds path e =
+    let down : revision.generation - 1 ≡ other.generation = omega (arith, path.0) in
+    digests_whole other revisions (revision.generation - 1) ds path.1 down e
 
 -- and it is shorter than the generation of what stands on it
-pub line_short : (x : Revision) (p : List Revision) (ds : List (List ℕ)) → IsHistory (x ∷ p)
-    → map encode_lower ds ≡ map (λ r. r.hash) p → length ds < x.generation
-line_short x p ds h e =
-    let as_many : length ds ≡ length p =
-    sym (length-map ds encode_lower) ∙ ap length e ∙ length-map p (λ (r : Revision). r.hash) in
-    omega (arith, as_many, within_generation (x ∷ p) x h refl)
+pub line_short : (revision : Revision) (revisions : List Revision) (ds : List (List ℕ))
+    → IsHistory (revision ∷ revisions)
+    → map encode_lower ds ≡ map (λ other. other.hash) revisions → length ds < revision.generation
+line_short revision revisions ds h e =
+    let as_many : length ds ≡ length revisions =
+    sym (length-map ds encode_lower) ∙ ap length e
+    ∙ length-map revisions (λ (other : Revision). other.hash) in
+    omega (arith, as_many, within_generation (revision ∷ revisions) revision h refl)
 
 -- the first of the first
 take_fewer : {A : Type 0} (a b : ℕ) (xs : List A) → a ≤ b → take a (take b xs) ≡ take a xs
@@ -248,38 +273,40 @@ take_least a b xs = elim (cases_lt a b) [
 ]
 
 -- the first of a path, so many at most, whose digests are these
-module _ (p : List Revision) (n most : ℕ) (d : List ℕ) (line : List (List ℕ))
-    (is : revisions_from n (take most (d ∷ line)) ≡ p) where
-  pub shared_length : length p ≡ min most (length line + 1)
+module _ (revisions : List Revision) (n most : ℕ) (d : List ℕ) (line : List (List ℕ))
+    (is : revisions_from n (take most (d ∷ line)) ≡ revisions) where
+  pub shared_length : length revisions ≡ min most (length line + 1)
   shared_length =
-      digest_length p n (take most (d ∷ line)) is
+      digest_length revisions n (take most (d ∷ line)) is
       ∙ length-take most (d ∷ line)
       ∙ ap (min most) (sym (add-one (length line)))
 
-  pub shared_low : (k : ℕ) → IsPath p → k < length p → k < n
-  shared_low k path low = digest_low p n (take most (d ∷ line)) is k path low
+  pub shared_low : (k : ℕ) → IsPath revisions → k < length revisions → k < n
+  shared_low k path low = digest_low revisions n (take most (d ∷ line)) is k path low
 
-  pub shared_read : (k : ℕ) (e : List ℕ) → k < length p → slice_get (d ∷ line) k ≡ Some e
-      → slice_get p k ≡ Some (record { generation = n - k; hash = encode_lower e })
+  pub shared_read : (k : ℕ) (e : List ℕ) → k < length revisions → slice_get (d ∷ line) k ≡ Some e
+      → slice_get revisions k ≡ Some (record { generation = n - k; hash = encode_lower e })
   shared_read k e low read =
       let below : k < most = omega (arith, low, shared_length) in
-      digest_read p n (take most (d ∷ line)) is k e low
+      digest_read revisions n (take most (d ∷ line)) is k e low
       (sym (get_or-take most (d ∷ line) k e below ∙ get_or_from_slice_get (d ∷ line) k e e read))
 
-  pub shared_first : (k : ℕ) (e : List ℕ) (r : Revision) → k < length p → slice_get (d ∷ line) k ≡ Some e
-      → is_first r (drop k p) ≡ (nat_eq r.generation (n - k) && bytes_eq r.hash (encode_lower e))
-  shared_first k e r low read = first_drop p k r _ (shared_read k e low read)
+  pub shared_first : (k : ℕ) (e : List ℕ) (revision : Revision) → k < length revisions
+      → slice_get (d ∷ line) k ≡ Some e
+      → is_first revision (drop k revisions) ≡
+      (nat_eq revision.generation (n - k) && bytes_eq revision.hash (encode_lower e))
+  shared_first k e revision low read = first_drop revisions k revision _ (shared_read k e low read)
 
   -- where that is all of them, a line of all has their digests
   pub shared_all : (o : Option (List (List ℕ))) → IfSome o (λ l. (l ≡ d ∷ line) × (length l ≤ most))
-      → IfSome o (λ l. map encode_lower l ≡ map (λ r. r.hash) p)
+      → IfSome o (λ l. map encode_lower l ≡ map (λ revision. revision.hash) revisions)
   shared_all None h = tt
   shared_all (Some l) h =
       ap (map encode_lower) (sym (take_all most l h.1) ∙ ap (take most) h.0)
       ∙ hashes n (take most (d ∷ line))
-      ∙ ap (map (λ (r : Revision). r.hash)) is
+      ∙ ap (map (λ (revision : Revision). revision.hash)) is
     where
       hashes : (n : ℕ) (ds : List (List ℕ))
-          → map encode_lower ds ≡ map (λ (r : Revision). r.hash) (revisions_from n ds)
+          → map encode_lower ds ≡ map (λ (revision : Revision). revision.hash) (revisions_from n ds)
       hashes n [] = refl
       hashes n (c ∷ ds) = ap (λ z. encode_lower c ∷ z) (hashes (n - 1) ds)

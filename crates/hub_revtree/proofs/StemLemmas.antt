@@ -86,14 +86,14 @@ none_more {A = A} P xs k x e f t = rw (add-one k) (more xs k e f)
     more (y ∷ xs) zero e f = rw (ap P (same_Some y x e) ∙ t) refl
     more (y ∷ xs) (suc k) e f = let g = or_false (P y) (list_any P (take k xs)) f in rw g.0 (more xs k e g.1)
 
-pub none_of : (P : Revision → Bool) (p : List Revision) (r : Revision) → list_any P p ≡ false
-    → names p r ≡ true → P r ≡ false
-none_of P [] r f n = absurd (cc)
-none_of P (x ∷ p) r f n =
-    let parts = or_false (P x) (list_any P p) f in
-    elim (cases_Bool (is_same r x)) [
-      | inl t ↦ ap P (same_is r x t) ∙ parts.0
-      | inr t ↦ none_of P p r parts.1 (rw t at n)
+pub none_of : (P : Revision → Bool) (revisions : List Revision) (revision : Revision)
+    → list_any P revisions ≡ false → names revisions revision ≡ true → P revision ≡ false
+none_of P [] revision f n = absurd (cc)
+none_of P (other ∷ revisions) revision f n =
+    let parts = or_false (P other) (list_any P revisions) f in
+    elim (cases_Bool (is_same revision other)) [
+      | inl t ↦ ap P (same_is revision other t) ∙ parts.0
+      | inr t ↦ none_of P revisions revision parts.1 (rw t at n)
     ]
 
 pub same_truth : (a b : Bool) → (a ≡ true → b ≡ true) → (b ≡ true → a ≡ true) → a ≡ b
@@ -102,315 +102,363 @@ same_truth false true f g = g refl
 same_truth false false f g = refl
 
 -- the chains and the branches of one stem more
-more_after : (cs : List Chain) (xs : List Stem) (s : Stem)
-    → chains_after cs (xs ++ s ∷ []) ≡ chains_after cs xs ++ chain_of (chains_after cs xs) s ∷ []
-more_after cs [] s = refl
-more_after cs (x ∷ xs) s = more_after (cs ++ chain_of cs x ∷ []) xs s
+more_after : (chains : List Chain) (stems : List Stem) (other : Stem)
+    → chains_after chains (stems ++ other ∷ []) ≡ chains_after chains stems
+    ++ chain_of (chains_after chains stems) other ∷ []
+more_after chains [] other = refl
+more_after chains (stem ∷ stems) other = more_after (chains ++ chain_of chains stem ∷ []) stems other
 
-pub one_chain_more : (xs : List Stem) (s : Stem)
-    → chains_of (xs ++ s ∷ []) ≡ chains_of xs ++ chain_of (chains_of xs) s ∷ []
-one_chain_more xs s = more_after [] xs s
+pub one_chain_more : (stems : List Stem) (stem : Stem)
+    → chains_of (stems ++ stem ∷ []) ≡ chains_of stems ++ chain_of (chains_of stems) stem ∷ []
+one_chain_more stems stem = more_after [] stems stem
 
-pub one_stem_more : (xs : List Stem) (s : Stem)
-    → branches_of (xs ++ s ∷ []) ≡ branches_of xs ++ branch_of (chain_of (chains_of xs) s) ∷ []
-one_stem_more xs s =
-    ap (map branch_of) (one_chain_more xs s)
-    ∙ map-append branch_of (chains_of xs) (chain_of (chains_of xs) s ∷ [])
+pub one_stem_more : (stems : List Stem) (stem : Stem)
+    → branches_of (stems ++ stem ∷ []) ≡ branches_of stems ++ branch_of (chain_of (chains_of stems) stem) ∷ []
+one_stem_more stems stem =
+    ap (map branch_of) (one_chain_more stems stem)
+    ∙ map-append branch_of (chains_of stems) (chain_of (chains_of stems) stem ∷ [])
 
-length_after : (cs : List Chain) (xs : List Stem) → length (chains_after cs xs) ≡ length cs + length xs
-length_after cs [] = omega arith
-length_after cs (x ∷ xs) =
-    omega (arith, length_after (cs ++ chain_of cs x ∷ []) xs, length-append cs (chain_of cs x ∷ []))
+length_after : (chains : List Chain) (stems : List Stem)
+    → length (chains_after chains stems) ≡ length chains + length stems
+length_after chains [] = omega arith
+length_after chains (stem ∷ stems) =
+    omega (
+      arith,
+      length_after (chains ++ chain_of chains stem ∷ []) stems,
+      length-append chains (chain_of chains stem ∷ []),
+    )
 
-pub as_many_chains : (xs : List Stem) → length (chains_of xs) ≡ length xs
-as_many_chains xs = omega (arith, length_after [] xs)
+pub as_many_chains : (stems : List Stem) → length (chains_of stems) ≡ length stems
+as_many_chains stems = omega (arith, length_after [] stems)
 
-pub as_many : (xs : List Stem) → length (branches_of xs) ≡ length xs
-as_many xs = length-map (chains_of xs) branch_of ∙ as_many_chains xs
+pub as_many : (stems : List Stem) → length (branches_of stems) ≡ length stems
+as_many stems = length-map (chains_of stems) branch_of ∙ as_many_chains stems
 
 -- from the end
-induct_after : (P : List Stem → Type 0) → ((xs : List Stem) (s : Stem) → P xs → P (xs ++ s ∷ []))
-    → (xs ys : List Stem) → P xs → P (xs ++ ys)
-induct_after P step xs [] p = subst P (sym (append-nil xs)) p
-induct_after P step xs (y ∷ ys) p =
-    subst P (append_assoc xs (y ∷ []) ys) (induct_after P step (xs ++ y ∷ []) ys (step xs y p))
+induct_after : (P : List Stem → Type 0)
+    → ((stems : List Stem) (other : Stem) → P stems → P (stems ++ other ∷ []))
+    → (stems others : List Stem) → P stems → P (stems ++ others)
+induct_after P step stems [] p = subst P (sym (append-nil stems)) p
+induct_after P step stems (stem ∷ others) p =
+    subst P (append_assoc stems (stem ∷ []) others)
+    (induct_after P step (stems ++ stem ∷ []) others (step stems stem p))
 
-pub from_end : (P : List Stem → Type 0) → P [] → ((xs : List Stem) (s : Stem) → P xs → P (xs ++ s ∷ []))
-    → (xs : List Stem) → P xs
-from_end P none step xs = induct_after P step [] xs none
+pub from_end : (P : List Stem → Type 0) → P []
+    → ((stems : List Stem) (stem : Stem) → P stems → P (stems ++ stem ∷ [])) → (stems : List Stem) → P stems
+from_end P none step stems = induct_after P step [] stems none
 
 -- a place of some of the stems
-pub within_stem : (xs : List Stem) (p : Place) → IsWithin xs p
-    → (s : Stem) × (slice_get xs p.stem ≡ Some s) × (p.at < length s.revisions)
-within_stem xs p w = from (slice_get xs p.stem) refl w
+pub within_stem : (stems : List Stem) (place : Place) → IsWithin stems place
+    → (stem : Stem) × (slice_get stems place.stem ≡ Some stem) × (place.at < length stem.revisions)
+within_stem stems place w = from (slice_get stems place.stem) refl w
   where
-    from : (o : Option Stem) → slice_get xs p.stem ≡ o → p.at < length (revisions_in o)
-        → (s : Stem) × (slice_get xs p.stem ≡ Some s) × (p.at < length s.revisions)
+    from : (maybe_stem : Option Stem) → slice_get stems place.stem ≡ maybe_stem
+        → place.at < length (revisions_in maybe_stem)
+        → (stem : Stem) × (slice_get stems place.stem ≡ Some stem) × (place.at < length stem.revisions)
     from None e low = absurd (omega arith)
-    from (Some s) e low = (s, e, low)
+    from (Some stem) e low = (stem, e, low)
 
-pub within_more : (xs ys : List Stem) (p : Place) → IsWithin xs p → IsWithin (xs ++ ys) p
-within_more xs ys p w = let i = within_stem xs p w in rw (get_front xs ys p.stem i.0 i.1) i.2
+pub within_more : (stems others : List Stem) (place : Place) → IsWithin stems place
+    → IsWithin (stems ++ others) place
+within_more stems others place w =
+    let i = within_stem stems place w in rw (get_front stems others place.stem i.0 i.1) i.2
 
-within_front : (xs ys : List Stem) (p : Place) → p.stem < length xs → IsWithin (xs ++ ys) p → IsWithin xs p
-within_front xs ys p low w =
-    let i = get_some xs p.stem low in
-    rw i.1 (rw (get_front xs ys p.stem i.0 i.1) at w)
+within_front : (stems others : List Stem) (place : Place) → place.stem < length stems
+    → IsWithin (stems ++ others) place → IsWithin stems place
+within_front stems others place low w =
+    let i = get_some stems place.stem low in
+    rw i.1 (rw (get_front stems others place.stem i.0 i.1) at w)
 
 -- a place that is within has a revision
-pub within_rev : (xs : List Stem) (p : Place) → IsWithin xs p → (r : Revision) × (rev_at xs (Some p) ≡ Some r)
-within_rev xs p w = get_some (revisions_at xs p.stem) p.at w
+pub within_rev : (stems : List Stem) (place : Place) → IsWithin stems place → (revision : Revision)
+    × (rev_at stems (Some place) ≡ Some revision)
+within_rev stems place w = get_some (revisions_at stems place.stem) place.at w
 
-pub rev_within : (xs : List Stem) (p : Place) (r : Revision) → rev_at xs (Some p) ≡ Some r → IsWithin xs p
-rev_within xs p r e = slice_get_within (revisions_at xs p.stem) p.at r e
+pub rev_within : (stems : List Stem) (place : Place) (revision : Revision)
+    → rev_at stems (Some place) ≡ Some revision → IsWithin stems place
+rev_within stems place revision e = slice_get_within (revisions_at stems place.stem) place.at revision e
 
 -- it is the same one among more stems
-rev_more : (xs ys : List Stem) (p : Place) (r : Revision) → rev_at xs (Some p) ≡ Some r
-    → rev_at (xs ++ ys) (Some p) ≡ Some r
-rev_more xs ys p r e =
-    let i = within_stem xs p (rev_within xs p r e) in
-    rw (get_front xs ys p.stem i.0 i.1) (rw i.1 at e)
+rev_more : (stems others : List Stem) (place : Place) (revision : Revision)
+    → rev_at stems (Some place) ≡ Some revision → rev_at (stems ++ others) (Some place) ≡ Some revision
+rev_more stems others place revision e =
+    let i = within_stem stems place (rev_within stems place revision e) in
+    rw (get_front stems others place.stem i.0 i.1) (rw i.1 at e)
 
-rev_front : (xs ys : List Stem) (p : Place) (r : Revision) → IsWithin xs p
-    → rev_at (xs ++ ys) (Some p) ≡ Some r → rev_at xs (Some p) ≡ Some r
-rev_front xs ys p r w e =
-    let i = within_stem xs p w in
-    rw i.1 (rw (get_front xs ys p.stem i.0 i.1) at e)
+rev_front : (stems others : List Stem) (place : Place) (revision : Revision) → IsWithin stems place
+    → rev_at (stems ++ others) (Some place) ≡ Some revision → rev_at stems (Some place) ≡ Some revision
+rev_front stems others place revision w e =
+    let i = within_stem stems place w in
+    rw i.1 (rw (get_front stems others place.stem i.0 i.1) at e)
 
 -- the chain of a number among more stems
-chain_front : (xs : List Stem) (s t : Stem) (k : ℕ) → slice_get xs k ≡ Some t
-    → slice_get (chains_of (xs ++ s ∷ [])) k ≡ slice_get (chains_of xs) k
-chain_front xs s t k e =
+chain_front : (stems : List Stem) (stem other : Stem) (k : ℕ) → slice_get stems k ≡ Some other
+    → slice_get (chains_of (stems ++ stem ∷ [])) k ≡ slice_get (chains_of stems) k
+chain_front stems stem other k e =
     let i =
-    get_some (chains_of xs) k
-    (let low = slice_get_within xs k t e in omega (arith, low, as_many_chains xs)) in
-    ap (λ cs. slice_get cs k) (one_chain_more xs s)
-    ∙ get_front (chains_of xs) (chain_of (chains_of xs) s ∷ []) k i.0 i.1
+    get_some (chains_of stems) k
+    (let low = slice_get_within stems k other e in omega (arith, low, as_many_chains stems)) in
+    ap (λ cs. slice_get cs k) (one_chain_more stems stem)
+    ∙ get_front (chains_of stems) (chain_of (chains_of stems) stem ∷ []) k i.0 i.1
     ∙ sym i.1
 
-pub front : (xs : List Stem) (s : Stem) → AreStems (xs ++ s ∷ []) → AreStems xs
-front xs s a = record {
-  falling = λ k t e. a.falling k t (get_front xs (s ∷ []) k t e);
-  newest = λ k t r e h.
-      subst (λ z. has_revision z r ≡ false) (before k t e) (a.newest k t r (get_front xs (s ∷ []) k t e) h);
-  fresh = λ k t e j. subst (λ z. list_any (has_revision z) t.revisions ≡ false) (before k t e)
-      (a.fresh k t (get_front xs (s ∷ []) k t e) j);
-  earlier = λ k t p e q.
-      let i = a.earlier k t p (get_front xs (s ∷ []) k t e) q in
-      let low = slice_get_within xs k t e in
-      (i.0, within_front xs (s ∷ []) p (omega (arith, low, i.0)) i.1);
+pub front : (stems : List Stem) (stem : Stem) → AreStems (stems ++ stem ∷ []) → AreStems stems
+front stems stem a = record {
+  falling = λ k other e. a.falling k other (get_front stems (stem ∷ []) k other e);
+  newest = λ k other r e h.
+      subst (λ z. has_revision z r ≡ false) (before k other e)
+      (a.newest k other r (get_front stems (stem ∷ []) k other e) h);
+  fresh = λ k other e j. subst (λ z. list_any (has_revision z) other.revisions ≡ false) (before k other e)
+      (a.fresh k other (get_front stems (stem ∷ []) k other e) j);
+  earlier = λ k other p e q.
+      let i = a.earlier k other p (get_front stems (stem ∷ []) k other e) q in
+      let low = slice_get_within stems k other e in
+      (i.0, within_front stems (stem ∷ []) p (omega (arith, low, i.0)) i.1);
   lower =
-      λ k t p r x e q h i. a.lower k t p r x (get_front xs (s ∷ []) k t e) q h (rev_more xs (s ∷ []) p r i);
-  counted = λ k t e. a.counted k t (get_front xs (s ∷ []) k t e);
-  reached = λ k t e.
-      a.reached k t (get_front xs (s ∷ []) k t e) ∙ ap (λ o. length (whole_in o)) (chain_front xs s t k e);
+      λ k other p r x e q h i. a.lower k other p r x (get_front stems (stem ∷ []) k other e) q h
+      (rev_more stems (stem ∷ []) p r i);
+  counted = λ k other e. a.counted k other (get_front stems (stem ∷ []) k other e);
+  reached = λ k other e.
+      a.reached k other (get_front stems (stem ∷ []) k other e)
+      ∙ ap (λ o. length (whole_in o)) (chain_front stems stem other k e);
 }
   where
-    before : (k : ℕ) (t : Stem) → slice_get xs k ≡ Some t → take k (xs ++ s ∷ []) ≡ take k xs
-    before k t e = take-append-le k xs (s ∷ []) (let low = slice_get_within xs k t e in omega (arith, low))
+    before : (k : ℕ) (other : Stem) → slice_get stems k ≡ Some other
+        → take k (stems ++ stem ∷ []) ≡ take k stems
+    before k other e =
+        take-append-le k stems (stem ∷ []) (let low = slice_get_within stems k other e in omega (arith, low))
 
 -- what one stem more has to be
-pub record IsNextStem (xs : List Stem) (s : Stem) : Type 0 where
-  pub falling : IsPath s.revisions
-  pub newest : (r : Revision) → slice_get s.revisions 0 ≡ Some r → has_revision xs r ≡ false
-  pub fresh : s.joins ≡ false → list_any (has_revision xs) s.revisions ≡ false
-  pub within : (p : Place) → s.parent ≡ Some p → IsWithin xs p
-  pub lower : (p : Place) (r x : Revision) → s.parent ≡ Some p → slice_get s.revisions 0 ≡ Some x
-      → rev_at xs (Some p) ≡ Some r → r.generation < x.generation
-  pub counted : (length s.revisions ≤ s.count) × (s.count ≤ s.reach)
-      × ((p : Place) → s.parent ≡ Some p → length s.revisions < s.count)
-  pub reached : s.reach ≡ length (chain_of (chains_of xs) s).whole
+pub record IsNextStem (stems : List Stem) (stem : Stem) : Type 0 where
+  pub falling : IsPath stem.revisions
+  pub newest : (other : Revision) → slice_get stem.revisions 0 ≡ Some other → has_revision stems other ≡ false
+  pub fresh : stem.joins ≡ false → list_any (has_revision stems) stem.revisions ≡ false
+  pub within : (place : Place) → stem.parent ≡ Some place → IsWithin stems place
+  pub lower : (place : Place) (other revision : Revision) → stem.parent ≡ Some place
+      → slice_get stem.revisions 0 ≡ Some revision
+      → rev_at stems (Some place) ≡ Some other → other.generation < revision.generation
+  pub counted : (length stem.revisions ≤ stem.count) × (stem.count ≤ stem.reach)
+      × ((place : Place) → stem.parent ≡ Some place → length stem.revisions < stem.count)
+  pub reached : stem.reach ≡ length (chain_of (chains_of stems) stem).whole
 
 -- one more
-pub stems_more : (xs : List Stem) (s : Stem) → AreStems xs → IsNextStem xs s → AreStems (xs ++ s ∷ [])
-stems_more xs s a n = record {
-  falling = λ k t e. elim (get_pushed xs s k t e) [
+pub stems_more : (stems : List Stem) (stem : Stem) → AreStems stems → IsNextStem stems stem
+    → AreStems (stems ++ stem ∷ [])
+stems_more stems stem a n = record {
+  falling = λ k t e. elim (get_pushed stems stem k t e) [
     | inl f ↦ a.falling k t f
-    | inr f ↦ subst (λ (z : Stem). IsPath z.revisions) f.1 n.falling
+    | inr f ↦ subst (λ (other : Stem). IsPath other.revisions) f.1 n.falling
   ];
-  newest = λ k t r e h. elim (get_pushed xs s k t e) [
-    | inl f ↦ subst (λ z. has_revision z r ≡ false) (sym (before k t f)) (a.newest k t r f h)
+  newest = λ k t r e h. elim (get_pushed stems stem k t e) [
+    | inl f ↦ subst (λ other. has_revision other r ≡ false) (sym (before k t f)) (a.newest k t r f h)
     | inr f ↦
-        subst (λ m. has_revision (take m (xs ++ s ∷ [])) r ≡ false) (sym f.0)
-        (subst (λ z. has_revision z r ≡ false) (sym (take-append_seam xs (s ∷ [])))
-        (n.newest r (ap (λ (z : Stem). slice_get z.revisions 0) f.1 ∙ h)))
+        subst (λ m. has_revision (take m (stems ++ stem ∷ [])) r ≡ false) (sym f.0)
+        (subst (λ other. has_revision other r ≡ false) (sym (take-append_seam stems (stem ∷ [])))
+        (n.newest r (ap (λ (other : Stem). slice_get other.revisions 0) f.1 ∙ h)))
   ];
-  fresh = λ k t e j. elim (get_pushed xs s k t e) [
+  fresh = λ k t e j. elim (get_pushed stems stem k t e) [
     | inl f ↦
-        subst (λ z. list_any (has_revision z) t.revisions ≡ false) (sym (before k t f)) (a.fresh k t f j)
+        subst (λ other. list_any (has_revision other) t.revisions ≡ false) (sym (before k t f))
+        (a.fresh k t f j)
     | inr f ↦
-        subst (λ (z : Stem). list_any (has_revision (take k (xs ++ s ∷ []))) z.revisions ≡ false) f.1
-        (subst (λ m. list_any (has_revision (take m (xs ++ s ∷ []))) s.revisions ≡ false) (sym f.0)
-        (subst (λ z. list_any (has_revision z) s.revisions ≡ false) (sym (take-append_seam xs (s ∷ [])))
-        (n.fresh (ap (λ (z : Stem). z.joins) f.1 ∙ j))))
+        subst (λ (other : Stem). list_any
+        (has_revision (take k (stems ++ stem ∷ []))) other.revisions ≡ false) f.1
+        (subst (λ m. list_any (has_revision (take m (stems ++ stem ∷ []))) stem.revisions ≡ false) (sym f.0)
+        (subst (λ other. list_any (has_revision other) stem.revisions ≡ false)
+        (sym (take-append_seam stems (stem ∷ [])))
+        (n.fresh (ap (λ (other : Stem). other.joins) f.1 ∙ j))))
   ];
-  earlier = λ k t p e q. elim (get_pushed xs s k t e) [
-    | inl f ↦ let i = a.earlier k t p f q in (i.0, within_more xs (s ∷ []) p i.1)
+  earlier = λ k t place e q. elim (get_pushed stems stem k t e) [
+    | inl f ↦ let i = a.earlier k t place f q in (i.0, within_more stems (stem ∷ []) place i.1)
     | inr f ↦
-        let w = n.within p (ap (λ (z : Stem). z.parent) f.1 ∙ q) in
-        let i = within_stem xs p w in
-        (omega (arith, slice_get_within xs p.stem i.0 i.1, f.0), within_more xs (s ∷ []) p w)
+        let w = n.within place (ap (λ (other : Stem). other.parent) f.1 ∙ q) in
+        let i = within_stem stems place w in
+        (omega (arith, slice_get_within stems place.stem i.0 i.1, f.0), within_more stems (stem ∷ []) place w)
   ];
-  lower = λ k t p r x e q h i. elim (get_pushed xs s k t e) [
-    | inl f ↦ a.lower k t p r x f q h (rev_front xs (s ∷ []) p r (a.earlier k t p f q).1 i)
+  lower = λ k t place r x e q h i. elim (get_pushed stems stem k t e) [
+    | inl f ↦ a.lower k t place r x f q h (rev_front stems (stem ∷ []) place r (a.earlier k t place f q).1 i)
     | inr f ↦
-        let stands : s.parent ≡ Some p = ap (λ (z : Stem). z.parent) f.1 ∙ q in
-        n.lower p r x stands (ap (λ (z : Stem). slice_get z.revisions 0) f.1 ∙ h)
-        (rev_front xs (s ∷ []) p r (n.within p stands) i)
+        let stands : stem.parent ≡ Some place = ap (λ (other : Stem). other.parent) f.1 ∙ q in
+        n.lower place r x stands (ap (λ (other : Stem). slice_get other.revisions 0) f.1 ∙ h)
+        (rev_front stems (stem ∷ []) place r (n.within place stands) i)
   ];
-  counted = λ k t e. elim (get_pushed xs s k t e) [
+  counted = λ k t e. elim (get_pushed stems stem k t e) [
     | inl f ↦ a.counted k t f
     | inr f ↦
-        subst (λ (z : Stem). (length z.revisions ≤ z.count) × (z.count ≤ z.reach)
-        × ((p : Place) → z.parent ≡ Some p → length z.revisions < z.count)) f.1 n.counted
+        subst (λ (other : Stem). (length other.revisions ≤ other.count) × (other.count ≤ other.reach)
+        × ((place : Place) → other.parent ≡ Some place → length other.revisions < other.count)) f.1 n.counted
   ];
-  reached = λ k t e. elim (get_pushed xs s k t e) [
-    | inl f ↦ a.reached k t f ∙ ap (λ o. length (whole_in o)) (sym (chain_front xs s t k f))
+  reached = λ k t e. elim (get_pushed stems stem k t e) [
+    | inl f ↦ a.reached k t f ∙ ap (λ o. length (whole_in o)) (sym (chain_front stems stem t k f))
     | inr f ↦
-        ap (λ (z : Stem). z.reach) (sym f.1)
+        ap (λ (other : Stem). other.reach) (sym f.1)
         ∙ n.reached
         ∙ ap (λ o. length (whole_in o)) (sym (last_chain k f.0))
   ];
 }
   where
-    before : (k : ℕ) (t : Stem) → slice_get xs k ≡ Some t → take k (xs ++ s ∷ []) ≡ take k xs
-    before k t e = take-append-le k xs (s ∷ []) (let low = slice_get_within xs k t e in omega (arith, low))
+    before : (k : ℕ) (t : Stem) → slice_get stems k ≡ Some t → take k (stems ++ stem ∷ []) ≡ take k stems
+    before k t e =
+        take-append-le k stems (stem ∷ []) (let low = slice_get_within stems k t e in omega (arith, low))
 
-    last_chain : (k : ℕ) → k ≡ length xs
-        → slice_get (chains_of (xs ++ s ∷ [])) k ≡ Some (chain_of (chains_of xs) s)
+    last_chain : (k : ℕ) → k ≡ length stems
+        → slice_get (chains_of (stems ++ stem ∷ [])) k ≡ Some (chain_of (chains_of stems) stem)
     last_chain k q =
-        ap (slice_get (chains_of (xs ++ s ∷ []))) (q ∙ sym (as_many_chains xs))
-        ∙ ap (λ cs. slice_get cs (length (chains_of xs))) (one_chain_more xs s)
-        ∙ get_last (chains_of xs) (chain_of (chains_of xs) s)
+        ap (slice_get (chains_of (stems ++ stem ∷ []))) (q ∙ sym (as_many_chains stems))
+        ∙ ap (λ cs. slice_get cs (length (chains_of stems))) (one_chain_more stems stem)
+        ∙ get_last (chains_of stems) (chain_of (chains_of stems) stem)
 
 -- each chain has its stem's revisions, and the chain that they stand on
-module _ (cs ds : List Chain) where
-  same_from : (o : Option Place) → ((p : Place) → o ≡ Some p → (c : Chain) × (slice_get cs p.stem ≡ Some c))
-      → chain_from (cs ++ ds) o ≡ chain_from cs o
+module _ (chains others : List Chain) where
+  same_from : (maybe_place : Option Place)
+      → ((place : Place) → maybe_place ≡ Some place → (chain : Chain)
+      × (slice_get chains place.stem ≡ Some chain))
+      → chain_from (chains ++ others) maybe_place ≡ chain_from chains maybe_place
   same_from None h = refl
-  same_from (Some p) h = let i = h p refl in rw (get_front cs ds p.stem i.0 i.1, i.1) refl
+  same_from (Some place) h = let i = h place refl in rw (get_front chains others place.stem i.0 i.1, i.1) refl
 
-  same_chain : (s : Stem) → ((p : Place) → s.parent ≡ Some p → (c : Chain) × (slice_get cs p.stem ≡ Some c))
-      → chain_of (cs ++ ds) s ≡ chain_of cs s
-  same_chain s h =
+  same_chain : (stem : Stem)
+      → ((place : Place) → stem.parent ≡ Some place → (chain : Chain)
+      × (slice_get chains place.stem ≡ Some chain)) → chain_of (chains ++ others) stem ≡ chain_of chains stem
+  same_chain stem h =
       ap (λ (rest : List Revision).
-      record { whole = s.revisions ++ rest; count = s.count; deleted = s.deleted; body = s.body })
-      (same_from s.parent h)
+      record { whole = stem.revisions ++ rest; count = stem.count; deleted = stem.deleted; body = stem.body })
+      (same_from stem.parent h)
 
 abbrev AreChained : List Stem → Type 0
-AreChained xs =
-    AreStems xs → (k : ℕ) (s : Stem) → slice_get xs k ≡ Some s
-    → slice_get (chains_of xs) k ≡ Some (chain_of (chains_of xs) s)
+AreChained stems =
+    AreStems stems → (k : ℕ) (stem : Stem) → slice_get stems k ≡ Some stem
+    → slice_get (chains_of stems) k ≡ Some (chain_of (chains_of stems) stem)
 
-chained_more : (xs : List Stem) (t : Stem) → AreChained xs → AreChained (xs ++ t ∷ [])
-chained_more xs t ih a k s e = rw (one_chain_more xs t) (elim (get_pushed xs t k s e) [
+chained_more : (stems : List Stem) (stem : Stem) → AreChained stems → AreChained (stems ++ stem ∷ [])
+chained_more stems stem ih a k s e = rw (one_chain_more stems stem) (elim (get_pushed stems stem k s e) [
   | inl f ↦
-      get_front (chains_of xs) (chain_of (chains_of xs) t ∷ []) k (chain_of (chains_of xs) s)
-      (ih (front xs t a) k s f)
-      ∙ ap Some (sym (same_chain (chains_of xs) (chain_of (chains_of xs) t ∷ []) s known))
+      get_front (chains_of stems) (chain_of (chains_of stems) stem ∷ []) k (chain_of (chains_of stems) s)
+      (ih (front stems stem a) k s f)
+      ∙ ap Some (sym (same_chain (chains_of stems) (chain_of (chains_of stems) stem ∷ []) s known))
   | inr f ↦
-      ap (slice_get (chains_of xs ++ chain_of (chains_of xs) t ∷ [])) (f.0 ∙ sym (as_many_chains xs))
-      ∙ get_last (chains_of xs) (chain_of (chains_of xs) t)
-      ∙ ap (λ z. Some (chain_of (chains_of xs) z)) f.1
-      ∙ ap Some (sym (same_chain (chains_of xs) (chain_of (chains_of xs) t ∷ []) s known))
+      ap (slice_get (chains_of stems ++ chain_of (chains_of stems) stem ∷ []))
+      (f.0 ∙ sym (as_many_chains stems)) ∙ get_last (chains_of stems) (chain_of (chains_of stems) stem)
+      ∙ ap (λ z. Some (chain_of (chains_of stems) z)) f.1
+      ∙ ap Some (sym (same_chain (chains_of stems) (chain_of (chains_of stems) stem ∷ []) s known))
 ])
   where
-    known : (p : Place) → s.parent ≡ Some p → (c : Chain) × (slice_get (chains_of xs) p.stem ≡ Some c)
-    known p q =
-        let low = slice_get_within (xs ++ t ∷ []) k s e in
-        let i = a.earlier k s p e q in
-        get_some (chains_of xs) p.stem (omega (arith, low, i.0, as_many_chains xs, length-append xs (t ∷ [])))
+    known : (place : Place) → s.parent ≡ Some place → (chain : Chain)
+        × (slice_get (chains_of stems) place.stem ≡ Some chain)
+    known place q =
+        let low = slice_get_within (stems ++ stem ∷ []) k s e in
+        let i = a.earlier k s place e q in
+        get_some (chains_of stems) place.stem
+        (omega (arith, low, i.0, as_many_chains stems, length-append stems (stem ∷ [])))
 
-pub chained_at : (xs : List Stem) → AreStems xs → (k : ℕ) (s : Stem) → slice_get xs k ≡ Some s
-    → slice_get (chains_of xs) k ≡ Some (chain_of (chains_of xs) s)
-chained_at = from_end AreChained (λ a k s e. absurd (cc)) chained_more
+pub chained_at : (stems : List Stem) → AreStems stems → (k : ℕ) (stem : Stem) → slice_get stems k ≡ Some stem
+    → slice_get (chains_of stems) k ≡ Some (chain_of (chains_of stems) stem)
+chained_at = from_end AreChained (λ a k stem e. absurd (cc)) chained_more
 
-pub shown_at : (xs : List Stem) → AreStems xs → (k : ℕ) (s : Stem) → slice_get xs k ≡ Some s
-    → slice_get (branches_of xs) k ≡ Some (branch_of (chain_of (chains_of xs) s))
-shown_at xs a k s e =
-    slice_get-map branch_of (chains_of xs) k ∙ ap (option_map branch_of) (chained_at xs a k s e)
+pub shown_at : (stems : List Stem) → AreStems stems → (k : ℕ) (stem : Stem) → slice_get stems k ≡ Some stem
+    → slice_get (branches_of stems) k ≡ Some (branch_of (chain_of (chains_of stems) stem))
+shown_at stems a k stem e =
+    slice_get-map branch_of (chains_of stems) k ∙ ap (option_map branch_of) (chained_at stems a k stem e)
 
 -- the chain from a place on is the rest of its stem's revisions, and the chain that they stand on
-pub rest_at : (xs : List Stem) (p : Place) (s : Stem) → AreStems xs
-    → slice_get xs p.stem ≡ Some s → IsWithin xs p
-    → chain_from (chains_of xs) (Some p) ≡ drop p.at s.revisions ++ chain_from (chains_of xs) s.parent
-rest_at xs p s a e w =
-    let low : p.at < length s.revisions = rw e at w in
-    rw (chained_at xs a p.stem s e)
-    (drop-append-le p.at s.revisions (chain_from (chains_of xs) s.parent) (omega (arith, low)))
+pub rest_at : (stems : List Stem) (place : Place) (stem : Stem) → AreStems stems
+    → slice_get stems place.stem ≡ Some stem → IsWithin stems place
+    → chain_from (chains_of stems) (Some place) ≡ drop place.at stem.revisions
+    ++ chain_from (chains_of stems) stem.parent
+rest_at stems place stem a e w =
+    let low : place.at < length stem.revisions = rw e at w in
+    rw (chained_at stems a place.stem stem e)
+    (drop-append-le place.at stem.revisions (chain_from (chains_of stems) stem.parent) (omega (arith, low)))
 
 -- which begins with the revision there
-pub first_from : (xs : List Stem) (p : Place) (r : Revision) → AreStems xs → rev_at xs (Some p) ≡ Some r
-    → (older : List Revision) × (chain_from (chains_of xs) (Some p) ≡ r ∷ older)
-first_from xs p r a e =
-    let i = within_stem xs p (rev_within xs p r e) in
-    let there : slice_get i.0.revisions p.at ≡ Some r = rw i.1 at e in (
-      drop (suc p.at) i.0.revisions ++ chain_from (chains_of xs) i.0.parent,
-      rest_at xs p i.0 a i.1 (rev_within xs p r e)
-          ∙ ap (λ z. z ++ chain_from (chains_of xs) i.0.parent) (dropped_one i.0.revisions p.at r there),
+pub first_from : (stems : List Stem) (place : Place) (revision : Revision) → AreStems stems
+    → rev_at stems (Some place) ≡ Some revision
+    → (older : List Revision) × (chain_from (chains_of stems) (Some place) ≡ revision ∷ older)
+first_from stems place revision a e =
+    let i = within_stem stems place (rev_within stems place revision e) in
+    let there : slice_get i.0.revisions place.at ≡ Some revision = rw i.1 at e in (
+      drop (suc place.at) i.0.revisions ++ chain_from (chains_of stems) i.0.parent,
+      rest_at stems place i.0 a i.1 (rev_within stems place revision e)
+          ∙ ap (λ z. z ++ chain_from (chains_of stems) i.0.parent)
+          (dropped_one i.0.revisions place.at revision there),
     )
 
 -- a stem's own path is the front of its edit's
-pub own_front : (xs : List Stem) → AreStems xs → (k : ℕ) (s : Stem) → slice_get xs k ≡ Some s
-    → (tail : List Revision) × ((branch_of (chain_of (chains_of xs) s)).path ≡ own_path xs s ++ tail)
-own_front xs a k s e = from s.parent refl
+pub own_front : (stems : List Stem) → AreStems stems → (k : ℕ) (stem : Stem) → slice_get stems k ≡ Some stem
+    → (tail : List Revision) ×
+    ((branch_of (chain_of (chains_of stems) stem)).path ≡ own_path stems stem ++ tail)
+own_front stems a k stem e = from stem.parent refl
   where
-    c : (length s.revisions ≤ s.count) × (s.count ≤ s.reach)
-        × ((p : Place) → s.parent ≡ Some p → length s.revisions < s.count)
-    c = a.counted k s e
+    c : (length stem.revisions ≤ stem.count) × (stem.count ≤ stem.reach)
+        × ((place : Place) → stem.parent ≡ Some place → length stem.revisions < stem.count)
+    c = a.counted k stem e
 
-    from : (o : Option Place) → s.parent ≡ o
+    from : (maybe_place : Option Place) → stem.parent ≡ maybe_place
         → (tail : List Revision)
-        × (take s.count (s.revisions ++ chain_from (chains_of xs) o)
-        ≡ (s.revisions ++ one_of (rev_at xs o)) ++ tail)
+        × (take stem.count (stem.revisions ++ chain_from (chains_of stems) maybe_place)
+        ≡ (stem.revisions ++ one_of (rev_at stems maybe_place)) ++ tail)
     from None q = (
-      take (s.count - length s.revisions) [],
-      take_more s.count s.revisions [] c.0
-          ∙ ap (λ z. z ++ take (s.count - length s.revisions) []) (sym (append-nil s.revisions)),
+      take (stem.count - length stem.revisions) [],
+      take_more stem.count stem.revisions [] c.0
+          ∙ ap (λ z. z ++ take (stem.count - length stem.revisions) []) (sym (append-nil stem.revisions)),
     )
-    from (Some p) q =
-        let r = within_rev xs p (a.earlier k s p e q).1 in
-        let f = first_from xs p r.0 a r.1 in
-        let more : s.count - length s.revisions ≡ suc (s.count - length s.revisions - 1) =
-        let low = c.2 p q in omega (arith, low) in (
-          take (s.count - length s.revisions - 1) f.0,
-          take_more s.count s.revisions (chain_from (chains_of xs) (Some p)) c.0
-              ∙ ap (λ z. s.revisions ++ z)
-              (ap (take (s.count - length s.revisions)) f.1 ∙ ap (λ n. take n (r.0 ∷ f.0)) more)
-              ∙ sym (append_assoc s.revisions (r.0 ∷ []) (take (s.count - length s.revisions - 1) f.0))
-              ∙ ap (λ o. (s.revisions ++ one_of o) ++ take (s.count - length s.revisions - 1) f.0) (sym r.1),
+    from (Some place) q =
+        let r = within_rev stems place (a.earlier k stem place e q).1 in
+        let f = first_from stems place r.0 a r.1 in
+        let more : stem.count - length stem.revisions ≡ suc (stem.count - length stem.revisions - 1) =
+        let low = c.2 place q in omega (arith, low) in (
+          take (stem.count - length stem.revisions - 1) f.0,
+          take_more stem.count stem.revisions (chain_from (chains_of stems) (Some place)) c.0
+              ∙ ap (λ z. stem.revisions ++ z)
+              (ap (take (stem.count - length stem.revisions)) f.1 ∙ ap (λ n. take n (r.0 ∷ f.0)) more)
+              ∙ sym (append_assoc stem.revisions (r.0 ∷ [])
+              (take (stem.count - length stem.revisions - 1) f.0))
+              ∙ ap (λ maybe_place. (stem.revisions ++ one_of maybe_place)
+              ++ take (stem.count - length stem.revisions - 1) f.0) (sym r.1),
         )
 
 -- a path's rest names no other revision
-pub names_drop : (n : ℕ) (p : List Revision) (r : Revision) → names (drop n p) r ≡ true → names p r ≡ true
-names_drop zero p r h = h
-names_drop (suc n) [] r h = h
-names_drop (suc n) (x ∷ p) r h = or_right (is_same r x) (names p r) (names_drop n p r h)
+pub names_drop : (n : ℕ) (revisions : List Revision) (revision : Revision)
+    → names (drop n revisions) revision ≡ true → names revisions revision ≡ true
+names_drop zero revisions revision h = h
+names_drop (suc n) [] revision h = h
+names_drop (suc n) (other ∷ revisions) revision h =
+    or_right (is_same revision other) (names revisions revision) (names_drop n revisions revision h)
 
 -- nor does its front
-pub names_take : (n : ℕ) (p : List Revision) (r : Revision) → names (take n p) r ≡ true → names p r ≡ true
-names_take zero p r h = absurd (cc)
-names_take (suc n) [] r h = h
-names_take (suc n) (x ∷ p) r h = elim (cases_Bool (is_same r x)) [
-  | inl t ↦ or_left (is_same r x) (names p r) t
-  | inr t ↦ or_right (is_same r x) (names p r) (names_take n p r (rw t at h))
+pub names_take : (n : ℕ) (revisions : List Revision) (revision : Revision)
+    → names (take n revisions) revision ≡ true → names revisions revision ≡ true
+names_take zero revisions revision h = absurd (cc)
+names_take (suc n) [] revision h = h
+names_take (suc n) (other ∷ revisions) revision h = elim (cases_Bool (is_same revision other)) [
+  | inl t ↦ or_left (is_same revision other) (names revisions revision) t
+  | inr t ↦ or_right (is_same revision other) (names revisions revision)
+      (names_take n revisions revision (rw t at h))
 ]
 
-pub names_front : (p q : List Revision) (r : Revision) → names p r ≡ true → names (p ++ q) r ≡ true
-names_front p q r h = list_any-append (is_same r) p q ∙ or_left (names p r) (names q r) h
+pub names_front : (revisions others : List Revision) (revision : Revision) → names revisions revision ≡ true
+    → names (revisions ++ others) revision ≡ true
+names_front revisions others revision h =
+    list_any-append (is_same revision) revisions others
+    ∙ or_left (names revisions revision) (names others revision) h
 
-chain_named : (cs : List Chain) (n : ℕ) (r : Revision) → names (whole_in (slice_get cs n)) r ≡ true
-    → list_any (λ c. names c.whole r) cs ≡ true
-chain_named [] n r h = absurd (cc)
-chain_named (c ∷ cs) zero r h = or_left (names c.whole r) (list_any (λ c. names c.whole r) cs) h
-chain_named (c ∷ cs) (suc n) r h =
-    or_right (names c.whole r) (list_any (λ c. names c.whole r) cs) (chain_named cs n r h)
+chain_named : (chains : List Chain) (n : ℕ) (revision : Revision)
+    → names (whole_in (slice_get chains n)) revision ≡ true
+    → list_any (λ chain. names chain.whole revision) chains ≡ true
+chain_named [] n revision h = absurd (cc)
+chain_named (chain ∷ chains) zero revision h =
+    or_left (names chain.whole revision) (list_any (λ chain. names chain.whole revision) chains) h
+chain_named (chain ∷ chains) (suc n) revision h =
+    or_right (names chain.whole revision) (list_any (λ chain. names chain.whole revision) chains)
+    (chain_named chains n revision h)
 
-pub from_chain_named : (cs : List Chain) (o : Option Place) (r : Revision) → names (chain_from cs o) r ≡ true
-    → list_any (λ c. names c.whole r) cs ≡ true
-from_chain_named cs None r h = absurd (cc)
-from_chain_named cs (Some p) r h =
-    chain_named cs p.stem r (names_drop p.at (whole_in (slice_get cs p.stem)) r h)
+pub from_chain_named : (chains : List Chain) (maybe_place : Option Place) (revision : Revision)
+    → names (chain_from chains maybe_place) revision ≡ true
+    → list_any (λ c. names c.whole revision) chains ≡ true
+from_chain_named chains None revision h = absurd (cc)
+from_chain_named chains (Some place) revision h =
+    chain_named chains place.stem revision
+    (names_drop place.at (whole_in (slice_get chains place.stem)) revision h)
 
 absorbed : (a b c : Bool) → (c ≡ true → a ≡ true) → (a || (b || c)) ≡ (a || b)
 absorbed true b c h = refl
@@ -427,47 +475,54 @@ or_none true = refl
 or_none false = refl
 
 -- a chain names what a stem has, and nothing else
-named_after : (cs : List Chain) (xs : List Stem) (r : Revision)
-    → list_any (λ c. names c.whole r) (chains_after cs xs)
-    ≡ (list_any (λ c. names c.whole r) cs || has_revision xs r)
-named_after cs [] r = or_none (list_any (λ c. names c.whole r) cs)
-named_after cs (x ∷ xs) r =
-    named_after (cs ++ chain_of cs x ∷ []) xs r
-    ∙ ap (λ a. a || has_revision xs r)
-    (list_any-append (λ c. names c.whole r) cs (chain_of cs x ∷ [])
-    ∙ ap (λ a. list_any (λ c. names c.whole r) cs || a)
-    (sym (or_none (names (chain_of cs x).whole r))
-    ∙ list_any-append (is_same r) x.revisions (chain_from cs x.parent))
-    ∙ absorbed (list_any (λ c. names c.whole r) cs) (names x.revisions r) (names (chain_from cs x.parent) r)
-    (from_chain_named cs x.parent r))
-    ∙ or_assoc (list_any (λ c. names c.whole r) cs) (names x.revisions r) (has_revision xs r)
+named_after : (chains : List Chain) (stems : List Stem) (revision : Revision)
+    → list_any (λ c. names c.whole revision) (chains_after chains stems)
+    ≡ (list_any (λ c. names c.whole revision) chains || has_revision stems revision)
+named_after chains [] revision = or_none (list_any (λ c. names c.whole revision) chains)
+named_after chains (stem ∷ stems) revision =
+    named_after (chains ++ chain_of chains stem ∷ []) stems revision
+    ∙ ap (λ a. a || has_revision stems revision)
+    (list_any-append (λ c. names c.whole revision) chains (chain_of chains stem ∷ [])
+    ∙ ap (λ a. list_any (λ c. names c.whole revision) chains || a)
+    (sym (or_none (names (chain_of chains stem).whole revision))
+    ∙ list_any-append (is_same revision) stem.revisions (chain_from chains stem.parent))
+    ∙ absorbed (list_any (λ c. names c.whole revision) chains) (names stem.revisions revision)
+    (names (chain_from chains stem.parent) revision)
+    (from_chain_named chains stem.parent revision))
+    ∙ or_assoc (list_any (λ c. names c.whole revision) chains) (names stem.revisions revision)
+    (has_revision stems revision)
 
-pub chains_name : (xs : List Stem) (r : Revision)
-    → list_any (λ c. names c.whole r) (chains_of xs) ≡ has_revision xs r
-chains_name xs r = named_after [] xs r
+pub chains_name : (stems : List Stem) (revision : Revision)
+    → list_any (λ c. names c.whole revision) (chains_of stems) ≡ has_revision stems revision
+chains_name stems revision = named_after [] stems revision
 
-path_of_chain : (cs : List Chain) (r : Revision) → list_any (λ b. names b.path r) (map branch_of cs) ≡ true
-    → list_any (λ c. names c.whole r) cs ≡ true
-path_of_chain [] r h = absurd (cc)
-path_of_chain (c ∷ cs) r h = elim (cases_Bool (names (take c.count c.whole) r)) [
-  | inl t ↦ or_left (names c.whole r) (list_any (λ c. names c.whole r) cs) (names_take c.count c.whole r t)
-  | inr t ↦ or_right (names c.whole r) (list_any (λ c. names c.whole r) cs) (path_of_chain cs r (rw t at h))
-]
+path_of_chain : (chains : List Chain) (revision : Revision)
+    → list_any (λ b. names b.path revision) (map branch_of chains) ≡ true
+    → list_any (λ chain. names chain.whole revision) chains ≡ true
+path_of_chain [] revision h = absurd (cc)
+path_of_chain (chain ∷ chains) revision h =
+    elim (cases_Bool (names (take chain.count chain.whole) revision)) [
+      | inl t ↦ or_left (names chain.whole revision) (list_any (λ chain. names chain.whole revision) chains)
+          (names_take chain.count chain.whole revision t)
+      | inr t ↦ or_right (names chain.whole revision) (list_any (λ chain. names chain.whole revision) chains)
+          (path_of_chain chains revision (rw t at h))
+    ]
 
 -- and so does a path
-pub named_in : (xs : List Stem) → AreStems xs → (r : Revision)
-    → list_any (λ b. names b.path r) (branches_of xs) ≡ has_revision xs r
-named_in xs a r = same_truth _ _
-    (λ t. sym (chains_name xs r) ∙ path_of_chain (chains_of xs) r t)
+pub named_in : (stems : List Stem) → AreStems stems → (revision : Revision)
+    → list_any (λ b. names b.path revision) (branches_of stems) ≡ has_revision stems revision
+named_in stems a revision = same_truth _ _
+    (λ t. sym (chains_name stems revision) ∙ path_of_chain (chains_of stems) revision t)
     (λ t.
-    let i = any_place (λ (s : Stem). names s.revisions r) xs t in
-    let f = own_front xs a i.0 i.1 i.2 in
-    any_at (λ b. names b.path r)
-    (branches_of xs) i.0 (branch_of (chain_of (chains_of xs) i.1)) (shown_at xs a i.0 i.1 i.2)
-    (ap (λ p. names p r) f.1
-    ∙ names_front (own_path xs i.1) f.0 r (names_front i.1.revisions (one_of (rev_at xs i.1.parent)) r i.3)))
+    let i = any_place (λ (stem : Stem). names stem.revisions revision) stems t in
+    let f = own_front stems a i.0 i.1 i.2 in
+    any_at (λ b. names b.path revision)
+    (branches_of stems) i.0 (branch_of (chain_of (chains_of stems) i.1)) (shown_at stems a i.0 i.1 i.2)
+    (ap (λ p. names p revision) f.1
+    ∙ names_front (own_path stems i.1) f.0 revision
+    (names_front i.1.revisions (one_of (rev_at stems i.1.parent)) revision i.3)))
 
 -- how many stems a walk from a place visits at most
 abbrev pub steps_left : Option Place → ℕ
 steps_left None = 0
-steps_left (Some p) = p.stem + 1
+steps_left (Some place) = place.stem + 1

@@ -28,174 +28,194 @@ use Rattle.hub_revtree.proofs.StemLemmas.{names_take, one_chain_more, one_stem_m
 use Rattle.hub_revtree.proofs.StemLemmas.{rest_at, same_truth, shown_at, steps_left, within_stem}
 
 -- the first of some revisions
-first_append : (p q : List Revision) (r : Revision) → 0 < length p → is_first r (p ++ q) ≡ is_first r p
-first_append [] q r some = absurd (omega arith)
-first_append (x ∷ p) q r some = refl
+first_append : (others revisions : List Revision) (revision : Revision) → 0 < length others
+    → is_first revision (others ++ revisions) ≡ is_first revision others
+first_append [] revisions revision some = absurd (omega arith)
+first_append (other ∷ others) revisions revision some = refl
 
-pub first_named : (p : List Revision) (r : Revision) → is_first r p ≡ true → names p r ≡ true
-first_named [] r t = absurd (cc)
-first_named (x ∷ p) r t = or_left (is_same r x) (names p r) t
+pub first_named : (revisions : List Revision) (revision : Revision) → is_first revision revisions ≡ true
+    → names revisions revision ≡ true
+first_named [] revision t = absurd (cc)
+first_named (other ∷ revisions) revision t = or_left (is_same revision other) (names revisions revision) t
 
 -- what begins the rest of a path stands there
-pub first_there : (n : ℕ) (p : List Revision) (r : Revision) → is_first r (drop n p) ≡ true
-    → slice_get p n ≡ Some r
-first_there zero [] r t = absurd (cc)
-first_there zero (x ∷ p) r t = ap Some (sym (same_is r x t))
-first_there (suc n) [] r t = absurd (cc)
-first_there (suc n) (x ∷ p) r t = first_there n p r t
+pub first_there : (n : ℕ) (revisions : List Revision) (revision : Revision)
+    → is_first revision (drop n revisions) ≡ true → slice_get revisions n ≡ Some revision
+first_there zero [] revision t = absurd (cc)
+first_there zero (other ∷ revisions) revision t = ap Some (sym (same_is revision other t))
+first_there (suc n) [] revision t = absurd (cc)
+first_there (suc n) (other ∷ revisions) revision t = first_there n revisions revision t
 
 -- what a path's rest names behind its first revision stands behind the path's
-names_behind : (n : ℕ) (p : List Revision) (r : Revision) → names (drop n p) r ≡ true
-    → is_first r (drop n p) ≡ false → names (drop 1 p) r ≡ true
-names_behind zero [] r h f = absurd (cc)
-names_behind zero (x ∷ p) r h f = rw f at h
-names_behind (suc n) [] r h f = absurd (cc)
-names_behind (suc n) (x ∷ p) r h f = names_drop n p r h
+names_behind : (n : ℕ) (revisions : List Revision) (revision : Revision)
+    → names (drop n revisions) revision ≡ true
+    → is_first revision (drop n revisions) ≡ false → names (drop 1 revisions) revision ≡ true
+names_behind zero [] revision h f = absurd (cc)
+names_behind zero (other ∷ revisions) revision h f = rw f at h
+names_behind (suc n) [] revision h f = absurd (cc)
+names_behind (suc n) (other ∷ revisions) revision h f = names_drop n revisions revision h
 
-pub some_path : (p : List Revision) → IsPath p → 0 < length p
+pub some_path : (revisions : List Revision) → IsPath revisions → 0 < length revisions
 some_path [] f = absurd f
-some_path (x ∷ p) f = omega arith
+some_path (revision ∷ revisions) f = omega arith
 
-front_behind : (n : ℕ) (p : List Revision) (r : Revision) → names (drop 1 (take n p)) r ≡ true
-    → names (drop 1 p) r ≡ true
-front_behind zero p r h = absurd (cc)
-front_behind (suc n) [] r h = h
-front_behind (suc n) (x ∷ p) r h = names_take n p r h
+front_behind : (n : ℕ) (revisions : List Revision) (revision : Revision)
+    → names (drop 1 (take n revisions)) revision ≡ true → names (drop 1 revisions) revision ≡ true
+front_behind zero revisions revision h = absurd (cc)
+front_behind (suc n) [] revision h = h
+front_behind (suc n) (other ∷ revisions) revision h = names_take n revisions revision h
 
-more_behind : (p q : List Revision) (r : Revision) → names (drop 1 p) r ≡ true
-    → names (drop 1 (p ++ q)) r ≡ true
-more_behind [] q r h = absurd (cc)
-more_behind (x ∷ p) q r h = names_front p q r h
+more_behind : (others revisions : List Revision) (revision : Revision) → names (drop 1 others) revision ≡ true
+    → names (drop 1 (others ++ revisions)) revision ≡ true
+more_behind [] revisions revision h = absurd (cc)
+more_behind (other ∷ others) revisions revision h = names_front others revisions revision h
 
-module _ (xs : List Stem) (a : AreStems xs) (r : Revision) where
+module _ (stems : List Stem) (a : AreStems stems) (revision : Revision) where
   -- the first revision of the chain that a stem stands on
-  first_at : (o : Option Place) → ((p : Place) → o ≡ Some p → IsWithin xs p)
-      → is_first r (chain_from (chains_of xs) o) ≡ is_at xs r o
+  first_at : (maybe_place : Option Place)
+      → ((place : Place) → maybe_place ≡ Some place → IsWithin stems place)
+      → is_first revision (chain_from (chains_of stems) maybe_place) ≡ is_at stems revision maybe_place
   first_at None w = refl
-  first_at (Some p) w =
-      let i = within_stem xs p (w p refl) in
-      ap (is_first r) (rest_at xs p i.0 a i.1 (w p refl))
+  first_at (Some place) w =
+      let i = within_stem stems place (w place refl) in
+      ap (is_first revision) (rest_at stems place i.0 a i.1 (w place refl))
       ∙ rw i.1
-      (first_append (drop p.at i.0.revisions) (chain_from (chains_of xs) i.0.parent) r
-      (omega (arith, i.2, length-drop p.at i.0.revisions)))
+      (first_append (drop place.at i.0.revisions) (chain_from (chains_of stems) i.0.parent) revision
+      (omega (arith, i.2, length-drop place.at i.0.revisions)))
 
-  behind_parts : (s : Stem) → IsPath s.revisions
-      → names (drop 1 (chain_of (chains_of xs) s).whole) r
-      ≡ (names (drop 1 s.revisions) r || names (chain_from (chains_of xs) s.parent) r)
-  behind_parts s f =
-      ap (λ p. names p r)
-      (drop-append-le 1 s.revisions (chain_from (chains_of xs) s.parent)
-      (omega (arith, some_path s.revisions f)))
-      ∙ list_any-append (is_same r) (drop 1 s.revisions) (chain_from (chains_of xs) s.parent)
+  behind_parts : (stem : Stem) → IsPath stem.revisions
+      → names (drop 1 (chain_of (chains_of stems) stem).whole) revision
+      ≡ (names (drop 1 stem.revisions) revision || names (chain_from (chains_of stems) stem.parent) revision)
+  behind_parts stem f =
+      ap (λ p. names p revision)
+      (drop-append-le 1 stem.revisions (chain_from (chains_of stems) stem.parent)
+      (omega (arith, some_path stem.revisions f)))
+      ∙ list_any-append (is_same revision) (drop 1 stem.revisions) (chain_from (chains_of stems) stem.parent)
 
-  module _ (k : ℕ) (s : Stem) (e : slice_get xs k ≡ Some s) where
-    within : (p : Place) → s.parent ≡ Some p → IsWithin xs p
+  module _ (k : ℕ) (s : Stem) (e : slice_get stems k ≡ Some s) where
+    within : (p : Place) → s.parent ≡ Some p → IsWithin stems p
     within p q = (a.earlier k s p e q).1
 
-    first_of : is_first r (chain_from (chains_of xs) s.parent) ≡ is_at xs r s.parent
+    first_of : is_first revision (chain_from (chains_of stems) s.parent) ≡ is_at stems revision s.parent
     first_of = first_at s.parent within
 
   -- the one that a stem stands on is the last of its own path
-  at_own : (s : Stem) → is_at xs r s.parent ≡ true → names (one_of (rev_at xs s.parent)) r ≡ true
-  at_own s t = from s.parent t
+  at_own : (stem : Stem) → is_at stems revision stem.parent ≡ true
+      → names (one_of (rev_at stems stem.parent)) revision ≡ true
+  at_own stem t = from stem.parent t
     where
-      at_place : (p : List Revision) (k : ℕ) → is_first r (drop k p) ≡ true
-          → names (one_of (slice_get p k)) r ≡ true
+      at_place : (revisions : List Revision) (k : ℕ) → is_first revision (drop k revisions) ≡ true
+          → names (one_of (slice_get revisions k)) revision ≡ true
       at_place [] zero t = absurd (cc)
       at_place [] (suc k) t = absurd (cc)
-      at_place (x ∷ p) zero t = or_left (is_same r x) false t
-      at_place (x ∷ p) (suc k) t = at_place p k t
+      at_place (x ∷ revisions) zero t = or_left (is_same revision x) false t
+      at_place (x ∷ revisions) (suc k) t = at_place revisions k t
 
-      from : (o : Option Place) → is_at xs r o ≡ true → names (one_of (rev_at xs o)) r ≡ true
+      from : (maybe_place : Option Place) → is_at stems revision maybe_place ≡ true
+          → names (one_of (rev_at stems maybe_place)) revision ≡ true
       from None t = absurd (cc)
-      from (Some p) t = at_place (revisions_at xs p.stem) p.at t
+      from (Some revisions) t = at_place (revisions_at stems revisions.stem) revisions.at t
 
-  own_rest : (s : Stem) → IsPath s.revisions → is_behind_newest xs r s ≡ true
-      → names (drop 1 (own_path xs s)) r ≡ true
-  own_rest s f t =
-      ap (λ p. names p r)
-      (drop-append-le 1 s.revisions (one_of (rev_at xs s.parent)) (omega (arith, some_path s.revisions f)))
-      ∙ list_any-append (is_same r) (drop 1 s.revisions) (one_of (rev_at xs s.parent))
-      ∙ elim (cases_Bool (names (drop 1 s.revisions) r)) [
-        | inl u ↦ or_left (names (drop 1 s.revisions) r) (names (one_of (rev_at xs s.parent)) r) u
+  own_rest : (stem : Stem) → IsPath stem.revisions → is_behind_newest stems revision stem ≡ true
+      → names (drop 1 (own_path stems stem)) revision ≡ true
+  own_rest stem f t =
+      ap (λ p. names p revision)
+      (drop-append-le 1 stem.revisions (one_of (rev_at stems stem.parent))
+      (omega (arith, some_path stem.revisions f)))
+      ∙ list_any-append (is_same revision) (drop 1 stem.revisions) (one_of (rev_at stems stem.parent))
+      ∙ elim (cases_Bool (names (drop 1 stem.revisions) revision)) [
+        | inl u ↦ or_left (names (drop 1 stem.revisions) revision)
+            (names (one_of (rev_at stems stem.parent)) revision) u
         | inr u ↦
-            or_right (names (drop 1 s.revisions) r)
-            (names (one_of (rev_at xs s.parent)) r) (at_own s (rw u at t))
+            or_right (names (drop 1 stem.revisions) revision)
+            (names (one_of (rev_at stems stem.parent)) revision) (at_own stem (rw u at t))
       ]
 
-  own_behind : (k : ℕ) (s : Stem) → slice_get xs k ≡ Some s → is_behind_newest xs r s ≡ true
-      → is_behind_head r (edit_of (branch_of (chain_of (chains_of xs) s))) ≡ true
-  own_behind k s e t =
-      let f = own_front xs a k s e in
-      ap (λ p. names (drop 1 p) r) f.1 ∙ more_behind (own_path xs s) f.0 r (own_rest s (a.falling k s e) t)
+  own_behind : (k : ℕ) (stem : Stem) → slice_get stems k ≡ Some stem
+      → is_behind_newest stems revision stem ≡ true
+      → is_behind_head revision (edit_of (branch_of (chain_of (chains_of stems) stem))) ≡ true
+  own_behind k stem e t =
+      let f = own_front stems a k stem e in
+      ap (λ p. names (drop 1 p) revision) f.1
+      ∙ more_behind (own_path stems stem) f.0 revision (own_rest stem (a.falling k stem e) t)
 
-  from_stem : (k : ℕ) (s : Stem) → slice_get xs k ≡ Some s → is_behind_newest xs r s ≡ true
-      → list_any (λ b. is_behind_head r (edit_of b)) (branches_of xs) ≡ true
-  from_stem k s e t =
-      any_at (λ b. is_behind_head r (edit_of b)) (branches_of xs) k (branch_of (chain_of (chains_of xs) s))
-      (shown_at xs a k s e) (own_behind k s e t)
+  from_stem : (k : ℕ) (stem : Stem) → slice_get stems k ≡ Some stem
+      → is_behind_newest stems revision stem ≡ true
+      → list_any (λ b. is_behind_head revision (edit_of b)) (branches_of stems) ≡ true
+  from_stem k stem e t =
+      any_at (λ b. is_behind_head revision (edit_of b)) (branches_of stems) k
+      (branch_of (chain_of (chains_of stems) stem))
+      (shown_at stems a k stem e) (own_behind k stem e t)
 
-  to_stem : (n k : ℕ) (s : Stem) → k < n → slice_get xs k ≡ Some s
-      → names (drop 1 (chain_of (chains_of xs) s).whole) r ≡ true → list_any (is_behind_newest xs r) xs ≡ true
-  to_stem zero k s low e t = absurd (omega arith)
-  to_stem (suc n) k s low e t = elim (cases_Bool (names (drop 1 s.revisions) r)) [
+  to_stem : (n k : ℕ) (stem : Stem) → k < n → slice_get stems k ≡ Some stem
+      → names (drop 1 (chain_of (chains_of stems) stem).whole) revision ≡ true
+      → list_any (is_behind_newest stems revision) stems ≡ true
+  to_stem zero k stem low e t = absurd (omega arith)
+  to_stem (suc n) k stem low e t = elim (cases_Bool (names (drop 1 stem.revisions) revision)) [
     | inl u ↦
-        any_at (is_behind_newest xs r) xs k s e
-        (or_left (names (drop 1 s.revisions) r) (is_at xs r s.parent) u)
-    | inr u ↦ elim (cases_Bool (is_first r (chain_from (chains_of xs) s.parent))) [
+        any_at (is_behind_newest stems revision) stems k stem e
+        (or_left (names (drop 1 stem.revisions) revision) (is_at stems revision stem.parent) u)
+    | inr u ↦ elim (cases_Bool (is_first revision (chain_from (chains_of stems) stem.parent))) [
       | inl v ↦
-          any_at (is_behind_newest xs r) xs k s e
-          (or_right (names (drop 1 s.revisions) r) (is_at xs r s.parent) (sym (first_of k s e) ∙ v))
-      | inr v ↦ further (to_stem n) s.parent refl v (rw u at (sym (behind_parts s (a.falling k s e)) ∙ t))
+          any_at (is_behind_newest stems revision) stems k stem e
+          (or_right (names (drop 1 stem.revisions) revision) (is_at stems revision stem.parent)
+          (sym (first_of k stem e) ∙ v))
+      | inr v ↦ further (to_stem n) stem.parent refl v
+          (rw u at (sym (behind_parts stem (a.falling k stem e)) ∙ t))
     ]
   ]
     where
       further : ((j : ℕ) (t : Stem)
-          → j < n → slice_get xs j ≡ Some t → names (drop 1 (chain_of (chains_of xs) t).whole) r ≡ true
-          → list_any (is_behind_newest xs r) xs ≡ true)
-          → (o : Option Place) → s.parent ≡ o → is_first r (chain_from (chains_of xs) o) ≡ false
-          → names (chain_from (chains_of xs) o) r ≡ true → list_any (is_behind_newest xs r) xs ≡ true
+          → j < n → slice_get stems j ≡ Some t
+          → names (drop 1 (chain_of (chains_of stems) t).whole) revision ≡ true
+          → list_any (is_behind_newest stems revision) stems ≡ true)
+          → (maybe_place : Option Place) → stem.parent ≡ maybe_place
+          → is_first revision (chain_from (chains_of stems) maybe_place) ≡ false
+          → names (chain_from (chains_of stems) maybe_place) revision ≡ true
+          → list_any (is_behind_newest stems revision) stems ≡ true
       further ih None q v h = absurd (cc)
       further ih (Some p) q v h =
-          let before = a.earlier k s p e q in
-          let i = within_stem xs p before.1 in
+          let before = a.earlier k stem p e q in
+          let i = within_stem stems p before.1 in
           ih p.stem i.0 (omega (arith, before.0, low)) i.1
-          (names_behind p.at (chain_of (chains_of xs) i.0).whole r (rw (chained_at xs a p.stem i.0 i.1) at h)
-          (rw (chained_at xs a p.stem i.0 i.1) at v))
+          (names_behind p.at (chain_of (chains_of stems) i.0).whole revision
+          (rw (chained_at stems a p.stem i.0 i.1) at h)
+          (rw (chained_at stems a p.stem i.0 i.1) at v))
 
   -- a revision stands behind a head where it stands behind a stem's newest
-  pub behind_in : list_any (λ b. is_behind_head r (edit_of b)) (branches_of xs)
-      ≡ list_any (is_behind_newest xs r) xs
+  pub behind_in : list_any (λ other. is_behind_head revision (edit_of other)) (branches_of stems)
+      ≡ list_any (is_behind_newest stems revision) stems
   behind_in = same_truth _ _
       (λ t.
-      let i = any_place (λ b. is_behind_head r (edit_of b)) (branches_of xs) t in
-      let low = slice_get_within (branches_of xs) i.0 i.1 i.2 in
-      let j = get_some xs i.0 (omega (arith, low, as_many xs)) in
-      let there : is_behind_head r (edit_of (branch_of (chain_of (chains_of xs) j.0))) ≡ true =
-      subst (λ (z : Branch). is_behind_head r (edit_of z) ≡ true)
-      (same_branch i.1 _ (sym i.2 ∙ shown_at xs a i.0 j.0 j.1)) i.3 in
+      let i = any_place (λ other. is_behind_head revision (edit_of other)) (branches_of stems) t in
+      let low = slice_get_within (branches_of stems) i.0 i.1 i.2 in
+      let j = get_some stems i.0 (omega (arith, low, as_many stems)) in
+      let there : is_behind_head revision (edit_of (branch_of (chain_of (chains_of stems) j.0))) ≡ true =
+      subst (λ (branch : Branch). is_behind_head revision (edit_of branch) ≡ true)
+      (same_branch i.1 _ (sym i.2 ∙ shown_at stems a i.0 j.0 j.1)) i.3 in
       to_stem (i.0 + 1) i.0 j.0 (omega arith) j.1
-      (front_behind j.0.count (chain_of (chains_of xs) j.0).whole r there))
-      (λ t. let i = any_place (is_behind_newest xs r) xs t in from_stem i.0 i.1 i.2 i.3)
+      (front_behind j.0.count (chain_of (chains_of stems) j.0).whole revision there))
+      (λ t. let i = any_place (is_behind_newest stems revision) stems t in from_stem i.0 i.1 i.2 i.3)
     where
-      same_branch : (b c : Branch) → ◌≡◌ {A = Option Branch} (Some b) (Some c) → b ≡ c
-      same_branch b c e = cc
+      same_branch : (other c : Branch) → ◌≡◌ {A = Option Branch} (Some other) (Some c) → other ≡ c
+      same_branch other c e = cc
 
 -- what is lent of a stem
 abbrev pub tip_in : Stem → Tip
 tip_in stem = record { rev = slice_get stem.revisions 0; deleted = stem.deleted; body = stem.body }
 
-head_same : (n : ℕ) (p q : List Revision) → IsPath p → length p ≤ n
-    → slice_get (take n (p ++ q)) 0 ≡ slice_get p 0
-head_same n [] q f low = absurd f
-head_same zero (x ∷ p) q f low = absurd (omega arith)
-head_same (suc n) (x ∷ p) q f low = refl
+head_same : (n : ℕ) (others revisions : List Revision) → IsPath others → length others ≤ n
+    → slice_get (take n (others ++ revisions)) 0 ≡ slice_get others 0
+head_same n [] revisions f low = absurd f
+head_same zero (revision ∷ others) revisions f low = absurd (omega arith)
+head_same (suc n) (revision ∷ others) revisions f low = refl
 
-tip_same : (cs : List Chain) (s : Stem) → IsPath s.revisions → length s.revisions ≤ s.count
-    → tip_of (edit_of (branch_of (chain_of cs s))) ≡ tip_in s
-tip_same cs s f low =
-    ap (λ (o : Option Revision). record { rev = o; deleted = s.deleted; body = s.body })
-    (head_same s.count s.revisions (chain_from cs s.parent) f low)
+tip_same : (chains : List Chain) (stem : Stem) → IsPath stem.revisions → length stem.revisions ≤ stem.count
+    → tip_of (edit_of (branch_of (chain_of chains stem))) ≡ tip_in stem
+tip_same chains stem f low =
+    ap (λ (maybe_revision : Option Revision).
+    record { rev = maybe_revision; deleted = stem.deleted; body = stem.body })
+    (head_same stem.count stem.revisions (chain_from chains stem.parent) f low)
 
 -- the branch of a number
 past : {A : Type 0} (xs : List A) (k : ℕ) → slice_get xs k ≡ None → length xs ≤ k
@@ -203,285 +223,321 @@ past [] k e = omega arith
 past (x ∷ xs) zero e = absurd (cc)
 past (x ∷ xs) (suc k) e = omega (arith, past xs k e)
 
-pub tip_at : (xs : List Stem) → AreStems xs → (k : ℕ)
-    → option_map (λ b. tip_of (edit_of b)) (slice_get (branches_of xs) k) ≡ option_map tip_in (slice_get xs k)
-tip_at xs a k = from (slice_get xs k) refl
+pub tip_at : (stems : List Stem) → AreStems stems → (k : ℕ)
+    → option_map (λ b. tip_of (edit_of b)) (slice_get (branches_of stems) k) ≡ option_map tip_in
+    (slice_get stems k)
+tip_at stems a k = from (slice_get stems k) refl
   where
-    from : (o : Option Stem) → slice_get xs k ≡ o
-        → option_map (λ b. tip_of (edit_of b)) (slice_get (branches_of xs) k) ≡ option_map tip_in o
-    from None e = rw (slice_get_past (branches_of xs) k (omega (arith, past xs k e, as_many xs))) refl
+    from : (maybe_stem : Option Stem) → slice_get stems k ≡ maybe_stem
+        → option_map (λ b. tip_of (edit_of b))
+        (slice_get (branches_of stems) k) ≡ option_map tip_in maybe_stem
+    from None e =
+        rw (slice_get_past (branches_of stems) k (omega (arith, past stems k e, as_many stems))) refl
     from (Some s) e =
-        rw (shown_at xs a k s e) (ap Some (tip_same (chains_of xs) s (a.falling k s e) (a.counted k s e).0))
+        rw (shown_at stems a k s e)
+        (ap Some (tip_same (chains_of stems) s (a.falling k s e) (a.counted k s e).0))
 
 -- its revision and mark
-pub head_at : (xs : List Stem) → AreStems xs → (k : ℕ) (s : Stem) (r : Revision) → slice_get xs k ≡ Some s
-    → slice_get s.revisions 0 ≡ Some r
-    → option_and_then head_in (slice_get (branches_of xs) k) ≡ Some (record { rev = r; deleted = s.deleted })
-head_at xs a k s r e h =
-    rw (shown_at xs a k s e)
-    (ap (option_map (λ (z : Revision). record { rev = z; deleted = s.deleted }))
-    (ap (λ (t : Tip). t.rev) (tip_same (chains_of xs) s (a.falling k s e) (a.counted k s e).0) ∙ h))
+pub head_at : (stems : List Stem) → AreStems stems → (k : ℕ) (stem : Stem) (revision : Revision)
+    → slice_get stems k ≡ Some stem → slice_get stem.revisions 0 ≡ Some revision
+    → option_and_then head_in (slice_get (branches_of stems) k) ≡ Some
+    (record { rev = revision; deleted = stem.deleted })
+head_at stems a k stem revision e h =
+    rw (shown_at stems a k stem e)
+    (ap (option_map (λ (other : Revision). record { rev = other; deleted = stem.deleted }))
+    (ap (λ (tip : Tip). tip.rev) (tip_same (chains_of stems) stem (a.falling k stem e) (a.counted k stem e).0)
+    ∙ h))
 
 -- the branch that a revision heads
-module _ (r : Revision) where
+module _ (revision : Revision) where
   abbrev found : Option Branch → Option Tip
-  found o = option_map (λ b. tip_of (edit_of b)) o
+  found maybe_branch = option_map (λ b. tip_of (edit_of b)) maybe_branch
 
-  or_found : (o p : Option Branch) → found (option_or o p) ≡ option_or (found o) (found p)
-  or_found None p = refl
-  or_found (Some b) p = refl
+  or_found : (o maybe_branch : Option Branch)
+      → found (option_or o maybe_branch) ≡ option_or (found o) (found maybe_branch)
+  or_found None maybe_branch = refl
+  or_found (Some branch) maybe_branch = refl
 
-  or_tip : (o p : Option Stem)
-      → option_map tip_in (option_or o p) ≡ option_or (option_map tip_in o) (option_map tip_in p)
-  or_tip None p = refl
-  or_tip (Some s) p = refl
+  or_tip : (o maybe_stem : Option Stem)
+      → option_map tip_in (option_or o maybe_stem) ≡ option_or (option_map tip_in o)
+      (option_map tip_in maybe_stem)
+  or_tip None maybe_stem = refl
+  or_tip (Some stem) maybe_stem = refl
 
-  is_head_of : (cs : List Chain) (s : Stem) → IsPath s.revisions → length s.revisions ≤ s.count
-      → is_first r (branch_of (chain_of cs s)).path ≡ is_first r s.revisions
-  is_head_of cs s f low = from s.count s.revisions f low
+  is_head_of : (chains : List Chain) (stem : Stem) → IsPath stem.revisions
+      → length stem.revisions ≤ stem.count
+      → is_first revision (branch_of (chain_of chains stem)).path ≡ is_first revision stem.revisions
+  is_head_of chains stem f low = from stem.count stem.revisions f low
     where
-      from : (n : ℕ) (p : List Revision) → IsPath p → length p ≤ n
-          → is_first r (take n (p ++ chain_from cs s.parent)) ≡ is_first r p
+      from : (n : ℕ) (revisions : List Revision) → IsPath revisions → length revisions ≤ n
+          → is_first revision (take n (revisions ++ chain_from chains stem.parent)) ≡ is_first revision
+          revisions
       from n [] f low = absurd f
-      from zero (x ∷ p) f low = absurd (omega arith)
-      from (suc n) (x ∷ p) f low = refl
+      from zero (x ∷ revisions) f low = absurd (omega arith)
+      from (suc n) (x ∷ revisions) f low = refl
 
-  one_headed : (cs : List Chain) (s : Stem) → IsPath s.revisions → length s.revisions ≤ s.count
-      → found (find (λ b. is_first r b.path) (branch_of (chain_of cs s) ∷ []))
-      ≡ option_map tip_in (find (λ z. is_first r z.revisions) (s ∷ []))
-  one_headed cs s f low = elim (cases_Bool (is_first r s.revisions)) [
-    | inl t ↦ rw (is_head_of cs s f low ∙ t, t) (ap Some (tip_same cs s f low))
-    | inr t ↦ rw (is_head_of cs s f low ∙ t, t) refl
+  one_headed : (chains : List Chain) (stem : Stem) → IsPath stem.revisions
+      → length stem.revisions ≤ stem.count
+      → found (find (λ b. is_first revision b.path) (branch_of (chain_of chains stem) ∷ []))
+      ≡ option_map tip_in (find (λ z. is_first revision z.revisions) (stem ∷ []))
+  one_headed chains stem f low = elim (cases_Bool (is_first revision stem.revisions)) [
+    | inl t ↦ rw (is_head_of chains stem f low ∙ t, t) (ap Some (tip_same chains stem f low))
+    | inr t ↦ rw (is_head_of chains stem f low ∙ t, t) refl
   ]
 
   abbrev AreHeaded : List Stem → Type 0
-  AreHeaded xs =
-      AreStems xs
-      → found (find (λ b. is_first r b.path) (branches_of xs))
-      ≡ option_map tip_in (find (λ s. is_first r s.revisions) xs)
+  AreHeaded stems =
+      AreStems stems
+      → found (find (λ b. is_first revision b.path) (branches_of stems))
+      ≡ option_map tip_in (find (λ s. is_first revision s.revisions) stems)
 
-  headed_more : (xs : List Stem) (s : Stem) → AreHeaded xs → AreHeaded (xs ++ s ∷ [])
-  headed_more xs s ih a =
-      let here = get_last xs s in
-      ap (λ bs. found (find (λ b. is_first r b.path) bs)) (one_stem_more xs s)
+  headed_more : (stems : List Stem) (stem : Stem) → AreHeaded stems → AreHeaded (stems ++ stem ∷ [])
+  headed_more stems stem ih a =
+      let here = get_last stems stem in
+      ap (λ bs. found (find (λ b. is_first revision b.path) bs)) (one_stem_more stems stem)
       ∙ ap found
-      (find-append (λ b. is_first r b.path) (branches_of xs) (branch_of (chain_of (chains_of xs) s) ∷ []))
-      ∙ or_found (find (λ b. is_first r b.path) (branches_of xs))
-      (find (λ b. is_first r b.path) (branch_of (chain_of (chains_of xs) s) ∷ []))
+      (find-append (λ b. is_first revision b.path) (branches_of stems)
+      (branch_of (chain_of (chains_of stems) stem) ∷ []))
+      ∙ or_found (find (λ b. is_first revision b.path) (branches_of stems))
+      (find (λ b. is_first revision b.path) (branch_of (chain_of (chains_of stems) stem) ∷ []))
       ∙ ap (λ o.
-      option_or o (found (find (λ b. is_first r b.path) (branch_of (chain_of (chains_of xs) s) ∷ []))))
-      (ih (front xs s a))
-      ∙ ap (λ o. option_or (option_map tip_in (find (λ z. is_first r z.revisions) xs)) o)
-      (one_headed (chains_of xs) s (a.falling (length xs) s here) (a.counted (length xs) s here).0)
-      ∙ sym (or_tip (find (λ z. is_first r z.revisions) xs) (find (λ z. is_first r z.revisions) (s ∷ [])))
-      ∙ ap (option_map tip_in) (sym (find-append (λ z. is_first r z.revisions) xs (s ∷ [])))
+      option_or o (found (find (λ b. is_first revision b.path)
+      (branch_of (chain_of (chains_of stems) stem) ∷ []))))
+      (ih (front stems stem a))
+      ∙ ap (λ o. option_or (option_map tip_in (find (λ z. is_first revision z.revisions) stems)) o)
+      (one_headed (chains_of stems) stem (a.falling (length stems) stem here)
+      (a.counted (length stems) stem here).0)
+      ∙ sym (or_tip (find (λ z. is_first revision z.revisions) stems)
+      (find (λ z. is_first revision z.revisions) (stem ∷ [])))
+      ∙ ap (option_map tip_in) (sym (find-append (λ z. is_first revision z.revisions) stems (stem ∷ [])))
 
-  pub headed_in : (xs : List Stem) → AreStems xs
-      → found (find (λ b. is_first r b.path) (branches_of xs))
-      ≡ option_map tip_in (find (λ s. is_first r s.revisions) xs)
+  pub headed_in : (stems : List Stem) → AreStems stems
+      → found (find (λ b. is_first revision b.path) (branches_of stems))
+      ≡ option_map tip_in (find (λ s. is_first revision s.revisions) stems)
   headed_in = from_end AreHeaded (λ a. refl) headed_more
 
 -- a walk goes from a place to where its stem stands
-module _ (xs : List Stem) (a : AreStems xs) (o : Option Place) (p : Place) (s : Stem)
-    (w : IfSome o (IsWithin xs)) (is : o ≡ Some p) (item : s ≡ get_or xs p.stem s) where
-  at_place : IsWithin xs p
+module _ (stems : List Stem) (a : AreStems stems) (maybe_place : Option Place) (place : Place) (stem : Stem)
+    (w : IfSome maybe_place (IsWithin stems)) (is : maybe_place ≡ Some place)
+    (item : stem ≡ get_or stems place.stem stem) where
+  at_place : IsWithin stems place
   at_place = rw is at w
 
-  stem_there : slice_get xs p.stem ≡ Some s
+  stem_there : slice_get stems place.stem ≡ Some stem
   stem_there =
-      let i = within_stem xs p at_place in
-      i.1 ∙ ap Some (sym (item ∙ get_or_from_slice_get xs p.stem i.0 s i.1))
+      let i = within_stem stems place at_place in
+      i.1 ∙ ap Some (sym (item ∙ get_or_from_slice_get stems place.stem i.0 stem i.1))
 
-  pub walk_on : chain_from (chains_of xs) o ≡ drop p.at s.revisions ++ chain_from (chains_of xs) s.parent
-  walk_on = ap (chain_from (chains_of xs)) is ∙ rest_at xs p s a stem_there at_place
+  pub walk_on : chain_from (chains_of stems) maybe_place ≡ drop place.at stem.revisions
+      ++ chain_from (chains_of stems) stem.parent
+  walk_on = ap (chain_from (chains_of stems)) is ∙ rest_at stems place stem a stem_there at_place
 
-  pub walk_next : IfSome s.parent (IsWithin xs)
-  walk_next = from s.parent refl
+  pub walk_next : IfSome stem.parent (IsWithin stems)
+  walk_next = from stem.parent refl
     where
-      from : (q : Option Place) → s.parent ≡ q → IfSome q (IsWithin xs)
+      from : (q : Option Place) → stem.parent ≡ q → IfSome q (IsWithin stems)
       from None e = tt
-      from (Some q) e = (a.earlier p.stem s q stem_there e).1
+      from (Some q) e = (a.earlier place.stem stem q stem_there e).1
 
-  pub walk_ends : steps_left s.parent < steps_left o
-  walk_ends = rw is (from s.parent refl)
+  pub walk_ends : steps_left stem.parent < steps_left maybe_place
+  walk_ends = rw is (from stem.parent refl)
     where
-      from : (q : Option Place) → s.parent ≡ q → steps_left q < p.stem + 1
+      from : (q : Option Place) → stem.parent ≡ q → steps_left q < place.stem + 1
       from None e = omega arith
-      from (Some q) e = let low = (a.earlier p.stem s q stem_there e).0 in omega (arith, low)
+      from (Some q) e = let low = (a.earlier place.stem stem q stem_there e).0 in omega (arith, low)
 
 -- a stem as it is lent
-pub tip_shown : (s : Stem) (r : Revision) (deleted : Bool) (body : List ℕ) → slice_get s.revisions 0 ≡ Some r
-    → deleted ≡ s.deleted → body ≡ s.body → tip r deleted body ≡ tip_in s
-tip_shown s r deleted body head mark members = rw (head, mark, members) refl
+pub tip_shown : (stem : Stem) (revision : Revision) (deleted : Bool) (body : List ℕ)
+    → slice_get stem.revisions 0 ≡ Some revision
+    → deleted ≡ stem.deleted → body ≡ stem.body → tip revision deleted body ≡ tip_in stem
+tip_shown stem revision deleted body head mark members = rw (head, mark, members) refl
 
-pub no_edit : (xs : List Stem) → AreStems xs → (k : ℕ) → length xs ≤ k
-    → option_map (λ b. tip_of (edit_of b)) (slice_get (branches_of xs) k) ≡ None
-no_edit xs a k past = tip_at xs a k ∙ ap (option_map tip_in) (slice_get_past xs k past)
+pub no_edit : (stems : List Stem) → AreStems stems → (k : ℕ) → length stems ≤ k
+    → option_map (λ b. tip_of (edit_of b)) (slice_get (branches_of stems) k) ≡ None
+no_edit stems a k past = tip_at stems a k ∙ ap (option_map tip_in) (slice_get_past stems k past)
 
-pub some_edit : (xs : List Stem) → AreStems xs
-    → (k : ℕ) (s : Stem) (r : Revision) (deleted : Bool) (body : List ℕ) → slice_get xs k ≡ Some s
-    → slice_get s.revisions 0 ≡ Some r → deleted ≡ s.deleted → body ≡ s.body
-    → Some (tip r deleted body) ≡ option_map (λ b. tip_of (edit_of b)) (slice_get (branches_of xs) k)
-some_edit xs a k s r deleted body e head mark members =
-    ap Some (tip_shown s r deleted body head mark members) ∙ sym (tip_at xs a k ∙ ap (option_map tip_in) e)
+pub some_edit : (stems : List Stem) → AreStems stems
+    → (k : ℕ) (stem : Stem) (revision : Revision) (deleted : Bool) (body : List ℕ)
+    → slice_get stems k ≡ Some stem
+    → slice_get stem.revisions 0 ≡ Some revision → deleted ≡ stem.deleted → body ≡ stem.body
+    → Some (tip revision deleted body) ≡ option_map (λ b. tip_of (edit_of b))
+    (slice_get (branches_of stems) k)
+some_edit stems a k stem revision deleted body e head mark members =
+    ap Some (tip_shown stem revision deleted body head mark members)
+    ∙ sym (tip_at stems a k ∙ ap (option_map tip_in) e)
 
-pub some_headed : (xs : List Stem)
-    → AreStems xs → (rev : Revision) (s : Stem) (r : Revision) (deleted : Bool) (body : List ℕ)
-    → Some s ≡ find (λ z. is_first rev z.revisions) xs → slice_get s.revisions 0 ≡ Some r
-    → deleted ≡ s.deleted → body ≡ s.body
-    → Some (tip r deleted body)
-    ≡ option_map (λ b. tip_of (edit_of b)) (find (λ b. is_first rev b.path) (branches_of xs))
-some_headed xs a rev s r deleted body e head mark members =
-    ap Some (tip_shown s r deleted body head mark members)
+pub some_headed : (stems : List Stem)
+    → AreStems stems → (rev : Revision) (stem : Stem) (revision : Revision) (deleted : Bool) (body : List ℕ)
+    → Some stem ≡ find (λ z. is_first rev z.revisions) stems → slice_get stem.revisions 0 ≡ Some revision
+    → deleted ≡ stem.deleted → body ≡ stem.body
+    → Some (tip revision deleted body)
+    ≡ option_map (λ b. tip_of (edit_of b)) (find (λ b. is_first rev b.path) (branches_of stems))
+some_headed stems a rev stem revision deleted body e head mark members =
+    ap Some (tip_shown stem revision deleted body head mark members)
     ∙ ap (option_map tip_in) e
-    ∙ sym (headed_in rev xs a)
+    ∙ sym (headed_in rev stems a)
 
-pub none_headed : (xs : List Stem)
-    → AreStems xs → (rev : Revision) → None ≡ find (λ z. is_first rev z.revisions) xs
-    → option_map (λ b. tip_of (edit_of b)) (find (λ b. is_first rev b.path) (branches_of xs)) ≡ None
-none_headed xs a rev e = headed_in rev xs a ∙ ap (option_map tip_in) (sym e)
+pub none_headed : (stems : List Stem)
+    → AreStems stems → (rev : Revision) → None ≡ find (λ z. is_first rev z.revisions) stems
+    → option_map (λ b. tip_of (edit_of b)) (find (λ b. is_first rev b.path) (branches_of stems)) ≡ None
+none_headed stems a rev e = headed_in rev stems a ∙ ap (option_map tip_in) (sym e)
 
 -- no two stems have one newest revision
-heads_differ : (xs : List Stem) → AreStems xs → (r : Revision) (k : ℕ) (s : Stem) → slice_get xs k ≡ Some s
-    → is_first r s.revisions ≡ true → list_any (λ z. is_first r z.revisions) (take k xs) ≡ false
-heads_differ xs a r k s e first =
-    elim (cases_Bool (list_any (λ (z : Stem). is_first r z.revisions) (take k xs))) [
+heads_differ : (stems : List Stem) → AreStems stems → (revision : Revision) (k : ℕ) (stem : Stem)
+    → slice_get stems k ≡ Some stem
+    → is_first revision stem.revisions ≡ true
+    → list_any (λ other. is_first revision other.revisions) (take k stems) ≡ false
+heads_differ stems a revision k stem e first =
+    elim (cases_Bool (list_any (λ (other : Stem). is_first revision other.revisions) (take k stems))) [
       | inl t ↦
-          let i = any_place (λ (z : Stem). is_first r z.revisions) (take k xs) t in
+          let i = any_place (λ (other : Stem). is_first revision other.revisions) (take k stems) t in
           let old =
-          any_at (λ (z : Stem). names z.revisions r) (take k xs) i.0 i.1 i.2
-          (first_named i.1.revisions r i.3) in
-          absurd (both_ways _ (a.newest k s r e (first_there 0 s.revisions r first)) old)
+          any_at (λ (other : Stem). names other.revisions revision) (take k stems) i.0 i.1 i.2
+          (first_named i.1.revisions revision i.3) in
+          absurd (both_ways _ (a.newest k stem revision e (first_there 0 stem.revisions revision first)) old)
       | inr t ↦ t
     ]
 
-find_here : (P : Stem → Bool) (xs : List Stem) (k : ℕ) (s : Stem) → slice_get xs k ≡ Some s → P s ≡ true
-    → list_any P (take k xs) ≡ false → Some s ≡ find P xs
-find_here P [] k s e t f = absurd (cc)
-find_here P (x ∷ xs) zero s e t f =
-    let u : P x ≡ true = ap P (same_Some x s e) ∙ t in rw u (ap Some (sym (same_Some x s e)))
-find_here P (x ∷ xs) (suc k) s e t f =
-    let g = or_false (P x) (list_any P (take k xs)) f in rw g.0 (find_here P xs k s e t g.1)
+find_here : (P : Stem → Bool) (stems : List Stem) (k : ℕ) (other : Stem) → slice_get stems k ≡ Some other
+    → P other ≡ true → list_any P (take k stems) ≡ false → Some other ≡ find P stems
+find_here P [] k other e t f = absurd (cc)
+find_here P (stem ∷ stems) zero other e t f =
+    let u : P stem ≡ true = ap P (same_Some stem other e) ∙ t in rw u (ap Some (sym (same_Some stem other e)))
+find_here P (stem ∷ stems) (suc k) other e t f =
+    let g = or_false (P stem) (list_any P (take k stems)) f in rw g.0 (find_here P stems k other e t g.1)
 
 -- so the stem of a number is found by its newest
-pub head_found : (xs : List Stem) → AreStems xs → (r : Revision) (k : ℕ) (s : Stem) → slice_get xs k ≡ Some s
-    → is_first r s.revisions ≡ true → Some s ≡ find (λ z. is_first r z.revisions) xs
-head_found xs a r k s e first =
-    find_here (λ z. is_first r z.revisions) xs k s e first (heads_differ xs a r k s e first)
+pub head_found : (stems : List Stem) → AreStems stems → (revision : Revision) (k : ℕ) (stem : Stem)
+    → slice_get stems k ≡ Some stem
+    → is_first revision stem.revisions ≡ true → Some stem ≡ find (λ z. is_first revision z.revisions) stems
+head_found stems a revision k stem e first =
+    find_here (λ z. is_first revision z.revisions) stems k stem e first
+    (heads_differ stems a revision k stem e first)
 
-pub none_found : (P : Stem → Bool) (xs : List Stem) → list_any P xs ≡ false → None ≡ find P xs
+pub none_found : (P : Stem → Bool) (stems : List Stem) → list_any P stems ≡ false → None ≡ find P stems
 none_found P [] f = refl
-none_found P (x ∷ xs) f = let g = or_false (P x) (list_any P xs) f in rw g.0 (none_found P xs g.1)
+none_found P (stem ∷ stems) f =
+    let g = or_false (P stem) (list_any P stems) f in rw g.0 (none_found P stems g.1)
 
 -- a stem that is found is one
-pub found_falls : (xs : List Stem) → AreStems xs → (rev : Revision) (s : Stem)
-    → Some s ≡ find (λ z. is_first rev z.revisions) xs → IsPath s.revisions
-found_falls xs a rev s e =
-    let i = find_is (λ (z : Stem). is_first rev z.revisions) xs s (sym e) in
-    a.falling i.1.0 s (slice_get_read xs _ i.1.0 s refl i.1.1 (sym i.1.2))
+pub found_falls : (stems : List Stem) → AreStems stems → (rev : Revision) (stem : Stem)
+    → Some stem ≡ find (λ other. is_first rev other.revisions) stems → IsPath stem.revisions
+found_falls stems a rev stem e =
+    let i = find_is (λ (other : Stem). is_first rev other.revisions) stems stem (sym e) in
+    a.falling i.1.0 stem (slice_get_read stems _ i.1.0 stem refl i.1.1 (sym i.1.2))
 
-pub read_stem : (xs : List Stem) (k : ℕ) (s : Stem) → k < length xs → s ≡ get_or xs k s
-    → slice_get xs k ≡ Some s
-read_stem xs k s low is = slice_get_read xs _ k s refl low is
+pub read_stem : (stems : List Stem) (k : ℕ) (stem : Stem) → k < length stems → stem ≡ get_or stems k stem
+    → slice_get stems k ≡ Some stem
+read_stem stems k stem low is = slice_get_read stems _ k stem refl low is
 
 -- a number of the branches is one of the stems
-pub low_stem : (xs : List Stem) (bs : List Branch) (k : ℕ) → branches_of xs ≡ bs → k < length bs
-    → k < length xs
-low_stem xs bs k same low =
-    let many = as_many xs in
-    let n : length (branches_of xs) ≡ length bs = ap (λ (z : List Branch). length z) same in
+pub low_stem : (stems : List Stem) (branches : List Branch) (k : ℕ) → branches_of stems ≡ branches
+    → k < length branches → k < length stems
+low_stem stems branches k same low =
+    let many = as_many stems in
+    let n : length (branches_of stems) ≡ length branches = ap (λ (others : List Branch). length others) same
+    in
     omega (arith, low, many, n)
 
 -- ---- how long the paths are
 
 -- a stem's count is its path's length
-path_long : (xs : List Stem) → AreStems xs → (k : ℕ) (s : Stem) → slice_get xs k ≡ Some s
-    → length (branch_of (chain_of (chains_of xs) s)).path ≡ s.count
-path_long xs a k s e =
-    let c = a.counted k s e in
-    let reach : s.reach ≡ length (chain_of (chains_of xs) s).whole =
-    a.reached k s e ∙ ap (λ o. length (whole_in o)) (chained_at xs a k s e) in
-    length-take-le s.count (chain_of (chains_of xs) s).whole (omega (arith, c.1, reach))
+path_long : (stems : List Stem) → AreStems stems → (k : ℕ) (stem : Stem) → slice_get stems k ≡ Some stem
+    → length (branch_of (chain_of (chains_of stems) stem)).path ≡ stem.count
+path_long stems a k stem e =
+    let c = a.counted k stem e in
+    let reach : stem.reach ≡ length (chain_of (chains_of stems) stem).whole =
+    a.reached k stem e ∙ ap (λ o. length (whole_in o)) (chained_at stems a k stem e) in
+    length-take-le stem.count (chain_of (chains_of stems) stem).whole (omega (arith, c.1, reach))
 
-pub long_edit : (xs : List Stem) → AreStems xs → (k : ℕ) (s : Stem) (count : ℕ) → slice_get xs k ≡ Some s
-    → count ≡ s.count → Some count ≡ option_map (λ b. length b.path) (slice_get (branches_of xs) k)
-long_edit xs a k s count e is =
-    ap Some (is ∙ sym (path_long xs a k s e))
-    ∙ ap (option_map (λ (b : Branch). length b.path)) (sym (shown_at xs a k s e))
+pub long_edit : (stems : List Stem) → AreStems stems → (k : ℕ) (stem : Stem) (count : ℕ)
+    → slice_get stems k ≡ Some stem
+    → count ≡ stem.count → Some count ≡ option_map (λ branch. length branch.path)
+    (slice_get (branches_of stems) k)
+long_edit stems a k stem count e is =
+    ap Some (is ∙ sym (path_long stems a k stem e))
+    ∙ ap (option_map (λ (branch : Branch). length branch.path)) (sym (shown_at stems a k stem e))
 
-pub no_long : (xs : List Stem) (k : ℕ) → length xs ≤ k
-    → option_map (λ b. length b.path) (slice_get (branches_of xs) k) ≡ None
-no_long xs k past =
-    ap (option_map (λ (b : Branch). length b.path))
-    (slice_get_past (branches_of xs) k (omega (arith, past, as_many xs)))
+pub no_long : (stems : List Stem) (k : ℕ) → length stems ≤ k
+    → option_map (λ branch. length branch.path) (slice_get (branches_of stems) k) ≡ None
+no_long stems k past =
+    ap (option_map (λ (branch : Branch). length branch.path))
+    (slice_get_past (branches_of stems) k (omega (arith, past, as_many stems)))
 
 -- of the branch that a revision heads
 abbrev AreLong : Revision → List Stem → Type 0
-AreLong r xs =
-    AreStems xs
-    → option_map (λ b. length b.path) (find (λ b. is_first r b.path) (branches_of xs))
-    ≡ option_map (λ s. s.count) (find (λ s. is_first r s.revisions) xs)
+AreLong revision stems =
+    AreStems stems
+    → option_map (λ b. length b.path) (find (λ b. is_first revision b.path) (branches_of stems))
+    ≡ option_map (λ s. s.count) (find (λ s. is_first revision s.revisions) stems)
 
-module _ (r : Revision) where
-  or_long : (o p : Option Branch)
-      → option_map (λ b. length b.path) (option_or o p)
-      ≡ option_or (option_map (λ b. length b.path) o) (option_map (λ b. length b.path) p)
-  or_long None p = refl
-  or_long (Some b) p = refl
+module _ (revision : Revision) where
+  or_long : (o maybe_branch : Option Branch)
+      → option_map (λ branch. length branch.path) (option_or o maybe_branch)
+      ≡ option_or (option_map (λ branch. length branch.path) o)
+      (option_map (λ branch. length branch.path) maybe_branch)
+  or_long None maybe_branch = refl
+  or_long (Some branch) maybe_branch = refl
 
-  or_count : (o p : Option Stem)
-      → option_map (λ s. s.count) (option_or o p)
-      ≡ option_or (option_map (λ s. s.count) o) (option_map (λ s. s.count) p)
-  or_count None p = refl
-  or_count (Some s) p = refl
+  or_count : (o maybe_stem : Option Stem)
+      → option_map (λ stem. stem.count) (option_or o maybe_stem)
+      ≡ option_or (option_map (λ stem. stem.count) o) (option_map (λ stem. stem.count) maybe_stem)
+  or_count None maybe_stem = refl
+  or_count (Some stem) maybe_stem = refl
 
-  one_long : (xs : List Stem) (s : Stem) → AreStems (xs ++ s ∷ [])
+  one_long : (stems : List Stem) (stem : Stem) → AreStems (stems ++ stem ∷ [])
       → option_map (λ b. length b.path)
-      (find (λ b. is_first r b.path) (branch_of (chain_of (chains_of xs) s) ∷ []))
-      ≡ option_map (λ z. z.count) (find (λ z. is_first r z.revisions) (s ∷ []))
-  one_long xs s a =
-      let here = get_last xs s in
+      (find (λ b. is_first revision b.path) (branch_of (chain_of (chains_of stems) stem) ∷ []))
+      ≡ option_map (λ z. z.count) (find (λ z. is_first revision z.revisions) (stem ∷ []))
+  one_long stems stem a =
+      let here = get_last stems stem in
       let head =
-      is_head_of r (chains_of xs) s (a.falling (length xs) s here) (a.counted (length xs) s here).0 in
-      let long : length (branch_of (chain_of (chains_of xs) s)).path ≡ s.count =
-      let c = a.counted (length xs) s here in
-      let reach : s.reach ≡ length (chain_of (chains_of xs) s).whole =
-      a.reached (length xs) s here
+      is_head_of revision (chains_of stems) stem (a.falling (length stems) stem here)
+      (a.counted (length stems) stem here).0 in
+      let long : length (branch_of (chain_of (chains_of stems) stem)).path ≡ stem.count =
+      let c = a.counted (length stems) stem here in
+      let reach : stem.reach ≡ length (chain_of (chains_of stems) stem).whole =
+      a.reached (length stems) stem here
       ∙ ap (λ o. length (whole_in o))
-      (ap (λ cs. slice_get cs (length xs)) (one_chain_more xs s)
-      ∙ (ap (slice_get (chains_of xs ++ chain_of (chains_of xs) s ∷ [])) (sym (as_many_chains xs))
-      ∙ get_last (chains_of xs) (chain_of (chains_of xs) s))) in
-      length-take-le s.count (chain_of (chains_of xs) s).whole (omega (arith, c.1, reach)) in
-      elim (cases_Bool (is_first r s.revisions)) [
+      (ap (λ cs. slice_get cs (length stems)) (one_chain_more stems stem)
+      ∙ (ap (slice_get (chains_of stems ++ chain_of (chains_of stems) stem ∷ [])) (sym (as_many_chains stems))
+      ∙ get_last (chains_of stems) (chain_of (chains_of stems) stem))) in
+      length-take-le stem.count (chain_of (chains_of stems) stem).whole (omega (arith, c.1, reach)) in
+      elim (cases_Bool (is_first revision stem.revisions)) [
         | inl t ↦ rw (head ∙ t, t) (ap Some long)
         | inr t ↦ rw (head ∙ t, t) refl
       ]
 
-  long_more : (xs : List Stem) (s : Stem) → AreLong r xs → AreLong r (xs ++ s ∷ [])
-  long_more xs s ih a =
-      ap (λ bs. option_map (λ b. length b.path) (find (λ b. is_first r b.path) bs)) (one_stem_more xs s)
-      ∙ ap (option_map (λ b. length b.path))
-      (find-append (λ b. is_first r b.path) (branches_of xs) (branch_of (chain_of (chains_of xs) s) ∷ []))
-      ∙ or_long (find (λ b. is_first r b.path) (branches_of xs))
-      (find (λ b. is_first r b.path) (branch_of (chain_of (chains_of xs) s) ∷ []))
+  long_more : (stems : List Stem) (stem : Stem) → AreLong revision stems
+      → AreLong revision (stems ++ stem ∷ [])
+  long_more stems stem ih a =
+      ap (λ bs. option_map (λ b. length b.path) (find (λ b. is_first revision b.path) bs))
+      (one_stem_more stems stem) ∙ ap (option_map (λ b. length b.path))
+      (find-append (λ b. is_first revision b.path) (branches_of stems)
+      (branch_of (chain_of (chains_of stems) stem) ∷ []))
+      ∙ or_long (find (λ b. is_first revision b.path) (branches_of stems))
+      (find (λ b. is_first revision b.path) (branch_of (chain_of (chains_of stems) stem) ∷ []))
       ∙ ap (λ o. option_or o
       (option_map (λ b. length b.path)
-      (find (λ b. is_first r b.path) (branch_of (chain_of (chains_of xs) s) ∷ [])))) (ih (front xs s a))
-      ∙ ap (λ o. option_or (option_map (λ z. z.count) (find (λ z. is_first r z.revisions) xs)) o)
-      (one_long xs s a)
-      ∙ sym (or_count (find (λ z. is_first r z.revisions) xs) (find (λ z. is_first r z.revisions) (s ∷ [])))
-      ∙ ap (option_map (λ z. z.count)) (sym (find-append (λ z. is_first r z.revisions) xs (s ∷ [])))
+      (find (λ b. is_first revision b.path) (branch_of (chain_of (chains_of stems) stem) ∷ []))))
+      (ih (front stems stem a))
+      ∙ ap (λ o. option_or (option_map (λ z. z.count) (find (λ z. is_first revision z.revisions) stems)) o)
+      (one_long stems stem a)
+      ∙ sym (or_count (find (λ z. is_first revision z.revisions) stems)
+      (find (λ z. is_first revision z.revisions) (stem ∷ [])))
+      ∙ ap (option_map (λ z. z.count))
+      (sym (find-append (λ z. is_first revision z.revisions) stems (stem ∷ [])))
 
-  long_in : (xs : List Stem) → AreLong r xs
-  long_in = from_end (AreLong r) (λ a. refl) long_more
+  long_in : (stems : List Stem) → AreLong revision stems
+  long_in = from_end (AreLong revision) (λ a. refl) long_more
 
-pub long_headed : (xs : List Stem) → AreStems xs → (rev : Revision) (s : Stem) (count : ℕ)
-    → Some s ≡ find (λ z. is_first rev z.revisions) xs → count ≡ s.count
-    → Some count ≡ option_map (λ b. length b.path) (find (λ b. is_first rev b.path) (branches_of xs))
-long_headed xs a rev s count e is =
-    ap Some is ∙ ap (option_map (λ (z : Stem). z.count)) e ∙ sym (long_in rev xs a)
+pub long_headed : (stems : List Stem) → AreStems stems → (rev : Revision) (stem : Stem) (count : ℕ)
+    → Some stem ≡ find (λ other. is_first rev other.revisions) stems → count ≡ stem.count
+    → Some count ≡ option_map (λ b. length b.path) (find (λ b. is_first rev b.path) (branches_of stems))
+long_headed stems a rev stem count e is =
+    ap Some is ∙ ap (option_map (λ (other : Stem). other.count)) e ∙ sym (long_in rev stems a)
 
-pub none_long : (xs : List Stem) → AreStems xs
-    → (rev : Revision) → None ≡ find (λ z. is_first rev z.revisions) xs
-    → option_map (λ b. length b.path) (find (λ b. is_first rev b.path) (branches_of xs)) ≡ None
-none_long xs a rev e = long_in rev xs a ∙ ap (option_map (λ (z : Stem). z.count)) (sym e)
+pub none_long : (stems : List Stem) → AreStems stems
+    → (rev : Revision) → None ≡ find (λ stem. is_first rev stem.revisions) stems
+    → option_map (λ b. length b.path) (find (λ b. is_first rev b.path) (branches_of stems)) ≡ None
+none_long stems a rev e = long_in rev stems a ∙ ap (option_map (λ (stem : Stem). stem.count)) (sym e)

@@ -29,205 +29,226 @@ use Rattle.hub_revtree.specs.Winner.{winner_of}
 use Rattle.hub_revtree.proofs.BranchLemmas.{any_map}
 
 -- all the branches are edits of the document whose id is left out
-pub all_of_one : (bs : List Branch) → edits_of (edits_in bs) [] ≡ edits_in bs
+pub all_of_one : (branches : List Branch) → edits_of (edits_in branches) [] ≡ edits_in branches
 all_of_one [] = refl
-all_of_one (b ∷ bs) = ap (λ es. edit_of b ∷ es) (all_of_one bs)
+all_of_one (branch ∷ branches) = ap (λ es. edit_of branch ∷ es) (all_of_one branches)
 
-pub rev_tree : (bs : List Branch) → IsLegal (edits_in bs) → IsRevTree (edits_in bs)
-rev_tree bs legal = record { legal = legal; one = all_of_one bs }
+pub rev_tree : (branches : List Branch) → IsLegal (edits_in branches) → IsRevTree (edits_in branches)
+rev_tree branches legal = record { legal = legal; one = all_of_one branches }
 
-pub leaves_by : (bs : List Branch)
-    → leaves_of (edits_in bs) [] ≡ best_first (leaves_among (edits_in bs) (edits_in bs))
-leaves_by bs = ap (λ es. best_first (leaves_among es es)) (all_of_one bs)
+pub leaves_by : (branches : List Branch)
+    → leaves_of (edits_in branches) [] ≡ best_first (leaves_among (edits_in branches) (edits_in branches))
+leaves_by branches = ap (λ es. best_first (leaves_among es es)) (all_of_one branches)
 
 -- the same of a slice of the branches
-pub sorted_by : (bs : List Branch) (es : List Edit) → edits_in bs ≡ es
-    → best_first (leaves_among (edits_in bs) (edits_in bs)) ≡ leaves_of es []
-sorted_by bs es same = sym (leaves_by bs) ∙ ap (λ z. leaves_of z []) same
+pub sorted_by : (branches : List Branch) (edits : List Edit) → edits_in branches ≡ edits
+    → best_first (leaves_among (edits_in branches) (edits_in branches)) ≡ leaves_of edits []
+sorted_by branches edits same = sym (leaves_by branches) ∙ ap (λ z. leaves_of z []) same
 
-pub known_by : (bs : List Branch) (r : Revision)
-    → is_known (edits_in bs) [] r ≡ list_any (λ b. names b.path r) bs
-known_by bs r =
-    ap (λ es. list_any (λ (e : Edit). names e.path r) es) (all_of_one bs)
-    ∙ any_map (λ (e : Edit). names e.path r) edit_of bs
+pub known_by : (branches : List Branch) (revision : Revision)
+    → is_known (edits_in branches) [] revision ≡ list_any (λ b. names b.path revision) branches
+known_by branches revision =
+    ap (λ es. list_any (λ (edit : Edit). names edit.path revision) es) (all_of_one branches)
+    ∙ any_map (λ (edit : Edit). names edit.path revision) edit_of branches
 
-knows_of : (bs : List Branch) (r : Revision) → list_any (λ b. names b.path r) bs ≡ true
-    ↔ IsKnown (edits_in bs) [] r
-knows_of bs r = (
-  λ h. known_is (edits_in bs) [] r (known_by bs r ∙ h),
-  λ k. sym (known_by bs r) ∙ is_known_from (edits_in bs) [] r k,
+knows_of : (branches : List Branch) (revision : Revision)
+    → list_any (λ b. names b.path revision) branches ≡ true
+    ↔ IsKnown (edits_in branches) [] revision
+knows_of branches revision = (
+  λ h. known_is (edits_in branches) [] revision (known_by branches revision ∙ h),
+  λ k. sym (known_by branches revision) ∙ is_known_from (edits_in branches) [] revision k,
 )
 
-pub knows : (bs : List Branch) (r : Revision) (b : Bool) → b ≡ list_any (λ c. names c.path r) bs → IsTrue b
-    ↔ IsKnown (edits_in bs) [] r
-knows bs r b is = rw is (knows_of bs r)
+pub knows : (branches : List Branch) (revision : Revision) (b : Bool)
+    → b ≡ list_any (λ c. names c.path revision) branches → IsTrue b
+    ↔ IsKnown (edits_in branches) [] revision
+knows branches revision b is = rw is (knows_of branches revision)
 
-pub first_of : (p : List Revision) (x : Revision) → slice_get p 0 ≡ Some x → IsFirst p x
-first_of [] x e = absurd (cc)
-first_of (y ∷ p) x e = same_Some y x e
+pub first_of : (revisions : List Revision) (revision : Revision) → slice_get revisions 0 ≡ Some revision
+    → IsFirst revisions revision
+first_of [] revision e = absurd (cc)
+first_of (other ∷ revisions) revision e = same_Some other revision e
 
-only_first : (p : List Revision) (x r : Revision) → slice_get p 0 ≡ Some x → IsFirst p r → x ≡ r
-only_first [] x r e i = absurd i
-only_first (y ∷ p) x r e i = sym (same_Some y x e) ∙ i
+only_first : (revisions : List Revision) (revision other : Revision) → slice_get revisions 0 ≡ Some revision
+    → IsFirst revisions other → revision ≡ other
+only_first [] revision other e i = absurd i
+only_first (y ∷ revisions) revision other e i = sym (same_Some y revision e) ∙ i
 
 -- a path with this head, looked for in the branches
-module _ (bs : List Branch) (path : List Revision) (x : Revision) (head : slice_get path 0 ≡ Some x)
-    (known : Bool) (is : known ≡ list_any (λ b. names b.path x) bs) where
-  any_is : list_any (λ b. names b.path x) bs ≡ known
+module _ (branches : List Branch) (path : List Revision) (revision : Revision)
+    (head : slice_get path 0 ≡ Some revision)
+    (known : Bool) (is : known ≡ list_any (λ b. names b.path revision) branches) where
+  any_is : list_any (λ b. names b.path revision) branches ≡ known
   any_is = sym is
 
-  pub head_known : known ≡ true → HasKnownHead (edits_in bs) path
-  head_known h = (x, first_of path x head, (knows_of bs x).0 (any_is ∙ h))
+  pub head_known : known ≡ true → HasKnownHead (edits_in branches) path
+  head_known h = (revision, first_of path revision head, (knows_of branches revision).0 (any_is ∙ h))
 
-  pub head_new : known ≡ false → ¬ HasKnownHead (edits_in bs) path
+  pub head_new : known ≡ false → ¬ HasKnownHead (edits_in branches) path
   head_new h (r, i, k) =
       both_ways _ (any_is ∙ h)
-      ((knows_of bs x).1 (subst (λ z. IsKnown (edits_in bs) [] z) (sym (only_first path x r head i)) k))
+      ((knows_of branches revision).1
+      (subst (λ z. IsKnown (edits_in branches) [] z) (sym (only_first path revision r head i)) k))
 
-  not_known : (p : List Revision) → slice_get p 0 ≡ Some x → known ≡ false
-      → not (is_head_known (edits_in bs) [] p) ≡ true
+  not_known : (revisions : List Revision) → slice_get revisions 0 ≡ Some revision → known ≡ false
+      → not (is_head_known (edits_in branches) [] revisions) ≡ true
   not_known [] e h = refl
-  not_known (y ∷ p) e h =
-      ap not (ap (is_known (edits_in bs) []) (same_Some y x e) ∙ (known_by bs x ∙ (any_is ∙ h)))
+  not_known (other ∷ revisions) e h =
+      ap not (ap (is_known (edits_in branches) []) (same_Some other revision e)
+      ∙ (known_by branches revision ∙ (any_is ∙ h)))
 
-  module _ (all : Bool) (agree : all ≡ list_all (λ b. agrees path b.path) bs) where
-    agree_by : list_all (λ (e : Edit). agrees path e.path) (edits_of (edits_in bs) []) ≡ all
+  module _ (all : Bool) (agree : all ≡ list_all (λ b. agrees path b.path) branches) where
+    agree_by : list_all (λ (e : Edit). agrees path e.path) (edits_of (edits_in branches) []) ≡ all
     agree_by =
-        ap (λ es. list_all (λ (e : Edit). agrees path e.path) es) (all_of_one bs)
-        ∙ (list_all-map (λ (e : Edit). agrees path e.path) edit_of bs ∙ sym agree)
+        ap (λ es. list_all (λ (e : Edit). agrees path e.path) es) (all_of_one branches)
+        ∙ (list_all-map (λ (e : Edit). agrees path e.path) edit_of branches ∙ sym agree)
 
     -- a path with a new head that agrees with all is taken
-    pub acceptable : (deleted : Bool) (body : List ℕ) → IsLegal (edits_in bs) → IsHistory path
+    pub acceptable : (deleted : Bool) (body : List ℕ) → IsLegal (edits_in branches) → IsHistory path
         → known ≡ false → all ≡ true
-        → IsAcceptable (edits_in bs) (record { id = []; path = path; deleted = deleted; body = body })
+        → IsAcceptable (edits_in branches) (record { id = []; path = path; deleted = deleted; body = body })
     acceptable deleted body legal history new h =
-        acceptable_is (edits_in bs) (record { id = []; path = path; deleted = deleted; body = body }) legal
+        acceptable_is (edits_in branches)
+        (record { id = []; path = path; deleted = deleted; body = body }) legal
         (and_from (is_history path) _ (is_history_from path history)
         (and_from _ _ (not_known path head new) (agree_by ∙ h)))
 
     -- and no other
     pub contradicts : (deleted : Bool) (body : List ℕ) → all ≡ false
-        → ¬ IsAcceptable (edits_in bs) (record { id = []; path = path; deleted = deleted; body = body })
+        → ¬ IsAcceptable (edits_in branches) (record { id = []; path = path; deleted = deleted; body = body })
     contradicts deleted body h a =
         let p =
         and_parts (is_history path) _
-        (is_acceptable_from (edits_in bs)
+        (is_acceptable_from (edits_in branches)
         (record { id = []; path = path; deleted = deleted; body = body }) a) in
         both_ways _ h (sym agree_by ∙ (and_parts _ _ p.1).1)
 
 -- what is lent of a branch
 pub lent : {A : Type 0} (o : Option A) (rev : A → Revision) (deleted : A → Bool)
-    (body : A → List ℕ) (p : Option Branch)
-    → option_map (λ e. tip (rev e) (deleted e) (body e)) o ≡ option_map (λ b. tip_of (edit_of b)) p
-    → (option_map deleted o ≡ option_map (λ b. b.deleted) p)
-    × (option_map body o ≡ option_map (λ b. b.body) p)
+    (body : A → List ℕ) (maybe_branch : Option Branch)
+    → option_map (λ e. tip (rev e) (deleted e) (body e)) o ≡ option_map
+    (λ branch. tip_of (edit_of branch)) maybe_branch
+    → (option_map deleted o ≡ option_map (λ branch. branch.deleted) maybe_branch)
+    × (option_map body o ≡ option_map (λ branch. branch.body) maybe_branch)
 lent None rev deleted body None e = (refl, refl)
-lent None rev deleted body (Some b) e = absurd (cc)
+lent None rev deleted body (Some branch) e = absurd (cc)
 lent (Some x) rev deleted body None e = absurd (cc)
-lent (Some x) rev deleted body (Some b) e =
-    let same : tip (rev x) (deleted x) (body x) ≡ tip_of (edit_of b) = same_Some _ _ e in
+lent (Some x) rev deleted body (Some branch) e =
+    let same : tip (rev x) (deleted x) (body x) ≡ tip_of (edit_of branch) = same_Some _ _ e in
     (ap (λ (t : Tip). Some t.deleted) same, ap (λ (t : Tip). Some t.body) same)
 
 -- the mark of a head
-module _ (bs : List Branch) (r : Revision) where
-  pub in_tree : (bs : List Branch) (b : Branch) → Contains bs b → Contains (edits_in bs) (edit_of b)
-  in_tree [] b c = absurd (contains_none b c)
-  in_tree (x ∷ bs) b c =
+module _ (branches : List Branch) (revision : Revision) where
+  pub in_tree : (branches : List Branch) (branch : Branch) → Contains branches branch
+      → Contains (edits_in branches) (edit_of branch)
+  in_tree [] branch c = absurd (contains_none branch c)
+  in_tree (other ∷ branches) branch c =
       ⊎_elim (λ v.
-      subst (λ z. Contains (edits_in (x ∷ bs)) (edit_of z)) v (contains_here (edit_of x) (edits_in bs)))
-      (λ d. contains_there (edit_of x) (edit_of b) (edits_in bs) (in_tree bs b d)) (contains_cases x b bs c)
+      subst (λ z. Contains (edits_in (other ∷ branches)) (edit_of z)) v
+      (contains_here (edit_of other) (edits_in branches)))
+      (λ d. contains_there (edit_of other) (edit_of branch) (edits_in branches) (in_tree branches branch d))
+      (contains_cases other branch branches c)
 
-  pub from_tree : (bs : List Branch) (e : Edit) → Contains (edits_in bs) e
-      → (b : Branch) × Contains bs b × (edit_of b ≡ e)
-  from_tree [] e c = absurd (contains_none e c)
-  from_tree (b ∷ bs) e c =
-      ⊎_elim (λ v. (b, contains_here b bs, v))
-      (λ d. let i = from_tree bs e d in (i.0, contains_there b i.0 bs i.1, i.2))
-      (contains_cases (edit_of b) e (edits_in bs) c)
+  pub from_tree : (branches : List Branch) (edit : Edit) → Contains (edits_in branches) edit
+      → (branch : Branch) × Contains branches branch × (edit_of branch ≡ edit)
+  from_tree [] edit c = absurd (contains_none edit c)
+  from_tree (branch ∷ branches) edit c =
+      ⊎_elim (λ v. (branch, contains_here branch branches, v))
+      (λ d. let i = from_tree branches edit d in (i.0, contains_there branch i.0 branches i.1, i.2))
+      (contains_cases (edit_of branch) edit (edits_in branches) c)
 
-  heads : (p : List Revision) → is_first r p ≡ true → IsFirst p r
+  heads : (revisions : List Revision) → is_first revision revisions ≡ true → IsFirst revisions revision
   heads [] e = absurd (cc)
-  heads (x ∷ p) e = sym (same_is r x e)
+  heads (other ∷ revisions) e = sym (same_is revision other e)
 
-  heads_from : (p : List Revision) → IsFirst p r → is_first r p ≡ true
+  heads_from : (revisions : List Revision) → IsFirst revisions revision → is_first revision revisions ≡ true
   heads_from [] i = absurd i
-  heads_from (x ∷ p) i = subst (λ z. is_first r (z ∷ p) ≡ true) (sym i) (same_self r)
+  heads_from (other ∷ revisions) i =
+      subst (λ z. is_first revision (z ∷ revisions) ≡ true) (sym i) (same_self revision)
 
-  pub marked : (d : Bool) → option_map (λ b. b.deleted) (find (λ b. is_first r b.path) bs) ≡ Some d
-      → IsMarked (edits_in bs) [] r d
-  marked d h = from (find (λ b. is_first r b.path) bs) refl h
+  pub marked : (d : Bool) → option_map (λ b. b.deleted)
+      (find (λ b. is_first revision b.path) branches) ≡ Some d → IsMarked (edits_in branches) [] revision d
+  marked d h = from (find (λ b. is_first revision b.path) branches) refl h
     where
-      from : (o : Option Branch) → find (λ b. is_first r b.path) bs ≡ o
-          → option_map (λ b. b.deleted) o ≡ Some d → IsMarked (edits_in bs) [] r d
+      from : (maybe_branch : Option Branch) → find (λ b. is_first revision b.path) branches ≡ maybe_branch
+          → option_map (λ b. b.deleted) maybe_branch ≡ Some d → IsMarked (edits_in branches) [] revision d
       from None q e = absurd (cc)
       from (Some b) q e =
-          let i = find_is (λ (c : Branch). is_first r c.path) bs b q in
-          (edit_of b, (in_tree bs b i.1, refl), heads b.path i.0, same_Some b.deleted d e)
+          let i = find_is (λ (branch : Branch). is_first revision branch.path) branches b q in
+          (edit_of b, (in_tree branches b i.1, refl), heads b.path i.0, same_Some b.deleted d e)
 
-  pub unmarked : option_map (λ b. b.deleted) (find (λ b. is_first r b.path) bs) ≡ None → (d : Bool)
-      → ¬ IsMarked (edits_in bs) [] r d
-  unmarked h d m = from (find (λ b. is_first r b.path) bs) refl h
+  pub unmarked : option_map (λ b. b.deleted) (find (λ b. is_first revision b.path) branches) ≡ None
+      → (d : Bool) → ¬ IsMarked (edits_in branches) [] revision d
+  unmarked h d m = from (find (λ b. is_first revision b.path) branches) refl h
     where
-      from : (o : Option Branch) → find (λ b. is_first r b.path) bs ≡ o → option_map (λ b. b.deleted) o ≡ None
-          → ⊥
+      from : (maybe_branch : Option Branch) → find (λ b. is_first revision b.path) branches ≡ maybe_branch
+          → option_map (λ b. b.deleted) maybe_branch ≡ None → ⊥
       from None q e =
-          let i = from_tree bs m.0 m.1.0 in
-          find_not (λ (c : Branch). is_first r c.path) bs q i.0 i.1
-          (heads_from i.0.path (subst (λ (z : Edit). IsHead z r) (sym i.2) m.2))
+          let i = from_tree branches m.0 m.1.0 in
+          find_not (λ (branch : Branch). is_first revision branch.path) branches q i.0 i.1
+          (heads_from i.0.path (subst (λ (edit : Edit). IsHead edit revision) (sym i.2) m.2))
       from (Some b) q e = absurd (cc)
 
 -- the same of what is lent of it
-pub marks : {A : Type 0} (bs : List Branch) (r : Revision) (o : Option A) (rev : A → Revision)
+pub marks : {A : Type 0} (branches : List Branch) (revision : Revision) (o : Option A) (rev : A → Revision)
     (deleted : A → Bool) (body : A → List ℕ)
     → option_map (λ e. tip (rev e) (deleted e) (body e)) o
-    ≡ option_map (λ b. tip_of (edit_of b)) (find (λ b. is_first r b.path) bs)
-    → IfSome (option_map deleted o) (IsMarked (edits_in bs) [] r)
-    × IfNone (option_map deleted o) ((d : Bool) → ¬ IsMarked (edits_in bs) [] r d)
-marks bs r None rev deleted body e =
-    (tt, unmarked bs r (sym (lent None rev deleted body (find (λ b. is_first r b.path) bs) e).0))
-marks bs r (Some x) rev deleted body e = (
-  marked bs r (deleted x) (sym (lent (Some x) rev deleted body (find (λ b. is_first r b.path) bs) e).0),
+    ≡ option_map (λ b. tip_of (edit_of b)) (find (λ b. is_first revision b.path) branches)
+    → IfSome (option_map deleted o) (IsMarked (edits_in branches) [] revision)
+    × IfNone (option_map deleted o) ((d : Bool) → ¬ IsMarked (edits_in branches) [] revision d)
+marks branches revision None rev deleted body e = (
+  tt,
+  unmarked branches revision
+      (sym (lent None rev deleted body (find (λ b. is_first revision b.path) branches) e).0),
+)
+marks branches revision (Some x) rev deleted body e = (
+  marked branches revision (deleted x)
+      (sym (lent (Some x) rev deleted body (find (λ b. is_first revision b.path) branches) e).0),
   tt,
 )
 
-pub wins : (es : List Edit) → IsLegal es → (w : Winner) → winner_of (leaves_of es []) ≡ Some w
-    → IsWinner es [] w.rev
-wins es legal w h = (winner_is es [] legal w.rev).1 (first (leaves_of es []) h)
+pub wins : (edits : List Edit) → IsLegal edits → (winner : Winner)
+    → winner_of (leaves_of edits []) ≡ Some winner → IsWinner edits [] winner.rev
+wins edits legal winner h = (winner_is edits [] legal winner.rev).1 (first (leaves_of edits []) h)
   where
-    first : (ls : List Leaf) → winner_of ls ≡ Some w → IsFirst (revisions_of ls) w.rev
+    first : (leaves : List Leaf) → winner_of leaves ≡ Some winner → IsFirst (revisions_of leaves) winner.rev
     first [] q = absurd (cc)
-    first (l ∷ ls) q = ap (λ (z : Winner). z.rev) (same_Some _ w q)
+    first (l ∷ leaves) q = ap (λ (other : Winner). other.rev) (same_Some _ winner q)
 
 -- a tree without one has no edit
-pub none_wins : (es : List Edit) → IsRevTree es → winner_of (leaves_of es []) ≡ None → es ≡ []
+pub none_wins : (edits : List Edit) → IsRevTree edits → winner_of (leaves_of edits []) ≡ None → edits ≡ []
 none_wins [] tree h = refl
-none_wins (e ∷ es) tree h =
-    let first = has_first e.path ((legal_sound (e ∷ es) tree.legal).paths e (contains_here e es)) in
-    let own = edits_in_of (e ∷ es) [] e (subst (λ z. Contains z e) (sym tree.one) (contains_here e es)) in
-    let leaf = has_leaf (e ∷ es) tree.legal [] first.0 (e, own, first_in e.path first.0 first.1) in
-    absurd (none (leaves_of (e ∷ es) []) h leaf.0 (is_leaf_from (e ∷ es) [] leaf.0 leaf.1))
+none_wins (edit ∷ edits) tree h =
+    let first = has_first edit.path
+    ((legal_sound (edit ∷ edits) tree.legal).paths edit (contains_here edit edits)) in
+    let own = edits_in_of (edit ∷ edits) [] edit
+    (subst (λ z. Contains z edit) (sym tree.one) (contains_here edit edits)) in
+    let leaf = has_leaf (edit ∷ edits) tree.legal [] first.0 (edit, own, first_in edit.path first.0 first.1)
+    in
+    absurd (none (leaves_of (edit ∷ edits) []) h leaf.0 (is_leaf_from (edit ∷ edits) [] leaf.0 leaf.1))
   where
-    none : (ls : List Leaf) → winner_of ls ≡ None → (r : Revision) → Contains (revisions_of ls) r → ⊥
-    none [] q r c = contains_none r c
-    none (l ∷ ls) q r c = absurd (cc)
+    none : (leaves : List Leaf) → winner_of leaves ≡ None → (revision : Revision)
+        → Contains (revisions_of leaves) revision → ⊥
+    none [] q revision c = contains_none revision c
+    none (l ∷ leaves) q revision c = absurd (cc)
 
 -- the body of a head
-pub body_by : {A : Type 0} (bs : List Branch) (es : List Edit) (r : Revision) (o : Option A)
+pub body_by : {A : Type 0} (branches : List Branch) (edits : List Edit) (revision : Revision) (o : Option A)
     (rev : A → Revision) (deleted : A → Bool) (body : A → List ℕ)
-    → edits_in bs ≡ es
+    → edits_in branches ≡ edits
     → option_map (λ e. tip (rev e) (deleted e) (body e)) o
-    ≡ option_map (λ b. tip_of (edit_of b)) (find (λ b. is_first r b.path) bs)
-    → option_map body o ≡ option_map (λ e. e.body) (find (is_head r) es)
-body_by bs es r o rev deleted body same e =
-    (lent o rev deleted body (find (λ b. is_first r b.path) bs) e).1
-    ∙ among bs
-    ∙ ap (λ z. option_map (λ e. e.body) (find (is_head r) z)) same
+    ≡ option_map (λ b. tip_of (edit_of b)) (find (λ b. is_first revision b.path) branches)
+    → option_map body o ≡ option_map (λ e. e.body) (find (is_head revision) edits)
+body_by branches edits revision o rev deleted body same e =
+    (lent o rev deleted body (find (λ b. is_first revision b.path) branches) e).1
+    ∙ among branches
+    ∙ ap (λ z. option_map (λ e. e.body) (find (is_head revision) z)) same
   where
-    among : (bs : List Branch)
-        → option_map (λ b. b.body) (find (λ b. is_first r b.path) bs)
-        ≡ option_map (λ e. e.body) (find (is_head r) (edits_in bs))
+    among : (branches : List Branch)
+        → option_map (λ b. b.body) (find (λ b. is_first revision b.path) branches)
+        ≡ option_map (λ e. e.body) (find (is_head revision) (edits_in branches))
     among [] = refl
-    among (b ∷ bs) = elim (cases_Bool (is_first r b.path)) [
+    among (b ∷ branches) = elim (cases_Bool (is_first revision b.path)) [
       | inl t ↦ rw t refl
-      | inr t ↦ rw t (among bs)
+      | inr t ↦ rw t (among branches)
     ]

@@ -15,11 +15,15 @@ pub record Candidate : Type 0 where
 
 -- the order of leaves
 abbrev pub candidate_cmp : Candidate → Candidate → Ordering
-candidate_cmp c d = leaf_cmp c.deleted c.rev d.deleted d.rev
+candidate_cmp candidate other = leaf_cmp candidate.deleted candidate.rev other.deleted other.rev
 
 -- a candidate as a leaf
 abbrev leaf_of : Candidate → Leaf
-leaf_of c = record { rev = c.rev; edit = record { id = []; path = []; deleted = c.deleted; body = [] } }
+leaf_of candidate =
+    record {
+      rev = candidate.rev;
+      edit = record { id = []; path = []; deleted = candidate.deleted; body = [] };
+    }
 
 -- of any two one is the lesser, or they are level
 pub candidates_total : IsTotalOrder candidate_cmp

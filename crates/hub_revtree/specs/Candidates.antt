@@ -18,11 +18,11 @@ use Rattle.hub_revtree.specs.declared.leaf.Winner.{Winner}
 
 -- the revision and the mark of a candidate
 abbrev pub winner_in : Candidate → Winner
-winner_in c = record { rev = c.rev; deleted = c.deleted }
+winner_in candidate = record { rev = candidate.rev; deleted = candidate.deleted }
 
 -- the candidate of the edit of this number, whose revision and mark these are
 abbrev pub candidate_of : ℕ → Winner → Candidate
-candidate_of number w = record { rev = w.rev; deleted = w.deleted; number = number }
+candidate_of number winner = record { rev = winner.rev; deleted = winner.deleted; number = number }
 
 -- the candidates are in the order of leaves, as a heap is; each is the head of its branch; and of the first
 -- branches, so many as were looked at, each whose head is a leaf has a candidate
@@ -30,12 +30,13 @@ pub record AreCandidates (branches : List Branch) (candidates : Candidates) : Ty
   pub ordered : IsHeap candidate_cmp (heap_items candidates.heap)
   pub within : candidates.count ≤ length branches
   pub heads :
-      (c : Candidate) → Contains (heap_items candidates.heap) c
-      → option_and_then head_in (slice_get branches c.number) ≡ Some (winner_in c)
+      (candidate : Candidate) → Contains (heap_items candidates.heap) candidate
+      → option_and_then head_in (slice_get branches candidate.number) ≡ Some (winner_in candidate)
   pub whole :
-      (k : ℕ) (w : Winner) → k < candidates.count → option_and_then head_in (slice_get branches k) ≡ Some w
-      → list_any (λ b. is_behind_head w.rev (edit_of b)) branches ≡ false
-      → Contains (heap_items candidates.heap) (candidate_of k w)
+      (k : ℕ) (winner : Winner) → k < candidates.count
+      → option_and_then head_in (slice_get branches k) ≡ Some winner
+      → list_any (λ b. is_behind_head winner.rev (edit_of b)) branches ≡ false
+      → Contains (heap_items candidates.heap) (candidate_of k winner)
 
 -- the candidates that are kept with an index, if there are some
 abbrev pub candidates_in : Option Index → Option Candidates

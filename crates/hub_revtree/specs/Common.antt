@@ -7,12 +7,13 @@ use Rattle.hub_model.specs.Revision.{Revision, is_same}
 -- None where a revision differs before that. It is 2 for 5-e 4-d and 5-e 4-d 3-c, None for 5-e 4-d and
 -- 5-e 4-q, and 0 for an empty list.
 abbrev pub common : List Revision → List Revision → Option ℕ
-common [] q = Some 0
-common (x ∷ p) [] = Some 0
-common (x ∷ p) (y ∷ q) = if is_same x y then option_map suc (common p q) else None
+common [] revisions = Some 0
+common (revision ∷ others) [] = Some 0
+common (revision ∷ others) (other ∷ revisions) =
+    if is_same revision other then option_map suc (common others revisions) else None
 
 -- the last of some revisions, if there is one
 abbrev pub last_in : List Revision → Option Revision
 last_in [] = None
-last_in (x ∷ []) = Some x
-last_in (x ∷ y ∷ p) = last_in (y ∷ p)
+last_in (revision ∷ []) = Some revision
+last_in (revision ∷ other ∷ revisions) = last_in (other ∷ revisions)

@@ -9,7 +9,8 @@ use Rattle.hub_model.specs.Missing.{missing}
 -- for the others: 3-c, and 3-d with 2-e.
 abbrev pub count_after : List Edit → List Edit → ℕ
 count_after earlier [] = 0
-count_after earlier (e ∷ later) = length (missing earlier [] e.path) + count_after (earlier ++ e ∷ []) later
+count_after earlier (edit ∷ later) =
+    length (missing earlier [] edit.path) + count_after (earlier ++ edit ∷ []) later
 
 -- how many different revisions the edits name
 abbrev pub revision_count : List Edit → ℕ

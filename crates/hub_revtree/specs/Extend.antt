@@ -16,21 +16,21 @@ draft id rev deleted body = record { id = id; rev = rev; deleted = deleted; body
 
 -- the edit that a draft becomes on this path, its id left out; or why it becomes none
 abbrev pub extends_path : List Edit → Draft → Option (List Revision) → Result Edit EditFault
-extends_path edits d None = Err Conflict
-extends_path edits d (Some path) =
+extends_path edits draft None = Err Conflict
+extends_path edits draft (Some path) =
     if nat_le 65535 (generation_of (parent_of path)) then Err GenerationLimit
-    else (if is_known edits [] (made d (parent_of path)) then Err Conflict
-    else Ok (nameless (made d (parent_of path) ∷ path) d.deleted d.body))
+    else (if is_known edits [] (made draft (parent_of path)) then Err Conflict
+    else Ok (nameless (made draft (parent_of path) ∷ path) draft.deleted draft.body))
 
 -- the edit that a draft becomes after these edits of its document, on the path that it extends
 abbrev pub extends : List Edit → Draft → Result Edit EditFault
-extends edits d = extends_path edits d (extended edits [] (leaves_of edits []) d.rev)
+extends edits draft = extends_path edits draft (extended edits [] (leaves_of edits []) draft.rev)
 
 -- a known revision and all that stands behind it
 abbrev pub path_to : List Edit → Revision → Option (List Revision)
-path_to edits r = if is_known edits [] r then Some (line_of edits [] r) else None
+path_to edits revision = if is_known edits [] revision then Some (line_of edits [] revision) else None
 
 -- the same of one that may not be named: nothing where it is not, or is not known
 abbrev pub line_to : List Edit → Option Revision → List Revision
 line_to edits None = []
-line_to edits (Some r) = unwrap_or (path_to edits r) []
+line_to edits (Some revision) = unwrap_or (path_to edits revision) []

@@ -27,56 +27,62 @@ abbrev pub entry_in : Index → ℕ → Option ℕ
 entry_in index key = get nat_eq index.stems key
 
 abbrev pub other_in : Index → Revision → Option ℕ
-other_in index r = ordered_get revision_cmp index.others r
+other_in index revision = ordered_get revision_cmp index.others revision
 
 abbrev pub link_in : Index → Revision → Option ℕ
-link_in index r = ordered_get revision_cmp index.links r
+link_in index revision = ordered_get revision_cmp index.links revision
 
--- the stem of this number has r
+-- the stem of this number has revision
 abbrev pub Has : List Stem → ℕ → Revision → Type 0
-Has stems number r = names (revisions_at stems number) r ≡ true
+Has stems number revision = names (revisions_at stems number) revision ≡ true
 
 -- the same of the first stems, so many, and of the first revisions of the next one, so many
 abbrev pub HasTo : List Stem → ℕ → ℕ → ℕ → Revision → Type 0
-HasTo stems count most number r =
-    ((number < count) × Has stems number r)
-    ⊎ ((number ≡ count) × ((at : ℕ) × (at < most) × (slice_get (revisions_at stems count) at ≡ Some r)))
+HasTo stems count most number revision =
+    ((number < count) × Has stems number revision)
+    ⊎ ((number ≡ count) × ((at : ℕ) × (at < most)
+    × (slice_get (revisions_at stems count) at ≡ Some revision)))
 
--- the stem of this number has r and no earlier one has it, where `has` says which ones have it
+-- the stem of this number has revision and no earlier one has it, where `has` says which ones have it
 abbrev pub IsFirstWith : (ℕ → Revision → Type 0) → ℕ → Revision → Type 0
-IsFirstWith has number r = has number r × ((earlier : ℕ) → earlier < number → ¬ has earlier r)
+IsFirstWith has number revision =
+    has number revision × ((earlier : ℕ) → earlier < number → ¬ has earlier revision)
 
--- the place is one of r in the first stem that has it
+-- the place is one of revision in the first stem that has it
 abbrev pub IsFirstPlace : List Stem → Revision → Place → Type 0
-IsFirstPlace stems r place = (rev_at stems (Some place) ≡ Some r) × IsFirstWith (Has stems) place.stem r
+IsFirstPlace stems revision place =
+    (rev_at stems (Some place) ≡ Some revision) × IsFirstWith (Has stems) place.stem revision
 
 -- the entry at a key is the number of the first stem that has a revision with that key; each of the others is
 -- that of the first stem that has the revision; and each revision's first stem is told by one of the two
 pub record AreTold (has : ℕ → Revision → Type 0) (entry : ℕ → Option ℕ)
     (other : Revision → Option ℕ) : Type 0 where
-  pub entries : (key number : ℕ) → entry key ≡ Some number → (r : Revision) × has number r × IsKey r.hash key
+  pub entries : (key number : ℕ) → entry key ≡ Some number → (revision : Revision) × has number revision
+      × IsKey revision.hash key
   pub keyed :
-      (number key : ℕ) (r : Revision) → has number r → IsKey r.hash key
+      (number key : ℕ) (revision : Revision) → has number revision → IsKey revision.hash key
       → (first : ℕ) × (entry key ≡ Some first) × (first ≤ number)
-  pub others : (number : ℕ) (r : Revision) → other r ≡ Some number → IsFirstWith has number r
+  pub others : (number : ℕ) (revision : Revision) → other revision ≡ Some number
+      → IsFirstWith has number revision
   pub told :
-      (number : ℕ) (r : Revision) → IsFirstWith has number r
-      → ((key : ℕ) × IsKey r.hash key × (entry key ≡ Some number)) ⊎ (other r ≡ Some number)
+      (number : ℕ) (revision : Revision) → IsFirstWith has number revision
+      → ((key : ℕ) × IsKey revision.hash key × (entry key ≡ Some number)) ⊎ (other revision ≡ Some number)
 
--- the stem of this number has r, and another one directly behind it, or stands on a place with it
+-- the stem of this number has revision, and another one directly behind it, or stands on a place with it
 abbrev pub GoesOn : List Stem → ℕ → Revision → Type 0
-GoesOn stems number r =
-    (stem : Stem) × (at : ℕ) × (slice_get stems number ≡ Some stem) × (slice_get stem.revisions at ≡ Some r)
-    × ((at + 1 < length stem.revisions) ⊎ IsSome stem.parent)
+GoesOn stems number revision =
+    (stem : Stem) × (at : ℕ) × (slice_get stems number ≡ Some stem)
+    × (slice_get stem.revisions at ≡ Some revision) × ((at + 1 < length stem.revisions) ⊎ IsSome stem.parent)
 
 -- a link is the number of a stem that goes on behind the revision; and where a stem goes on behind one, the
 -- first stem that has it does too, or it has a link
 pub record AreLinked (has : ℕ → Revision → Type 0) (stems : List Stem)
     (link : Revision → Option ℕ) : Type 0 where
-  pub links : (number : ℕ) (r : Revision) → link r ≡ Some number → GoesOn stems number r
+  pub links : (number : ℕ) (revision : Revision) → link revision ≡ Some number → GoesOn stems number revision
   pub linked :
-      (number : ℕ) (r : Revision) → has number r → GoesOn stems number r
-      → ((first : ℕ) × IsFirstWith (Has stems) first r × GoesOn stems first r) ⊎ IsSome (link r)
+      (number : ℕ) (revision : Revision) → has number revision → GoesOn stems number revision
+      → ((first : ℕ) × IsFirstWith (Has stems) first revision × GoesOn stems first revision)
+      ⊎ IsSome (link revision)
 
 -- the index tells and links all revisions of the stems
 abbrev pub IsIndex : Index → List Stem → Type 0

@@ -41,15 +41,15 @@ with_note inner stem =
 abbrev pub plain : Stem → Stem
 plain stem = with_note false stem
 
--- r stands behind the newest revision of one of the stems
+-- revision stands behind the newest revision of one of the stems
 abbrev pub is_inner : List Stem → Revision → Bool
-is_inner stems r = list_any (is_behind_newest stems r) stems
+is_inner stems revision = list_any (is_behind_newest stems revision) stems
 
 -- each stem is noted as inner where its newest revision passes the test
 abbrev pub AreNoted : (Revision → Bool) → List Stem → Type 0
 AreNoted test stems =
-    (k : ℕ) (stem : Stem) (r : Revision) → slice_get stems k ≡ Some stem → slice_get stem.revisions 0 ≡ Some r
-    → stem.inner ≡ test r
+    (k : ℕ) (stem : Stem) (revision : Revision) → slice_get stems k ≡ Some stem
+    → slice_get stem.revisions 0 ≡ Some revision → stem.inner ≡ test revision
 
 -- each stem is noted as inner where its newest revision stands behind another. So the three stems above are
 -- noted as inner, not inner and not inner.
@@ -62,6 +62,6 @@ AreMarked stems = AreNoted (is_inner stems) stems
 -- alone, since 4-d is to stand on it, the same two stems are noted as inner and inner.
 abbrev pub Notes : List Stem → (Revision → Bool) → List Stem → Type 0
 Notes before this after =
-    (test : Revision → Bool) → ((r : Revision) → is_inner before r ≡ true → test r ≡ true)
-    → AreNoted test before
-    → AreNoted (λ r. this r || test r) after
+    (test : Revision → Bool) →
+    ((revision : Revision) → is_inner before revision ≡ true → test revision ≡ true) → AreNoted test before
+    → AreNoted (λ revision. this revision || test revision) after

@@ -7,8 +7,8 @@ use Rattle.hub_model.specs.Revision.{Revision, revision_cmp}
 -- of any two one is the lesser, or they are level
 pub revisions_total : IsTotalOrder revision_cmp
 revisions_total =
-    then_total (on_total (λ (r : Revision). r.generation) nat_cmp_total)
-    (on_total (λ (r : Revision). r.hash) nat_list_cmp_total)
+    then_total (on_total (λ (revision : Revision). revision.generation) nat_cmp_total)
+    (on_total (λ (revision : Revision). revision.hash) nat_list_cmp_total)
 
 -- to be level is an equivalence
 pub revisions_level : IsEquivalence (eq_by_cmp revision_cmp)

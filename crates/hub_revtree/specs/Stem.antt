@@ -96,9 +96,9 @@ branch_of chain =
 abbrev pub branches_of : List Stem → List Branch
 branches_of stems = map branch_of (chains_of stems)
 
--- whether one of the stems has r
+-- whether one of the stems has revision
 abbrev pub has_revision : List Stem → Revision → Bool
-has_revision stems r = list_any (λ s. names s.revisions r) stems
+has_revision stems revision = list_any (λ s. names s.revisions revision) stems
 
 -- the stem of this number has a revision at this place
 abbrev pub IsWithin : List Stem → Place → Type 0
@@ -111,9 +111,9 @@ IsWithin stems place = place.at < length (revisions_at stems place.stem)
 pub record AreStems (stems : List Stem) : Type 0 where
   pub falling : (k : ℕ) (stem : Stem) → slice_get stems k ≡ Some stem → IsPath stem.revisions
   pub newest :
-      (k : ℕ) (stem : Stem) (r : Revision) → slice_get stems k ≡ Some stem
-      → slice_get stem.revisions 0 ≡ Some r
-      → has_revision (take k stems) r ≡ false
+      (k : ℕ) (stem : Stem) (revision : Revision) → slice_get stems k ≡ Some stem
+      → slice_get stem.revisions 0 ≡ Some revision
+      → has_revision (take k stems) revision ≡ false
   pub fresh :
       (k : ℕ) (stem : Stem) → slice_get stems k ≡ Some stem → stem.joins ≡ false
       → list_any (has_revision (take k stems)) stem.revisions ≡ false
@@ -121,9 +121,9 @@ pub record AreStems (stems : List Stem) : Type 0 where
       (k : ℕ) (stem : Stem) (place : Place) → slice_get stems k ≡ Some stem → stem.parent ≡ Some place
       → (place.stem < k) × IsWithin stems place
   pub lower :
-      (k : ℕ) (stem : Stem) (place : Place) (r s : Revision) → slice_get stems k ≡ Some stem
-      → stem.parent ≡ Some place → slice_get stem.revisions 0 ≡ Some s → rev_at stems (Some place) ≡ Some r
-      → r.generation < s.generation
+      (k : ℕ) (stem : Stem) (place : Place) (revision other : Revision) → slice_get stems k ≡ Some stem
+      → stem.parent ≡ Some place → slice_get stem.revisions 0 ≡ Some other
+      → rev_at stems (Some place) ≡ Some revision → revision.generation < other.generation
   pub counted :
       (k : ℕ) (stem : Stem) → slice_get stems k ≡ Some stem
       → (length stem.revisions ≤ stem.count) × (stem.count ≤ stem.reach)
@@ -135,29 +135,32 @@ pub record AreStems (stems : List Stem) : Type 0 where
 -- a revision, if there is one, as a list
 abbrev pub one_of : Option Revision → List Revision
 one_of None = []
-one_of (Some r) = r ∷ []
+one_of (Some revision) = revision ∷ []
 
 -- the revisions of a stem and the one that they stand on
 abbrev pub own_path : List Stem → Stem → List Revision
 own_path stems stem = stem.revisions ++ one_of (rev_at stems stem.parent)
 
--- r stands directly behind s in what a stem brought
+-- revision stands directly behind other in what a stem brought
 abbrev pub IsBrought : List Stem → Revision → Revision → Type 0
-IsBrought stems r s =
-    (k : ℕ) × (stem : Stem) × (slice_get stems k ≡ Some stem) × IsNext (own_path stems stem) s r
+IsBrought stems revision other =
+    (k : ℕ) × (stem : Stem) × (slice_get stems k ≡ Some stem) × IsNext (own_path stems stem) other revision
 
--- whether r is the revision at the place, if there is one
+-- whether revision is the revision at the place, if there is one
 abbrev pub is_at : List Stem → Revision → Option Place → Bool
-is_at stems r None = false
-is_at stems r (Some place) = is_first r (drop place.at (revisions_at stems place.stem))
+is_at stems revision None = false
+is_at stems revision (Some place) = is_first revision (drop place.at (revisions_at stems place.stem))
 
--- whether r stands behind the stem's newest revision, among its others or as the one that they stand on
+-- whether revision stands behind the stem's newest revision, among its others or as the one that they
+-- stand on
 abbrev pub is_behind_newest : List Stem → Revision → Stem → Bool
-is_behind_newest stems r stem = names (drop 1 stem.revisions) r || is_at stems r stem.parent
+is_behind_newest stems revision stem =
+    names (drop 1 stem.revisions) revision || is_at stems revision stem.parent
 
 -- no revision of the stems is of a higher generation than this one, and each that stands behind a newest one
 -- is of a lower generation. An example: the three stems above are up to generation 3, and so up to 4, but not
 -- up to 2
 pub record AreUpTo (stems : List Stem) (highest : ℕ) : Type 0 where
-  pub known : (r : Revision) → has_revision stems r ≡ true → r.generation ≤ highest
-  pub behind : (r : Revision) → list_any (is_behind_newest stems r) stems ≡ true → r.generation < highest
+  pub known : (revision : Revision) → has_revision stems revision ≡ true → revision.generation ≤ highest
+  pub behind : (revision : Revision) → list_any (is_behind_newest stems revision) stems ≡ true
+      → revision.generation < highest

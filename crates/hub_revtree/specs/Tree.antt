@@ -29,7 +29,7 @@ pub record Tip : Type 0 where
 
 -- that of an edit
 abbrev pub tip_of : Edit → Tip
-tip_of e = record { rev = head_of e; deleted = e.deleted; body = e.body }
+tip_of edit = record { rev = head_of edit; deleted = edit.deleted; body = edit.body }
 
 -- that of an edit with this revision, mark and members
 abbrev pub tip : Revision → Bool → List ℕ → Tip
@@ -37,4 +37,4 @@ tip rev deleted body = record { rev = Some rev; deleted = deleted; body = body }
 
 -- the first revision of the path is known
 abbrev pub HasKnownHead : List Edit → List Revision → Type 0
-HasKnownHead edits path = (r : Revision) × IsFirst path r × IsKnown edits [] r
+HasKnownHead edits path = (revision : Revision) × IsFirst path revision × IsKnown edits [] revision

@@ -37,10 +37,10 @@ use Rattle.hub_document.proofs.TextLemmas.{IsRevision-revision_of}
 
 -- ---- steps that may fail
 
-or_fault_ok : {A B P : Type 0} (o : Option A) (e : DocFault) (next : A → Result B DocFault) (b : B)
-    → or_fault o e next ≡ Ok b → ((a : A) → o ≡ Some a → next a ≡ Ok b → P) → P
-or_fault_ok None e next b h go = absurd (cc)
-or_fault_ok (Some a) e next b h go = go a refl h
+or_fault_ok : {A B P : Type 0} (o : Option A) (fault : DocFault) (next : A → Result B DocFault) (b : B)
+    → or_fault o fault next ≡ Ok b → ((a : A) → o ≡ Some a → next a ≡ Ok b → P) → P
+or_fault_ok None fault next b h go = absurd (cc)
+or_fault_ok (Some a) fault next b h go = go a refl h
 
 holds : (b : Bool) (u : ⊤) → if_holds b ≡ Some u → b ≡ true
 holds true u e = refl
@@ -48,7 +48,7 @@ holds false u e = absurd (cc)
 
 -- ---- the id
 
-string_is : (d : Data) (s : List ℕ) → as_str d ≡ Some s → IsWritable d → IsUtf8 s
+string_is : (content : Data) (s : List ℕ) → as_str content ≡ Some s → IsWritable content → IsUtf8 s
 string_is null s e w = absurd (cc)
 string_is (boolean b) s e w = absurd (cc)
 string_is (number n) s e w = absurd (cc)
@@ -57,15 +57,15 @@ string_is (array ds) s e w = absurd (cc)
 string_is (object ms) s e w = absurd (cc)
 
 -- an id of any length, of UTF-8
-id_is : (ms : Members) (id : List ℕ) → AreWritableMembers ms → id_of (object ms) ≡ Some id
+id_is : (members : Members) (id : List ℕ) → AreWritableMembers members → id_of (object members) ≡ Some id
     → (is_id id ≡ true) × IsUtf8 id
-id_is ms id w e =
+id_is members id w e =
     option_and_then_some {P = (is_id id ≡ true) × IsUtf8 id} if_id
-    (option_and_then as_str (get (codes "_id") (object ms))) id e (λ s text good. option_and_then_some
-    {P = (is_id id ≡ true) × IsUtf8 id} as_str (get (codes "_id") (object ms)) s text (λ d there is.
+    (option_and_then as_str (get (codes "_id") (object members))) id e (λ s text good. option_and_then_some
+    {P = (is_id id ≡ true) × IsUtf8 id} as_str (get (codes "_id") (object members)) s text (λ d there is.
     let id_good = cond_some (is_id s) s id good in
     let utf8 : IsUtf8 s =
-    string_is d s is (subst (λ o. IfSome o IsWritable) there (member_writable (codes "_id") ms w)) in
+    string_is d s is (subst (λ o. IfSome o IsWritable) there (member_writable (codes "_id") members w)) in
     subst (λ i. (is_id i ≡ true) × IsUtf8 i) id_good.1 (id_good.0, utf8)))
 
 -- ---- the revision
@@ -74,20 +74,21 @@ missing_is : (b : Bool) (rev : Option Revision) → cond b (Some None) None ≡ 
 missing_is true rev e = let is : None ≡ rev = cc in subst (λ r. IfSome r IsRevision) is tt
 missing_is false rev e = absurd (cc)
 
-rev_is : (o : Option Data) (missing : Bool) (rev : Option Revision)
-    → read_or (cond missing (Some None) None) (λ r. option_map Some (rev_in r)) o ≡ Some rev
+rev_is : (maybe_content : Option Data) (missing : Bool) (rev : Option Revision)
+    → read_or (cond missing (Some None) None) (λ r. option_map Some (rev_in r)) maybe_content ≡ Some rev
     → IfSome rev IsRevision
 rev_is None missing rev e = missing_is missing rev e
-rev_is (Some d) missing rev e =
-    map_some {P = IfSome rev IsRevision} Some (rev_in d) rev e (λ r read is.
-    option_and_then_some {P = IfSome rev IsRevision} revision_of (as_str d) r read (λ s text revision.
+rev_is (Some content) missing rev e =
+    map_some {P = IfSome rev IsRevision} Some (rev_in content) rev e (λ r read is.
+    option_and_then_some {P = IfSome rev IsRevision} revision_of (as_str content) r read (λ s text revision.
     subst (λ x. IfSome x IsRevision) is (IsRevision-revision_of s r revision)))
 
 -- ---- the history
 
-hash_is : (n : ℕ) (h : List ℕ) (r : Revision) → 0 < n → n < 2 ^ 16 → with_hash n h ≡ Some r → IsRevision r
-hash_is n h r some small e =
-    let c = cond_some (is_hash h) _ r e in
+hash_is : (n : ℕ) (h : List ℕ) (revision : Revision) → 0 < n → n < 2 ^ 16 → with_hash n h ≡ Some revision
+    → IsRevision revision
+hash_is n h revision some small e =
+    let c = cond_some (is_hash h) _ revision e in
     let good = c.0 in
     let is : IsRevision (record { generation = n; hash = h }) =
     record {
@@ -99,44 +100,52 @@ hash_is n h r some small e =
     } in
     subst IsRevision c.1 is
 
-revs_item : (n : ℕ) (d : Data) (ds : Items) (rs : List Revision) (t : Bool) → eqb n 0 ≡ t → n < 2 ^ 16
-    → falling n (item d ds) ≡ Some rs
-    → ((rest : List Revision) → falling (n - 1) ds ≡ Some rest → AllByRecursion IsRevision rest)
-    → AllByRecursion IsRevision rs
-revs_item n d ds rs true z small h later = let e : None ≡ Some rs = rw z at h in absurd (cc)
-revs_item n d ds rs false z small h later =
+revs_item : (n : ℕ) (content : Data) (items : Items) (revisions : List Revision) (t : Bool) → eqb n 0 ≡ t
+    → n < 2 ^ 16 → falling n (item content items) ≡ Some revisions
+    → ((rest : List Revision) → falling (n - 1) items ≡ Some rest → AllByRecursion IsRevision rest)
+    → AllByRecursion IsRevision revisions
+revs_item n content items revisions true z small h later =
+    let e : None ≡ Some revisions = rw z at h in absurd (cc)
+revs_item n content items revisions false z small h later =
     let some : 0 < n = grind (arith, nat_tests) in
-    option_and_then_some {P = AllByRecursion IsRevision rs}
-    (λ r. option_map (λ rest. r ∷ rest) (falling (n - 1) ds)) (option_and_then (with_hash n) (as_str d)) rs
+    option_and_then_some {P = AllByRecursion IsRevision revisions}
+    (λ r. option_map (λ rest. r ∷ rest) (falling (n - 1) items))
+    (option_and_then (with_hash n) (as_str content)) revisions
     (rw z at h) (λ r read more.
-    map_some {P = AllByRecursion IsRevision rs} (λ rest. r ∷ rest) (falling (n - 1) ds) rs more
-    (λ rest ends is. option_and_then_some {P = AllByRecursion IsRevision rs} (with_hash n) (as_str d) r read
+    map_some {P = AllByRecursion IsRevision revisions} (λ rest. r ∷ rest)
+    (falling (n - 1) items) revisions more
+    (λ rest ends is. option_and_then_some {P = AllByRecursion IsRevision revisions} (with_hash n)
+    (as_str content) r read
     (λ s text hash. subst (AllByRecursion IsRevision) is (hash_is n s r some small hash, later rest ends))))
 
-revs_of_falling : (n : ℕ) (ds : Items) (rs : List Revision) → n < 2 ^ 16 → falling n ds ≡ Some rs
-    → AllByRecursion IsRevision rs
-revs_of_falling n no_items rs small h = let is : [] ≡ rs = cc in subst (AllByRecursion IsRevision) is tt
-revs_of_falling n (item d ds) rs small h =
-    revs_item n d ds rs _ refl small h (λ rest. revs_of_falling (n - 1) ds rest (omega arith))
+revs_of_falling : (n : ℕ) (items : Items) (revisions : List Revision) → n < 2 ^ 16
+    → falling n items ≡ Some revisions → AllByRecursion IsRevision revisions
+revs_of_falling n no_items revisions small h =
+    let is : [] ≡ revisions = cc in subst (AllByRecursion IsRevision) is tt
+revs_of_falling n (item d items) revisions small h =
+    revs_item n d items revisions _ refl small h (λ rest. revs_of_falling (n - 1) items rest (omega arith))
 
-revs_starting : (start : ℕ) (ids : Items) (rs : List Revision) → starting start ids ≡ Some rs
-    → AllByRecursion IsRevision rs
-revs_starting start no_items rs h = absurd (cc)
-revs_starting start (item d ds) rs h = from (ltb 0 start && ltb start (2 ^ 16)) refl h
+revs_starting : (start : ℕ) (ids : Items) (revisions : List Revision) → starting start ids ≡ Some revisions
+    → AllByRecursion IsRevision revisions
+revs_starting start no_items revisions h = absurd (cc)
+revs_starting start (item d ds) revisions h = from (ltb 0 start && ltb start (2 ^ 16)) refl h
   where
-    from : (t : Bool) → (ltb 0 start && ltb start (2 ^ 16)) ≡ t → starting start (item d ds) ≡ Some rs
-        → AllByRecursion IsRevision rs
-    from true fits h = revs_of_falling start (item d ds) rs (grind (arith, nat_tests)) (rw fits at h)
-    from false fits h = let e : ◌≡◌ {A = Option (List Revision)} None (Some rs) = rw fits at h in absurd (cc)
+    from : (t : Bool) → (ltb 0 start && ltb start (2 ^ 16)) ≡ t → starting start (item d ds) ≡ Some revisions
+        → AllByRecursion IsRevision revisions
+    from true fits h = revs_of_falling start (item d ds) revisions (grind (arith, nat_tests)) (rw fits at h)
+    from false fits h =
+        let e : ◌≡◌ {A = Option (List Revision)} None (Some revisions) = rw fits at h in absurd (cc)
 
-revs_of_history : (d : Data) (rs : List Revision) → history_in d ≡ Some rs → AllByRecursion IsRevision rs
-revs_of_history d rs h =
-    option_and_then_some {P = AllByRecursion IsRevision rs}
-    (λ start. option_and_then (starting start) (option_and_then as_array (get (codes "ids") d)))
-    (option_and_then as_u64 (option_and_then as_number (get (codes "start") d))) rs h (λ start first more.
-    option_and_then_some {P = AllByRecursion IsRevision rs}
-    (starting start) (option_and_then as_array (get (codes "ids") d)) rs more
-    (λ ids list read. revs_starting start ids rs read))
+revs_of_history : (content : Data) (revisions : List Revision) → history_in content ≡ Some revisions
+    → AllByRecursion IsRevision revisions
+revs_of_history content revisions h =
+    option_and_then_some {P = AllByRecursion IsRevision revisions}
+    (λ start. option_and_then (starting start) (option_and_then as_array (get (codes "ids") content)))
+    (option_and_then as_u64 (option_and_then as_number (get (codes "start") content))) revisions h
+    (λ start first more.
+    option_and_then_some {P = AllByRecursion IsRevision revisions}
+    (starting start) (option_and_then as_array (get (codes "ids") content)) revisions more
+    (λ ids list read. revs_starting start ids revisions read))
 
 -- a history of revisions
 abbrev IsGood : List Revision → Type 0
@@ -145,17 +154,18 @@ IsGood path = IsHistory path × AllByRecursion IsRevision path
 alone_is : (rev : Option Revision) (path : List Revision) → IfSome rev IsRevision → alone rev ≡ Some path
     → IsGood path
 alone_is None path good e = absurd (cc)
-alone_is (Some r) path good e =
-    let is : r ∷ [] ≡ path = cc in
-    subst IsGood is (one_is_history r good.from_one, (good, tt))
+alone_is (Some revision) path good e =
+    let is : revision ∷ [] ≡ path = cc in
+    subst IsGood is (one_is_history revision good.from_one, (good, tt))
 
-path_is : (o : Option Data) (rev : Option Revision) (path : List Revision) → IfSome rev IsRevision
-    → read_or (alone rev) (λ v. option_and_then (if_head rev) (history_in v)) o ≡ Some path → IsGood path
+path_is : (maybe_content : Option Data) (rev : Option Revision) (path : List Revision) → IfSome rev IsRevision
+    → read_or (alone rev) (λ content. option_and_then (if_head rev) (history_in content)) maybe_content ≡ Some
+    path → IsGood path
 path_is None rev path good e = alone_is rev path good e
-path_is (Some v) rev path good e =
-    option_and_then_some {P = IsGood path} (if_head rev) (history_in v) path e (λ rs read head.
+path_is (Some content) rev path good e =
+    option_and_then_some {P = IsGood path} (if_head rev) (history_in content) path e (λ rs read head.
     let c = cond_some (is_head rev rs) rs path head in
-    subst IsGood c.1 (history_is_path v rs read, revs_of_history v rs read))
+    subst IsGood c.1 (history_is_path content rs read, revs_of_history content rs read))
 
 -- the head and the path of an edit
 record IsHistoryOf (new_edits : Bool) (p : Option Revision × Option (List Revision)) : Type 0 where
@@ -165,18 +175,18 @@ record IsHistoryOf (new_edits : Bool) (p : Option Revision × Option (List Revis
 
 head_of : (path : List Revision) → AllByRecursion IsRevision path → IfSome (slice_get path 0) IsRevision
 head_of [] h = tt
-head_of (r ∷ path) h = h.0
+head_of (revision ∷ path) h = h.0
 
-history_is : (new_edits : Bool) (rev : Option Revision) (d : Data)
+history_is : (new_edits : Bool) (rev : Option Revision) (content : Data)
     (p : Option Revision × Option (List Revision))
-    → IfSome rev IsRevision → history_of new_edits rev d ≡ Some p → IsHistoryOf new_edits p
-history_is true rev d p good e =
+    → IfSome rev IsRevision → history_of new_edits rev content ≡ Some p → IsHistoryOf new_edits p
+history_is true rev content p good e =
     let is : (rev, None) ≡ p = cc in
     subst (IsHistoryOf true) is (record { rev = good; path = tt; kind = refl })
-history_is false rev d p good e =
-    map_some {P = IsHistoryOf false p} (λ path. (slice_get path 0, Some path)) (path_of rev d) p e
+history_is false rev content p good e =
+    map_some {P = IsHistoryOf false p} (λ path. (slice_get path 0, Some path)) (path_of rev content) p e
     (λ path read is.
-    let h = path_is (get (codes "_revisions") d) rev path good read in
+    let h = path_is (get (codes "_revisions") content) rev path good read in
     subst (IsHistoryOf false) is
     (record {
       rev = head_of path h.1;
@@ -186,57 +196,58 @@ history_is false rev d p good e =
 
 -- ---- the body
 
-writable_plain : (ms : Members) → AreWritableMembers ms → AreWritableMembers (plain ms)
+writable_plain : (members : Members) → AreWritableMembers members → AreWritableMembers (plain members)
 writable_plain no_members h = tt
-writable_plain (member k d ms) h = at (is_hidden k) (writable_plain ms h.2)
+writable_plain (member k d members) h = at (is_hidden k) (writable_plain members h.2)
   where
-    at : (b : Bool) → AreWritableMembers (plain ms)
-        → AreWritableMembers (cond b (plain ms) (member k d (plain ms)))
+    at : (b : Bool) → AreWritableMembers (plain members)
+        → AreWritableMembers (cond b (plain members) (member k d (plain members)))
     at true rest = rest
     at false rest = (h.0, h.1, rest)
 
-ordered_plain : (ms : Members) → AreOrderedMembers ms → AreOrderedMembers (plain ms)
+ordered_plain : (members : Members) → AreOrderedMembers members → AreOrderedMembers (plain members)
 ordered_plain no_members h = tt
-ordered_plain (member k d ms) h = at (is_hidden k) (ordered_plain ms h.1)
+ordered_plain (member k d members) h = at (is_hidden k) (ordered_plain members h.1)
   where
-    at : (b : Bool) → AreOrderedMembers (plain ms)
-        → AreOrderedMembers (cond b (plain ms) (member k d (plain ms)))
+    at : (b : Bool) → AreOrderedMembers (plain members)
+        → AreOrderedMembers (cond b (plain members) (member k d (plain members)))
     at true rest = rest
     at false rest = (h.0, rest)
 
-plain_depth : (ms : Members) → members_depth (plain ms) ≤ members_depth ms
+plain_depth : (members : Members) → members_depth (plain members) ≤ members_depth members
 plain_depth no_members = omega arith
-plain_depth (member k d ms) = at (is_hidden k) (plain_depth ms)
+plain_depth (member k d members) = at (is_hidden k) (plain_depth members)
   where
-    at : (b : Bool) → members_depth (plain ms) ≤ members_depth ms
-        → members_depth (cond b (plain ms) (member k d (plain ms))) ≤ max (depth d) (members_depth ms)
+    at : (b : Bool) → members_depth (plain members) ≤ members_depth members
+        → members_depth (cond b (plain members) (member k d (plain members))) ≤ max (depth d)
+        (members_depth members)
     at true rest = omega arith
     at false rest = omega arith
 
-body_is : (ms : Members) → AreWritableMembers ms → IsOrdered (object ms) → depth (object ms) ≤ max_depth
-    → IsBody (body_text ms)
-body_is ms w o shallow =
+body_is : (members : Members) → AreWritableMembers members → IsOrdered (object members)
+    → depth (object members) ≤ max_depth → IsBody (body_text members)
+body_is members w o shallow =
     record {
-      members = plain ms;
+      members = plain members;
       text_is = refl;
-      own = own_plain ms;
-      writable = writable_plain ms w;
-      ordered = (rise_plain ms o.0, ordered_plain ms o.1);
-      shallow = omega (arith, plain_depth ms);
+      own = own_plain members;
+      writable = writable_plain members w;
+      ordered = (rise_plain members o.0, ordered_plain members o.1);
+      shallow = omega (arith, plain_depth members);
     }
 
 -- ---- the document
 
 abbrev Reads : Bool → Doc → Type 0
-Reads new_edits d = IsDoc d × (is_some d.path ≡ not new_edits)
+Reads new_edits doc = IsDoc doc × (is_some doc.path ≡ not new_edits)
 
-object_is : (d : Data) (ms : Members) → as_object d ≡ Some ms → d ≡ object ms
-object_is null ms e = absurd (cc)
-object_is (boolean b) ms e = absurd (cc)
-object_is (number n) ms e = absurd (cc)
-object_is (string s) ms e = absurd (cc)
-object_is (array ds) ms e = absurd (cc)
-object_is (object ns) ms e = let is : ns ≡ ms = cc in ap object is
+object_is : (content : Data) (members : Members) → as_object content ≡ Some members → content ≡ object members
+object_is null members e = absurd (cc)
+object_is (boolean b) members e = absurd (cc)
+object_is (number n) members e = absurd (cc)
+object_is (string s) members e = absurd (cc)
+object_is (array ds) members e = absurd (cc)
+object_is (object ns) members e = let is : ns ≡ members = cc in ap object is
 
 module _ (new_edits : Bool) (ms : Members) (d : Doc) (w : AreWritableMembers ms) (o : IsOrdered (object ms))
     (shallow : depth (object ms) ≤ max_depth) where
@@ -268,27 +279,29 @@ module _ (new_edits : Bool) (ms : Members) (d : Doc) (w : AreWritableMembers ms)
       (history_is new_edits rev (object ms) p (rev_is (get (codes "_rev") (object ms)) _ rev named) history)
       made))
 
-doc_is : (new_edits : Bool) (text : List ℕ) (v : Data) (ms : Members) (d : Doc) → json_of text ≡ Some v
-    → v ≡ object ms → document_of new_edits v ms ≡ Ok d → Reads new_edits d
-doc_is new_edits text v ms d json is e =
-    let here : json_of text ≡ Some (object ms) = json ∙ ap Some is in
-    let known = json_of_is text (object ms) here in
-    let made : document_of new_edits (object ms) ms ≡ Ok d =
-    subst (λ x. document_of new_edits x ms ≡ Ok d) is e in
-    or_fault_ok {P = Reads new_edits d} (if_holds (not (members_have_float ms))) BadNumber _ d made
+doc_is : (new_edits : Bool) (text : List ℕ) (content : Data) (members : Members) (doc : Doc)
+    → json_of text ≡ Some content
+    → content ≡ object members → document_of new_edits content members ≡ Ok doc → Reads new_edits doc
+doc_is new_edits text content members doc json is e =
+    let here : json_of text ≡ Some (object members) = json ∙ ap Some is in
+    let known = json_of_is text (object members) here in
+    let made : document_of new_edits (object members) members ≡ Ok doc =
+    subst (λ x. document_of new_edits x members ≡ Ok doc) is e in
+    or_fault_ok {P = Reads new_edits doc} (if_holds (not (members_have_float members))) BadNumber _ doc made
     (λ u whole more.
-    let no_float : members_have_float ms ≡ false =
-    negated (members_have_float ms) (holds (not (members_have_float ms)) u whole) in
-    or_fault_ok {P = Reads new_edits d} (id_of (object ms)) BadId _ d more (λ id found rest.
-    id_known new_edits ms d (known.1 no_float) known.0 (depth-read text (object ms) known.2) id found rest))
+    let no_float : members_have_float members ≡ false =
+    negated (members_have_float members) (holds (not (members_have_float members)) u whole) in
+    or_fault_ok {P = Reads new_edits doc} (id_of (object members)) BadId _ doc more (λ id found rest.
+    id_known new_edits members doc (known.1 no_float) known.0
+    (depth-read text (object members) known.2) id found rest))
   where
     negated : (b : Bool) → not b ≡ true → b ≡ false
     negated true h = absurd (cc)
     negated false h = refl
 
-pub reads_are_docs : (new_edits : Bool) (text : List ℕ) (d : Doc) → doc_in new_edits text ≡ Ok d
-    → IsDoc d × (is_some d.path ≡ not new_edits)
-reads_are_docs new_edits text d e =
-    or_fault_ok {P = Reads new_edits d} (json_of text) NotJson _ d e (λ v json more.
-    or_fault_ok {P = Reads new_edits d} (as_object v) NotObject _ d more (λ ms members made.
-    doc_is new_edits text v ms d json (object_is v ms members) made))
+pub reads_are_docs : (new_edits : Bool) (text : List ℕ) (doc : Doc) → doc_in new_edits text ≡ Ok doc
+    → IsDoc doc × (is_some doc.path ≡ not new_edits)
+reads_are_docs new_edits text doc e =
+    or_fault_ok {P = Reads new_edits doc} (json_of text) NotJson _ doc e (λ v json more.
+    or_fault_ok {P = Reads new_edits doc} (as_object v) NotObject _ doc more (λ ms members made.
+    doc_is new_edits text v ms doc json (object_is v ms members) made))

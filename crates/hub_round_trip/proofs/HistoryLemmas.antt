@@ -35,33 +35,34 @@ letters_are_ascii [] e = refl
 letters_are_ascii (b ∷ h) e =
     let p = and_parts _ _ e in and_from _ _ (letter_is_ascii b p.0) (letters_are_ascii h p.1)
 
-letters : (r : Revision) → IsRevision r → list_all is_hash_byte r.hash ≡ true
-letters r good = list_all-from_AllPass is_hash_byte r.hash good.letters
+letters : (revision : Revision) → IsRevision revision → list_all is_hash_byte revision.hash ≡ true
+letters revision good = list_all-from_AllPass is_hash_byte revision.hash good.letters
 
-utf8-hash : (r : Revision) → IsRevision r → IsUtf8 r.hash
-utf8-hash r good = IsUtf8-are_ascii r.hash (letters_are_ascii r.hash (letters r good))
+utf8-hash : (revision : Revision) → IsRevision revision → IsUtf8 revision.hash
+utf8-hash revision good =
+    IsUtf8-are_ascii revision.hash (letters_are_ascii revision.hash (letters revision good))
 
-pub utf8-text_of : (r : Revision) → IsRevision r → IsUtf8 (text_of r)
-utf8-text_of r good =
-    IsUtf8-append (decimal r.generation) _
-    (IsUtf8-from_ascii _ (IsAscii-decimal r.generation (let h = good.below in omega arith)))
-    (IsUtf8-append (45 ∷ []) r.hash (IsUtf8-are_ascii (45 ∷ []) refl) (utf8-hash r good))
+pub utf8-text_of : (revision : Revision) → IsRevision revision → IsUtf8 (text_of revision)
+utf8-text_of revision good =
+    IsUtf8-append (decimal revision.generation) _
+    (IsUtf8-from_ascii _ (IsAscii-decimal revision.generation (let h = good.below in omega arith)))
+    (IsUtf8-append (45 ∷ []) revision.hash (IsUtf8-are_ascii (45 ∷ []) refl) (utf8-hash revision good))
 
 hashes_writable : (path : List Revision) → AllByRecursion IsRevision path → AreWritable (hashes path)
 hashes_writable [] h = tt
-hashes_writable (r ∷ path) h = (utf8-hash r h.0, hashes_writable path h.1)
+hashes_writable (revision ∷ path) h = (utf8-hash revision h.0, hashes_writable path h.1)
 
 hashes_ordered : (path : List Revision) → AreOrdered (hashes path)
 hashes_ordered [] = tt
-hashes_ordered (r ∷ path) = (tt, hashes_ordered path)
+hashes_ordered (revision ∷ path) = (tt, hashes_ordered path)
 
 pub hashes_flat : (path : List Revision) → items_depth (hashes path) ≡ 0
 hashes_flat [] = refl
-hashes_flat (r ∷ path) = rw (hashes_flat path) refl
+hashes_flat (revision ∷ path) = rw (hashes_flat path) refl
 
 pub hashes_whole : (path : List Revision) → items_have_float (hashes path) ≡ false
 hashes_whole [] = refl
-hashes_whole (r ∷ path) = hashes_whole path
+hashes_whole (revision ∷ path) = hashes_whole path
 
 -- ---- the history's value
 
@@ -74,7 +75,7 @@ history_read path =
 head_fits : (path : List Revision) → IsPath path → AllByRecursion IsRevision path
     → (0 < generation_of (parent_of path)) × (generation_of (parent_of path) < 2 ^ 16)
 head_fits [] h good = absurd h
-head_fits (r ∷ path) h good = (good.0.from_one, good.0.below)
+head_fits (revision ∷ path) h good = (good.0.from_one, good.0.below)
 
 module _ (rev : Option Revision) (path : List Revision) (h : IsPathOf rev path) where
   good : AllByRecursion IsRevision path
@@ -92,32 +93,38 @@ module _ (rev : Option Revision) (path : List Revision) (h : IsPathOf rev path) 
 
 -- ---- it reads as the history
 
-falls_down : (r : Revision) (path : List Revision) → Falls r path → FallsFrom r.generation (r ∷ path)
-falls_down r [] h = (refl, omega (arith, h), tt)
-falls_down r (s ∷ path) h =
-    let less : s.generation ≡ r.generation - 1 = omega (arith, h.0) in
-    (refl, omega (arith, h.0), subst (λ n. FallsFrom n (s ∷ path)) less (falls_down s path h.1))
+falls_down : (revision : Revision) (path : List Revision) → Falls revision path
+    → FallsFrom revision.generation (revision ∷ path)
+falls_down revision [] h = (refl, omega (arith, h), tt)
+falls_down revision (other ∷ path) h =
+    let less : other.generation ≡ revision.generation - 1 = omega (arith, h.0) in
+    (refl, omega (arith, h.0), subst (λ n. FallsFrom n (other ∷ path)) less (falls_down other path h.1))
 
-hash_read : (n : ℕ) (r : Revision) → r.generation ≡ n → IsRevision r → with_hash n r.hash ≡ Some r
-hash_read n r is good =
-    let all = letters r good in
-    let hash : is_hash r.hash ≡ true =
+hash_read : (n : ℕ) (revision : Revision) → revision.generation ≡ n → IsRevision revision
+    → with_hash n revision.hash ≡ Some revision
+hash_read n revision is good =
+    let all = letters revision good in
+    let hash : is_hash revision.hash ≡ true =
     (let a = good.some in let b = good.short in grind (arith, nat_tests)) in
     rw (← is, hash) refl
 
 falling_back : (n : ℕ) (path : List Revision) → FallsFrom n path → AllByRecursion IsRevision path
     → falling n (hashes path) ≡ Some path
 falling_back n [] h good = refl
-falling_back n (r ∷ path) h good =
-    rw (ne_eqb n 0 (λ e. omega (arith, h.1)), hash_read n r h.0 good.0, falling_back (n - 1) path h.2 good.1)
+falling_back n (revision ∷ path) h good =
+    rw (
+      ne_eqb n 0 (λ e. omega (arith, h.1)),
+      hash_read n revision h.0 good.0,
+      falling_back (n - 1) path h.2 good.1,
+    )
     refl
 
 starting_back : (path : List Revision) → IsPath path → AllByRecursion IsRevision path
     → starting (generation_of (parent_of path)) (hashes path) ≡ Some path
 starting_back [] h good = absurd h
-starting_back (r ∷ path) h good =
+starting_back (revision ∷ path) h good =
     rw (lt-ltb _ _ good.0.from_one, lt-ltb _ _ good.0.below)
-    (falling_back r.generation (r ∷ path) (falls_down r path h) good)
+    (falling_back revision.generation (revision ∷ path) (falls_down revision path h) good)
 
 module _ (rev : Option Revision) (path : List Revision) (h : IsPathOf rev path) where
   pub of_json-history : of_json (outline (history_written path)) ≡ Some (history_read path)
@@ -135,5 +142,6 @@ module _ (rev : Option Revision) (path : List Revision) (h : IsPathOf rev path) 
 pub head_is_head : (rev : Option Revision) (path : List Revision) → slice_get path 0 ≡ rev
     → is_head rev path ≡ true
 head_is_head None path h = refl
-head_is_head (Some r) [] h = absurd (cc)
-head_is_head (Some r) (x ∷ path) h = let same : x ≡ r = cc in rw same (same_self r)
+head_is_head (Some revision) [] h = absurd (cc)
+head_is_head (Some revision) (other ∷ path) h =
+    let same : other ≡ revision = cc in rw same (same_self revision)

@@ -98,22 +98,23 @@ number_is_read s = search forms_are_read
 
 -- ---- values
 
-loose_put_at : (o : Ordering) (k l : List ℕ) (d e : Data) (ms : Members) → IsUtf8 k → IsLoose d
-    → AreLooseMembers (member l e ms) → AreLooseMembers (put k d ms)
+loose_put_at : (ordering : Ordering) (k l : List ℕ) (content other : Data) (members : Members) → IsUtf8 k
+    → IsLoose content → AreLooseMembers (member l other members) → AreLooseMembers (put k content members)
     → AreLooseMembers
-    (match_ordering o (member k d (member l e ms)) (member l d ms) (member l e (put k d ms)))
-loose_put_at Less k l d e ms key value h later = (key, value, h)
-loose_put_at Equal k l d e ms key value h later = (h.0, value, h.2)
-loose_put_at Greater k l d e ms key value h later = (h.0, h.1, later)
+    (match_ordering ordering (member k content (member l other members)) (member l content members)
+    (member l other (put k content members)))
+loose_put_at Less k l content other members key value h later = (key, value, h)
+loose_put_at Equal k l content other members key value h later = (h.0, value, h.2)
+loose_put_at Greater k l content other members key value h later = (h.0, h.1, later)
 
-loose_put : (k : List ℕ) (d : Data) (ms : Members) → IsUtf8 k → IsLoose d → AreLooseMembers ms
-    → AreLooseMembers (put k d ms)
-loose_put k d no_members key value h = (key, value, tt)
-loose_put k d (member l e ms) key value h =
-    loose_put_at _ k l d e ms key value h (loose_put k d ms key value h.2)
+loose_put : (k : List ℕ) (content : Data) (members : Members) → IsUtf8 k → IsLoose content
+    → AreLooseMembers members → AreLooseMembers (put k content members)
+loose_put k content no_members key value h = (key, value, tt)
+loose_put k content (member l e members) key value h =
+    loose_put_at _ k l content e members key value h (loose_put k content members key value h.2)
 
 abbrev AreObject : Members → Type 0
-AreObject ms = DoKeysRise ms × AreLooseMembers ms
+AreObject members = DoKeysRise members × AreLooseMembers members
 
 mutual
   loose-of_json : (j : json.Json) → IsJsonUtf8 j → IfSome (of_json j) IsLoose
@@ -189,36 +190,37 @@ mutual
 
 -- ---- the whole text
 
-loose_last : (j : json.Json) (r : List Token) (d : Data) → IsJsonUtf8 j
-    → option_and_then of_json (json.if_last j r) ≡ Some d → IsLoose d
-loose_last j [] d h e = subst (λ o. IfSome o IsLoose) e (loose-of_json j h)
-loose_last j (t ∷ r) d h e = absurd (cc)
+loose_last : (j : json.Json) (tokens : List Token) (content : Data) → IsJsonUtf8 j
+    → option_and_then of_json (json.if_last j tokens) ≡ Some content → IsLoose content
+loose_last j [] content h e = subst (λ o. IfSome o IsLoose) e (loose-of_json j h)
+loose_last j (token ∷ tokens) content h e = absurd (cc)
 
-loose_value : (text : List ℕ) (o : Option (json.Json × List Token)) (d : Data)
+loose_value : (text : List ℕ) (o : Option (json.Json × List Token)) (content : Data)
     → IsUtf8 text → json.value max_depth (tokens text) ≡ o
-    → option_and_then of_json (option_and_then (λ p. json.if_last p.0 p.1) o) ≡ Some d → IsLoose d
-loose_value text None d u is e = absurd (cc)
-loose_value text (Some p) d u is e =
+    → option_and_then of_json (option_and_then (λ p. json.if_last p.0 p.1) o) ≡ Some content → IsLoose content
+loose_value text None content u is e = absurd (cc)
+loose_value text (Some p) content u is e =
     let spelled = value-json_tokens_back max_depth (tokens text) p.1 p.0 is in
-    loose_last p.0 p.1 d (json_has p.0 p.1 (subst HaveUtf8 spelled (tokens_have_utf8 text u))).0 e
+    loose_last p.0 p.1 content (json_has p.0 p.1 (subst HaveUtf8 spelled (tokens_have_utf8 text u))).0 e
 
-loose_text : (text : List ℕ) (b : Bool) (d : Data) → is_utf8 text ≡ b → cond b (read text) None ≡ Some d
-    → IsLoose d × (read text ≡ Some d)
-loose_text text true d u e = (loose_value text _ d (IsUtf8-from_is_utf8 text u) refl e, e)
-loose_text text false d u e = absurd (cc)
+loose_text : (text : List ℕ) (b : Bool) (content : Data) → is_utf8 text ≡ b
+    → cond b (read text) None ≡ Some content → IsLoose content × (read text ≡ Some content)
+loose_text text true content u e = (loose_value text _ content (IsUtf8-from_is_utf8 text u) refl e, e)
+loose_text text false content u e = absurd (cc)
 
-pub json_of_is : (text : List ℕ) (d : Data) → json_of text ≡ Some d
-    → IsOrdered d × (has_float d ≡ false → IsWritable d) × (read text ≡ Some d)
-json_of_is text d e = let h = loose_text text _ d refl e in (ordered-loose d h.0, writable-loose d h.0, h.1)
+pub json_of_is : (text : List ℕ) (content : Data) → json_of text ≡ Some content
+    → IsOrdered content × (has_float content ≡ false → IsWritable content) × (read text ≡ Some content)
+json_of_is text content e =
+    let h = loose_text text _ content refl e in (ordered-loose content h.0, writable-loose content h.0, h.1)
 
 -- what stands at a key can be written
-pub member_writable : (k : List ℕ) (ms : Members) → AreWritableMembers ms
-    → IfSome (get_member k ms) IsWritable
+pub member_writable : (k : List ℕ) (members : Members) → AreWritableMembers members
+    → IfSome (get_member k members) IsWritable
 member_writable k no_members h = tt
-member_writable k (member l e ms) h = at (slice_cmp nat_cmp k l) (member_writable k ms h.2)
+member_writable k (member l e members) h = at (slice_cmp nat_cmp k l) (member_writable k members h.2)
   where
-    at : (o : Ordering) → IfSome (get_member k ms) IsWritable
-        → IfSome (match_ordering o (get_member k ms) (Some e) (get_member k ms)) IsWritable
+    at : (ordering : Ordering) → IfSome (get_member k members) IsWritable
+        → IfSome (match_ordering ordering (get_member k members) (Some e) (get_member k members)) IsWritable
     at Less rest = rest
     at Equal rest = h.1
     at Greater rest = rest

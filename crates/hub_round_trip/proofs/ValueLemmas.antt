@@ -28,10 +28,10 @@ use Rattle.hub_round_trip.specs.RoundTrip.{DoKeysRise, IsOrdered, AreOrdered, Ar
 
 -- ---- what is written is JSON
 
-number_is : (n : Num) → IsWhole n → IsNumber (number_text n)
-number_is (unsigned n) h = IsNumber-decimal n h
-number_is (negative (pos n)) h = absurd h
-number_is (negative (negsuc n)) h = IsNumber-signed_decimal (negsuc n) h
+number_is : (number : Num) → IsWhole number → IsNumber (number_text number)
+number_is (unsigned number) h = IsNumber-decimal number h
+number_is (negative (pos number)) h = absurd h
+number_is (negative (negsuc number)) h = IsNumber-signed_decimal (negsuc number) h
 number_is (float x) h = absurd h
 
 mutual
@@ -70,25 +70,25 @@ mutual
   depth-members_outline (member k d ms) = rw (depth-outline d, depth-members_outline ms) refl
 
 -- a text is read as what its outline is
-pub read-compact_text : (d : Data) → IsWritable d → depth d ≤ max_depth
-    → read (compact_text d) ≡ of_json (outline d)
-read-compact_text d h shallow =
-    let j = outline d in
-    let same : tokens (compact_text d) ≡ tree.json_tokens j ++ [] =
-    ap tokens (sym (print-outline d))
-    ∙ tokens-print (tree.json_tokens j) (ArePrintable-json_tokens j (numbers-outline d h))
+pub read-compact_text : (content : Data) → IsWritable content → depth content ≤ max_depth
+    → read (compact_text content) ≡ of_json (outline content)
+read-compact_text content h shallow =
+    let j = outline content in
+    let same : tokens (compact_text content) ≡ tree.json_tokens j ++ [] =
+    ap tokens (sym (print-outline content))
+    ∙ tokens-print (tree.json_tokens j) (ArePrintable-json_tokens j (numbers-outline content h))
     ∙ sym (append-nil _) in
     ap (λ ts. option_and_then of_json (option_and_then (λ p. json.if_last p.0 p.1) (json.value max_depth ts)))
     same
     ∙ ap (λ o. option_and_then of_json (option_and_then (λ p. json.if_last p.0 p.1) o))
-    (value-json_tokens j max_depth [] (omega (arith, shallow, depth-outline d)))
+    (value-json_tokens j max_depth [] (omega (arith, shallow, depth-outline content)))
 
 -- ---- and UTF-8
 
-utf8-number : (n : Num) → IsWhole n → IsUtf8 (number_text n)
-utf8-number (unsigned n) h = IsUtf8-from_ascii _ (IsAscii-decimal n h)
-utf8-number (negative (pos n)) h = absurd h
-utf8-number (negative (negsuc n)) h = IsUtf8-from_ascii _ (IsAscii-signed (negsuc n) h)
+utf8-number : (number : Num) → IsWhole number → IsUtf8 (number_text number)
+utf8-number (unsigned number) h = IsUtf8-from_ascii _ (IsAscii-decimal number h)
+utf8-number (negative (pos number)) h = absurd h
+utf8-number (negative (negsuc number)) h = IsUtf8-from_ascii _ (IsAscii-signed (negsuc number) h)
 utf8-number (float x) h = absurd h
 
 pub utf8-comma_if : (b : Bool) (s : List ℕ) → IsUtf8 s → IsUtf8 (comma_if b ++ s)
@@ -133,46 +133,48 @@ abbrev append : Members → Members → Members
 append no_members rest = rest
 append (member k d ms) rest = member k d (append ms rest)
 
-append-no_members : (ms : Members) → append ms no_members ≡ ms
+append-no_members : (members : Members) → append members no_members ≡ members
 append-no_members no_members = refl
-append-no_members (member k d ms) = ap (member k d) (append-no_members ms)
+append-no_members (member k d members) = ap (member k d) (append-no_members members)
 
-one_more : (found : Members) (k : List ℕ) (d : Data) (rest : Members)
-    → append (append found (member k d no_members)) rest ≡ append found (member k d rest)
-one_more no_members k d rest = refl
-one_more (member l e ms) k d rest = ap (member l e) (one_more ms k d rest)
+one_more : (found : Members) (k : List ℕ) (content : Data) (rest : Members)
+    → append (append found (member k content no_members)) rest ≡ append found (member k content rest)
+one_more no_members k content rest = refl
+one_more (member l e ms) k content rest = ap (member l e) (one_more ms k content rest)
 
-before_middle : (l : List ℕ) (found : Members) (k : List ℕ) (d : Data) (rest : Members)
-    → IsBefore l (append found (member k d rest)) → slice_cmp nat_cmp l k ≡ Less
-before_middle l no_members k d rest h = h.0
-before_middle l (member m e ms) k d rest h = before_middle l ms k d rest h.1
+before_middle : (l : List ℕ) (found : Members) (k : List ℕ) (content : Data) (rest : Members)
+    → IsBefore l (append found (member k content rest)) → slice_cmp nat_cmp l k ≡ Less
+before_middle l no_members k content rest h = h.0
+before_middle l (member m e ms) k content rest h = before_middle l ms k content rest h.1
 
 -- a key past the others goes last
-put_last : (found : Members) (k : List ℕ) (d : Data) (rest : Members)
-    → DoKeysRise (append found (member k d rest)) → put k d found ≡ append found (member k d no_members)
-put_last no_members k d rest h = refl
-put_last (member l e ms) k d rest h =
+put_last : (found : Members) (k : List ℕ) (content : Data) (rest : Members)
+    → DoKeysRise (append found (member k content rest))
+    → put k content found ≡ append found (member k content no_members)
+put_last no_members k content rest h = refl
+put_last (member l e ms) k content rest h =
     let past : slice_cmp nat_cmp k l ≡ Greater =
-    nat_list_cmp_total.antisymm k l ∙ ap ordering_reverse (before_middle l ms k d rest h.0) in
-    rw past (ap (member l e) (put_last ms k d rest h.1))
+    nat_list_cmp_total.antisymm k l ∙ ap ordering_reverse (before_middle l ms k content rest h.0) in
+    rw past (ap (member l e) (put_last ms k content rest h.1))
 
-puts_in_order : (ms found : Members) → DoKeysRise (append found ms) → puts ms found ≡ append found ms
+puts_in_order : (members found : Members) → DoKeysRise (append found members)
+    → puts members found ≡ append found members
 puts_in_order no_members found h = sym (append-no_members found)
-puts_in_order (member k d ms) found h =
-    rw (put_last found k d ms h)
-    (puts_in_order ms (append found (member k d no_members))
-    (subst DoKeysRise (sym (one_more found k d ms)) h)
-    ∙ one_more found k d ms)
+puts_in_order (member k d members) found h =
+    rw (put_last found k d members h)
+    (puts_in_order members (append found (member k d no_members))
+    (subst DoKeysRise (sym (one_more found k d members)) h)
+    ∙ one_more found k d members)
 
-pub puts-no_members : (ms : Members) → DoKeysRise ms → puts ms no_members ≡ ms
-puts-no_members ms h = puts_in_order ms no_members h
+pub puts-no_members : (members : Members) → DoKeysRise members → puts members no_members ≡ members
+puts-no_members members h = puts_in_order members no_members h
 
 -- ---- and it is the value
 
-number_back : (n : Num) → IsWhole n → number_of (number_text n) ≡ Some n
-number_back (unsigned n) h = number_of-decimal n h
-number_back (negative (pos n)) h = absurd h
-number_back (negative (negsuc n)) h = number_of-negative n h
+number_back : (number : Num) → IsWhole number → number_of (number_text number) ≡ Some number
+number_back (unsigned number) h = number_of-decimal number h
+number_back (negative (pos number)) h = absurd h
+number_back (negative (negsuc number)) h = number_of-negative number h
 number_back (float x) h = absurd h
 
 mutual

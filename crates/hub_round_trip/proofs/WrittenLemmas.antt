@@ -18,7 +18,7 @@ use Rattle.hub_document.specs.declared.doc.Doc.{Doc}
 
 abbrev pub hashes : List Revision → Items
 hashes [] = no_items
-hashes (r ∷ path) = item (string r.hash) (hashes path)
+hashes (revision ∷ path) = item (string revision.hash) (hashes path)
 
 -- a history as it is written
 abbrev pub history_written : List Revision → Data
@@ -31,21 +31,21 @@ abbrev pub Adding : Type 0
 Adding = List ℕ → Data → Members → Members
 
 abbrev pub rev_by : Adding → Option Revision → Members → Members
-rev_by add None ms = ms
-rev_by add (Some r) ms = add (codes "_rev") (string (text_of r)) ms
+rev_by add None members = members
+rev_by add (Some revision) members = add (codes "_rev") (string (text_of revision)) members
 
 abbrev pub deleted_by : Adding → Bool → Members → Members
-deleted_by add false ms = ms
-deleted_by add true ms = add (codes "_deleted") (boolean true) ms
+deleted_by add false members = members
+deleted_by add true members = add (codes "_deleted") (boolean true) members
 
 abbrev pub history_by : Adding → (List Revision → Data) → Option (List Revision) → Members → Members
-history_by add value None ms = ms
-history_by add value (Some path) ms = add (codes "_revisions") (value path) ms
+history_by add value None members = members
+history_by add value (Some path) members = add (codes "_revisions") (value path) members
 
 abbrev pub written : List ℕ → Option Revision → Bool → Option (List Revision) → Members → Members
-written id rev deleted path ms =
+written id rev deleted path members =
     member (codes "_id") (string id)
-    (rev_by member rev (deleted_by member deleted (history_by member history_written path ms)))
+    (rev_by member rev (deleted_by member deleted (history_by member history_written path members)))
 
 -- ---- texts in a row
 
@@ -73,14 +73,14 @@ one_row q c rest end =
     ∙ sym (append_assoc q (58 ∷ (c ++ rest)) end)
     ∙ ap (λ s. s ++ end) (sym (append_assoc q (58 ∷ c) rest))
 
-members-later : (ms : Members) → members_text true ms ≡ later (rows ms) ++ 125 ∷ []
+members-later : (members : Members) → members_text true members ≡ later (rows members) ++ 125 ∷ []
 unfolding member_text
 members-later no_members = refl
 members-later (member k d ms) =
     ap (λ s. 44 ∷ (quoted k ++ 58 ∷ (compact_text d ++ s))) (members-later ms)
     ∙ ap (λ s. 44 ∷ s) (one_row (quoted k) (compact_text d) (later (rows ms)) (125 ∷ []))
 
-members-rows : (ms : Members) → members_text false ms ≡ join_with_byte 44 (rows ms) ++ 125 ∷ []
+members-rows : (members : Members) → members_text false members ≡ join_with_byte 44 (rows members) ++ 125 ∷ []
 unfolding member_text
 members-rows no_members = refl
 members-rows (member k d ms) =
@@ -96,13 +96,14 @@ inside_braces s =
     omega (arith, length-append s (125 ∷ [])) in
     ap (λ n. drop 1 (take n (123 ∷ (s ++ 125 ∷ [])))) len ∙ take-append_seam s (125 ∷ [])
 
-inside_body : (ms : Members) → inside (compact_text (object ms)) ≡ join_with_byte 44 (rows ms)
-inside_body ms = ap (λ s. inside (123 ∷ s)) (members-rows ms) ∙ inside_braces (join_with_byte 44 (rows ms))
+inside_body : (members : Members) → inside (compact_text (object members)) ≡ join_with_byte 44 (rows members)
+inside_body members =
+    ap (λ s. inside (123 ∷ s)) (members-rows members) ∙ inside_braces (join_with_byte 44 (rows members))
 
 later_some : (b : ℕ) (s : List ℕ) (rest : List ℕ) → later (if_some ((b ∷ s) ++ rest)) ≡ 44 ∷ ((b ∷ s) ++ rest)
 later_some b s rest = ap (λ t. 44 ∷ t) (append-nil (b ∷ (s ++ rest)))
 
-later_rows : (ms : Members) → later (if_some (join_with_byte 44 (rows ms))) ≡ later (rows ms)
+later_rows : (members : Members) → later (if_some (join_with_byte 44 (rows members))) ≡ later (rows members)
 unfolding member_text
 later_rows no_members = refl
 later_rows (member k d ms) =
@@ -112,19 +113,21 @@ later_rows (member k d ms) =
 -- ---- a history
 
 items-later : (path : List Revision)
-    → items_text true (hashes path) ≡ later (map (λ r. quoted r.hash) path) ++ 93 ∷ []
+    → items_text true (hashes path) ≡ later (map (λ revision. quoted revision.hash) path) ++ 93 ∷ []
 items-later [] = refl
-items-later (r ∷ path) =
-    ap (λ s. 44 ∷ (quoted r.hash ++ s)) (items-later path)
-    ∙ ap (λ s. 44 ∷ s) (sym (append_assoc (quoted r.hash) _ _))
+items-later (revision ∷ path) =
+    ap (λ s. 44 ∷ (quoted revision.hash ++ s)) (items-later path)
+    ∙ ap (λ s. 44 ∷ s) (sym (append_assoc (quoted revision.hash) _ _))
 
 items-joined : (path : List Revision)
-    → items_text false (hashes path) ≡ join_with_byte 44 (map (λ r. quoted r.hash) path) ++ 93 ∷ []
+    → items_text false (hashes path) ≡ join_with_byte 44 (map (λ revision. quoted revision.hash) path) ++ 93
+    ∷ []
 items-joined [] = refl
-items-joined (r ∷ path) =
-    ap (λ s. quoted r.hash ++ s) (items-later path)
-    ∙ sym (append_assoc (quoted r.hash) _ _)
-    ∙ ap (λ s. s ++ 93 ∷ []) (sym (join-later (quoted r.hash) (map (λ r. quoted r.hash) path)))
+items-joined (revision ∷ path) =
+    ap (λ s. quoted revision.hash ++ s) (items-later path)
+    ∙ sym (append_assoc (quoted revision.hash) _ _)
+    ∙ ap (λ s. s ++ 93 ∷ []) (sym
+    (join-later (quoted revision.hash) (map (λ revision. quoted revision.hash) path)))
 
 compact-history : (path : List Revision) → compact_text (history_written path) ≡ history_text path
 unfolding history_text escape_byte
@@ -140,34 +143,36 @@ compact-history path =
 abbrev front : Option Revision → Bool → Option (List Revision) → List (List ℕ)
 front rev deleted path = rev_member rev ++ (deleted_member deleted ++ history_member path)
 
-history_rows : (path : Option (List Revision)) (ms : Members)
-    → rows (history_by member history_written path ms) ≡ history_member path ++ rows ms
-history_rows None ms = refl
-history_rows (Some path) ms = ap (λ s. member_text (codes "_revisions") s ∷ rows ms) (compact-history path)
+history_rows : (path : Option (List Revision)) (members : Members)
+    → rows (history_by member history_written path members) ≡ history_member path ++ rows members
+history_rows None members = refl
+history_rows (Some path) members =
+    ap (λ s. member_text (codes "_revisions") s ∷ rows members) (compact-history path)
 
-deleted_rows : (deleted : Bool) (ms : Members)
-    → rows (deleted_by member deleted ms) ≡ deleted_member deleted ++ rows ms
-deleted_rows false ms = refl
-deleted_rows true ms = refl
+deleted_rows : (deleted : Bool) (members : Members)
+    → rows (deleted_by member deleted members) ≡ deleted_member deleted ++ rows members
+deleted_rows false members = refl
+deleted_rows true members = refl
 
-rev_rows : (rev : Option Revision) (ms : Members) → rows (rev_by member rev ms) ≡ rev_member rev ++ rows ms
-rev_rows None ms = refl
-rev_rows (Some r) ms = refl
+rev_rows : (rev : Option Revision) (members : Members) → rows (rev_by member rev members) ≡ rev_member rev
+    ++ rows members
+rev_rows None members = refl
+rev_rows (Some revision) members = refl
 
 regroup : {A : Type 0} (a b c e : List A) → a ++ (b ++ (c ++ e)) ≡ (a ++ (b ++ c)) ++ e
 regroup a b c e = ap (λ s. a ++ s) (sym (append_assoc b c e)) ∙ sym (append_assoc a (b ++ c) e)
 
 rows-written : (id : List ℕ) (rev : Option Revision) (deleted : Bool)
-    (path : Option (List Revision)) (ms : Members)
-    → rows (written id rev deleted path ms)
-    ≡ member_text (codes "_id") (quoted id) ∷ (front rev deleted path ++ rows ms)
-rows-written id rev deleted path ms =
+    (path : Option (List Revision)) (members : Members)
+    → rows (written id rev deleted path members)
+    ≡ member_text (codes "_id") (quoted id) ∷ (front rev deleted path ++ rows members)
+rows-written id rev deleted path members =
     ap (λ s. member_text (codes "_id") (quoted id) ∷ s)
-    (rev_rows rev (deleted_by member deleted (history_by member history_written path ms))
+    (rev_rows rev (deleted_by member deleted (history_by member history_written path members))
     ∙ ap (λ s. rev_member rev ++ s)
-    (deleted_rows deleted (history_by member history_written path ms)
-    ∙ ap (λ s. deleted_member deleted ++ s) (history_rows path ms))
-    ∙ regroup (rev_member rev) (deleted_member deleted) (history_member path) (rows ms))
+    (deleted_rows deleted (history_by member history_written path members)
+    ∙ ap (λ s. deleted_member deleted ++ s) (history_rows path members))
+    ∙ regroup (rev_member rev) (deleted_member deleted) (history_member path) (rows members))
 
 same_later : (x : List ℕ) (xs ys zs : List (List ℕ)) → later ys ≡ later zs
     → join_with_byte 44 (x ∷ (xs ++ ys)) ≡ join_with_byte 44 (x ∷ (xs ++ zs))
@@ -176,8 +181,8 @@ same_later x xs ys zs e =
     ∙ ap (λ s. x ++ s) (later-append xs ys ∙ ap (λ s. later xs ++ s) e ∙ sym (later-append xs zs))
     ∙ sym (join-later x (xs ++ zs))
 
-pub doc_text-written : (d : Doc) (ms : Members) → d.body ≡ compact_text (object ms)
-    → doc_text d ≡ compact_text (object (written d.id d.rev d.deleted d.path ms))
+pub doc_text-written : (doc : Doc) (members : Members) → doc.body ≡ compact_text (object members)
+    → doc_text doc ≡ compact_text (object (written doc.id doc.rev doc.deleted doc.path members))
 unfolding doc_text
 doc_text-written d ms body =
     let first = member_text (codes "_id") (quoted d.id) in

@@ -91,25 +91,25 @@ pub record IsPathOf (rev : Option Revision) (path : List Revision) : Type 0 wher
   pub head : slice_get path 0 ≡ rev
 
 -- a document as readers make it
-pub record IsDoc (d : Doc) : Type 0 where
-  pub id : IsDocId d.id
-  pub utf8 : IsUtf8 d.id
-  pub rev : IfSome d.rev IsRevision
-  pub path : IfSome d.path (IsPathOf d.rev)
-  pub body : IsBody d.body
+pub record IsDoc (doc : Doc) : Type 0 where
+  pub id : IsDocId doc.id
+  pub utf8 : IsUtf8 doc.id
+  pub rev : IfSome doc.rev IsRevision
+  pub path : IfSome doc.path (IsPathOf doc.rev)
+  pub body : IsBody doc.body
 
 -- what is read is such a document, with a path where the edit was not made here
 abbrev pub ReadsAreDocs : Type 0
 ReadsAreDocs =
-    (new_edits : Bool) (text : List ℕ) (d : Doc) → doc_in new_edits text ≡ Ok d
-    → IsDoc d × (is_some d.path ≡ not new_edits)
+    (new_edits : Bool) (text : List ℕ) (doc : Doc) → doc_in new_edits text ≡ Ok doc
+    → IsDoc doc × (is_some doc.path ≡ not new_edits)
 
 -- the text of each such document reads as it
 abbrev pub DocsRead : Type 0
-DocsRead = (d : Doc) → IsDoc d → doc_in (not (is_some d.path)) (doc_text d) ≡ Ok d
+DocsRead = (doc : Doc) → IsDoc doc → doc_in (not (is_some doc.path)) (doc_text doc) ≡ Ok doc
 
 -- so what is read, written and read again is the same document
 abbrev pub DocsReadBack : Type 0
 DocsReadBack =
-    (new_edits : Bool) (text : List ℕ) (d : Doc) → doc_in new_edits text ≡ Ok d
-    → doc_in new_edits (doc_text d) ≡ Ok d
+    (new_edits : Bool) (text : List ℕ) (doc : Doc) → doc_in new_edits text ≡ Ok doc
+    → doc_in new_edits (doc_text doc) ≡ Ok doc

@@ -57,18 +57,18 @@ at_any_error (Ok x) P p = tt
 at_any_error (Err e) P p = p
 
 -- a request whose path has no room
-pub path_has_no_room : (a : Asked) (r : Result Route RouteFault) → r ≡ Err NoMemory
-    → NeedsRoomForKind (path_of a.target) → GoesTo a r
-path_has_no_room a r none room = rw none (kind room)
+pub path_has_no_room : (asked : Asked) (r : Result Route RouteFault) → r ≡ Err NoMemory
+    → NeedsRoomForKind (path_of asked.target) → GoesTo asked r
+path_has_no_room asked r none room = rw none (kind room)
 
 -- a request whose name has no room
-pub name_has_no_room : (a : Asked) (k : Kind) (r : Result Route RouteFault) → r ≡ Err NoMemory → IsServed a k
-    → HasPercent (name_part (path_of a.target)) → GoesTo a r
-name_has_no_room a k r none asked room = rw none (name k asked room)
+pub name_has_no_room : (a : Asked) (kind : Kind) (r : Result Route RouteFault) → r ≡ Err NoMemory
+    → IsServed a kind → HasPercent (name_part (path_of a.target)) → GoesTo a r
+name_has_no_room a kind r none asked room = rw none (name kind asked room)
 
 -- a request whose id has no room, or is refused
-pub id_refuses : (a : Asked) (k : Kind) (e : RouteFault) → IsServed a k → IsUtf8 (database_of a)
-    → ((e ≡ NoMemory) × (has_document k ≡ true) × HasPercent (id_part (path_of a.target)))
-    ⊎ ((e ≡ BadId) × IsBadId k (document_of a)) → GoesTo a (Err e)
-id_refuses a k e asked d (inl (none, one, room)) = rw none (document k asked one d room)
-id_refuses a k e asked d (inr (m, bad)) = rw m (k, asked, d, bad)
+pub id_refuses : (a : Asked) (kind : Kind) (fault : RouteFault) → IsServed a kind → IsUtf8 (database_of a)
+    → ((fault ≡ NoMemory) × (has_document kind ≡ true) × HasPercent (id_part (path_of a.target)))
+    ⊎ ((fault ≡ BadId) × IsBadId kind (document_of a)) → GoesTo a (Err fault)
+id_refuses a kind fault asked d (inl (none, one, room)) = rw none (document kind asked one d room)
+id_refuses a kind fault asked d (inr (m, bad)) = rw m (kind, asked, d, bad)

@@ -16,16 +16,16 @@ use Rattle.hub_routes.specs.declared.route.RouteFault.TheVariants.{BadName, BadI
 
 -- the name of the database that a request asks for
 abbrev pub database_of : Asked → List ℕ
-database_of a = name_of (path_of a.target)
+database_of asked = name_of (path_of asked.target)
 
 -- the id of the document that a request asks for
 abbrev pub document_of : Asked → List ℕ
-document_of a = id_of (path_of a.target)
+document_of asked = id_of (path_of asked.target)
 
 -- the path of a request is of this kind, which takes its method
-pub record IsServed (a : Asked) (kind : Kind) : Type 0 where
-  pub path : kind_of (path_of a.target) ≡ Some kind
-  pub method : IsSome (asked_of kind (method_of a.method))
+pub record IsServed (asked : Asked) (kind : Kind) : Type 0 where
+  pub path : kind_of (path_of asked.target) ≡ Some kind
+  pub method : IsSome (asked_of kind (method_of asked.method))
 
 -- where a path of this kind names one document, the id is a text by which it may be asked for
 abbrev pub IsGoodId : Kind → List ℕ → Type 0
@@ -37,18 +37,18 @@ IsBadId kind id = (has_document kind ≡ true) × ((¬ IsUtf8 id) ⊎ (takes_id 
 
 -- What may run out of memory: finding the kind of the path, and decoding a name, or the id of one document.
 -- A text without escapes is lent, and so is a query.
-pub data NeedsRoom (a : Asked) : Type 0 where
-  kind : NeedsRoomForKind (path_of a.target) → NeedsRoom a
-  name : (k : Kind) → IsServed a k → HasPercent (name_part (path_of a.target)) → NeedsRoom a
-  document : (k : Kind) → IsServed a k → has_document k ≡ true → IsUtf8 (database_of a)
-      → HasPercent (id_part (path_of a.target)) → NeedsRoom a
+pub data NeedsRoom (asked : Asked) : Type 0 where
+  kind : NeedsRoomForKind (path_of asked.target) → NeedsRoom asked
+  name : (k : Kind) → IsServed asked k → HasPercent (name_part (path_of asked.target)) → NeedsRoom asked
+  document : (k : Kind) → IsServed asked k → has_document k ≡ true → IsUtf8 (database_of asked)
+      → HasPercent (id_part (path_of asked.target)) → NeedsRoom asked
 
 -- these are the parts of a request whose path is of this kind; the id of a document may be asked for
-pub record AreParts (a : Asked) (kind : Kind) (parts : Parts) : Type 0 where
-  pub name : cow_str_bytes parts.db ≡ database_of a
-  pub query : parts.query.now ≡ query_of a.target
+pub record AreParts (asked : Asked) (kind : Kind) (parts : Parts) : Type 0 where
+  pub name : cow_str_bytes parts.db ≡ database_of asked
+  pub query : parts.query.now ≡ query_of asked.target
   pub document : has_document kind ≡ true
-      → (cow_str_bytes parts.id ≡ document_of a) × (takes_id kind (document_of a) ≡ true)
+      → (cow_str_bytes parts.id ≡ document_of asked) × (takes_id kind (document_of asked) ≡ true)
 
 -- this is the route of a request: that of the table, made of its parts
 pub record IsRoute (a : Asked) (route : Route) : Type 0 where
@@ -63,14 +63,15 @@ pub record IsRoute (a : Asked) (route : Route) : Type 0 where
 
 -- where a request goes, or why nowhere
 abbrev pub GoesTo : Asked → Result Route RouteFault → Type 0
-GoesTo a (Ok route) = IsRoute a route
-GoesTo a (Err NoMemory) = NeedsRoom a
-GoesTo a (Err Missing) = kind_of (path_of a.target) ≡ None
-GoesTo a (Err MethodNotAllowed) =
-    (kind : Kind) × (kind_of (path_of a.target) ≡ Some kind) × (asked_of kind (method_of a.method) ≡ None)
-GoesTo a (Err BadName) = (kind : Kind) × IsServed a kind × ¬ IsUtf8 (database_of a)
-GoesTo a (Err BadId) =
-    (kind : Kind) × IsServed a kind × IsUtf8 (database_of a) × IsBadId kind (document_of a)
-GoesTo a (Err LengthMissing) =
-    (kind : Kind) × IsServed a kind × IsUtf8 (database_of a) × (takes_body kind ≡ true)
-    × (a.has_length ≡ false)
+GoesTo asked (Ok route) = IsRoute asked route
+GoesTo asked (Err NoMemory) = NeedsRoom asked
+GoesTo asked (Err Missing) = kind_of (path_of asked.target) ≡ None
+GoesTo asked (Err MethodNotAllowed) =
+    (kind : Kind) × (kind_of (path_of asked.target) ≡ Some kind)
+    × (asked_of kind (method_of asked.method) ≡ None)
+GoesTo asked (Err BadName) = (kind : Kind) × IsServed asked kind × ¬ IsUtf8 (database_of asked)
+GoesTo asked (Err BadId) =
+    (kind : Kind) × IsServed asked kind × IsUtf8 (database_of asked) × IsBadId kind (document_of asked)
+GoesTo asked (Err LengthMissing) =
+    (kind : Kind) × IsServed asked kind × IsUtf8 (database_of asked) × (takes_body kind ≡ true)
+    × (asked.has_length ≡ false)

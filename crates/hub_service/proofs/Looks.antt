@@ -111,10 +111,11 @@ said_or_want (Body status body) r is = is
 said_or_want (Refusing refusal) r is = inl is
 
 -- what says a refusal is that refusal
-pub is_refused : (r : Result Response Refusal) (e : Refusal) → Says r (Refusing e) → r ≡ Err e
-is_refused (Err x) e is = ap Err is
-is_refused (Ok (response.Body status body)) e is = absurd is
-is_refused (Ok (response.Stream mode sent)) e is = absurd is
+pub is_refused : (r : Result Response Refusal) (refusal : Refusal) → Says r (Refusing refusal)
+    → r ≡ Err refusal
+is_refused (Err x) refusal is = ap Err is
+is_refused (Ok (response.Body status body)) refusal is = absurd is
+is_refused (Ok (response.Stream mode sent)) refusal is = absurd is
 
 -- what is said without a look is what any database says
 pub read_anyway : (says : Database → Said) (said : Said) (r : Result Response Refusal) → Says r said
@@ -147,13 +148,13 @@ found_read found says a said r has is same = by (said_or_want said r is)
         })
 
 -- where nothing was found that is said
-pub unfound_read : {A : Type 0} (found : Database → A → Type 0) (says : Database → Said) (e : Refusal)
-    → IsFound found (Err e) → IsRead says (Err e)
-unfound_read found says e (inl want) = inr (ap Err want)
-unfound_read found says e (inr is) =
+pub unfound_read : {A : Type 0} (found : Database → A → Type 0) (says : Database → Said) (refusal : Refusal)
+    → IsFound found (Err refusal) → IsRead says (Err refusal)
+unfound_read found says refusal (inl want) = inr (ap Err want)
+unfound_read found says refusal (inr is) =
     let gone : stands is.1.db (says is.1.db) ≡ Refusing Deleted =
     ap (λ b. if b then Refusing Deleted else says is.1.db) is.1.held in
-    inl (record { db = is.1.db; legal = is.1.legal; held = subst (Says (Err e)) (sym gone) is.0 })
+    inl (record { db = is.1.db; legal = is.1.legal; held = subst (Says (Err refusal)) (sym gone) is.0 })
 
 -- a look finds what a closure gives of each database that stands, and of one that was deleted it tells that
 pub looked_found : {A : Type 0} (gives : Bor Database → Result A DbFault → Type 0)
@@ -270,11 +271,11 @@ kept_read doc count r (db, standing, is) says =
         })
 
 -- and why nothing was kept
-pub unkept : (doc : LocalDoc) (e : DbFault) → (db : Database) × IsLocalFault db doc e
-    → IsKept doc (Err (of_db_fault e))
-unkept doc e (db, inl gone) = inr (inl (ap of_db_fault gone.1, (db, gone.0)))
-unkept doc e (db, inr (standing, inl want)) = inl (ap of_db_fault want.0)
-unkept doc e (db, inr (standing, inr full)) = inr (inr (ap of_db_fault full.0, (db, standing, full.1)))
+pub unkept : (doc : LocalDoc) (fault : DbFault) → (db : Database) × IsLocalFault db doc fault
+    → IsKept doc (Err (of_db_fault fault))
+unkept doc fault (db, inl gone) = inr (inl (ap of_db_fault gone.1, (db, gone.0)))
+unkept doc fault (db, inr (standing, inl want)) = inl (ap of_db_fault want.0)
+unkept doc fault (db, inr (standing, inr full)) = inr (inr (ap of_db_fault full.0, (db, standing, full.1)))
 
 -- a count that was told is that of a document that is kept
 pub kept_said : (db : Database) (doc : LocalDoc) (count : ℕ) (r : Result Response Refusal) → count < 2 ^ 64
@@ -288,23 +289,23 @@ kept_said db doc count r few said is =
     (subst (λ n. IsSaid (Body 201 (local_edit_body doc.id n)) r) is said)
 
 -- why nothing was kept is said
-pub unkept_read : (doc : LocalDoc) (e : Refusal) → IsKept doc (Err e)
-    → IsRead (λ db. keeps (written db.locals doc)) (Err e)
-unkept_read doc e (inl want) = inr (ap Err want)
-unkept_read doc e (inr (inl (gone, (db, deleted)))) =
+pub unkept_read : (doc : LocalDoc) (refusal : Refusal) → IsKept doc (Err refusal)
+    → IsRead (λ db. keeps (written db.locals doc)) (Err refusal)
+unkept_read doc refusal (inl want) = inr (ap Err want)
+unkept_read doc refusal (inr (inl (gone, (db, deleted)))) =
     inl (record {
       db = record db { journal = [] };
       legal = tt;
       held =
-          subst (Says (Err e))
+          subst (Says (Err refusal))
           (sym (ap (λ b. if b then Refusing Deleted else keeps (written db.locals doc)) deleted)) gone;
     })
-unkept_read doc e (inr (inr (full, (db, standing, many)))) =
+unkept_read doc refusal (inr (inr (full, (db, standing, many)))) =
     inl (record {
       db = record db { journal = [] };
       legal = tt;
       held =
-          subst (Says (Err e))
+          subst (Says (Err refusal))
           (sym (ap (λ b. if b then Refusing Deleted else keeps (written db.locals doc)) standing
           ∙ ap (λ b. if b then Refusing SequenceFull
           else Body 201 (local_edit_body doc.id (written db.locals doc).count))
@@ -324,12 +325,12 @@ pub put_as : (p : Result Doc DocFault) (doc : Doc) (r : Result Response Refusal)
 put_as p doc r is w = subst (λ p. IsWritten (λ db. puts_doc db p) r) (sym is) w
 
 -- and a fault of it is told without a look
-pub put_refused : (p : Result Doc DocFault) (fault : DocFault) (e : Refusal)
-    → (fault ≡ doc_fault.NoMemory) ⊎ (p ≡ Err fault) → e ≡ of_doc_fault fault
-    → IsWritten (λ db. puts_doc db p) (Err e)
-put_refused p fault e (inl want) is = inr (inl (ap Err (is ∙ ap of_doc_fault want)))
-put_refused p fault e (inr same) is =
-    written_anyway (λ db. puts_doc db p) (Refusing e) (Err e) refl
+pub put_refused : (p : Result Doc DocFault) (fault : DocFault) (refusal : Refusal)
+    → (fault ≡ doc_fault.NoMemory) ⊎ (p ≡ Err fault) → refusal ≡ of_doc_fault fault
+    → IsWritten (λ db. puts_doc db p) (Err refusal)
+put_refused p fault refusal (inl want) is = inr (inl (ap Err (is ∙ ap of_doc_fault want)))
+put_refused p fault refusal (inr same) is =
+    written_anyway (λ db. puts_doc db p) (Refusing refusal) (Err refusal) refl
     (λ db. ap Refusing is ∙ sym (ap (λ p. (puts_doc db p).said) same))
 
 -- all that is taken of a list is the list
@@ -394,19 +395,19 @@ none_stored : {A : Type 0} (rev : Revision) → Contains [] (Stored rev) → A
 none_stored rev (k, few, is) = absurd (omega (arith, few))
 
 -- what is stored of a front of documents is stored of them all
-stored_of_front : (store : List Edit → Doc → Stores) (deleted : Bool) (J : List Edit) (n : ℕ)
+stored_of_front : (store : List Edit → Doc → Stores) (deleted : Bool) (journal : List Edit) (n : ℕ)
     (docs : List Doc) (rev : Revision)
-    → Contains (stores_all store deleted J (take n docs)).outcomes (Stored rev)
-    → Contains (stores_all store deleted J docs).outcomes (Stored rev)
-stored_of_front store deleted J zero docs rev has = none_stored rev has
-stored_of_front store deleted J (suc n) [] rev has = has
-stored_of_front store true J (suc n) (doc ∷ docs) rev has =
-    stored_behind rev (Refused fault.Deleted) (stores_all store true J (take n docs)).outcomes
-    (stores_all store true J docs).outcomes
-    (stored_of_front store true J n docs rev) has
-stored_of_front store false J (suc n) (doc ∷ docs) rev has =
-    let K = (store J doc).journal in
-    stored_behind rev (store J doc).outcome (stores_all store false K (take n docs)).outcomes
+    → Contains (stores_all store deleted journal (take n docs)).outcomes (Stored rev)
+    → Contains (stores_all store deleted journal docs).outcomes (Stored rev)
+stored_of_front store deleted journal zero docs rev has = none_stored rev has
+stored_of_front store deleted journal (suc n) [] rev has = has
+stored_of_front store true journal (suc n) (doc ∷ docs) rev has =
+    stored_behind rev (Refused fault.Deleted) (stores_all store true journal (take n docs)).outcomes
+    (stores_all store true journal docs).outcomes
+    (stored_of_front store true journal n docs rev) has
+stored_of_front store false journal (suc n) (doc ∷ docs) rev has =
+    let K = (store journal doc).journal in
+    stored_behind rev (store journal doc).outcome (stores_all store false K (take n docs)).outcomes
     (stores_all store false K docs).outcomes
     (stored_of_front store false K n docs rev) has
 
@@ -464,14 +465,14 @@ batch_noted new_edits items batch (Some fault) r w some is =
     (batch_lapsed new_edits items batch fault w (some cc))
 
 -- a batch is answered by what the write did
-pub batch_said : (new_edits : Bool) (items : Items) (w : Written) (r : Result Response Refusal)
-    → IsStored new_edits (read_docs (readings new_edits items)) w
-    → IsSaid (says_noted w.lapsed
+pub batch_said : (new_edits : Bool) (items : Items) (written : Written) (r : Result Response Refusal)
+    → IsStored new_edits (read_docs (readings new_edits items)) written
+    → IsSaid (says_noted written.lapsed
     (says_batch (record { docs = items; new_edits = new_edits })
-    (faults_of (readings new_edits items)) w.batch.stopped w.batch.replies)) r
+    (faults_of (readings new_edits items)) written.batch.stopped written.batch.replies)) r
     → IsWritten (λ db. stores db (Ok (record { docs = items; new_edits = new_edits }))) r
-batch_said new_edits items w r stored is =
-    batch_noted new_edits items w.batch w.lapsed r stored.stored stored.lapsed is
+batch_said new_edits items written r stored is =
+    batch_noted new_edits items written.batch written.lapsed r stored.stored stored.lapsed is
 
 -- a batch that was read is stored
 pub stored_as : (b : Result bulk.Batch Refusal) (batch : bulk.Batch) (r : Result Response Refusal)
@@ -480,24 +481,26 @@ pub stored_as : (b : Result bulk.Batch Refusal) (batch : bulk.Batch) (r : Result
 stored_as b batch r is w = subst (λ b. IsWritten (λ db. stores db b) r) (sym is) w
 
 -- and its refusal is told without a look
-pub store_refused : (b : Result bulk.Batch Refusal) (e : Refusal) → b ≡ Err e
-    → IsWritten (λ db. stores db b) (Err e)
-store_refused b e is =
-    written_anyway (λ db. stores db b) (Refusing e) (Err e) refl (λ db. sym (ap (λ b. (stores db b).said) is))
+pub store_refused : (b : Result bulk.Batch Refusal) (refusal : Refusal) → b ≡ Err refusal
+    → IsWritten (λ db. stores db b) (Err refusal)
+store_refused b refusal is =
+    written_anyway (λ db. stores db b) (Refusing refusal) (Err refusal) refl
+    (λ db. sym (ap (λ b. (stores db b).said) is))
 
 -- a body is the batch that its value is
-pub stored_of_body : (body : List ℕ) (r : Result Response Refusal) (d : Data) → json_of body ≡ Some d
-    → IsWritten (λ db. stores db (batch_of d)) r → IsWritten (λ db. stores db (batch_in body)) r
-stored_of_body body r d is w = subst (λ o. IsWritten (λ db. stores db (batch_if o)) r) (sym is) w
+pub stored_of_body : (body : List ℕ) (r : Result Response Refusal) (content : Data)
+    → json_of body ≡ Some content
+    → IsWritten (λ db. stores db (batch_of content)) r → IsWritten (λ db. stores db (batch_in body)) r
+stored_of_body body r content is w = subst (λ o. IsWritten (λ db. stores db (batch_if o)) r) (sym is) w
 
 -- and a body that has no value is told as that
-pub store_unread : (body : List ℕ) (fault : DocFault) (e : Refusal)
+pub store_unread : (body : List ℕ) (fault : DocFault) (refusal : Refusal)
     → (fault ≡ doc_fault.NoMemory) ⊎ ((fault ≡ doc_fault.NotJson) × (json_of body ≡ None))
-    → e ≡ of_doc_fault fault
-    → IsWritten (λ db. stores db (batch_in body)) (Err e)
-store_unread body fault e (inl want) is = inr (inl (ap Err (is ∙ ap of_doc_fault want)))
-store_unread body fault e (inr (bad, none)) is =
-    store_refused (batch_in body) e (ap batch_if none ∙ ap Err (sym (is ∙ ap of_doc_fault bad)))
+    → refusal ≡ of_doc_fault fault
+    → IsWritten (λ db. stores db (batch_in body)) (Err refusal)
+store_unread body fault refusal (inl want) is = inr (inl (ap Err (is ∙ ap of_doc_fault want)))
+store_unread body fault refusal (inr (bad, none)) is =
+    store_refused (batch_in body) refusal (ap batch_if none ∙ ap Err (sym (is ∙ ap of_doc_fault bad)))
 
 -- ---- what a body asks for
 
@@ -509,21 +512,21 @@ read_as says p a r is given = subst (λ p. IsRead (λ db. says db p) r) (sym is)
 -- and its fault is told without a look
 pub read_refused : {A : Type 0} (says : Database → Result A DocFault → Said)
     (p : Result A DocFault) (fault : DocFault)
-    (e : Refusal) → ((db : Database) → says db (Err fault) ≡ Refusing (of_doc_fault fault))
-    → (fault ≡ doc_fault.NoMemory) ⊎ (p ≡ Err fault) → e ≡ of_doc_fault fault
-    → IsRead (λ db. says db p) (Err e)
-read_refused says p fault e refused (inl want) is = inr (ap Err (is ∙ ap of_doc_fault want))
-read_refused says p fault e refused (inr same) is =
-    read_anyway (λ db. says db p) (Refusing e) (Err e) refl
+    (refusal : Refusal) → ((db : Database) → says db (Err fault) ≡ Refusing (of_doc_fault fault))
+    → (fault ≡ doc_fault.NoMemory) ⊎ (p ≡ Err fault) → refusal ≡ of_doc_fault fault
+    → IsRead (λ db. says db p) (Err refusal)
+read_refused says p fault refusal refused (inl want) is = inr (ap Err (is ∙ ap of_doc_fault want))
+read_refused says p fault refusal refused (inr same) is =
+    read_anyway (λ db. says db p) (Refusing refusal) (Err refusal) refl
     (λ db. ap Refusing is ∙ sym (ap (says db) same ∙ refused db))
 
 -- ---- beginning a feed
 
 -- where nothing was found downwards, that is why nothing begins
-pub unfound_feed : {A : Type 0} (found : Database → A → Type 0) (asked : FeedAsked) (e : Refusal)
-    → asked.descending ≡ true → IsFound found (Err e) → IsUnopened asked e ⊎ (e ≡ NoMemory)
-unfound_feed found asked e down (inl want) = inr want
-unfound_feed found asked e down (inr (gone, is)) =
+pub unfound_feed : {A : Type 0} (found : Database → A → Type 0) (asked : FeedAsked) (refusal : Refusal)
+    → asked.descending ≡ true → IsFound found (Err refusal) → IsUnopened asked refusal ⊎ (refusal ≡ NoMemory)
+unfound_feed found asked refusal down (inl want) = inr want
+unfound_feed found asked refusal down (inr (gone, is)) =
     let upwards = of_open_fault (opening_fault (hosted_of is.db)) in
     inl (record {
       db = is.db;
@@ -533,11 +536,11 @@ unfound_feed found asked e down (inr (gone, is)) =
     })
 
 -- why a feed was not opened
-pub unopened_feed : (asked : FeedAsked) (fault : OpenFault) (e : Refusal) → asked.descending ≡ false
+pub unopened_feed : (asked : FeedAsked) (fault : OpenFault) (refusal : Refusal) → asked.descending ≡ false
     → (fault ≡ open_fault.NoMemory) ⊎ HasDatabase (λ db. fault ≡ opening_fault (hosted_of db))
-    → e ≡ of_open_fault fault → IsUnopened asked e ⊎ (e ≡ NoMemory)
-unopened_feed asked fault e up (inl want) is = inr (is ∙ ap of_open_fault want)
-unopened_feed asked fault e up (inr told) is =
+    → refusal ≡ of_open_fault fault → IsUnopened asked refusal ⊎ (refusal ≡ NoMemory)
+unopened_feed asked fault refusal up (inl want) is = inr (is ∙ ap of_open_fault want)
+unopened_feed asked fault refusal up (inr told) is =
     let upwards = of_open_fault (opening_fault (hosted_of told.db)) in
     inl (record {
       db = told.db;
@@ -547,11 +550,13 @@ unopened_feed asked fault e up (inr told) is =
     })
 
 -- a feed was opened, or the database that the handle found says why not
-pub opened_or_told : {A : Type 0} (counts : Bool) (all_parts : ℕ) (h : HandleState) (r : Result A OpenFault)
-    → IfErr r (λ e. (db : Database) × IsFoundBy counts all_parts h db × (e ≡ opening_fault (hosted_of db)))
+pub opened_or_told : {A : Type 0} (counts : Bool) (all_parts : ℕ) (state : HandleState)
+    (r : Result A OpenFault)
+    → IfErr r (λ e. (db : Database) × IsFoundBy counts all_parts state db
+    × (e ≡ opening_fault (hosted_of db)))
     → IfErr r (λ e. (e ≡ open_fault.NoMemory) ⊎ HasDatabase (λ db. e ≡ opening_fault (hosted_of db)))
-opened_or_told counts all_parts h (Ok feed) told = tt
-opened_or_told counts all_parts h (Err e) (db, found, told) =
+opened_or_told counts all_parts state (Ok feed) told = tt
+opened_or_told counts all_parts state (Err e) (db, found, told) =
     inr (record { db = db; legal = found.legal; held = told })
 
 -- what parameters ask is begun
@@ -562,12 +567,13 @@ read_feed begins needs p asked r is begun = subst (λ p. BeginsRead begins needs
 
 -- and their fault is told, or memory was missing to read them
 pub unread_feed : (begins : FeedAsked → Result Response Refusal → Type 0) (needs : Type 0)
-    (p : Result FeedAsked ParamFault) (fault : ParamFault) (e : Refusal)
+    (p : Result FeedAsked ParamFault) (fault : ParamFault) (refusal : Refusal)
     → ((asked : FeedAsked) → begins asked (Err NoMemory)) → (fault ≡ param.NoMemory) ⊎ (p ≡ Err fault)
-    → (fault ≡ param.NoMemory → needs) → e ≡ of_param_fault fault → BeginsRead begins needs p (Err e)
-unread_feed begins needs p fault e may (inr told) room is =
-    subst (λ p. BeginsRead begins needs p (Err e)) (sym told) (inl (ap Err is))
-unread_feed begins needs (Ok asked) fault e may (inl want) room is =
-    subst (λ e. begins asked (Err e)) (sym (is ∙ ap of_param_fault want)) (may asked)
-unread_feed begins needs (Err bad) fault e may (inl want) room is =
+    → (fault ≡ param.NoMemory → needs) → refusal ≡ of_param_fault fault
+    → BeginsRead begins needs p (Err refusal)
+unread_feed begins needs p fault refusal may (inr told) room is =
+    subst (λ p. BeginsRead begins needs p (Err refusal)) (sym told) (inl (ap Err is))
+unread_feed begins needs (Ok asked) fault refusal may (inl want) room is =
+    subst (λ refusal. begins asked (Err refusal)) (sym (is ∙ ap of_param_fault want)) (may asked)
+unread_feed begins needs (Err bad) fault refusal may (inl want) room is =
     inr (ap Err (is ∙ ap of_param_fault want), room want)

@@ -64,11 +64,12 @@ module _ {R : Type 0} (wrap : Item R → StreamItem) (sent : FeedState R → Sen
     (right : Label → List (Item R) → Type 0)
     (step : (feed : FeedState R) (item : StreamItem) (mid : Option Sent)
     → Gives (Some (sent feed)) (Some item) mid → IsStep wrap sent right feed item mid)
-    (ends : (l : Label) (items : List (Item R)) → right l items → (place : ℕ) × EndsAt place items) where
+    (ends : (label : Label) (items : List (Item R)) → right label items → (place : ℕ)
+    × EndsAt place items) where
   -- the front of a list grows by an item that is taken
-  grown : (l : Label) (taken : List (Item R)) (i : Item R) (items : List (Item R))
-      → right l ((taken ++ i ∷ []) ++ items) → right l (taken ++ i ∷ items)
-  grown l taken i items r = subst (right l) (append_assoc taken (i ∷ []) items) r
+  grown : (label : Label) (taken : List (Item R)) (i : Item R) (items : List (Item R))
+      → right label ((taken ++ i ∷ []) ++ items) → right label (taken ++ i ∷ items)
+  grown label taken i items r = subst (right label) (append_assoc taken (i ∷ []) items) r
 
   -- an item that is no End, and what is sent behind it
   one_more : (feed : FeedState R) (item : StreamItem) (items : List StreamItem) (end : StreamEnd)
@@ -76,7 +77,7 @@ module _ {R : Type 0} (wrap : Item R → StreamItem) (sent : FeedState R → Sen
       → IsSentOf wrap right (behind_item feed s.item) items end → IsSentOf wrap right feed (item ∷ items) end
   one_more feed item items end mid s later = record {
     handed = s.item ∷ later.handed;
-    wrapped = ap (λ i. i ∷ items) s.wrapped ∙ ap (λ l. wrap s.item ∷ l) later.wrapped;
+    wrapped = ap (λ i. i ∷ items) s.wrapped ∙ ap (λ label. wrap s.item ∷ label) later.wrapped;
     rest = later.rest;
     front = grown feed.label feed.taken s.item (later.handed ++ later.rest) later.front;
     whole = later.whole;
@@ -110,9 +111,11 @@ module _ {R : Type 0} (wrap : Item R → StreamItem) (sent : FeedState R → Sen
     whole = λ c. absurd (stops c);
   }
 
-  step_from : (feed : FeedState R) (s : Option Sent) (item : StreamItem) (mid : Option Sent)
-      → s ≡ Some (sent feed) → Gives s (Some item) mid → IsStep wrap sent right feed item mid
-  step_from feed s item mid is given = step feed item mid (subst (λ o. Gives o (Some item) mid) is given)
+  step_from : (feed : FeedState R) (maybe_sent : Option Sent) (item : StreamItem) (mid : Option Sent)
+      → maybe_sent ≡ Some (sent feed) → Gives maybe_sent (Some item) mid
+      → IsStep wrap sent right feed item mid
+  step_from feed maybe_sent item mid is given =
+      step feed item mid (subst (λ o. Gives o (Some item) mid) is given)
 
   -- behind an item that is no End the feed is still sent
   still_sent : (feed : FeedState R) (item : StreamItem) (mid : Option Sent)
@@ -166,10 +169,10 @@ module _ {R : Type 0} (wrap : Item R → StreamItem) (sent : FeedState R → Sen
 
 -- the lists that are rightly handed for the label of a feed of changes, and of updates
 abbrev right_changes : Label → List (Item ChangeRow) → Type 0
-right_changes l items = changes.IsRightFor (params_in l.asked) l.since items
+right_changes label items = changes.IsRightFor (params_in label.asked) label.since items
 
 abbrev right_updates : Label → List (Item UpdateRow) → Type 0
-right_updates l items = updates.IsRightFor (params_in l.asked) l.since items
+right_updates label items = updates.IsRightFor (params_in label.asked) label.since items
 
 step_of_changes : (feed : FeedState ChangeRow) (item : StreamItem) (mid : Option Sent)
     → Gives (Some (Changes feed)) (Some item) mid → IsStep Change Changes right_changes feed item mid
@@ -183,17 +186,19 @@ step_of_updates feed (Change item) mid given = absurd given
 step_of_updates feed (Update item) mid given =
     record { item = item; wrapped = refl; ends = refl; behind = given.0; allowed = given.1 }
 
-sent_changes : (items : List StreamItem) (feed : FeedState ChangeRow) (end : StreamEnd) (t : Option Sent)
-    → Streams connection_rules 0 (Some (Changes feed)) items end t → items ≢ []
+sent_changes : (items : List StreamItem) (feed : FeedState ChangeRow) (end : StreamEnd)
+    (maybe_sent : Option Sent)
+    → Streams connection_rules 0 (Some (Changes feed)) items end maybe_sent → items ≢ []
     → IsSentOf Change right_changes feed items end
-sent_changes items feed end t goes some =
+sent_changes items feed end maybe_sent goes some =
     sent_of Change Changes right_changes step_of_changes
     (λ l items r. (r.feed.place, r.right.ends)) goes feed refl some
 
-sent_updates : (items : List StreamItem) (feed : FeedState UpdateRow) (end : StreamEnd) (t : Option Sent)
-    → Streams connection_rules 0 (Some (Updates feed)) items end t → items ≢ []
+sent_updates : (items : List StreamItem) (feed : FeedState UpdateRow) (end : StreamEnd)
+    (maybe_sent : Option Sent)
+    → Streams connection_rules 0 (Some (Updates feed)) items end maybe_sent → items ≢ []
     → IsSentOf Update right_updates feed items end
-sent_updates items feed end t goes some =
+sent_updates items feed end maybe_sent goes some =
     sent_of Update Updates right_updates step_of_updates
     (λ l items r. (r.feed.place, r.right.ends)) goes feed refl some
 
@@ -252,10 +257,10 @@ left_of rows last_seq pending life =
     record { rows = rows; last_seq = last_seq; pending = pending; life = life }
 
 -- how it goes on
-listed_step : (answer : Descending) (s : Option Sent) (item : StreamItem) (mid : Option Sent)
-    → s ≡ Some (Listed answer) → Gives s (Some item) mid
+listed_step : (answer : Descending) (maybe_sent : Option Sent) (item : StreamItem) (mid : Option Sent)
+    → maybe_sent ≡ Some (Listed answer) → Gives maybe_sent (Some item) mid
     → (item ≡ Change (next_listed answer).0) × (mid ≡ option_map Listed (next_listed answer).1)
-listed_step answer s item mid at given = by_kind item (subst (λ o. Gives o (Some item) mid) at given)
+listed_step answer maybe_sent item mid at given = by_kind item (subst (λ o. Gives o (Some item) mid) at given)
   where
     by_kind : (item : StreamItem) → Gives (Some (Listed answer)) (Some item) mid
         → (item ≡ Change (next_listed answer).0) × (mid ≡ option_map Listed (next_listed answer).1)
@@ -267,8 +272,8 @@ no_end : (item : StreamItem) (last pending : ℕ) → item ≡ Change (End last 
     → stream.is_end item ≡ false → ⊥
 no_end item last pending e is = let both : true ≡ false = sym (ap stream.is_end e) ∙ is in cc
 
-no_row : (item : StreamItem) (r : ChangeRow) → item ≡ Change (Row r) → stream.is_end item ≡ true → ⊥
-no_row item r e is = let both : false ≡ true = sym (ap stream.is_end e) ∙ is in cc
+no_row : (item : StreamItem) (row : ChangeRow) → item ≡ Change (Row row) → stream.is_end item ≡ true → ⊥
+no_row item row e is = let both : false ≡ true = sym (ap stream.is_end e) ∙ is in cc
 
 -- it hands what is left, and its end
 list_whole : {n : ℕ} {s t : Option Sent} {items : List StreamItem} {end : StreamEnd}
@@ -278,13 +283,13 @@ list_whole : {n : ℕ} {s t : Option Sent} {items : List StreamItem} {end : Stre
 list_whole (Streams.goes_on {s = s} {mid = mid} {item = item} given is more) c [] l pending life at =
     absurd (no_end item l pending (listed_step (left_of [] l pending life) s item mid at given).0 is)
 list_whole (Streams.goes_on {s = s} {mid = mid} {item = item} {items = items} given is more) c
-    (r ∷ rows) l pending life at =
-    let x = listed_step (left_of (r ∷ rows) l pending life) s item mid at given in
-    ap (λ i. i ∷ items) x.0 ∙ ap (λ xs. Change (Row r) ∷ xs) (list_whole more c rows l pending life x.1)
+    (row ∷ rows) l pending life at =
+    let x = listed_step (left_of (row ∷ rows) l pending life) s item mid at given in
+    ap (λ i. i ∷ items) x.0 ∙ ap (λ xs. Change (Row row) ∷ xs) (list_whole more c rows l pending life x.1)
 list_whole (Streams.ends {s = s} {t = t} {item = item} given is) c [] l pending life at =
     ap (λ i. i ∷ []) (listed_step (left_of [] l pending life) s item t at given).0
-list_whole (Streams.ends {s = s} {t = t} {item = item} given is) c (r ∷ rows) l pending life at =
-    absurd (no_row item r (listed_step (left_of (r ∷ rows) l pending life) s item t at given).0 is)
+list_whole (Streams.ends {s = s} {t = t} {item = item} given is) c (row ∷ rows) l pending life at =
+    absurd (no_row item row (listed_step (left_of (row ∷ rows) l pending life) s item t at given).0 is)
 list_whole (Streams.ends_broken given is) c rows l pending life at = absurd (cc)
 list_whole (Streams.stops mid given dropped) c rows l pending life at = absurd (cc)
 list_whole (Streams.loses mid lost given dropped) c rows l pending life at = absurd (cc)

@@ -33,13 +33,14 @@ batch_with (Some docs) (Some new_edits) = Ok (record { docs = docs; new_edits = 
 
 -- the batch that a value is, or why the whole is refused
 abbrev pub batch_of : Data → Result Batch Refusal
-batch_of d =
-    batch_with (option_and_then as_array (get (codes "docs") d)) (flag_of (get (codes "new_edits") d))
+batch_of content =
+    batch_with (option_and_then as_array (get (codes "docs") content))
+    (flag_of (get (codes "new_edits") content))
 
 -- the batch that a parsed body is; a body that is no JSON has no value
 abbrev pub batch_if : Option Data → Result Batch Refusal
 batch_if None = Err NotJson
-batch_if (Some d) = batch_of d
+batch_if (Some content) = batch_of content
 
 -- the batch that a body is
 abbrev pub batch_in : List ℕ → Result Batch Refusal

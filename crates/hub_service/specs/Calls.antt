@@ -62,7 +62,7 @@ is_all (Listed asked) = false
 -- revisions that were asked for; where all leaves were and there is none, the document is unknown
 abbrev pub says_revs : Bool → List OpenRev → Said
 says_revs true [] = Refusing Missing
-says_revs true (r ∷ revs) = Body 200 (open_revs_body (r ∷ revs))
+says_revs true (rev ∷ revs) = Body 200 (open_revs_body (rev ∷ revs))
 says_revs false revs = Body 200 (open_revs_body revs)
 
 -- the revisions that a value of `open_revs` asks for
@@ -118,11 +118,13 @@ winner_in db id = winner_of (leaves_of db.journal id)
 
 abbrev pub says_local : Option Local → Said
 says_local None = Refusing Missing
-says_local (Some l) = Body 200 (local_doc_body l.id l.count l.body)
+says_local (Some local) = Body 200 (local_doc_body local.id local.count local.body)
 
 -- keeping a local document, unless it was written too often
 abbrev pub keeps : Local → Said
-keeps l = if nat_le (2 ^ 64) l.count then Refusing SequenceFull else Body 201 (local_edit_body l.id l.count)
+keeps local =
+    if nat_le (2 ^ 64) local.count then Refusing SequenceFull else
+    Body 201 (local_edit_body local.id local.count)
 
 -- putting a local document, or the refusal of its fault
 abbrev pub puts_local : Database → Result LocalDoc DocFault → Said

@@ -124,7 +124,7 @@ sent_behind item sent = if is_end item then None else Some sent
 -- was made at once hands its rows in turn and then its end; what a feed hands was taken from it, behind what
 -- was taken before.
 abbrev pub Gives : Option Sent → Option StreamItem → Option Sent → Type 0
-Gives s None t = t ≡ s
+Gives maybe_sent None t = t ≡ maybe_sent
 Gives None (Some item) t = ⊥
 Gives (Some (Listed answer)) (Some (Change item)) t =
     (item ≡ (next_listed answer).0) × (t ≡ option_map Listed (next_listed answer).1)
@@ -138,4 +138,4 @@ Gives (Some (Updates feed)) (Some (Update item)) t =
 
 -- what is sent is not sent on
 abbrev pub Drops : Option Sent → Option Sent → Type 0
-Drops s t = t ≡ None
+Drops maybe_sent t = t ≡ None

@@ -37,28 +37,28 @@ IsFrontOfUpdates feed items = (rest : List (Item UpdateRow))
 -- what is sent of a feed of changes, however its stream ends, is the front of a list that is rightly handed
 abbrev pub StreamsOfChangesAreRight : Type 0
 StreamsOfChangesAreRight =
-    (feed : FeedState ChangeRow) (items : List StreamItem) (end : StreamEnd) (t : Option Sent)
-    → feed.taken ≡ [] → items ≢ [] → Streams connection_rules 0 (Some (Changes feed)) items end t
+    (feed : FeedState ChangeRow) (items : List StreamItem) (end : StreamEnd) (maybe_sent : Option Sent)
+    → feed.taken ≡ [] → items ≢ [] → Streams connection_rules 0 (Some (Changes feed)) items end maybe_sent
     → (handed : List (Item ChangeRow)) × (items ≡ map Change handed) × IsFrontOfChanges feed handed
 
 -- what is sent of a feed of changes to its end is the whole of a list that is rightly handed
 abbrev pub CompleteChangesAreRight : Type 0
-CompleteChangesAreRight = (feed : FeedState ChangeRow) (items : List StreamItem) (t : Option Sent)
-    → feed.taken ≡ [] → Streams connection_rules 0 (Some (Changes feed)) items Complete t
+CompleteChangesAreRight = (feed : FeedState ChangeRow) (items : List StreamItem) (maybe_sent : Option Sent)
+    → feed.taken ≡ [] → Streams connection_rules 0 (Some (Changes feed)) items Complete maybe_sent
     → (handed : List (Item ChangeRow)) × (items ≡ map Change handed)
     × changes.IsRightFor (params_in feed.label.asked) feed.label.since handed
 
 -- what is sent of a feed of updates, however its stream ends, is the front of a list that is rightly handed
 abbrev pub StreamsOfUpdatesAreRight : Type 0
 StreamsOfUpdatesAreRight =
-    (feed : FeedState UpdateRow) (items : List StreamItem) (end : StreamEnd) (t : Option Sent)
-    → feed.taken ≡ [] → items ≢ [] → Streams connection_rules 0 (Some (Updates feed)) items end t
+    (feed : FeedState UpdateRow) (items : List StreamItem) (end : StreamEnd) (maybe_sent : Option Sent)
+    → feed.taken ≡ [] → items ≢ [] → Streams connection_rules 0 (Some (Updates feed)) items end maybe_sent
     → (handed : List (Item UpdateRow)) × (items ≡ map Update handed) × IsFrontOfUpdates feed handed
 
 -- what is sent of a feed of updates to its end is the whole of a list that is rightly handed
 abbrev pub CompleteUpdatesAreRight : Type 0
-CompleteUpdatesAreRight = (feed : FeedState UpdateRow) (items : List StreamItem) (t : Option Sent)
-    → feed.taken ≡ [] → Streams connection_rules 0 (Some (Updates feed)) items Complete t
+CompleteUpdatesAreRight = (feed : FeedState UpdateRow) (items : List StreamItem) (maybe_sent : Option Sent)
+    → feed.taken ≡ [] → Streams connection_rules 0 (Some (Updates feed)) items Complete maybe_sent
     → (handed : List (Item UpdateRow)) × (items ≡ map Update handed)
     × updates.IsRightFor (params_in feed.label.asked) feed.label.since handed
 
@@ -68,5 +68,5 @@ whole_list answer = map Change (map Row answer.rows ++ End answer.last_seq answe
 
 -- what is sent to its end of an answer that was made at once is its rows and its end
 abbrev pub CompleteListIsWhole : Type 0
-CompleteListIsWhole = (answer : Descending) (items : List StreamItem) (t : Option Sent)
-    → Streams connection_rules 0 (Some (Listed answer)) items Complete t → items ≡ whole_list answer
+CompleteListIsWhole = (answer : Descending) (items : List StreamItem) (maybe_sent : Option Sent)
+    → Streams connection_rules 0 (Some (Listed answer)) items Complete maybe_sent → items ≡ whole_list answer

@@ -73,9 +73,9 @@ IsEdited doc (Err refusal) = (refusal ≡ NoMemory) ⊎ HasDatabase (λ db.
 
 -- What became of a batch that was stored in some database: the log of updates may have no note of it only
 -- where edits were stored. So for a batch of known documents alone no note is missing.
-pub record IsStored (new_edits : Bool) (docs : List Doc) (w : Written) : Type 0 where
-  pub stored : IsStoredBy false 0 (record { parts = 0; count = 0 }) new_edits docs w.batch
-  pub lapsed : IsSome w.lapsed → HasStored w.batch.replies
+pub record IsStored (new_edits : Bool) (docs : List Doc) (written : Written) : Type 0 where
+  pub stored : IsStoredBy false 0 (record { parts = 0; count = 0 }) new_edits docs written.batch
+  pub lapsed : IsSome written.lapsed → HasStored written.batch.replies
 
 -- some database, whose journal is not looked at, has kept a local document, and says how often it was
 -- written; or it was deleted, or can't count on, or memory was missing. A document that was written twice

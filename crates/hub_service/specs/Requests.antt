@@ -76,7 +76,7 @@ IsListed r =
 
 -- a call was answered by the database of the name, or there was none
 abbrev pub IsCalled : Call → List ℕ → List ℕ → Result Response Refusal → Type 0
-IsCalled c name body r = AnswersCall c name body r ⊎ ((r ≡ Err Absent) ⊎ IsWant r)
+IsCalled call name body r = AnswersCall call name body r ⊎ ((r ≡ Err Absent) ⊎ IsWant r)
 
 -- what a request that goes there, with this body, is answered
 abbrev pub Responds : List ℕ → Result Route RouteFault → Result Response Refusal → Type 0
@@ -91,16 +91,17 @@ Responds body (Ok (route.Database name c)) r =
 
 -- the response is sent so, and what is being sent is then this: a feed that is begun takes the place of none
 abbrev pub IsSent : Result Response Refusal → Answer → Option Sent → Option Sent → Type 0
-IsSent (Ok (response.Body status body)) a s t =
-    (a ≡ answer.Whole (Done status body)) × (t ≡ s)
-IsSent (Ok (response.Stream mode sent)) a s t =
+IsSent (Ok (response.Body status body)) a maybe_sent t =
+    (a ≡ answer.Whole (Done status body)) × (t ≡ maybe_sent)
+IsSent (Ok (response.Stream mode sent)) a maybe_sent t =
     (a ≡ answer.Stream mode (life_of sent)) × (t ≡ Some sent)
-IsSent (Err e) a s t = (a ≡ answer.Whole (Refused e)) × (t ≡ s)
+IsSent (Err e) a maybe_sent t = (a ≡ answer.Whole (Refused e)) × (t ≡ maybe_sent)
 
 -- from what is being sent, a request may be answered so, and leave this
-pub record Answers (s : Option Sent) (asked : Asked) (a : Answer) (t : Option Sent) : Type 0 where
+pub record Answers (maybe_sent : Option Sent) (asked : Asked) (answer : Answer)
+    (t : Option Sent) : Type 0 where
   pub route : Result Route RouteFault
   pub response : Result Response Refusal
   pub goes : GoesTo asked route
   pub responds : Responds asked.body route response
-  pub sent : IsSent response a s t
+  pub sent : IsSent response answer maybe_sent t

@@ -22,20 +22,21 @@ use Rattle.hub_session.specs.Items.{is_end, is_row, rows_after}
 use Rattle.hub_session.specs.Rules.{Rules, Moment, moment}
 
 -- the texts of items, and then of others
-pub items_text-append : (mode : Mode) (life rows : ℕ) (xs ys : List StreamItem)
-    → items_text mode life rows (xs ++ ys)
-    ≡ items_text mode life rows xs ++ items_text mode life (rows_behind rows xs) ys
-items_text-append mode life rows [] ys = refl
-items_text-append mode life rows (x ∷ xs) ys =
-    ap (λ l. sent_text mode life rows x ++ l) (items_text-append mode life (rows_after rows x) xs ys)
-    ∙ sym (append_assoc (sent_text mode life rows x) (items_text mode life (rows_after rows x) xs)
-    (items_text mode life (rows_behind (rows_after rows x) xs) ys))
+pub items_text-append : (mode : Mode) (life rows : ℕ) (others items : List StreamItem)
+    → items_text mode life rows (others ++ items)
+    ≡ items_text mode life rows others ++ items_text mode life (rows_behind rows others) items
+items_text-append mode life rows [] items = refl
+items_text-append mode life rows (item ∷ others) items =
+    ap (λ l. sent_text mode life rows item ++ l)
+    (items_text-append mode life (rows_after rows item) others items)
+    ∙ sym (append_assoc (sent_text mode life rows item) (items_text mode life (rows_after rows item) others)
+    (items_text mode life (rows_behind (rows_after rows item) others) items))
 
 -- the rows behind one more item
-pub rows_behind-push : (rows : ℕ) (xs : List StreamItem) (item : StreamItem)
-    → rows_behind rows (xs ++ item ∷ []) ≡ rows_after (rows_behind rows xs) item
+pub rows_behind-push : (rows : ℕ) (items : List StreamItem) (item : StreamItem)
+    → rows_behind rows (items ++ item ∷ []) ≡ rows_after (rows_behind rows items) item
 rows_behind-push rows [] item = refl
-rows_behind-push rows (x ∷ xs) item = rows_behind-push (rows_after rows x) xs item
+rows_behind-push rows (x ∷ items) item = rows_behind-push (rows_after rows x) items item
 
 module _ {S : Type 0} (rules : Rules S) where
   -- what was sent so far, and then the rest of the stream, is the stream
@@ -161,8 +162,8 @@ stream_fails rules sent s mid t item given back = from (cases_Bool (is_end item)
         (Streams.breaks (subst (λ b. MatchBool b (t ≡ mid) (rules.drops mid t)) e back))
 
 -- what a fault says of the front it says of the whole
-pub front_written : (e : ChunkFault) (x y : List ℕ) (a b : Option (List ℕ)) → Writes x (Err e) a b
-    → Writes (x ++ y) (Err e) a b
+pub front_written : (fault : ChunkFault) (x y : List ℕ) (a b : Option (List ℕ)) → Writes x (Err fault) a b
+    → Writes (x ++ y) (Err fault) a b
 front_written chunk.NoMemory x y a b p = p
 front_written chunk.IoFault x y a b p = front_of_more a b x y p
 

@@ -107,25 +107,27 @@ with_behind now behind = standing now.served (now.bytes ++ behind) now.service
 
 module _ {S : Type 0} (rules : Rules S) (behind : List ℕ) where
   -- exchanges
-  pub served_behind : (from : Standing S) (xs : List Exchange) (now : Standing S)
-      → HasServed rules from xs now → HasServed rules (with_behind from behind) xs (with_behind now behind)
-  served_behind from xs now HasServed.stands = HasServed.stands
-  served_behind from xs now (HasServed.goes_on {x = x} rest mid spelt answers others) =
+  pub served_behind : (from : Standing S) (exchanges : List Exchange) (now : Standing S)
+      → HasServed rules from exchanges now
+      → HasServed rules (with_behind from behind) exchanges (with_behind now behind)
+  served_behind from exchanges now HasServed.stands = HasServed.stands
+  served_behind from exchanges now (HasServed.goes_on {x = x} rest mid spelt answers others) =
       HasServed.goes_on (rest ++ behind) mid (spells_more from.bytes x.asked rest behind spelt) answers
       (served_behind _ _ now others)
 
   -- a session that closed, but not for the end of its input
-  pub session_behind : (from : Standing S) (xs : List Exchange) (ending : Ending S)
-      → ¬ (IsOfEnd (Some ending.closing)) → Session rules from xs ending
-      → Session rules (with_behind from behind) xs ending
-  session_behind from xs ending n (Session.goes_on {x = x} rest mid spelt answers others) =
+  pub session_behind : (from : Standing S) (exchanges : List Exchange) (ending : Ending S)
+      → ¬ (IsOfEnd (Some ending.closing)) → Session rules from exchanges ending
+      → Session rules (with_behind from behind) exchanges ending
+  session_behind from exchanges ending n (Session.goes_on {x = x} rest mid spelt answers others) =
       Session.goes_on (rest ++ behind) mid (spells_more from.bytes x.asked rest behind spelt) answers
       (session_behind _ _ ending n others)
-  session_behind from xs ending n (Session.closes_behind x rest spelt answers text) =
+  session_behind from exchanges ending n (Session.closes_behind x rest spelt answers text) =
       Session.closes_behind x (rest ++ behind) (spells_more from.bytes x.asked rest behind spelt) answers text
-  session_behind from xs ending n (Session.closes k same) =
+  session_behind from exchanges ending n (Session.closes k same) =
       Session.closes (closes_stay from.bytes behind ending.closing ending.text n k) same
-  session_behind from xs ending n (Session.gives_up many is text same) = Session.gives_up many is text same
+  session_behind from exchanges ending n (Session.gives_up many is text same) =
+      Session.gives_up many is text same
 
 module _ {S : Type 0} (rules : Rules S) (start : S) (offered : List ℕ) where
   -- more bytes were offered
@@ -216,45 +218,49 @@ not_end_stream close stream.Broken = λ e. e
 not_end_stream close stream.Exhausted = λ e. e
 
 -- never for the end of the input
-pub not_end : {S : Type 0} (rules : Rules S) (x : Exchange) (s : S) (next : Option Closing) (t : S)
-    → Goes rules x s next t → ¬ (IsOfEnd next)
-not_end rules x s next t (Goes.whole r a i st is) =
-    subst (λ n. ¬ (IsOfEnd n)) (sym is) (not_end_answer x.asked.close)
-not_end rules x s next t (Goes.whole_broken r a i st is) = subst (λ n. ¬ (IsOfEnd n)) (sym is) (λ e. e)
-not_end rules x s next t (Goes.head_alone m l a h i d is) =
-    subst (λ n. ¬ (IsOfEnd n)) (sym is) (not_end_answer x.asked.close)
-not_end rules x s next t (Goes.stream_sent m l end a h st is) =
-    subst (λ n. ¬ (IsOfEnd n)) (sym is) (not_end_stream x.asked.close end)
-not_end rules x s next t (Goes.head_broken m l a i d is) = subst (λ n. ¬ (IsOfEnd n)) (sym is) (λ e. e)
+pub not_end : {S : Type 0} (rules : Rules S) (exchange : Exchange) (s : S) (next : Option Closing) (t : S)
+    → Goes rules exchange s next t → ¬ (IsOfEnd next)
+not_end rules exchange s next t (Goes.whole r a i st is) =
+    subst (λ n. ¬ (IsOfEnd n)) (sym is) (not_end_answer exchange.asked.close)
+not_end rules exchange s next t (Goes.whole_broken r a i st is) = subst (λ n. ¬ (IsOfEnd n)) (sym is) (λ e. e)
+not_end rules exchange s next t (Goes.head_alone m l a h i d is) =
+    subst (λ n. ¬ (IsOfEnd n)) (sym is) (not_end_answer exchange.asked.close)
+not_end rules exchange s next t (Goes.stream_sent m l end a h st is) =
+    subst (λ n. ¬ (IsOfEnd n)) (sym is) (not_end_stream exchange.asked.close end)
+not_end rules exchange s next t (Goes.head_broken m l a i d is) = subst (λ n. ¬ (IsOfEnd n)) (sym is) (λ e. e)
 
 -- ---- one step behind others
 
 module _ {S : Type 0} (rules : Rules S) (start : S) (offered : List ℕ) where
   -- an exchange behind others
-  exchanged : (xs : List Exchange) (count : ℕ) (front : List ℕ) (mid : S) (x : Exchange)
+  exchanged : (exchanges : List Exchange) (count : ℕ) (front : List ℕ) (mid : S) (exchange : Exchange)
       (next : Option Closing) (bytes : List ℕ) (over : Bool) (service : S) (text : List ℕ)
-      → HasServed rules (standing 0 offered start) xs (standing count front mid) → Spells front x.asked bytes
-      → Answers rules mid x next service
-      → Sends (breaks next) (Some (flat_map exchange_text xs)) (Some text) (exchange_text x)
+      → HasServed rules (standing 0 offered start) exchanges (standing count front mid)
+      → Spells front exchange.asked bytes → Answers rules mid exchange next service
+      → Sends (breaks next) (Some (flat_map exchange_text exchanges)) (Some text) (exchange_text exchange)
       → (IsOfEnd next → over ≡ true)
       → HasDone rules start offered bytes over service text (place_behind next)
-  exchanged xs count front mid x None bytes over service text served spelt answers sent ended = record {
-    exchanges = xs ++ x ∷ [];
-    count = count + 1;
-    served =
-        served_more rules (standing 0 offered start) xs
-        (standing count front mid) x bytes service served spelt answers;
-    text_is = sent ∙ sym (one_more xs x);
-  }
-  exchanged xs count front mid x (Some closing) bytes over service text served spelt answers sent ended =
-      let ending : Ending S = record { closing = closing; text = exchange_text x; service = service } in (
+  exchanged exchanges count front mid exchange None bytes over service text served spelt answers sent ended =
+      record {
+        exchanges = exchanges ++ exchange ∷ [];
+        count = count + 1;
+        served =
+            served_more rules (standing 0 offered start) exchanges
+            (standing count front mid) exchange bytes service served spelt answers;
+        text_is = sent ∙ sym (one_more exchanges exchange);
+      }
+  exchanged exchanges count front mid exchange
+      (Some closing) bytes over service text served spelt answers sent ended =
+      let ending : Ending S = record { closing = closing; text = exchange_text exchange; service = service }
+      in (
         record {
-          exchanges = xs;
-          last = exchange_text x;
-          mid = Some (flat_map exchange_text xs);
-          goes = subst (λ l. Session rules (standing 0 offered start) l ending) (append-nil xs)
-              (served_session rules (standing 0 offered start) xs (standing count front mid) [] ending served
-              (Session.closes_behind x bytes spelt answers refl));
+          exchanges = exchanges;
+          last = exchange_text exchange;
+          mid = Some (flat_map exchange_text exchanges);
+          goes = subst (λ l. Session rules (standing 0 offered start) l ending) (append-nil exchanges)
+              (served_session rules (standing 0 offered start) exchanges
+              (standing count front mid) [] ending served
+              (Session.closes_behind exchange bytes spelt answers refl));
           whole = refl;
           written = sent;
         },
@@ -262,21 +268,22 @@ module _ {S : Type 0} (rules : Rules S) (start : S) (offered : List ℕ) where
       )
 
   -- no request behind others
-  closed_so : (xs : List Exchange) (count : ℕ) (front : List ℕ) (mid : S) (closing : Closing)
+  closed_so : (exchanges : List Exchange) (count : ℕ) (front : List ℕ) (mid : S) (closing : Closing)
       (last bytes : List ℕ) (over : Bool) (service : S) (text : List ℕ)
-      → HasServed rules (standing 0 offered start) xs (standing count front mid) → Closes front closing last
-      → service ≡ mid
-      → Sends (is_broken closing) (Some (flat_map exchange_text xs)) (Some text) last
+      → HasServed rules (standing 0 offered start) exchanges (standing count front mid)
+      → Closes front closing last → service ≡ mid
+      → Sends (is_broken closing) (Some (flat_map exchange_text exchanges)) (Some text) last
       → (IsOfEnd (Some closing) → over ≡ true)
       → HasDone rules start offered bytes over service text (Closed closing)
-  closed_so xs count front mid closing last bytes over service text served closes same sent ended =
+  closed_so exchanges count front mid closing last bytes over service text served closes same sent ended =
       let ending : Ending S = record { closing = closing; text = last; service = service } in (
         record {
-          exchanges = xs;
+          exchanges = exchanges;
           last = last;
-          mid = Some (flat_map exchange_text xs);
-          goes = subst (λ l. Session rules (standing 0 offered start) l ending) (append-nil xs)
-              (served_session rules (standing 0 offered start) xs (standing count front mid) [] ending served
+          mid = Some (flat_map exchange_text exchanges);
+          goes = subst (λ l. Session rules (standing 0 offered start) l ending) (append-nil exchanges)
+              (served_session rules (standing 0 offered start) exchanges
+              (standing count front mid) [] ending served
               (Session.closes closes same));
           whole = refl;
           written = sent;

@@ -19,10 +19,10 @@ use Rattle.hub_session.specs.Sessions.{Answers, Exchange, exchange_text, Standin
 use Rattle.hub_session.specs.Sessions.{IsSession, HasAnswer, IsServed, Closes, is_broken, standing}
 
 -- a fault of the next request is one that its bytes have
-ends_faulty : (b c : Option (List ℕ)) (e : HttpFault) → IfSome b (λ bytes. Leaves bytes (Err e) c)
-    → IfSome b (λ bytes. Faults bytes e)
-ends_faulty None c e s = tt
-ends_faulty (Some y) None e s = absurd s
+ends_faulty : (b c : Option (List ℕ)) (fault : HttpFault) → IfSome b (λ bytes. Leaves bytes (Err fault) c)
+    → IfSome b (λ bytes. Faults bytes fault)
+ends_faulty None c fault s = tt
+ends_faulty (Some y) None fault s = absurd s
 ends_faulty (Some y) (Some z) NoMemory s = s.1
 ends_faulty (Some y) (Some z) BadHead s = s
 ends_faulty (Some y) (Some z) HeadTooLong s = s
@@ -33,19 +33,22 @@ ends_faulty (Some y) (Some z) Ended s = s
 ends_faulty (Some y) (Some z) IoFault s = tt
 
 -- a session closes by a fault that its bytes have, or by an answer to it that can't be written
-pub faulty_closes : (bytes : List ℕ) (e : HttpFault) (closing : Closing) → Faults bytes e
-    → (closing ≡ Fault e) ⊎ (closing ≡ Broken) → Closes bytes closing (fault_text e)
-faulty_closes bytes e closing f (inl is) = subst (λ c. Closes bytes c (fault_text e)) (sym is) (f, refl)
-faulty_closes bytes e closing f (inr is) = subst (λ c. Closes bytes c (fault_text e)) (sym is) (e, f, refl)
+pub faulty_closes : (bytes : List ℕ) (fault : HttpFault) (closing : Closing) → Faults bytes fault
+    → (closing ≡ Fault fault) ⊎ (closing ≡ Broken) → Closes bytes closing (fault_text fault)
+faulty_closes bytes fault closing f (inl is) =
+    subst (λ c. Closes bytes c (fault_text fault)) (sym is) (f, refl)
+faulty_closes bytes fault closing f (inr is) =
+    subst (λ c. Closes bytes c (fault_text fault)) (sym is) (fault, f, refl)
 
 pub one_answered : {S : Type 0} (rules : Rules S) (before after : Moment S) (b left : Option (List ℕ))
-    (q : Request) (next : Option Closing)
-    → IfSome b (λ bytes. Leaves bytes (Ok (Some q)) left) → HasAnswer rules (asked_by q) next before after
+    (request : Request) (next : Option Closing)
+    → IfSome b (λ bytes. Leaves bytes (Ok (Some request)) left)
+    → HasAnswer rules (asked_by request) next before after
     → IfSome b (λ bytes. IsServed rules bytes next left before after)
-one_answered rules before after None left q next l has = tt
-one_answered rules before after (Some x) None q next l has = absurd l
-one_answered rules before after (Some x) (Some y) q next l has =
-    IsServed.answered (record { asked = asked_by q; rest = y; spelt = l; left_is = refl; answer = has })
+one_answered rules before after None left request next l has = tt
+one_answered rules before after (Some x) None request next l has = absurd l
+one_answered rules before after (Some x) (Some y) request next l has =
+    IsServed.answered (record { asked = asked_by request; rest = y; spelt = l; left_is = refl; answer = has })
 
 module _ {S : Type 0} (rules : Rules S) (before : Moment S) where
   pub one_finished : (b left : Option (List ℕ)) → IfSome b (λ bytes. Leaves bytes (Ok None) left)
@@ -62,16 +65,17 @@ module _ {S : Type 0} (rules : Rules S) (before : Moment S) where
   })
 
   -- the bytes have this fault, which was answered so
-  pub one_faulted : (new b left : Option (List ℕ)) (e : HttpFault) (closing : Closing)
-      → IfSome b (λ bytes. Leaves bytes (Err e) left)
-      → (closing ≡ Fault e) ⊎ (closing ≡ Broken) → Sends (is_broken closing) before.written new (fault_text e)
+  pub one_faulted : (new b left : Option (List ℕ)) (fault : HttpFault) (closing : Closing)
+      → IfSome b (λ bytes. Leaves bytes (Err fault) left)
+      → (closing ≡ Fault fault) ⊎ (closing ≡ Broken)
+      → Sends (is_broken closing) before.written new (fault_text fault)
       → IfSome b (λ bytes. IsServed rules bytes (Some closing) left before (moment before.service new))
-  one_faulted new None left e closing l c p = tt
-  one_faulted new (Some x) left e closing l c p = IsServed.closed (record {
+  one_faulted new None left fault closing l c p = tt
+  one_faulted new (Some x) left fault closing l c p = IsServed.closed (record {
     closing = closing;
-    text = fault_text e;
+    text = fault_text fault;
     next_is = refl;
-    closes = faulty_closes x e closing (ends_faulty (Some x) left e l) c;
+    closes = faulty_closes x fault closing (ends_faulty (Some x) left fault l) c;
     same = refl;
     written = p;
   })
@@ -87,13 +91,14 @@ served_session rules from first now more ending (HasServed.goes_on rest mid spel
 
 -- one more request was answered
 pub served_more : {S : Type 0} (rules : Rules S) (from : Standing S) (first : List Exchange)
-    (now : Standing S) (x : Exchange) (rest : List ℕ) (mid : S)
-    → HasServed rules from first now → Spells now.bytes x.asked rest → Answers rules now.service x None mid
-    → HasServed rules from (first ++ x ∷ []) (standing (now.served + 1) rest mid)
-served_more rules from first now x rest mid HasServed.stands spelt answers =
+    (now : Standing S) (exchange : Exchange) (rest : List ℕ) (mid : S)
+    → HasServed rules from first now → Spells now.bytes exchange.asked rest
+    → Answers rules now.service exchange None mid
+    → HasServed rules from (first ++ exchange ∷ []) (standing (now.served + 1) rest mid)
+served_more rules from first now exchange rest mid HasServed.stands spelt answers =
     HasServed.goes_on rest mid spelt answers HasServed.stands
-served_more rules from first now x rest mid (HasServed.goes_on r m s a others) spelt answers =
-    HasServed.goes_on r m s a (served_more rules _ _ now x rest mid others spelt answers)
+served_more rules from first now exchange rest mid (HasServed.goes_on r m s a others) spelt answers =
+    HasServed.goes_on r m s a (served_more rules _ _ now exchange rest mid others spelt answers)
 
 -- `served` requests of these bytes were answered, and these are left
 pub record Served {S : Type 0} (rules : Rules S) (bytes : List ℕ) (before : Moment S) (served : ℕ)
@@ -115,18 +120,19 @@ served_none rules now (Some x) = record {
   written = Appends-nil now.written;
 }
 
-pub one_more : (xs : List Exchange) (x : Exchange)
-    → flat_map exchange_text (xs ++ x ∷ []) ≡ flat_map exchange_text xs ++ exchange_text x
-one_more xs x =
-    flat_map-append exchange_text xs (x ∷ [])
-    ∙ ap (λ l. flat_map exchange_text xs ++ l) (append-nil (exchange_text x))
+pub one_more : (exchanges : List Exchange) (exchange : Exchange)
+    → flat_map exchange_text (exchanges ++ exchange ∷ []) ≡ flat_map exchange_text exchanges
+    ++ exchange_text exchange
+one_more exchanges exchange =
+    flat_map-append exchange_text exchanges (exchange ∷ [])
+    ∙ ap (λ l. flat_map exchange_text exchanges ++ l) (append-nil (exchange_text exchange))
 
 module _ {S : Type 0} (rules : Rules S) (bytes : List ℕ) (before : Moment S) (served : ℕ)
     (left : Option (List ℕ)) (now : Moment S) where
   -- the exchange of a request that the bytes begin with
-  begins_with : (rest : List ℕ) (asked : Asked) (after : List ℕ) (x : Exchange) → Spells rest asked after
-      → x.asked ≡ asked → Spells rest x.asked after
-  begins_with rest asked after x s e = subst (λ a. Spells rest a after) (sym e) s
+  begins_with : (rest : List ℕ) (asked : Asked) (after : List ℕ) (exchange : Exchange)
+      → Spells rest asked after → exchange.asked ≡ asked → Spells rest exchange.asked after
+  begins_with rest asked after exchange s e = subst (λ a. Spells rest a after) (sym e) s
 
   more_by : (w : Served rules bytes before served left now) (left' : Option (List ℕ)) (next : Moment S)
       → IsServed rules w.rest None left' now next

@@ -95,7 +95,8 @@ module _ {S : Type 0} (rules : Rules S) where
         written = pending ∙ sym (append-nil old.pending);
       }))))
 
-fault_is : (over : Bool) (bytes : List ℕ) (e : HttpFault) → FaultsSoFar over bytes e → Faults bytes e
+fault_is : (over : Bool) (bytes : List ℕ) (fault : HttpFault) → FaultsSoFar over bytes fault
+    → Faults bytes fault
 fault_is over bytes NoMemory f = f
 fault_is over bytes BadHead f = f
 fault_is over bytes HeadTooLong f = f
@@ -106,8 +107,8 @@ fault_is over bytes Ended f = f.1
 fault_is over bytes IoFault f = tt
 
 -- a fault that is an end comes only where the input is over
-fault_ends : (over : Bool) (bytes : List ℕ) (e : HttpFault) → FaultsSoFar over bytes e
-    → IsOfEnd (Some (Fault e)) → over ≡ true
+fault_ends : (over : Bool) (bytes : List ℕ) (fault : HttpFault) → FaultsSoFar over bytes fault
+    → IsOfEnd (Some (Fault fault)) → over ≡ true
 fault_ends over bytes NoMemory f x = absurd x
 fault_ends over bytes BadHead f x = absurd x
 fault_ends over bytes HeadTooLong f x = absurd x
@@ -117,31 +118,33 @@ fault_ends over bytes Coding f x = absurd x
 fault_ends over bytes Ended f x = f.0
 fault_ends over bytes IoFault f x = absurd f
 
-closing_ends : (over : Bool) (bytes : List ℕ) (e : HttpFault) (closing : Closing) → FaultsSoFar over bytes e
-    → (closing ≡ Fault e) ⊎ (closing ≡ Broken) → IsOfEnd (Some closing) → over ≡ true
-closing_ends over bytes e closing f (inl is) =
-    subst (λ c. IsOfEnd (Some c) → over ≡ true) (sym is) (fault_ends over bytes e f)
-closing_ends over bytes e closing f (inr is) =
+closing_ends : (over : Bool) (bytes : List ℕ) (fault : HttpFault) (closing : Closing)
+    → FaultsSoFar over bytes fault
+    → (closing ≡ Fault fault) ⊎ (closing ≡ Broken) → IsOfEnd (Some closing) → over ≡ true
+closing_ends over bytes fault closing f (inl is) =
+    subst (λ c. IsOfEnd (Some c) → over ≡ true) (sym is) (fault_ends over bytes fault f)
+closing_ends over bytes fault closing f (inr is) =
     subst (λ c. IsOfEnd (Some c) → over ≡ true) (sym is) (λ x. absurd x)
 
 module _ {S : Type 0} (rules : Rules S) where
   -- no request can be read, and the fault was told
-  pub stepped_fault : (e : HttpFault) (closing : Closing) (old mid new : Seen S) (came : Step)
-      → old.place ≡ Between → FaultsSoFar old.over old.bytes e → mid.over ≡ old.over
+  pub stepped_fault : (fault : HttpFault) (closing : Closing) (old mid new : Seen S) (came : Step)
+      → old.place ≡ Between → FaultsSoFar old.over old.bytes fault → mid.over ≡ old.over
       → mid.service ≡ old.service
-      → (closing ≡ Fault e) ⊎ (closing ≡ Broken)
-      → Sends (is_broken closing) (Some old.pending) (Some mid.pending) (fault_text e)
+      → (closing ≡ Fault fault) ⊎ (closing ≡ Broken)
+      → Sends (is_broken closing) (Some old.pending) (Some mid.pending) (fault_text fault)
       → new ≡ record mid { place = place_behind (Some closing) } → came ≡ step_behind (Some closing)
       → IsStepped rules old came new
-  stepped_fault e closing old mid new came place f kept service why sent is came_is =
+  stepped_fault fault closing old mid new came place f kept service why sent is came_is =
       subst (IsStepped rules old came) (sym is)
       (by_next rules old (record mid { place = place_behind (Some closing) }) (Some closing) came came_is
-      (Steps.exchanges (Some closing) place refl refl kept (closing_ends old.over old.bytes e closing f why)
+      (Steps.exchanges (Some closing) place refl refl kept
+      (closing_ends old.over old.bytes fault closing f why)
       (IsServed.closed (record {
         closing = closing;
-        text = fault_text e;
+        text = fault_text fault;
         next_is = refl;
-        closes = faulty_closes old.bytes e closing (fault_is old.over old.bytes e f) why;
+        closes = faulty_closes old.bytes fault closing (fault_is old.over old.bytes fault f) why;
         same = service;
         written = sent;
       }))))

@@ -48,7 +48,8 @@ answer_text (Stream mode life) head_only close items =
 
 -- what is written for a request
 abbrev pub exchange_text : Exchange → List ℕ
-exchange_text x = answer_text x.answer (is_head x.asked) x.asked.close x.items
+exchange_text exchange =
+    answer_text exchange.answer (is_head exchange.asked) exchange.asked.close exchange.items
 
 -- why a session closes behind a request that was answered, if it does
 abbrev pub after_answer : Bool → Option Closing
@@ -65,32 +66,34 @@ after_stream close stream.Exhausted = Some Exhausted
 
 -- while the answer of an exchange is sent the service goes from s to t, and then the session closes so, or
 -- goes on where `next` is None
-pub data Goes {S : Type 0} (rules : Rules S) (x : Exchange) (s : S) (next : Option Closing) (t : S)
+pub data Goes {S : Type 0} (rules : Rules S) (exchange : Exchange) (s : S) (next : Option Closing) (t : S)
     : Type 0 where
   -- a whole answer is written
-  whole : (reply : Reply) → x.answer ≡ Whole reply → x.items ≡ [] → t ≡ s
-      → next ≡ after_answer x.asked.close → Goes rules x s next t
+  whole : (reply : Reply) → exchange.answer ≡ Whole reply → exchange.items ≡ [] → t ≡ s
+      → next ≡ after_answer exchange.asked.close → Goes rules exchange s next t
   -- a whole answer can't be written to the other side
-  whole_broken : (reply : Reply) → x.answer ≡ Whole reply → x.items ≡ [] → t ≡ s
-      → next ≡ Some Broken → Goes rules x s next t
+  whole_broken : (reply : Reply) → exchange.answer ≡ Whole reply → exchange.items ≡ [] → t ≡ s
+      → next ≡ Some Broken → Goes rules exchange s next t
   -- HEAD asked for a stream: the head of its answer is written, and the service gives back what it holds
-  head_alone : (mode : Mode) (life : ℕ) → x.answer ≡ Stream mode life → is_head x.asked ≡ true → x.items ≡ []
-      → rules.drops s t → next ≡ after_answer x.asked.close → Goes rules x s next t
+  head_alone : (mode : Mode) (life : ℕ) → exchange.answer ≡ Stream mode life → is_head exchange.asked ≡ true
+      → exchange.items ≡ []
+      → rules.drops s t → next ≡ after_answer exchange.asked.close → Goes rules exchange s next t
   -- a stream: its items are sent behind the head of its answer
-  stream_sent : (mode : Mode) (life : ℕ) (end : StreamEnd) → x.answer ≡ Stream mode life
-      → is_head x.asked ≡ false → Streams rules 0 s x.items end t → next ≡ after_stream x.asked.close end
-      → Goes rules x s next t
+  stream_sent : (mode : Mode) (life : ℕ) (end : StreamEnd) → exchange.answer ≡ Stream mode life
+      → is_head exchange.asked ≡ false → Streams rules 0 s exchange.items end t
+      → next ≡ after_stream exchange.asked.close end → Goes rules exchange s next t
   -- the head of a stream's answer can't be written to the other side: the service gives back what it holds
-  head_broken : (mode : Mode) (life : ℕ) → x.answer ≡ Stream mode life → x.items ≡ [] → rules.drops s t
-      → next ≡ Some Broken → Goes rules x s next t
+  head_broken : (mode : Mode) (life : ℕ) → exchange.answer ≡ Stream mode life → exchange.items ≡ []
+      → rules.drops s t → next ≡ Some Broken → Goes rules exchange s next t
 
 -- from s the service may answer the request of the exchange so and, once that is sent, stand at t; and then
 -- the session closes so, or goes on
-pub record Answers {S : Type 0} (rules : Rules S) (s : S) (x : Exchange) (next : Option Closing) (t : S)
+pub record Answers {S : Type 0} (rules : Rules S) (s : S) (exchange : Exchange) (next : Option Closing)
+    (t : S)
     : Type 0 where
   pub mid : S
-  pub answered : rules.answers s x.asked x.answer mid
-  pub goes : Goes rules x mid next t
+  pub answered : rules.answers s exchange.asked exchange.answer mid
+  pub goes : Goes rules exchange mid next t
 
 -- Where bytes begin with no request a session closes so, with this text. Where there are none it closes as
 -- Finished, with no text. Where a head has a Content-Length of x it closes as Fault BadHead, with the text
@@ -98,9 +101,9 @@ pub record Answers {S : Type 0} (rules : Rules S) (s : S) (x : Exchange) (next :
 abbrev pub Closes : List ℕ → Closing → List ℕ → Type 0
 Closes bytes Finished text = (bytes ≡ []) × (text ≡ [])
 Closes bytes Requested text = ⊥
-Closes bytes (Fault e) text = Faults bytes e × (text ≡ fault_text e)
+Closes bytes (Fault fault) text = Faults bytes fault × (text ≡ fault_text fault)
 Closes bytes Cut text = ⊥
-Closes bytes Broken text = (e : HttpFault) × Faults bytes e × (text ≡ fault_text e)
+Closes bytes Broken text = (fault : HttpFault) × Faults bytes fault × (text ≡ fault_text fault)
 Closes bytes Exhausted text = ⊥
 
 -- where a session stands: how many requests it answered, the bytes that are to come, and its service's state

@@ -8,12 +8,12 @@ use Rattle.hub_database.specs.declared.batch.DbFault.{DbFault}
 use Rattle.hub_database.specs.declared.batch.DbFault.TheVariants.{NoMemory, Refused}
 use Rattle.hub_shared.specs.Locals.{IsLocalFault}
 
-pub next_above : (o : Option Local) → 0 < next_count o
+pub next_above : (maybe_local : Option Local) → 0 < next_count maybe_local
 next_above None = omega arith
-next_above (Some l) = omega arith
+next_above (Some local) = omega arith
 
-pub one_of_three : (db : Database) (doc : LocalDoc) (e : DbFault) → IsLocalFault db doc e
-    → (e ≡ NoMemory) ⊎ ((e ≡ Refused Deleted) ⊎ (e ≡ Refused SequenceFull))
-one_of_three db doc e (inl gone) = inr (inl gone.1)
-one_of_three db doc e (inr (standing, inl want)) = inl want.0
-one_of_three db doc e (inr (standing, inr full)) = inr (inr full.0)
+pub one_of_three : (db : Database) (doc : LocalDoc) (fault : DbFault) → IsLocalFault db doc fault
+    → (fault ≡ NoMemory) ⊎ ((fault ≡ Refused Deleted) ⊎ (fault ≡ Refused SequenceFull))
+one_of_three db doc fault (inl gone) = inr (inl gone.1)
+one_of_three db doc fault (inr (standing, inl want)) = inl want.0
+one_of_three db doc fault (inr (standing, inr full)) = inr (inr full.0)

@@ -40,22 +40,23 @@ pub edit_answer : (kept : Type 0) (old : Database) (edits : List Edit) (doc : Do
     × (makes_one old.deleted old.limits.journal old.journal doc ≡ refuses old.journal fault))))
     → (r ≡ Err db_fault.NoMemory → (old.deleted ≡ false) × HasNextRevision old.journal (draft_of doc))
     → IsEditAnswer old doc r
-edit_answer kept old edits doc (Ok rev) made failed memory = ap (λ (s : Stores). s.outcome) made
+edit_answer kept old edits doc (Ok rev) made failed memory = ap (λ (stores : Stores). stores.outcome) made
 edit_answer kept old edits doc (Err db_fault.NoMemory) made failed memory = memory refl
 edit_answer kept old edits doc (Err (db_fault.Refused fault)) made (stays, inl want) memory = absurd (cc)
 edit_answer kept old edits doc (Err (db_fault.Refused fault)) made (stays, inr (other, is, refused)) memory =
     let alike : other ≡ fault = cc in
-    ap (λ (s : Stores). s.outcome) refused ∙ ap (λ f. Refused f) alike
+    ap (λ (stores : Stores). stores.outcome) refused ∙ ap (λ f. Refused f) alike
 
 -- an edit that was made stands behind the others
-made_behind : (deleted : Bool) (limit : ℕ) (J K : List Edit) (doc : Doc) (rev : Revision)
-    → makes_one deleted limit J doc ≡ record { outcome = Stored rev; journal = K }
-    → (e : Edit) × (K ≡ J ++ e ∷ [])
-made_behind true limit J K doc rev is =
-    let outcome : Refused _ ≡ Stored rev = ap (λ (s : Stores). s.outcome) is in absurd (cc)
-made_behind false limit J K doc rev is =
+made_behind : (deleted : Bool) (limit : ℕ) (journal other_journal : List Edit) (doc : Doc) (rev : Revision)
+    → makes_one deleted limit journal doc ≡ record { outcome = Stored rev; journal = other_journal }
+    → (edit : Edit) × (other_journal ≡ journal ++ edit ∷ [])
+made_behind true limit journal other_journal doc rev is =
+    let outcome : Refused _ ≡ Stored rev = ap (λ (stores : Stores). stores.outcome) is in absurd (cc)
+made_behind false limit journal other_journal doc rev is =
     let stored =
-    subst (λ (s : Stores). StoredAs J doc.id s.outcome s.journal) is (make_stored limit J (draft_of doc)) in
+    subst (λ (stores : Stores). StoredAs journal doc.id stores.outcome stores.journal) is
+    (make_stored limit journal (draft_of doc)) in
     (stored.0, stored.1)
 
 -- so it is one more
@@ -119,7 +120,7 @@ batch_added new_edits docs old new batch is whole less legal rest =
     let few : length batch.replies ≤ length (ids_of docs) = omega (
       arith,
       few_replies batch.stopped (length batch.replies) (length docs) whole less,
-      length-map docs (λ (d : Doc). d.id),
+      length-map docs (λ (doc : Doc). doc.id),
     ) in record {
       edits = added.0;
       behind = added.1;

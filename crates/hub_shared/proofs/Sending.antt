@@ -27,25 +27,26 @@ use Rattle.hub_shared.proofs.Serving.{sender_of, moves, sender_changes, sender_c
 use Rattle.hub_shared.proofs.Serving.{served_still, stays_served}
 
 -- a step keeps what a feed was asked for, and where it began
-step_keeps : (f : Feed) (d : Due) (len : ℕ)
-    → ((after_due f d len).params ≡ f.params) × ((after_due f d len).since ≡ f.since)
-step_keeps f (DueRow c) len = (refl, refl)
-step_keeps f (DueEnd last_seq) len = (refl, refl)
-step_keeps f DueNothing len = (refl, refl)
-step_keeps f DueGone len = (refl, refl)
+step_keeps : (feed : Feed) (due : Due) (len : ℕ)
+    → ((after_due feed due len).params ≡ feed.params) × ((after_due feed due len).since ≡ feed.since)
+step_keeps feed (DueRow c) len = (refl, refl)
+step_keeps feed (DueEnd last_seq) len = (refl, refl)
+step_keeps feed DueNothing len = (refl, refl)
+step_keeps feed DueGone len = (refl, refl)
 
-expire_keeps : (f : Feed) → ((expire f).params ≡ f.params) × ((expire f).since ≡ f.since)
-expire_keeps f = elim (cases_Bool (is_open f.status && waits f.params.mode)) [
+expire_keeps : (feed : Feed) → ((expire feed).params ≡ feed.params) × ((expire feed).since ≡ feed.since)
+expire_keeps feed = elim (cases_Bool (is_open feed.status && waits feed.params.mode)) [
   | inl t ↦ rw t (refl, refl)
   | inr t ↦ rw t (refl, refl)
 ]
 
-beat_feed : (o : Option Feed) → is_beat_due o ≡ true → (f : Feed) × (o ≡ Some f) × (beat_due f ≡ true)
+beat_feed : (maybe_feed : Option Feed) → is_beat_due maybe_feed ≡ true → (feed : Feed)
+    × (maybe_feed ≡ Some feed) × (beat_due feed ≡ true)
 beat_feed None e = absurd (cc)
-beat_feed (Some f) e = (f, refl, e)
+beat_feed (Some feed) e = (feed, refl, e)
 
-nothing_due : {R : Type 0} (show : Current → R) (rows : List Current) (d : Due)
-    → Nothing ≡ next_of show rows d → d ≡ DueNothing
+nothing_due : {R : Type 0} (show : Current → R) (rows : List Current) (due : Due)
+    → Nothing ≡ next_of show rows due → due ≡ DueNothing
 nothing_due show rows (DueRow c) e = absurd (cc)
 nothing_due show rows (DueEnd last_seq) e = absurd (cc)
 nothing_due show rows DueNothing e = refl
@@ -70,46 +71,48 @@ takes_item sent items allows permits same may k item right =
 pub sender_behind : {R K : Type 0} (label : K → Label) (sent : K → List (Item R)) (behind : K → Item R → K)
     (stays : (k : K) (item : Item R) → label (behind k item) ≡ label k)
     (adds : (k : K) (item : Item R) → sent (behind k item) ≡ sent k ++ item ∷ [])
-    (old_fits new_fits : Feed → List (Item R) → Type 0) (f g : Feed) (k : K) (item : Item R)
-    → (g.params ≡ f.params) × (g.since ≡ f.since) → new_fits g (sent k ++ item ∷ [])
-    → IsSenderOf label sent old_fits f k → IsSenderOf label sent new_fits g (behind k item)
-sender_behind label sent behind stays adds old_fits new_fits f g k item same fit is = record {
+    (old_fits new_fits : Feed → List (Item R) → Type 0) (feed other : Feed) (k : K) (item : Item R)
+    → (other.params ≡ feed.params) × (other.since ≡ feed.since) → new_fits other (sent k ++ item ∷ [])
+    → IsSenderOf label sent old_fits feed k → IsSenderOf label sent new_fits other (behind k item)
+sender_behind label sent behind stays adds old_fits new_fits feed other k item same fit is = record {
   asks = ap (λ (l : Label). params_in l.asked) (stays k item) ∙ (is.asks ∙ sym same.0);
   begins = ap (λ (l : Label). l.since) (stays k item) ∙ (is.begins ∙ sym same.1);
-  list = subst (λ items. new_fits g items) (sym (adds k item)) fit;
+  list = subst (λ items. new_fits other items) (sym (adds k item)) fit;
 }
 
 -- a feed with its outbox, once the feed changes, and the outbox with it or not
 module _ {R K : Type 0} (label : K → Label) (sent : K → List (Item R)) (fits : Feed → List (Item R) → Type 0)
     (change : Feed → Feed) where
-  both_change : (turn : K → K) (o : Option Feed) (s : Option K) (f : Feed) (x : K)
-      → o ≡ Some f → s ≡ Some x → IsSenderOf label sent fits (change f) (turn x)
-      → IsServed label sent fits (option_map change o) (option_map turn s)
-  both_change turn o s f x is holds mine = rw (is, holds) mine
+  both_change : (turn : K → K) (maybe_feed : Option Feed) (s : Option K) (feed : Feed) (x : K)
+      → maybe_feed ≡ Some feed → s ≡ Some x → IsSenderOf label sent fits (change feed) (turn x)
+      → IsServed label sent fits (option_map change maybe_feed) (option_map turn s)
+  both_change turn maybe_feed s feed x is holds mine = rw (is, holds) mine
 
-  one_changes : (o : Option Feed) (s : Option K)
-      → ((f : Feed) (x : K) → o ≡ Some f → s ≡ Some x → IsSenderOf label sent fits (change f) x)
-      → IsServed label sent fits o s → IsServed label sent fits (option_map change o) s
+  one_changes : (maybe_feed : Option Feed) (s : Option K)
+      → ((feed : Feed) (x : K) → maybe_feed ≡ Some feed → s ≡ Some x
+      → IsSenderOf label sent fits (change feed) x)
+      → IsServed label sent fits maybe_feed s → IsServed label sent fits (option_map change maybe_feed) s
   one_changes None None each i = tt
   one_changes None (Some x) each i = absurd i
-  one_changes (Some f) None each i = absurd i
-  one_changes (Some f) (Some x) each i = each f x refl refl
+  one_changes (Some feed) None each i = absurd i
+  one_changes (Some feed) (Some x) each i = each feed x refl refl
 
 module _ {S R K : Type 0} (label : K → Label) (sent : K → List (Item R)) (hosted : S → Hosted R)
     (with_hosted : S → Hosted R → S)
     (fits : S → Feed → List (Item R) → Type 0) (right : Params → ℕ → List (Item R) → Type 0)
     (hosts : (s : S) (feeds : List (ℕ × Feed)) (next : ℕ)
     → hosted (with_hosted s (with_feeds (hosted s) feeds next)) ≡ with_feeds (hosted s) feeds next)
-    (rightly : (s : S) (f : Feed) (items : List (Item R)) → fits s f items → right f.params f.since items)
-    (stays : (s : S) (h : Hosted R) (f : Feed) (items : List (Item R)) → fits s f items
-    → fits (with_hosted s h) f items) where
+    (rightly : (s : S) (feed : Feed) (items : List (Item R)) → fits s feed items
+    → right feed.params feed.since items)
+    (stays : (s : S) (h : Hosted R) (feed : Feed) (items : List (Item R)) → fits s feed items
+    → fits (with_hosted s h) feed items) where
   -- the senders of a host
   abbrev pub Serves : S → List (ℕ × K) → Type 0
   Serves s senders = AreSendersOf label sent (fits s) (hosted s) senders
 
   -- what is right for a feed of this label
   abbrev pub Allows : Label → List (Item R) → Type 0
-  Allows l items = right (params_in l.asked) l.since items
+  Allows label items = right (params_in label.asked) label.since items
 
   -- and for that of this outbox
   abbrev pub Permits : K → List (Item R) → Type 0
@@ -127,35 +130,37 @@ module _ {S R K : Type 0} (label : K → Label) (sent : K → List (Item R)) (ho
       (sym (hosts s feeds next)) d
 
   -- what fits the feed behind a step may be sent
-  allowed : (s : S) (f f' : Feed) (x : K) (items : List (Item R)) → f'.params ≡ f.params
-      → f'.since ≡ f.since → IsSenderOf label sent (fits s) f x → fits s f' items → Permits x items
-  allowed s f f' x items p b i h =
+  allowed : (s : S) (feed other : Feed) (x : K) (items : List (Item R)) → other.params ≡ feed.params
+      → other.since ≡ feed.since → IsSenderOf label sent (fits s) feed x → fits s other items
+      → Permits x items
+  allowed s feed other x items p b i h =
       subst (λ (z : Params × ℕ). right z.0 z.1 items)
-      (λ k. ((p ∙ sym i.asks) k, (b ∙ sym i.begins) k)) (rightly s f' items h)
+      (λ k. ((p ∙ sym i.asks) k, (b ∙ sym i.begins) k)) (rightly s other items h)
 
-  due_feed : (h : Hosted R) (o : Option Feed) (item : Item R) → option_and_then (item_for h) o ≡ Some item
-      → (f : Feed) × (o ≡ Some f) × (item_for h f ≡ Some item)
+  due_feed : (h : Hosted R) (maybe_feed : Option Feed) (item : Item R)
+      → option_and_then (item_for h) maybe_feed ≡ Some item
+      → (feed : Feed) × (maybe_feed ≡ Some feed) × (item_for h feed ≡ Some item)
   due_feed h None item e = absurd (none-some item e)
-  due_feed h (Some f) item e = (f, refl, e)
+  due_feed h (Some feed) item e = (feed, refl, e)
 
   -- an item that is due may be sent, and its feed goes on
   module _
-      (handed_fits : (s : S) (f : Feed) (items : List (Item R)) (item : Item R)
-      → item_for (hosted s) f ≡ Some item → fits s f items
-      → fits s (behind_due (hosted s) f) (items ++ item ∷ []))
+      (handed_fits : (s : S) (feed : Feed) (items : List (Item R)) (item : Item R)
+      → item_for (hosted s) feed ≡ Some item → fits s feed items
+      → fits s (behind_due (hosted s) feed) (items ++ item ∷ []))
       (s : S) (id : ℕ) (senders : List (ℕ × K)) (item : Item R) (d : Serves s senders)
       (is : item_due (hosted s) id ≡ Some item) where
     pub may_give : MaySend Permits sent senders id item
     may_give =
         let at = due_feed (hosted s) (entry_in id (hosted s).feeds) item is in
-        let f = at.0 in
-        let x = sender_of label sent (fits s) (entry_in id (hosted s).feeds) (entry_in id senders) f at.1
+        let feed = at.0 in
+        let x = sender_of label sent (fits s) (entry_in id (hosted s).feeds) (entry_in id senders) feed at.1
         (d.each id) in
-        let keeps = step_keeps f (due (hosted s).current f) (hosted s).length in (
+        let keeps = step_keeps feed (due (hosted s).current feed) (hosted s).length in (
           x.0,
           x.1,
-          allowed s f (behind_due (hosted s) f) x.0 (sent x.0 ++ item ∷ []) keeps.0 keeps.1 x.2
-              (handed_fits s f (sent x.0) item at.2 x.2.list),
+          allowed s feed (behind_due (hosted s) feed) x.0 (sent x.0 ++ item ∷ []) keeps.0 keeps.1 x.2
+              (handed_fits s feed (sent x.0) item at.2 x.2.list),
         )
 
     pub gives : (behind : K → Item R → K) → ((k : K) (item : Item R) → label (behind k item) ≡ label k)
@@ -167,17 +172,17 @@ module _ {S R K : Type 0} (label : K → Label) (sent : K → List (Item R)) (ho
         let feeds = changed id change h.feeds in
         let new = moved s feeds h.next_feed in
         let at = due_feed h (entry_in id h.feeds) item is in
-        let f = at.0 in
+        let feed = at.0 in
         let x =
-        sender_of label sent (fits s) (entry_in id h.feeds) (entry_in id senders) f at.1 (d.each id) in
+        sender_of label sent (fits s) (entry_in id h.feeds) (entry_in id senders) feed at.1 (d.each id) in
         let mine =
-        sender_behind label sent behind label_stays sent_adds (fits s) (fits new) f (change f) x.0 item
-        (step_keeps f (due h.current f) h.length)
-        (stays s (with_feeds h feeds h.next_feed) (change f) (sent x.0 ++ item ∷ [])
-        (handed_fits s f (sent x.0) item at.2 x.2.list)) x.2 in
+        sender_behind label sent behind label_stays sent_adds (fits s) (fits new) feed (change feed) x.0 item
+        (step_keeps feed (due h.current feed) h.length)
+        (stays s (with_feeds h feeds h.next_feed) (change feed) (sent x.0 ++ item ∷ [])
+        (handed_fits s feed (sent x.0) item at.2 x.2.list)) x.2 in
         let both =
         both_change label sent (fits new) change (λ k. behind k item) (entry_in id h.feeds)
-        (entry_in id senders) f x.0 at.1 x.1 mine in
+        (entry_in id senders) feed x.0 at.1 x.1 mine in
         seen s feeds h.next_feed (sends behind id item senders)
         (sender_changes label sent (fits s) (fits new) (stays s (with_feeds h feeds h.next_feed)) id h
         (with_feeds h feeds h.next_feed) (λ q n. other_changed id change q n h.feeds) senders
@@ -187,20 +192,21 @@ module _ {S R K : Type 0} (label : K → Label) (sent : K → List (Item R)) (ho
 
   -- so may a heartbeat
   module _
-      (beat_fits : (s : S) (f : Feed) (items : List (Item R)) → beat_due f ≡ true → fits s f items
-      → fits s f (items ++ Beat ∷ []))
+      (beat_fits : (s : S) (feed : Feed) (items : List (Item R)) → beat_due feed ≡ true → fits s feed items
+      → fits s feed (items ++ Beat ∷ []))
       (s : S) (id : ℕ) (senders : List (ℕ × K)) (d : Serves s senders)
       (is : is_beat_due (entry_in id (hosted s).feeds) ≡ true) where
     pub may_beat : MaySend Permits sent senders id Beat
     may_beat =
         let at = beat_feed (entry_in id (hosted s).feeds) is in
-        let f = at.0 in
+        let feed = at.0 in
         let x =
-        sender_of label sent (fits s) (entry_in id (hosted s).feeds) (entry_in id senders) f at.1
+        sender_of label sent (fits s) (entry_in id (hosted s).feeds) (entry_in id senders) feed at.1
         (d.each id) in (
           x.0,
           x.1,
-          allowed s f f x.0 (sent x.0 ++ Beat ∷ []) refl refl x.2 (beat_fits s f (sent x.0) at.2 x.2.list),
+          allowed s feed feed x.0 (sent x.0 ++ Beat ∷ []) refl refl x.2
+              (beat_fits s feed (sent x.0) at.2 x.2.list),
         )
 
     pub beats : (behind : K → Item R → K) → ((k : K) (item : Item R) → label (behind k item) ≡ label k)
@@ -209,12 +215,13 @@ module _ {S R K : Type 0} (label : K → Label) (sent : K → List (Item R)) (ho
     beats behind label_stays sent_adds =
         let h = hosted s in
         let at = beat_feed (entry_in id h.feeds) is in
-        let f = at.0 in
+        let feed = at.0 in
         let x =
-        sender_of label sent (fits s) (entry_in id h.feeds) (entry_in id senders) f at.1 (d.each id) in
+        sender_of label sent (fits s) (entry_in id h.feeds) (entry_in id senders) feed at.1 (d.each id) in
         let mine =
-        sender_behind label sent behind label_stays sent_adds (fits s) (fits s) f f x.0 Beat (refl, refl)
-        (beat_fits s f (sent x.0) at.2 x.2.list) x.2 in
+        sender_behind label sent behind label_stays sent_adds (fits s) (fits s) feed feed x.0 Beat
+        (refl, refl)
+        (beat_fits s feed (sent x.0) at.2 x.2.list) x.2 in
         sender_changes label sent (fits s) (fits s) (λ g items fit. fit) id h h (λ q n. refl) senders
         (λ k. behind k Beat) refl d
         (subst (λ (z : Option Feed × Option K).
@@ -224,19 +231,21 @@ module _ {S R K : Type 0} (label : K → Label) (sent : K → List (Item R)) (ho
   -- a feed changes alone, and what it handed fits it still
   module _ (s : S) (id : ℕ) (senders : List (ℕ × K)) (d : Serves s senders) where
     changes : (change : Feed → Feed)
-        → ((f : Feed) → ((change f).params ≡ f.params) × ((change f).since ≡ f.since))
-        → ((f : Feed) (items : List (Item R)) → entry_in id (hosted s).feeds ≡ Some f → fits s f items
-        → fits s (change f) items)
+        → ((feed : Feed) → ((change feed).params ≡ feed.params) × ((change feed).since ≡ feed.since))
+        → ((feed : Feed) (items : List (Item R)) → entry_in id (hosted s).feeds ≡ Some feed
+        → fits s feed items → fits s (change feed) items)
         → Serves (moved s (changed id change (hosted s).feeds) (hosted s).next_feed) senders
     changes change keeps fit =
         let h = hosted s in
         let feeds = changed id change h.feeds in
         let new = moved s feeds h.next_feed in
         let one = one_changes label sent (fits new) change (entry_in id h.feeds) (entry_in id senders)
-        (λ f x is holds. let mine = mine_of f x is holds in record {
-          asks = mine.asks ∙ sym (keeps f).0;
-          begins = mine.begins ∙ sym (keeps f).1;
-          list = stays s (with_feeds h feeds h.next_feed) (change f) (sent x) (fit f (sent x) is mine.list);
+        (λ feed x is holds. let mine = mine_of feed x is holds in record {
+          asks = mine.asks ∙ sym (keeps feed).0;
+          begins = mine.begins ∙ sym (keeps feed).1;
+          list =
+              stays s (with_feeds h feeds h.next_feed) (change feed) (sent x)
+              (fit feed (sent x) is mine.list);
         })
         (stays_served label sent (fits s) (fits new) (stays s (with_feeds h feeds h.next_feed))
         (entry_in id h.feeds)
@@ -247,26 +256,27 @@ module _ {S R K : Type 0} (label : K → Label) (sent : K → List (Item R)) (ho
         (subst (λ o. IsServed label sent (fits new) o (entry_in id senders))
         (sym (own_changed id change h.feeds)) one))
       where
-        mine_of : (f : Feed) (x : K) → entry_in id (hosted s).feeds ≡ Some f
-            → entry_in id senders ≡ Some x → IsSenderOf label sent (fits s) f x
-        mine_of f x is holds =
+        mine_of : (feed : Feed) (x : K) → entry_in id (hosted s).feeds ≡ Some feed
+            → entry_in id senders ≡ Some x → IsSenderOf label sent (fits s) feed x
+        mine_of feed x is holds =
             subst (λ (z : Option Feed × Option (K)). IsServed label sent (fits s) z.0 z.1)
             (λ k. (is k, holds k)) (d.each id)
 
     -- its time is over
-    pub expires : ((s : S) (f : Feed) (items : List (Item R)) → fits s f items → fits s (expire f) items)
-        → Serves (with_hosted s (expired (hosted s) id)) senders
-    expires expired_fits = changes expire expire_keeps (λ f items is fit. expired_fits s f items fit)
+    pub expires : ((s : S) (feed : Feed) (items : List (Item R)) → fits s feed items
+        → fits s (expire feed) items) → Serves (with_hosted s (expired (hosted s) id)) senders
+    expires expired_fits = changes expire expire_keeps (λ feed items is fit. expired_fits s feed items fit)
 
     -- it was found to have nothing to hand
-    pub rests : ((s : S) (f : Feed) (items : List (Item R)) → due (hosted s).current f ≡ DueNothing
-        → fits s f items → fits s (after_nothing f (hosted s).length) items)
+    pub rests : ((s : S) (feed : Feed) (items : List (Item R)) → due (hosted s).current feed ≡ DueNothing
+        → fits s feed items → fits s (after_nothing feed (hosted s).length) items)
         → Nothing ≡ answered (hosted s) id
         → Serves (with_hosted s (behind_answer (hosted s) id Nothing)) senders
     rests waiting_fits nothing =
-        changes (λ f. after_nothing f (hosted s).length) (λ f. (refl, refl))
-        (λ f items is fit. waiting_fits s f items
-        (nothing_due _ (hosted s).current (due (hosted s).current f) (nothing ∙ ap (answer_of (hosted s)) is))
+        changes (λ feed. after_nothing feed (hosted s).length) (λ feed. (refl, refl))
+        (λ feed items is fit. waiting_fits s feed items
+        (nothing_due _ (hosted s).current (due (hosted s).current feed)
+        (nothing ∙ ap (answer_of (hosted s)) is))
         fit)
 
     -- it is finished, and its sender is gone
@@ -295,21 +305,21 @@ module _ {S R K : Type 0} (label : K → Label) (sent : K → List (Item R)) (ho
       (senders ++ ((hosted s).next_feed, x) ∷ [])
   comes s params x senders labelled nothing begins fresh d =
       let h = hosted s in
-      let f = begin (params_of params) h.length h.life in
-      let feeds = h.feeds ++ (h.next_feed, f) ∷ [] in
+      let feed = begin (params_of params) h.length h.life in
+      let feeds = h.feeds ++ (h.next_feed, feed) ∷ [] in
       let new = moved s feeds (h.next_feed + 1) in
-      let mine : IsSenderOf label sent (fits new) f x = record {
+      let mine : IsSenderOf label sent (fits new) feed x = record {
         asks = ap (λ (l : Label). params_in l.asked) labelled;
         begins = ap (λ (l : Label). l.since) labelled;
         list =
-            subst (λ items. fits new f items) (sym nothing)
-            (stays s (with_feeds h feeds (h.next_feed + 1)) f [] (begins (params_of params)));
+            subst (λ items. fits new feed items) (sym nothing)
+            (stays s (with_feeds h feeds (h.next_feed + 1)) feed [] (begins (params_of params)));
       } in
       seen s feeds (h.next_feed + 1) (senders ++ (h.next_feed, x) ∷ [])
       (sender_comes label sent (fits s) (fits new) (stays s (with_feeds h feeds (h.next_feed + 1)))
       h.next_feed h (with_feeds h feeds (h.next_feed + 1))
-      (λ q n. other_added h.next_feed f q n h.feeds) senders x refl refl d
-      (subst (λ o. IsServed label sent (fits new) o (Some x)) (sym (own_added h.next_feed f h.feeds fresh))
+      (λ q n. other_added h.next_feed feed q n h.feeds) senders x refl refl d
+      (subst (λ o. IsServed label sent (fits new) o (Some x)) (sym (own_added h.next_feed feed h.feeds fresh))
       mine))
 
   -- an outbox changes, of which the label stays and what it was sent

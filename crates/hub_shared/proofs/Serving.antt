@@ -17,17 +17,17 @@ use Rattle.hub_shared.specs.Locked.{IsSenderOf, IsServed, AreSendersOf}
 
 module _ {R K : Type 0} (label : K → Label) (sent : K → List (Item R))
     (old_fits new_fits : Feed → List (Item R) → Type 0)
-    (keeps : (f : Feed) (items : List (Item R)) → old_fits f items → new_fits f items) where
+    (keeps : (feed : Feed) (items : List (Item R)) → old_fits feed items → new_fits feed items) where
   -- a feed that stays
-  pub stays_served : (o : Option Feed) (s : Option (K)) → IsServed label sent old_fits o s
-      → IsServed label sent new_fits o s
+  pub stays_served : (maybe_feed : Option Feed) (s : Option (K)) → IsServed label sent old_fits maybe_feed s
+      → IsServed label sent new_fits maybe_feed s
   stays_served None None i = tt
   stays_served None (Some s) i = absurd i
-  stays_served (Some f) None i = absurd i
-  stays_served (Some f) (Some s) i = record {
+  stays_served (Some feed) None i = absurd i
+  stays_served (Some feed) (Some s) i = record {
     asks = i.asks;
     begins = i.begins;
-    list = keeps f (sent s) i.list;
+    list = keeps feed (sent s) i.list;
   }
 
   -- one feed changes, and no other
@@ -113,13 +113,13 @@ module _ {R K : Type 0} (label : K → Label) (sent : K → List (Item R))
 
 -- an outbox of the same label that was sent the same is the feed's too
 pub sender_still : {R K : Type 0} (label : K → Label) (sent : K → List (Item R))
-    (fits : Feed → List (Item R) → Type 0) (f : Feed) (old new : K)
-    → (label new ≡ label old) × (sent new ≡ sent old) → IsSenderOf label sent fits f old
-    → IsSenderOf label sent fits f new
-sender_still label sent fits f old new same i = record {
+    (fits : Feed → List (Item R) → Type 0) (feed : Feed) (old new : K)
+    → (label new ≡ label old) × (sent new ≡ sent old) → IsSenderOf label sent fits feed old
+    → IsSenderOf label sent fits feed new
+sender_still label sent fits feed old new same i = record {
   asks = ap (λ (l : Label). params_in l.asked) same.0 ∙ i.asks;
   begins = ap (λ (l : Label). l.since) same.0 ∙ i.begins;
-  list = subst (λ items. fits f items) (sym same.1) i.list;
+  list = subst (λ items. fits feed items) (sym same.1) i.list;
 }
 
 -- of what is served

@@ -18,12 +18,13 @@ use Rattle.hub_shared.specs.declared.write.Accepted.{Accepted}
 use Rattle.hub_shared.proofs.Editing.{senders_added, stored_by}
 
 -- what its handle knows of a write that was done
-pub written_by : (counts : Bool) (all_parts : ℕ) (h : HandleState) (new_edits : Bool) (docs : List Doc)
-    (db new : Database) (a : Accepted) → IsFoundBy counts all_parts h db → Stores new_edits docs db a new
-    → IsWrittenBy counts all_parts h new_edits docs a
-written_by counts all_parts h new_edits docs db new a found done = record {
+pub written_by : (counts : Bool) (all_parts : ℕ) (state : HandleState) (new_edits : Bool) (docs : List Doc)
+    (db new : Database) (accepted : Accepted) → IsFoundBy counts all_parts state db
+    → Stores new_edits docs db accepted new → IsWrittenBy counts all_parts state new_edits docs accepted
+written_by counts all_parts state new_edits docs db new accepted found done = record {
   stored =
-      stored_by new_edits docs db new (record { replies = a.replies; stopped = a.stopped }) found
+      stored_by new_edits docs db new
+      (record { replies = accepted.replies; stopped = accepted.stopped }) found
       done.batch;
   receipts = done.receipts;
 }
@@ -35,10 +36,10 @@ module _ {K : Type 0} (label : K → Label) (sent : K → List ChangeItem) (new_
   Serves db senders = AreSendersOf label sent (λ f items. IsFitting db.journal f items) (hosted_of db) senders
 
   -- what was sent goes on fitting
-  pub stored_served : (senders : List (ℕ × K)) (a : Accepted)
-      → Stores new_edits docs old a new → Serves old senders → Serves new senders
-  stored_served senders a done serves =
-      senders_added label sent (stored_count a.replies) old new senders done.batch.adds serves
+  pub stored_served : (senders : List (ℕ × K)) (accepted : Accepted)
+      → Stores new_edits docs old accepted new → Serves old senders → Serves new senders
+  stored_served senders accepted done serves =
+      senders_added label sent (stored_count accepted.replies) old new senders done.batch.adds serves
 
   -- also where it was not done
   pub still_served : (senders : List (ℕ × K)) (r : Result Accepted DbFault)

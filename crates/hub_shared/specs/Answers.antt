@@ -16,7 +16,7 @@ use Rattle.hub_shared.specs.declared.question.Answer.TheVariants as says
 
 -- a local document as the database keeps it, by its id
 abbrev pub local_named : List ℕ → kept.Local → Local
-local_named id l = record { id = id; count = l.count; body = l.body }
+local_named id local = record { id = id; count = local.count; body = local.body }
 
 -- the answer to each question is the one of its own kind, by the words of databases
 abbrev pub IsAnswer : Database → Question → Answer → Type 0

@@ -26,16 +26,16 @@ pub record HandleState : Type 0 where
 -- a database as a call through the handle finds it: its journal is legal, and has at least the edits that the
 -- handle counted; just these, where the handle has every part
 -- a handle that counted 3 finds 5 edits where another counted 2; joined to that one it counts 5, and finds 5
-pub record IsFoundBy (counts : Bool) (all_parts : ℕ) (h : HandleState) (db : Database) : Type 0 where
+pub record IsFoundBy (counts : Bool) (all_parts : ℕ) (state : HandleState) (db : Database) : Type 0 where
   pub legal : IsLegal db.journal
-  pub counted : h.count ≤ length db.journal
-  pub whole : counts ≡ true → h.parts ≡ all_parts → length db.journal ≡ h.count
+  pub counted : state.count ≤ length db.journal
+  pub whole : counts ≡ true → state.parts ≡ all_parts → length db.journal ≡ state.count
 
-module _ (counts : Bool) (all_parts : ℕ) (h : HandleState) where
+module _ (counts : Bool) (all_parts : ℕ) (state : HandleState) where
   -- the answer to a question of some database that the handle may find
   pub record IsReadBy (question : Question) (answer : Answer) : Type 0 where
     pub db : Database
-    pub found : IsFoundBy counts all_parts h db
+    pub found : IsFoundBy counts all_parts state db
     pub stands : db.deleted ≡ false
     pub answered : IsAnswer db question answer
 
@@ -43,7 +43,7 @@ module _ (counts : Bool) (all_parts : ℕ) (h : HandleState) where
   -- unless memory ran out. It stops only at a document that needed room.
   pub record IsStoredBy (new_edits : Bool) (docs : List Doc) (batch : Batch) : Type 0 where
     pub db : Database
-    pub found : IsFoundBy counts all_parts h db
+    pub found : IsFoundBy counts all_parts state db
     pub replies : batch.replies ≡ (writes new_edits db.deleted db.limits.journal db.journal
         (take (length batch.replies) docs)).outcomes
     pub whole : batch.stopped ≡ false → length batch.replies ≡ length docs
@@ -53,14 +53,15 @@ module _ (counts : Bool) (all_parts : ℕ) (h : HandleState) where
         (length batch.replies) docs
 
   -- what became of a write: of its documents, and the receipts of those that were stored
-  pub record IsWrittenBy (new_edits : Bool) (docs : List Doc) (a : Accepted) : Type 0 where
-    pub stored : IsStoredBy new_edits docs (record { replies = a.replies; stopped = a.stopped })
-    pub receipts : a.receipts.items ≡ receipts_from (length stored.db.journal) (ids_of docs) a.replies
+  pub record IsWrittenBy (new_edits : Bool) (docs : List Doc) (accepted : Accepted) : Type 0 where
+    pub stored : IsStoredBy new_edits docs (record { replies = accepted.replies; stopped = accepted.stopped })
+    pub receipts : accepted.receipts.items ≡ receipts_from (length stored.db.journal)
+        (ids_of docs) accepted.replies
 
   -- what one edit that is made here was answered by some database that the handle may find
   pub record IsEditedBy (doc : Doc) (answer : Result Revision DbFault) : Type 0 where
     pub db : Database
-    pub found : IsFoundBy counts all_parts h db
+    pub found : IsFoundBy counts all_parts state db
     pub answered : IsEditAnswer db doc answer
 
 -- where a feed begins that was asked to begin at this sequence, by a handle that has counted so many edits:

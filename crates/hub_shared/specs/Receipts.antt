@@ -14,7 +14,7 @@ use Rattle.hub_shared.specs.declared.receipt.AuditFault.TheVariants.{WrongReceip
 
 -- the ids of documents
 abbrev pub ids_of : List Doc → List (List ℕ)
-ids_of docs = map (λ (d : Doc). d.id) docs
+ids_of docs = map (λ (doc : Doc). doc.id) docs
 
 -- the receipt of a document that was answered so, behind n edits, if it was stored
 abbrev pub receipt_if : ℕ → List ℕ → Outcome Revision → List Receipt
@@ -40,39 +40,41 @@ receipts_from n (id ∷ ids) (reply ∷ replies) =
 -- a with 1-p and of b with 1-q have the receipts (6, a, 1-p) and (7, b, 1-q).
 abbrev pub AreReceipts : ℕ → List Edit → List Receipt → Type 0
 AreReceipts n [] [] = ⊤
-AreReceipts n [] (r ∷ receipts) = ⊥
-AreReceipts n (e ∷ edits) [] = ⊥
-AreReceipts n (e ∷ edits) (r ∷ receipts) =
-    (r.seq ≡ n + 1) × (r.id ≡ e.id) × (head_of e ≡ Some r.rev) × AreReceipts (n + 1) edits receipts
+AreReceipts n [] (receipt ∷ receipts) = ⊥
+AreReceipts n (edit ∷ edits) [] = ⊥
+AreReceipts n (edit ∷ edits) (receipt ∷ receipts) =
+    (receipt.seq ≡ n + 1) × (receipt.id ≡ edit.id) × (head_of edit ≡ Some receipt.rev)
+    × AreReceipts (n + 1) edits receipts
 
--- just the edits of these receipts were added to the journal. Where J has 5 edits, and the receipts have the
--- sequences 6 and 7, K has 7 edits, of which the last two are those of the receipts.
+-- just the edits of these receipts were added to the journal. Where journal has 5 edits, and the receipts
+-- have the sequences 6 and 7, other_journal has 7 edits, of which the last two are those of the receipts.
 abbrev pub AreAdded : List Edit → List Edit → List Receipt → Type 0
-AreAdded J K receipts = (edits : List Edit) × (K ≡ J ++ edits) × AreReceipts (length J) edits receipts
+AreAdded journal other_journal receipts =
+    (edits : List Edit) × (other_journal ≡ journal ++ edits) × AreReceipts (length journal) edits receipts
 
 -- their sequences rise, the first above this number: above 5 such as 6, 7 and 9
 abbrev pub AreRising : ℕ → List Receipt → Type 0
 AreRising n [] = ⊤
-AreRising n (r ∷ receipts) = (n < r.seq) × AreRising r.seq receipts
+AreRising n (receipt ∷ receipts) = (n < receipt.seq) × AreRising receipt.seq receipts
 
 -- whether an entry is the one that the receipt tells of
 abbrev pub is_entry_of : Option (List ℕ × Revision) → Receipt → Bool
-is_entry_of None r = false
-is_entry_of (Some entry) r = bytes_eq entry.0 r.id && is_same entry.1 r.rev
+is_entry_of None receipt = false
+is_entry_of (Some entry) receipt = bytes_eq entry.0 receipt.id && is_same entry.1 receipt.rev
 
 -- whether the journal has it, at its number. After edits of a, b and then a again, where b has 1-q, it has
 -- (2, b, 1-q), and neither (3, b, 1-q) nor (2, b, 2-q).
 abbrev pub has_edit : List Edit → Receipt → Bool
-has_edit J r = is_entry_of (entry_of J r.seq) r
+has_edit journal receipt = is_entry_of (entry_of journal receipt.seq) receipt
 
 -- the journal has the receipt's edit, at its number
 abbrev pub HasEdit : List Edit → Receipt → Type 0
-HasEdit J r = entry_of J r.seq ≡ Some (r.id, r.rev)
+HasEdit journal receipt = entry_of journal receipt.seq ≡ Some (receipt.id, receipt.rev)
 
 -- What an audit says: the journal has the edit of each receipt; or of the one here it has not, and of those
 -- before it has. Of three receipts whose second has another revision than the journal, 1 is told.
 abbrev pub IsAudit : List Edit → List Receipt → Result (Unit {0}) AuditFault → Type 0
-IsAudit J receipts (Ok all) = All (λ r. HasEdit J r) receipts
-IsAudit J receipts (Err (WrongReceipt at)) =
-    All (λ r. HasEdit J r) (take at receipts)
-    × IfSome (slice_get receipts at) (λ r. ¬ HasEdit J r) × (at < length receipts)
+IsAudit journal receipts (Ok all) = All (λ r. HasEdit journal r) receipts
+IsAudit journal receipts (Err (WrongReceipt at)) =
+    All (λ r. HasEdit journal r) (take at receipts)
+    × IfSome (slice_get receipts at) (λ r. ¬ HasEdit journal r) × (at < length receipts)

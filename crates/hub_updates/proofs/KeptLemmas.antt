@@ -30,12 +30,13 @@ get_pushed (x ∷ xs) v w zero e = inl e
 get_pushed (x ∷ xs) v w (suc i) e = get_pushed xs v w i e
 
 -- the pairs, once the latest sequence of one is written over
-pub pair_raised : (pairs : List Pair) (k seq : ℕ) (p : Pair) → k < length pairs → p ≡ get_or pairs k p
-    → ids_of (slice_set pairs k (record p { latest = seq })) ≡ raised k seq (ids_of pairs)
-pair_raised pairs k seq p low is =
-    let there : slice_get (ids_of pairs) k ≡ Some (string_bytes p.id, p.latest) =
-    slice_get-map pair_of pairs k ∙ ap (option_map pair_of) (at_place pairs k p low is) in
-    map-set pair_of pairs k (record p { latest = seq })
+pub pair_raised : (pairs : List Pair) (k seq : ℕ) (pair : Pair) → k < length pairs
+    → pair ≡ get_or pairs k pair
+    → ids_of (slice_set pairs k (record pair { latest = seq })) ≡ raised k seq (ids_of pairs)
+pair_raised pairs k seq pair low is =
+    let there : slice_get (ids_of pairs) k ≡ Some (string_bytes pair.id, pair.latest) =
+    slice_get-map pair_of pairs k ∙ ap (option_map pair_of) (at_place pairs k pair low is) in
+    map-set pair_of pairs k (record pair { latest = seq })
     ∙ ap (λ o. slice_set (ids_of pairs) k (id_in o, seq)) (sym there)
 
 kind_back : (kind : UpdateKind) → kind_of (letter_of kind) ≡ kind
@@ -44,17 +45,17 @@ kind_back Updated = refl
 kind_back Deleted = refl
 
 -- a note is read again from its id
-pub read_back : (n : Note) → note_of (id_of n) ≡ n
-read_back n = ap (λ (k : UpdateKind). record { kind = k; name = n.name }) (kind_back n.kind)
+pub read_back : (note : Note) → note_of (id_of note) ≡ note
+read_back note = ap (λ (kind : UpdateKind). record { kind = kind; name = note.name }) (kind_back note.kind)
 
 module _ (numbers : List ℕ → Option ℕ) (ids : List (List ℕ × ℕ)) (entries : List ℕ) (index : List (ℕ × ℕ))
     (kept : IsKept numbers ids entries index) where
   -- a row's sequence is that of a note
-  pub kept_rows : All (λ (r : ℕ × ℕ). r.0 < length entries + 1) index
-  kept_rows i r l =
+  pub kept_rows : All (λ (row : ℕ × ℕ). row.0 < length entries + 1) index
+  kept_rows i row l =
       omega (
         arith,
-        rows_within (slice_get ids) (edits_of_log (notes_of ids entries)) index kept.rows i r l,
+        rows_within (slice_get ids) (edits_of_log (notes_of ids entries)) index kept.rows i row l,
         length-map (notes_of ids entries) edit_of,
         length-map entries (note_at ids),
       )
@@ -242,21 +243,21 @@ module _ (numbers : List ℕ → Option ℕ) (ids : List (List ℕ × ℕ)) (ent
         (get_push ids (id_of n, seq)) (get_push_other ids (id_of n, seq)) new_this new_rest new_few
 
   -- whatever shows so
-  pub added_so : (n : Note) (seq : ℕ) → seq ≡ length entries + 1 → (id : List ℕ) → id ≡ id_of n
+  pub added_so : (note : Note) (seq : ℕ) → seq ≡ length entries + 1 → (id : List ℕ) → id ≡ id_of note
       → numbers id ≡ None → (k : ℕ) → k ≡ length ids
       → (numbers' : List ℕ → Option ℕ) (ids' : List (List ℕ × ℕ)) (entries' : List ℕ) (index' : List (ℕ × ℕ))
       → ((q : List ℕ) → numbers' q ≡ update bytes_eq numbers id (Some k) q)
       → ids' ≡ ids ++ (id, seq) ∷ [] → entries' ≡ entries ++ k ∷ [] → index' ≡ moved index k seq
-      → IsKept numbers' ids' entries' index' × (notes_of ids' entries' ≡ notes_of ids entries ++ n ∷ [])
-  added_so n seq last id named new k first numbers' ids' entries' index' given is es rows =
-      let none : numbers (id_of n) ≡ None = ap numbers (sym named) ∙ new in
-      let given' : (q : List ℕ) → numbers' q ≡ update bytes_eq numbers (id_of n) (Some (length ids)) q =
+      → IsKept numbers' ids' entries' index' × (notes_of ids' entries' ≡ notes_of ids entries ++ note ∷ [])
+  added_so note seq last id named new k first numbers' ids' entries' index' given is es rows =
+      let none : numbers (id_of note) ≡ None = ap numbers (sym named) ∙ new in
+      let given' : (q : List ℕ) → numbers' q ≡ update bytes_eq numbers (id_of note) (Some (length ids)) q =
       λ q. given q
       ∙ (ap (λ i. update bytes_eq numbers i (Some k) q) named
-      ∙ ap (λ j. update bytes_eq numbers (id_of n) (Some j) q) first) in
+      ∙ ap (λ j. update bytes_eq numbers (id_of note) (Some j) q) first) in
       rw (
         is ∙ ap (λ i. ids ++ (i, seq) ∷ []) named,
         es ∙ ap (λ j. entries ++ j ∷ []) first,
         rows ∙ ap (λ j. moved index j seq) first,
       )
-      (kept_added n seq last none numbers' given', notes_added n seq last none numbers' given')
+      (kept_added note seq last none numbers' given', notes_added note seq last none numbers' given')

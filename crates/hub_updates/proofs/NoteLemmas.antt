@@ -10,11 +10,11 @@ use Rattle.hub_model.proofs.Fitting.{fits_grows}
 use Rattle.hub_updates.specs.Log.{IsFitting}
 
 -- when a note is added
-pub fitting_noted : (notes : List Note) (note : Note) (f : Feed) (items : List (Item UpdateRow))
-    → IsFitting notes f items → IsFitting (notes ++ note ∷ []) f items
-fitting_noted notes note f items fitting = record {
+pub fitting_noted : (notes : List Note) (note : Note) (feed : Feed) (items : List (Item UpdateRow))
+    → IsFitting notes feed items → IsFitting (notes ++ note ∷ []) feed items
+fitting_noted notes note feed items fitting = record {
   legal = (notes ++ note ∷ [], refl);
   fits =
-      subst (λ J. Fits update_rows J f items) (sym (map-append edit_of notes (note ∷ [])))
-      (fits_grows update_rows (edits_of_log notes) (edit_of note ∷ []) f items fitting.fits);
+      subst (λ J. Fits update_rows J feed items) (sym (map-append edit_of notes (note ∷ [])))
+      (fits_grows update_rows (edits_of_log notes) (edit_of note ∷ []) feed items fitting.fits);
 }

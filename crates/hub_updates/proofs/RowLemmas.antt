@@ -23,38 +23,40 @@ module _ (numbers : List ℕ → Option ℕ) (pairs : List Pair) (entries : List
   pair_low : (k : ℕ) (p : List ℕ × ℕ) → slice_get (ids_of pairs) k ≡ Some p → k < length pairs
   pair_low k p e = omega (arith, slice_get_within (ids_of pairs) k p e, length-map pairs pair_of)
 
-  pair_there : (k : ℕ) (p : Pair) → k < length pairs → p ≡ get_or pairs k p
-      → slice_get (ids_of pairs) k ≡ Some (pair_of p)
-  pair_there k p low is = slice_get-map pair_of pairs k ∙ ap (option_map pair_of) (at_place pairs k p low is)
+  pair_there : (k : ℕ) (pair : Pair) → k < length pairs → pair ≡ get_or pairs k pair
+      → slice_get (ids_of pairs) k ≡ Some (pair_of pair)
+  pair_there k pair low is =
+      slice_get-map pair_of pairs k ∙ ap (option_map pair_of) (at_place pairs k pair low is)
 
   -- the row of a pair lies at its latest note
-  pub pair_row : (k : ℕ) (p : Pair) → k < length pairs → p ≡ get_or pairs k p
+  pub pair_row : (k : ℕ) (pair : Pair) → k < length pairs → pair ≡ get_or pairs k pair
       → Contains (current (edits_of_log (notes_of (ids_of pairs) entries)))
-      (record { seq = p.latest; id = string_bytes p.id })
-  pair_row k p low is =
-      let at = pair_there k p low is in
+      (record { seq = pair.latest; id = string_bytes pair.id })
+  pair_row k pair low is =
+      let at = pair_there k pair low is in
       row_there (row_in (slice_get (ids_of pairs))) index
-      (current (edits_of_log (notes_of (ids_of pairs) entries))) k p.latest (string_bytes p.id) kept.rows.rows
-      (kept.rows.key k (pair_of p) at)
+      (current (edits_of_log (notes_of (ids_of pairs) entries))) k pair.latest
+      (string_bytes pair.id) kept.rows.rows
+      (kept.rows.key k (pair_of pair) at)
       (λ r e. ap (λ (o : Option (List ℕ × ℕ)). record { seq = r.0; id = id_in o })
       (ap (slice_get (ids_of pairs)) e ∙ at))
 
   -- the pair of an id that has a number
   pub numbered : (id : List ℕ) (k : ℕ) → numbers id ≡ Some k
-      → (k < length pairs) × ((p : Pair) → p ≡ get_or pairs k p → string_bytes p.id ≡ id)
+      → (k < length pairs) × ((pair : Pair) → pair ≡ get_or pairs k pair → string_bytes pair.id ≡ id)
   numbered id k e =
       let w = kept.found id k e in
       let low : k < length pairs = pair_low k w.0 w.1 in (
         low,
-        λ p is. ap (λ (q : List ℕ × ℕ). q.0)
-            (same_Some (pair_of p) w.0 (sym (pair_there k p low is) ∙ w.1)) ∙ w.2,
+        λ pair is. ap (λ (q : List ℕ × ℕ). q.0)
+            (same_Some (pair_of pair) w.0 (sym (pair_there k pair low is) ∙ w.1)) ∙ w.2,
       )
 
   -- an id that has none is of no row
-  pub unnumbered : (id : List ℕ) → numbers id ≡ None → (c : Current)
-      → Contains (current (edits_of_log (notes_of (ids_of pairs) entries))) c → c.id ≡ id → ⊥
-  unnumbered id none c h same =
-      let e = edit_of_row (edits_of_log (notes_of (ids_of pairs) entries)) c h in
+  pub unnumbered : (id : List ℕ) → numbers id ≡ None → (row : Current)
+      → Contains (current (edits_of_log (notes_of (ids_of pairs) entries))) row → row.id ≡ id → ⊥
+  unnumbered id none row h same =
+      let e = edit_of_row (edits_of_log (notes_of (ids_of pairs) entries)) row h in
       let i = e.1.0 in
       let low : i < length entries =
       omega (

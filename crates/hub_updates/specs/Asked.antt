@@ -7,4 +7,5 @@ use Rattle.hub_params.specs.FeedParams.{FeedAsked}
 -- such a feed shows rows of every database, upwards and without documents, whatever was asked
 -- with filter=_design and limit=2 it shows two rows, of any databases
 abbrev pub updates_asked : FeedAsked → FeedAsked
-updates_asked a = record a { descending = false; style = MainOnly; include_docs = false; filter = Everything }
+updates_asked asked =
+    record asked { descending = false; style = MainOnly; include_docs = false; filter = Everything }

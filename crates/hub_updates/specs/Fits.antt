@@ -13,20 +13,20 @@ use Rattle.hub_model.specs.declared.feeds.Item.{Item}
 use Rattle.hub_feed.proofs.Handing.{fitting_handed, fitting_nothing}
 use Rattle.hub_updates.specs.Log.{AreOfLog, IsFitting}
 
-module _ (notes : List Note) (f : Feed) (items : List (Item UpdateRow))
-    (fitting : IsFitting notes f items) where
+module _ (notes : List Note) (feed : Feed) (items : List (Item UpdateRow))
+    (fitting : IsFitting notes feed items) where
   -- behind the item that is due
-  pub fits_given : (item : Item UpdateRow) → due_item update_rows (edits_of_log notes) f ≡ Some item
-      → let next : Feed = after_due f (due (current (edits_of_log notes)) f) (length notes) in
+  pub fits_given : (item : Item UpdateRow) → due_item update_rows (edits_of_log notes) feed ≡ Some item
+      → let next : Feed = after_due feed (due (current (edits_of_log notes)) feed) (length notes) in
       IsFitting notes next (items ++ item ∷ [])
   fits_given item is =
       let J : List Edit = edits_of_log notes in
-      subst (λ n. IsFitting notes (after_due f (due (current J) f) n) (items ++ item ∷ []))
-      (length-map notes edit_of) (fitting_handed update_rows AreOfLog J f items fitting item is)
+      subst (λ n. IsFitting notes (after_due feed (due (current J) feed) n) (items ++ item ∷ []))
+      (length-map notes edit_of) (fitting_handed update_rows AreOfLog J feed items fitting item is)
 
   -- behind nothing to hand
-  pub fits_waiting : due (current (edits_of_log notes)) f ≡ DueNothing
-      → IsFitting notes (after_nothing f (length notes)) items
+  pub fits_waiting : due (current (edits_of_log notes)) feed ≡ DueNothing
+      → IsFitting notes (after_nothing feed (length notes)) items
   fits_waiting is =
-      subst (λ n. IsFitting notes (after_nothing f n) items) (length-map notes edit_of)
-      (fitting_nothing update_rows AreOfLog (edits_of_log notes) f items fitting is)
+      subst (λ n. IsFitting notes (after_nothing feed n) items) (length-map notes edit_of)
+      (fitting_nothing update_rows AreOfLog (edits_of_log notes) feed items fitting is)

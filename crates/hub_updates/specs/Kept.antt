@@ -7,7 +7,7 @@ use Rattle.hub_updates.specs.declared.log.Pair.{Pair}
 
 -- a pair as its id and the sequence of its latest note
 abbrev pub pair_of : Pair → List ℕ × ℕ
-pair_of p = (string_bytes p.id, p.latest)
+pair_of pair = (string_bytes pair.id, pair.latest)
 
 -- the ids of the pairs, with the sequences of their latest notes
 abbrev pub ids_of : List Pair → List (List ℕ × ℕ)

@@ -7,7 +7,7 @@ use Rattle.hub_model.specs.Updates.{Note, edit_of, edits_of_log}
 use Rattle.hub_model.proofs.Rows.{current_within}
 
 -- it is no later than the last
-pub rows_below : (notes : List Note) (c : Current) → Contains (current (edits_of_log notes)) c
-    → c.seq ≤ length notes
-rows_below notes c h =
-    let w = current_within 1 (edits_of_log notes) c h in omega (arith, w.1, length-map notes edit_of)
+pub rows_below : (notes : List Note) (row : Current) → Contains (current (edits_of_log notes)) row
+    → row.seq ≤ length notes
+rows_below notes row h =
+    let w = current_within 1 (edits_of_log notes) row h in omega (arith, w.1, length-map notes edit_of)

@@ -48,7 +48,7 @@ AreOfLog edits = (notes : List Note) × (edits ≡ edits_of_log notes)
 
 -- the list fits the feed of a log with these notes: what the feed has handed is one
 abbrev pub IsFitting : List Note → Feed → List (Item UpdateRow) → Type 0
-IsFitting notes f items = handing.IsFitting update_rows AreOfLog (edits_of_log notes) f items
+IsFitting notes feed items = handing.IsFitting update_rows AreOfLog (edits_of_log notes) feed items
 
 -- the list is rightly handed, by these parameters and above this sequence, for some notes, some place and
 -- some bound: the feed of some log may have handed it by some time

@@ -28,71 +28,75 @@ pub record Answer : Type 0 where
 
 -- this reply, and this world after it
 abbrev pub answer_with : Reply → World → Answer
-answer_with reply w = record { reply = reply; world = w }
+answer_with reply world = record { reply = reply; world = world }
 
 -- where this item is to go into the lane of feed f, which goes on so
 abbrev pub push : World → ℕ → Subscription → Feed → ChangeItem → Answer
-push w f s feed item =
-    if nat_lt (length s.lane) w.limits.lane
-    then answer_with (Pushed item) (with_subscription w f (pushed s feed item))
-    else answer_with Full w
+push world f subscription feed item =
+    if nat_lt (length subscription.lane) world.limits.lane
+    then answer_with (Pushed item) (with_subscription world f (pushed subscription feed item))
+    else answer_with Full world
 
 -- of a Hand to a feed to which this is due
 abbrev pub hand_due : World → ℕ → Subscription → Due → Answer
-hand_due w f s (DueRow c) =
-    push w f s (after_row s.feed c.seq (length w.journal))
-    (Row (row_of w.journal s.feed.params.style s.feed.params.include_docs c))
-hand_due w f s (DueEnd last_seq) =
-    push w f s (after_end s.feed last_seq) (End last_seq (pending (current w.journal) last_seq))
-hand_due w f s DueNothing =
-    answer_with Nothing (with_subscription w f (record s { feed = after_nothing s.feed (length w.journal) }))
-hand_due w f s DueGone = answer_with Gone w
+hand_due world f subscription (DueRow c) =
+    push world f subscription (after_row subscription.feed c.seq (length world.journal))
+    (Row (row_of world.journal subscription.feed.params.style subscription.feed.params.include_docs c))
+hand_due world f subscription (DueEnd last_seq) =
+    push world f subscription (after_end subscription.feed last_seq)
+    (End last_seq (pending (current world.journal) last_seq))
+hand_due world f subscription DueNothing =
+    answer_with Nothing (with_subscription world f
+    (record subscription { feed = after_nothing subscription.feed (length world.journal) }))
+hand_due world f subscription DueGone = answer_with Gone world
 
 -- of a Hand to feed f
 abbrev pub hand : World → ℕ → Option Subscription → Answer
-hand w f None = answer_with Gone w
-hand w f (Some s) = hand_due w f s (due_in w.journal s.feed)
+hand world f None = answer_with Gone world
+hand world f (Some subscription) = hand_due world f subscription (due_in world.journal subscription.feed)
 
 -- of a Heartbeat to feed f
 abbrev pub beat : World → ℕ → Option Subscription → Answer
-beat w f None = answer_with Nothing w
-beat w f (Some s) = if beat_due s.feed then push w f s s.feed Beat else answer_with Nothing w
+beat world f None = answer_with Nothing world
+beat world f (Some subscription) =
+    if beat_due subscription.feed then push world f subscription subscription.feed Beat else
+    answer_with Nothing world
 
 -- of a Begin
 abbrev pub opened : World → Params → Answer
-opened w params =
-    if w.deleted then answer_with DatabaseDeleted w
-    else if has_no_room w then answer_with TooManyFeeds w
-    else answer_with (Opened (record { number = length w.feeds })) (with_feed w params)
+opened world params =
+    if world.deleted then answer_with DatabaseDeleted world
+    else if has_no_room world then answer_with TooManyFeeds world
+    else answer_with (Opened (record { number = length world.feeds })) (with_feed world params)
 
 -- what an event answers, and the world after it
 abbrev pub answer : World → Event → Answer
-answer w (Write docs) =
-    answer_with (Outcomes (whole_batch (merged w (map edit_of docs)).outcomes))
-    (record w { journal = (merged w (map edit_of docs)).journal })
-answer w (Interactive docs) =
-    answer_with (Outcomes (whole_batch (drafted w (map draft_of docs)).outcomes))
-    (record w { journal = (drafted w (map draft_of docs)).journal })
-answer w (Begin params) = opened w (params_of params)
-answer w (Hand feed) = hand w feed.number (subscription w feed.number)
-answer w (Heartbeat feed) = beat w feed.number (subscription w feed.number)
-answer w (Expire feed) = answer_with Nothing (expired (subscription w feed.number) feed.number w)
-answer w (Take feed) =
-    answer_with (Took (slice_get (lane_of (subscription w feed.number)) 0))
-    (took (subscription w feed.number) feed.number w)
-answer w (Finish feed) =
-    answer_with (Left (lane_of (subscription w feed.number)))
-    (finished (subscription w feed.number) feed.number w)
-answer w Delete =
-    if w.deleted then answer_with DatabaseDeleted w
-    else answer_with Nothing (record w { deleted = true; feeds = map ended w.feeds })
+answer world (Write docs) =
+    answer_with (Outcomes (whole_batch (merged world (map edit_of docs)).outcomes))
+    (record world { journal = (merged world (map edit_of docs)).journal })
+answer world (Interactive docs) =
+    answer_with (Outcomes (whole_batch (drafted world (map draft_of docs)).outcomes))
+    (record world { journal = (drafted world (map draft_of docs)).journal })
+answer world (Begin params) = opened world (params_of params)
+answer world (Hand feed) = hand world feed.number (subscription world feed.number)
+answer world (Heartbeat feed) = beat world feed.number (subscription world feed.number)
+answer world (Expire feed) = answer_with Nothing (expired (subscription world feed.number) feed.number world)
+answer world (Take feed) =
+    answer_with (Took (slice_get (lane_of (subscription world feed.number)) 0))
+    (took (subscription world feed.number) feed.number world)
+answer world (Finish feed) =
+    answer_with (Left (lane_of (subscription world feed.number)))
+    (finished (subscription world feed.number) feed.number world)
+answer world Delete =
+    if world.deleted then answer_with DatabaseDeleted world
+    else answer_with Nothing (record world { deleted = true; feeds = map ended world.feeds })
 
 -- the replies to events, one after the other
 abbrev pub replies_to : World → List Event → List Reply
-replies_to w [] = []
-replies_to w (event ∷ events) = (answer w event).reply ∷ replies_to (answer w event).world events
+replies_to world [] = []
+replies_to world (event ∷ events) = (answer world event).reply ∷ replies_to (answer world event).world events
 
 -- the world after events
 abbrev pub after : World → List Event → World
-after w [] = w
-after w (event ∷ events) = after (answer w event).world events
+after world [] = world
+after world (event ∷ events) = after (answer world event).world events

@@ -29,172 +29,196 @@ use Rattle.hub_world.specs.Laws.{IsAnswered, IsOnlyAnswer, RunsOnce}
 use Rattle.hub_world.specs.Worked.{HasReplies, HasHanded, HasTaken}
 
 -- Hand
-push_steps : (w : World) (f : FeedId) (s : Subscription) (feed : Feed) (item : ChangeItem)
-    → subscription w f.number ≡ Some s
-    → after_due s.feed (due_in w.journal s.feed) (length w.journal) ≡ feed
-    → change_due w.journal s.feed ≡ Some item
-    → Step w (Hand f) (push w f.number s feed item).reply (push w f.number s feed item).world
-push_steps w f s feed item e p i =
-    elim (cases_Bool (nat_lt (length s.lane) w.limits.lane)) [
+push_steps : (world : World) (id : FeedId) (s : Subscription) (feed : Feed) (item : ChangeItem)
+    → subscription world id.number ≡ Some s
+    → after_due s.feed (due_in world.journal s.feed) (length world.journal) ≡ feed
+    → change_due world.journal s.feed ≡ Some item
+    → Step world (Hand id) (push world id.number s feed item).reply (push world id.number s feed item).world
+push_steps world id s feed item e p i =
+    elim (cases_Bool (nat_lt (length s.lane) world.limits.lane)) [
       | inl t ↦
           rw t (
             s,
             e,
             i,
-            (ltb-true _ _ t, ap (λ (x : Feed). with_subscription w f.number (pushed s x item)) (sym p)),
+            (ltb-true _ _ t, ap (λ (x : Feed). with_subscription world id.number (pushed s x item)) (sym p)),
           )
       | inr t ↦ rw t (s, e, (item, i), ltb-false _ _ t, refl)
     ]
 
 -- the item that is made of what is due
 abbrev item_at : World → Subscription → Due → Option ChangeItem
-item_at w s d =
-    item_of (row_of w.journal s.feed.params.style s.feed.params.include_docs) (current w.journal) d
+item_at world subscription due =
+    item_of (row_of world.journal subscription.feed.params.style subscription.feed.params.include_docs)
+    (current world.journal) due
 
-due_steps : (w : World) (f : FeedId) (s : Subscription) (d : Due) → subscription w f.number ≡ Some s
-    → due_in w.journal s.feed ≡ d
-    → Step w (Hand f) (hand_due w f.number s d).reply (hand_due w f.number s d).world
-due_steps w f s (DueRow c) e q =
-    push_steps w f s _ _ e (ap (λ (d : Due). after_due s.feed d (length w.journal)) q) (ap (item_at w s) q)
-due_steps w f s (DueEnd last) e q =
-    push_steps w f s _ _ e (ap (λ (d : Due). after_due s.feed d (length w.journal)) q) (ap (item_at w s) q)
-due_steps w f s DueNothing e q = (s, e, q, refl)
-due_steps w f s DueGone e q = (ap (λ o. due_of (current w.journal) (feed_of o)) e ∙ q, refl)
+due_steps : (world : World) (id : FeedId) (s : Subscription) (due : Due)
+    → subscription world id.number ≡ Some s → due_in world.journal s.feed ≡ due
+    → Step world (Hand id) (hand_due world id.number s due).reply (hand_due world id.number s due).world
+due_steps world id s (DueRow c) e q =
+    push_steps world id s _ _ e (ap (λ (due : Due). after_due s.feed due (length world.journal)) q)
+    (ap (item_at world s) q)
+due_steps world id s (DueEnd last) e q =
+    push_steps world id s _ _ e (ap (λ (due : Due). after_due s.feed due (length world.journal)) q)
+    (ap (item_at world s) q)
+due_steps world id s DueNothing e q = (s, e, q, refl)
+due_steps world id s DueGone e q = (ap (λ o. due_of (current world.journal) (feed_of o)) e ∙ q, refl)
 
-hand_steps : (w : World) (f : FeedId) (o : Option Subscription) → subscription w f.number ≡ o
-    → Step w (Hand f) (hand w f.number o).reply (hand w f.number o).world
-hand_steps w f None e = (ap (λ o. due_of (current w.journal) (feed_of o)) e, refl)
-hand_steps w f (Some s) e = due_steps w f s (due_in w.journal s.feed) e refl
+hand_steps : (world : World) (id : FeedId) (maybe_subscription : Option Subscription)
+    → subscription world id.number ≡ maybe_subscription
+    → Step world (Hand id) (hand world id.number maybe_subscription).reply
+    (hand world id.number maybe_subscription).world
+hand_steps world id None e =
+    (ap (λ maybe_subscription. due_of (current world.journal) (feed_of maybe_subscription)) e, refl)
+hand_steps world id (Some s) e = due_steps world id s (due_in world.journal s.feed) e refl
 
 -- Heartbeat
-beat_steps : (w : World) (f : FeedId) (o : Option Subscription) → subscription w f.number ≡ o
-    → Step w (Heartbeat f) (beat w f.number o).reply (beat w f.number o).world
-beat_steps w f None e = (ap (λ o. is_beat_due (feed_of o)) e, refl)
-beat_steps w f (Some s) e =
+beat_steps : (world : World) (id : FeedId) (maybe_subscription : Option Subscription)
+    → subscription world id.number ≡ maybe_subscription
+    → Step world (Heartbeat id) (beat world id.number maybe_subscription).reply
+    (beat world id.number maybe_subscription).world
+beat_steps world id None e = (ap (λ maybe_subscription. is_beat_due (feed_of maybe_subscription)) e, refl)
+beat_steps world id (Some s) e =
     elim (cases_Bool (beat_due s.feed)) [
-      | inl t ↦ rw t (elim (cases_Bool (nat_lt (length s.lane) w.limits.lane)) [
+      | inl t ↦ rw t (elim (cases_Bool (nat_lt (length s.lane) world.limits.lane)) [
         | inl u ↦ rw u (s, e, t, refl, (ltb-true _ _ u, refl))
         | inr u ↦ rw u (s, e, t, ltb-false _ _ u, refl)
       ])
-      | inr t ↦ rw t (ap (λ o. is_beat_due (feed_of o)) e ∙ t, refl)
+      | inr t ↦ rw t (ap (λ maybe_subscription. is_beat_due (feed_of maybe_subscription)) e ∙ t, refl)
     ]
 
-begin_steps : (w : World) (params : FeedParams)
-    → Step w (Begin params) (opened w (params_of params)).reply (opened w (params_of params)).world
-begin_steps w params =
-    elim (cases_Bool w.deleted) [
+begin_steps : (world : World) (params : FeedParams)
+    → Step world (Begin params) (opened world (params_of params)).reply
+    (opened world (params_of params)).world
+begin_steps world params =
+    elim (cases_Bool world.deleted) [
       | inl t ↦ rw t (refl, refl)
-      | inr t ↦ rw t (elim (cases_Bool (has_no_room w)) [
+      | inr t ↦ rw t (elim (cases_Bool (has_no_room world)) [
         | inl u ↦ rw u (refl, u, refl)
         | inr u ↦ rw u (refl, u, refl, refl)
       ])
     ]
 
-delete_steps : (w : World) → Step w Delete (answer w Delete).reply (answer w Delete).world
-delete_steps w =
-    elim (cases_Bool w.deleted) [
+delete_steps : (world : World) → Step world Delete (answer world Delete).reply (answer world Delete).world
+delete_steps world =
+    elim (cases_Bool world.deleted) [
       | inl t ↦ rw t (refl, refl)
       | inr t ↦ rw t (refl, refl)
     ]
 
-answer_steps : (w : World) (event : Event) → Step w event (answer w event).reply (answer w event).world
-answer_steps w (Write docs) = (refl, refl)
-answer_steps w (Interactive docs) = (refl, refl)
-answer_steps w (Begin params) = begin_steps w params
-answer_steps w (Hand f) = hand_steps w f (subscription w f.number) refl
-answer_steps w (Heartbeat f) = beat_steps w f (subscription w f.number) refl
-answer_steps w (Expire f) = refl
-answer_steps w (Take f) = (refl, refl)
-answer_steps w (Finish f) = (refl, refl)
-answer_steps w Delete = delete_steps w
+answer_steps : (world : World) (event : Event)
+    → Step world event (answer world event).reply (answer world event).world
+answer_steps world (Write docs) = (refl, refl)
+answer_steps world (Interactive docs) = (refl, refl)
+answer_steps world (Begin params) = begin_steps world params
+answer_steps world (Hand f) = hand_steps world f (subscription world f.number) refl
+answer_steps world (Heartbeat f) = beat_steps world f (subscription world f.number) refl
+answer_steps world (Expire f) = refl
+answer_steps world (Take f) = (refl, refl)
+answer_steps world (Finish f) = (refl, refl)
+answer_steps world Delete = delete_steps world
 
 pub is_answered : IsAnswered
-is_answered w event = ((answer w event).reply, (answer w event).world, answer_steps w event)
+is_answered answered event =
+    ((answer answered event).reply, (answer answered event).world, answer_steps answered event)
 
 -- ---- the same the other way
 
-item_pushes : (w : World) (f : ℕ) (s : Subscription) (d : Due) (item : ChangeItem) → item_at w s d ≡ Some item
-    → hand_due w f s d ≡ push w f s (after_due s.feed d (length w.journal)) item
-item_pushes w f s (DueRow c) item i =
-    ap (push w f s (after_row s.feed c.seq (length w.journal))) (same_Some _ item i)
-item_pushes w f s (DueEnd last) item i = ap (push w f s (after_end s.feed last)) (same_Some _ item i)
-item_pushes w f s DueNothing item i = absurd (none-some item i)
-item_pushes w f s DueGone item i = absurd (none-some item i)
+item_pushes : (world : World) (f : ℕ) (subscription : Subscription) (due : Due) (item : ChangeItem)
+    → item_at world subscription due ≡ Some item
+    → hand_due world f subscription due ≡ push world f subscription
+    (after_due subscription.feed due (length world.journal)) item
+item_pushes world f subscription (DueRow c) item i =
+    ap (push world f subscription (after_row subscription.feed c.seq (length world.journal)))
+    (same_Some _ item i)
+item_pushes world f subscription (DueEnd last) item i =
+    ap (push world f subscription (after_end subscription.feed last)) (same_Some _ item i)
+item_pushes world f subscription DueNothing item i = absurd (none-some item i)
+item_pushes world f subscription DueGone item i = absurd (none-some item i)
 
-due_full : (w : World) (f : ℕ) (s : Subscription) (d : Due) (item : ChangeItem) → item_at w s d ≡ Some item
-    → w.limits.lane ≤ length s.lane → hand_due w f s d ≡ answer_with Full w
-due_full w f s d item i l = item_pushes w f s d item i ∙ rw (le-ltb _ _ l) refl
+due_full : (world : World) (f : ℕ) (subscription : Subscription) (due : Due) (item : ChangeItem)
+    → item_at world subscription due ≡ Some item
+    → world.limits.lane ≤ length subscription.lane
+    → hand_due world f subscription due ≡ answer_with Full world
+due_full world f subscription due item i l =
+    item_pushes world f subscription due item i ∙ rw (le-ltb _ _ l) refl
 
-gone_answer : (w : World) (f : ℕ) (o : Option Subscription) → due_of (current w.journal) (feed_of o) ≡ DueGone
-    → hand w f o ≡ answer_with Gone w
-gone_answer w f None e = refl
-gone_answer w f (Some s) e = ap (hand_due w f s) e
+gone_answer : (world : World) (f : ℕ) (maybe_subscription : Option Subscription)
+    → due_of (current world.journal) (feed_of maybe_subscription) ≡ DueGone
+    → hand world f maybe_subscription ≡ answer_with Gone world
+gone_answer world f None e = refl
+gone_answer world f (Some subscription) e = ap (hand_due world f subscription) e
 
-still_answer : (w : World) (f : ℕ) (o : Option Subscription) → is_beat_due (feed_of o) ≡ false
-    → beat w f o ≡ answer_with Nothing w
-still_answer w f None e = refl
-still_answer w f (Some s) e = rw e
+still_answer : (world : World) (f : ℕ) (maybe_subscription : Option Subscription)
+    → is_beat_due (feed_of maybe_subscription) ≡ false
+    → beat world f maybe_subscription ≡ answer_with Nothing world
+still_answer world f None e = refl
+still_answer world f (Some subscription) e = rw e
 
-from_same : (a b : Answer) (reply : Reply) (new : World) → a ≡ b → reply ≡ b.reply → new ≡ b.world
-    → (reply ≡ a.reply) × (new ≡ a.world)
-from_same a b reply new e p q =
+from_same : (answer other : Answer) (reply : Reply) (new : World) → answer ≡ other → reply ≡ other.reply
+    → new ≡ other.world → (reply ≡ answer.reply) × (new ≡ answer.world)
+from_same answer other reply new e p q =
     (p ∙ ap (λ (x : Answer). x.reply) (sym e), q ∙ ap (λ (x : Answer). x.world) (sym e))
 
-answers_so : (w new : World) (event : Event) (reply : Reply) → Step w event reply new
-    → (reply ≡ (answer w event).reply) × (new ≡ (answer w event).world)
-answers_so w new (Write docs) (Outcomes batch) m = (ap Outcomes m.0, m.1)
-answers_so w new (Write docs) _ m = absurd m
-answers_so w new (Interactive docs) (Outcomes batch) m = (ap Outcomes m.0, m.1)
-answers_so w new (Interactive docs) _ m = absurd m
-answers_so w new (Begin params) (Opened feed) m =
-    from_same (opened w (params_of params))
-    (answer_with (Opened (record { number = length w.feeds })) (with_feed w (params_of params))) _ new
+answers_so : (world new : World) (event : Event) (reply : Reply) → Step world event reply new
+    → (reply ≡ (answer world event).reply) × (new ≡ (answer world event).world)
+answers_so world new (Write docs) (Outcomes batch) m = (ap Outcomes m.0, m.1)
+answers_so world new (Write docs) _ m = absurd m
+answers_so world new (Interactive docs) (Outcomes batch) m = (ap Outcomes m.0, m.1)
+answers_so world new (Interactive docs) _ m = absurd m
+answers_so world new (Begin params) (Opened feed) m =
+    from_same (opened world (params_of params))
+    (answer_with (Opened (record { number = length world.feeds })) (with_feed world (params_of params))) _ new
     (rw m.0 (rw m.1 refl))
     (ap (λ (n : ℕ). Opened (record { number = n })) m.2) m.3
-answers_so w new (Begin params) DatabaseDeleted m =
-    from_same (opened w (params_of params)) (answer_with DatabaseDeleted w) _ new (rw m.0 refl) refl m.1
-answers_so w new (Begin params) TooManyFeeds m =
-    from_same (opened w (params_of params)) (answer_with TooManyFeeds w) _ new (rw m.0 (rw m.1 refl)) refl m.2
-answers_so w new (Begin params) _ m = absurd m
-answers_so w new (Hand f) (Pushed item) m =
-    from_same (hand w f.number (subscription w f.number))
+answers_so world new (Begin params) DatabaseDeleted m =
+    from_same (opened world (params_of params)) (answer_with DatabaseDeleted world) _ new
+    (rw m.0 refl) refl m.1
+answers_so world new (Begin params) TooManyFeeds m =
+    from_same (opened world (params_of params)) (answer_with TooManyFeeds world) _ new
+    (rw m.0 (rw m.1 refl)) refl m.2
+answers_so world new (Begin params) _ m = absurd m
+answers_so world new (Hand f) (Pushed item) m =
+    from_same (hand world f.number (subscription world f.number))
     (answer_with (Pushed item)
-    (with_subscription w f.number
-    (pushed m.0 (after_due m.0.feed (due_in w.journal m.0.feed) (length w.journal)) item)))
-    _ new (ap (hand w f.number) m.1 ∙ (item_pushes w f.number m.0 _ item m.2 ∙ rw (lt-ltb _ _ m.3.0) refl))
+    (with_subscription world f.number
+    (pushed m.0 (after_due m.0.feed (due_in world.journal m.0.feed) (length world.journal)) item)))
+    _ new (ap (hand world f.number) m.1
+    ∙ (item_pushes world f.number m.0 _ item m.2 ∙ rw (lt-ltb _ _ m.3.0) refl))
     refl m.3.1
-answers_so w new (Hand f) Full m =
-    from_same (hand w f.number (subscription w f.number)) (answer_with Full w) _ new
-    (ap (hand w f.number) m.1 ∙ due_full w f.number m.0 _ m.2.0 m.2.1 m.3) refl m.4
-answers_so w new (Hand f) Nothing m =
-    from_same (hand w f.number (subscription w f.number)) (hand_due w f.number m.0 DueNothing) _ new
-    (ap (hand w f.number) m.1 ∙ ap (hand_due w f.number m.0) m.2) refl m.3
-answers_so w new (Hand f) Gone m =
-    from_same (hand w f.number (subscription w f.number)) (answer_with Gone w) _ new
-    (gone_answer w f.number _ m.0) refl m.1
-answers_so w new (Hand f) _ m = absurd m
-answers_so w new (Heartbeat f) (Pushed item) m =
-    from_same (beat w f.number (subscription w f.number))
-    (answer_with (Pushed item) (with_subscription w f.number (pushed m.0 m.0.feed item))) _ new
-    (ap (beat w f.number) m.1 ∙ rw (m.2, m.3) (rw (lt-ltb _ _ m.4.0) refl)) refl m.4.1
-answers_so w new (Heartbeat f) Full m =
-    from_same (beat w f.number (subscription w f.number)) (answer_with Full w) _ new
-    (ap (beat w f.number) m.1 ∙ rw m.2 (rw (le-ltb _ _ m.3) refl)) refl m.4
-answers_so w new (Heartbeat f) Nothing m =
-    from_same (beat w f.number (subscription w f.number)) (answer_with Nothing w) _ new
-    (still_answer w f.number _ m.0) refl m.1
-answers_so w new (Heartbeat f) _ m = absurd m
-answers_so w new (Expire f) Nothing m = (refl, m)
-answers_so w new (Expire f) _ m = absurd m
-answers_so w new (Take f) (Took item) m = (ap Took m.0, m.1)
-answers_so w new (Take f) _ m = absurd m
-answers_so w new (Finish f) (Left items) m = (ap Left m.0, m.1)
-answers_so w new (Finish f) _ m = absurd m
-answers_so w new Delete Nothing m =
-    from_same (answer w Delete) (answer_with Nothing _) _ new (rw m.0 refl) refl m.1
-answers_so w new Delete DatabaseDeleted m =
-    from_same (answer w Delete) (answer_with DatabaseDeleted w) _ new (rw m.0 refl) refl m.1
-answers_so w new Delete _ m = absurd m
+answers_so world new (Hand f) Full m =
+    from_same (hand world f.number (subscription world f.number)) (answer_with Full world) _ new
+    (ap (hand world f.number) m.1 ∙ due_full world f.number m.0 _ m.2.0 m.2.1 m.3) refl m.4
+answers_so world new (Hand f) Nothing m =
+    from_same (hand world f.number (subscription world f.number))
+    (hand_due world f.number m.0 DueNothing) _ new
+    (ap (hand world f.number) m.1 ∙ ap (hand_due world f.number m.0) m.2) refl m.3
+answers_so world new (Hand f) Gone m =
+    from_same (hand world f.number (subscription world f.number)) (answer_with Gone world) _ new
+    (gone_answer world f.number _ m.0) refl m.1
+answers_so world new (Hand f) _ m = absurd m
+answers_so world new (Heartbeat f) (Pushed item) m =
+    from_same (beat world f.number (subscription world f.number))
+    (answer_with (Pushed item) (with_subscription world f.number (pushed m.0 m.0.feed item))) _ new
+    (ap (beat world f.number) m.1 ∙ rw (m.2, m.3) (rw (lt-ltb _ _ m.4.0) refl)) refl m.4.1
+answers_so world new (Heartbeat f) Full m =
+    from_same (beat world f.number (subscription world f.number)) (answer_with Full world) _ new
+    (ap (beat world f.number) m.1 ∙ rw m.2 (rw (le-ltb _ _ m.3) refl)) refl m.4
+answers_so world new (Heartbeat f) Nothing m =
+    from_same (beat world f.number (subscription world f.number)) (answer_with Nothing world) _ new
+    (still_answer world f.number _ m.0) refl m.1
+answers_so world new (Heartbeat f) _ m = absurd m
+answers_so world new (Expire f) Nothing m = (refl, m)
+answers_so world new (Expire f) _ m = absurd m
+answers_so world new (Take f) (Took item) m = (ap Took m.0, m.1)
+answers_so world new (Take f) _ m = absurd m
+answers_so world new (Finish f) (Left items) m = (ap Left m.0, m.1)
+answers_so world new (Finish f) _ m = absurd m
+answers_so world new Delete Nothing m =
+    from_same (answer world Delete) (answer_with Nothing _) _ new (rw m.0 refl) refl m.1
+answers_so world new Delete DatabaseDeleted m =
+    from_same (answer world Delete) (answer_with DatabaseDeleted world) _ new (rw m.0 refl) refl m.1
+answers_so world new Delete _ m = absurd m
 
 pub is_only_answer : IsOnlyAnswer
 is_only_answer old new other_new event reply other_reply m other =
@@ -204,21 +228,24 @@ is_only_answer old new other_new event reply other_reply m other =
 
 -- ---- runs
 
-pub runs : (w : World) (events : List Event) → Run w events (replies_to w events) (after w events)
-runs w [] = refl
-runs w (event ∷ events) = ((answer w event).world, answer_steps w event, runs (answer w event).world events)
+pub runs : (world : World) (events : List Event)
+    → Run world events (replies_to world events) (after world events)
+runs world [] = refl
+runs world (event ∷ events) =
+    ((answer world event).world, answer_steps world event, runs (answer world event).world events)
 
-run_so : (w new : World) (events : List Event) (replies : List Reply) → Run w events replies new
-    → (replies ≡ replies_to w events) × (new ≡ after w events)
-run_so w new [] [] r = (refl, r)
-run_so w new [] (reply ∷ replies) r = absurd r
-run_so w new (event ∷ events) [] r = absurd r
-run_so w new (event ∷ events) (reply ∷ replies) r =
-    let one = answers_so w r.0 event reply r.1 in
+run_so : (world new : World) (events : List Event) (replies : List Reply) → Run world events replies new
+    → (replies ≡ replies_to world events) × (new ≡ after world events)
+run_so world new [] [] r = (refl, r)
+run_so world new [] (reply ∷ replies) r = absurd r
+run_so world new (event ∷ events) [] r = absurd r
+run_so world new (event ∷ events) (reply ∷ replies) r =
+    let one = answers_so world r.0 event reply r.1 in
     let rest =
-    run_so (answer w event).world new events replies
-    (subst (λ (v : World). Run v events replies new) one.1 r.2) in (
-      ap (λ (x : Reply). x ∷ replies) one.0 ∙ ap (λ (xs : List Reply). (answer w event).reply ∷ xs) rest.0,
+    run_so (answer world event).world new events replies
+    (subst (λ (other : World). Run other events replies new) one.1 r.2) in (
+      ap (λ (x : Reply). x ∷ replies) one.0
+          ∙ ap (λ (xs : List Reply). (answer world event).reply ∷ xs) rest.0,
       rest.1,
     )
 

@@ -54,7 +54,7 @@ ends_last place (Row row ∷ before) later last n h = ends_last place before lat
 ends_last place (Beat ∷ before) later last n h = ends_last place before later last n h
 ends_last place (End l m ∷ before) later last n h =
     absurd (contains_none (End last n)
-    (subst (λ (xs : List ChangeItem). Contains xs (End last n)) h.1
+    (subst (λ (items : List ChangeItem). Contains items (End last n)) h.1
     (Contains-append_right before (End last n ∷ later) (End last n) (contains_here _ _))))
 
 -- the row of a sequence
@@ -67,46 +67,50 @@ row_at (row ∷ rows) n c = elim (contains_cases _ _ _ c) [
 ]
 
 -- two rows at one sequence, one of a front of the journal, are of one document
-same_document : (J : List Edit) (n : ℕ) (c d : Current) → Contains (current J) c
-    → Contains (current (take n J)) d → d.seq ≡ c.seq → d.id ≡ c.id
-same_document J n c d p q s =
-    let x = current_is J c p in
-    let y = current_is (take n J) d q in
-    let whole : y.1.0 ++ y.0 ∷ (y.1.1 ++ drop n J) ≡ x.1.0 ++ x.0 ∷ x.1.1 =
-    sym (append_assoc y.1.0 (y.0 ∷ y.1.1) (drop n J))
-    ∙ (ap (λ (K : List Edit). K ++ drop n J) (sym y.1.2) ∙ (take-append-drop n J ∙ x.1.2)) in
+same_document : (journal : List Edit) (n : ℕ) (row other : Current) → Contains (current journal) row
+    → Contains (current (take n journal)) other → other.seq ≡ row.seq → other.id ≡ row.id
+same_document journal n row other p q s =
+    let x = current_is journal row p in
+    let y = current_is (take n journal) other q in
+    let whole : y.1.0 ++ y.0 ∷ (y.1.1 ++ drop n journal) ≡ x.1.0 ++ x.0 ∷ x.1.1 =
+    sym (append_assoc y.1.0 (y.0 ∷ y.1.1) (drop n journal))
+    ∙ (ap (λ (other_journal : List Edit). other_journal ++ drop n journal) (sym y.1.2)
+    ∙ (take-append-drop n journal ∙ x.1.2)) in
     let one =
-    same_split y.1.0 x.1.0 (y.1.1 ++ drop n J) x.1.1 y.0 x.0 (omega (arith, x.1.3, y.1.3, s)) whole in
-    sym y.2 ∙ (ap (λ (e : Edit). e.id) one.1 ∙ x.2)
+    same_split y.1.0 x.1.0 (y.1.1 ++ drop n journal) x.1.1 y.0 x.0 (omega (arith, x.1.3, y.1.3, s)) whole in
+    sym y.2 ∙ (ap (λ (edit : Edit). edit.id) one.1 ∙ x.2)
 
-row_document : (J : List Edit) (f : Feed) (row : ChangeRow) (c : Current) → IsRowOf change_rows J f row
-    → Contains (current J) c → row.seq ≡ c.seq → row.id ≡ c.id
-row_document J f row c r p s =
+row_document : (journal : List Edit) (feed : Feed) (row : ChangeRow) (c : Current)
+    → IsRowOf change_rows journal feed row → Contains (current journal) c → row.seq ≡ c.seq → row.id ≡ c.id
+row_document journal feed row c r p s =
     let d = r.shown.0 in
     let seq : row.seq ≡ d.seq = ap (λ (x : ChangeRow). x.seq) r.shown.2 in
-    ap (λ (x : ChangeRow). x.id) r.shown.2 ∙ same_document J row.seen c d p r.shown.1 (sym seq ∙ s)
+    ap (λ (x : ChangeRow). x.id) r.shown.2 ∙ same_document journal row.seen c d p r.shown.1 (sym seq ∙ s)
 
 -- what a step hands was made of the journal of that step
-due_seen : (J : List Edit) (f : Feed) (d : Due) (row : ChangeRow)
-    → item_of (row_of J f.params.style f.params.include_docs) (current J) d ≡ Some (Row row)
-    → row.seen ≡ length J
-due_seen J f (DueRow c) row e =
-    let same : Row (row_of J f.params.style f.params.include_docs c) ≡ Row row = same_Some _ _ e in
-    let r : row_of J f.params.style f.params.include_docs c ≡ row = cc in
+due_seen : (journal : List Edit) (feed : Feed) (due : Due) (row : ChangeRow)
+    → item_of (row_of journal feed.params.style feed.params.include_docs) (current journal) due ≡ Some
+    (Row row) → row.seen ≡ length journal
+due_seen journal feed (DueRow c) row e =
+    let same : Row (row_of journal feed.params.style feed.params.include_docs c) ≡ Row row = same_Some _ _ e
+    in
+    let r : row_of journal feed.params.style feed.params.include_docs c ≡ row = cc in
     ap (λ (x : ChangeRow). x.seen) (sym r)
-due_seen J f (DueEnd last) row e = absurd (cc)
-due_seen J f DueNothing row e = absurd (none-some _ e)
-due_seen J f DueGone row e = absurd (none-some _ e)
+due_seen journal feed (DueEnd last) row e = absurd (cc)
+due_seen journal feed DueNothing row e = absurd (none-some _ e)
+due_seen journal feed DueGone row e = absurd (none-some _ e)
 
-item_seen : (J : List Edit) (f : Feed) (item : ChangeItem) (row : ChangeRow) (b : Bool)
-    → change_due J f ≡ Some item → Contains (rows_of (if b then item ∷ [] else [])) row → row.seen ≡ length J
-item_seen J f (Row r) row true e c = elim (contains_cases r row [] c) [
-  | inl s ↦ due_seen J f (due_in J f) row (subst (λ (x : ChangeRow). change_due J f ≡ Some (Row x)) s e)
+item_seen : (journal : List Edit) (feed : Feed) (item : ChangeItem) (row : ChangeRow) (b : Bool)
+    → change_due journal feed ≡ Some item → Contains (rows_of (if b then item ∷ [] else [])) row
+    → row.seen ≡ length journal
+item_seen journal feed (Row r) row true e c = elim (contains_cases r row [] c) [
+  | inl s ↦ due_seen journal feed (due_in journal feed) row
+      (subst (λ (x : ChangeRow). change_due journal feed ≡ Some (Row x)) s e)
   | inr d ↦ absurd (contains_none row d)
 ]
-item_seen J f Beat row true e c = absurd (contains_none row c)
-item_seen J f (End last n) row true e c = absurd (contains_none row c)
-item_seen J f item row false e c = absurd (contains_none row c)
+item_seen journal feed Beat row true e c = absurd (contains_none row c)
+item_seen journal feed (End last n) row true e c = absurd (contains_none row c)
+item_seen journal feed item row false e c = absurd (contains_none row c)
 
 beat_rows : (b : Bool) (row : ChangeRow) → Contains (rows_of (if b then Beat ∷ [] else [])) row → ⊥
 beat_rows true row c = contains_none row c
@@ -136,7 +140,7 @@ rows_in f zero (e ∷ events) (r ∷ replies) event reply row at c =
     subst (λ (rows : List ChangeRow). Contains rows row)
     (sym (rows_of-append (handed_by f e r) (handed f events replies)))
     (Contains-append_left (rows_of (handed_by f e r)) (rows_of (handed f events replies)) row
-    (subst (λ (xs : List ChangeItem). Contains (rows_of xs) row) here c))
+    (subst (λ (items : List ChangeItem). Contains (rows_of items) row) here c))
 rows_in f (suc place) (e ∷ events) (r ∷ replies) event reply row at c =
     subst (λ (rows : List ChangeRow). Contains rows row)
     (sym (rows_of-append (handed_by f e r) (handed f events replies)))
@@ -176,7 +180,7 @@ step_at (suc place) old (e ∷ events) (r ∷ replies) new run event reply at =
 journal_left : (old : World) (events : List Event) (replies : List Reply) (new : World)
     (run : Run old events replies new)
     → journal_at old events replies new run (length events) ≡ new.journal
-journal_left old [] [] new run = ap (λ (w : World). w.journal) (sym run)
+journal_left old [] [] new run = ap (λ (world : World). world.journal) (sym run)
 journal_left old [] (reply ∷ replies) new run = absurd run
 journal_left old (event ∷ events) [] new run = absurd run
 journal_left old (event ∷ events) (reply ∷ replies) new run =
@@ -200,7 +204,8 @@ current_at old events replies new run f feed right place event reply at = all_fr
     let front : take row.seen new.journal ≡ J =
     ap (λ (n : ℕ). take n new.journal) seen
     ∙ (ap (take (length J)) here.adds ∙ take-append_seam J here.added) in
-    subst (λ (K : List Edit). IsRow K feed.params.style feed.params.include_docs row) front
+    subst (λ (other_journal : List Edit). IsRow other_journal feed.params.style feed.params.include_docs row)
+    front
     (of.shown.0, of.shown.1, of.shown.2))
 
 -- what a run handed is rightly handed
@@ -208,41 +213,42 @@ rightly : (limits : Limits) (events : List Event) (replies : List Reply) (world 
     → Run (empty limits) events replies world → (f : ℕ) (s : Subscription) → subscription world f ≡ Some s
     → RightlyHanded change_rows world.journal s.feed (handed f events replies)
 rightly limits events replies world run f s e =
-    subst (λ (o : Option Subscription). IsRight world.journal o (handed f events replies)) e
+    subst (λ (maybe_subscription : Option Subscription).
+    IsRight world.journal maybe_subscription (handed f events replies)) e
     (hands_rightly limits events replies world f run)
 
 -- the replies of a run are faithful by its own journals
-own_faithful : (limits : Limits) (events : List Event) (replies : List Reply) (w : World)
-    (run : Run (empty limits) events replies w) (f : ℕ) (s : Subscription) → subscription w f ≡ Some s
-    → IsFaithful (journal_at (empty limits) events replies w run) events replies f s.feed
-own_faithful limits events replies w run f s e =
+own_faithful : (limits : Limits) (events : List Event) (replies : List Reply) (world : World)
+    (run : Run (empty limits) events replies world) (f : ℕ) (s : Subscription) → subscription world f ≡ Some s
+    → IsFaithful (journal_at (empty limits) events replies world run) events replies f s.feed
+own_faithful limits events replies world run f s e =
     let items = handed f events replies in
-    let right = rightly limits events replies w run f s e in
+    let right = rightly limits events replies world run f s e in
     record {
-      prefix = takes_in_order limits events replies w f run;
+      prefix = takes_in_order limits events replies world f run;
       rising = λ i k d a b. (right.rising i k d a b).rises;
-      at_step = current_at (empty limits) events replies w run f s.feed right;
+      at_step = current_at (empty limits) events replies world run f s.feed right;
       passing =
-          All-weaker (IsRowOf change_rows w.journal s.feed) _
+          All-weaker (IsRowOf change_rows world.journal s.feed) _
           (λ row r.
           subst (λ (x : ChangeRow). IsTrue (passes s.feed.params.filter x.id)) (sym r.shown.2) r.shown.3)
           (rows_of items) right.rows;
       below = λ last n c.
           let at = ends_place s.feed.place items last n right.ends c in
-          All-weaker (IsRowOf change_rows w.journal s.feed) (λ (row : ChangeRow). row.seq ≤ last)
+          All-weaker (IsRowOf change_rows world.journal s.feed) (λ (row : ChangeRow). row.seq ≤ last)
           (λ row r. omega (arith, r.reached, at)) (rows_of items) right.rows;
       last = λ before later last n same.
           ends_last s.feed.place before later last n (subst (EndsAt s.feed.place) same right.ends);
       whole = λ c in_rows q a z.
-          let here : Contains (current w.journal) c =
-          subst (λ (J : List Edit). Contains (current J) c)
-          (journal_left (empty limits) events replies w run) in_rows in
+          let here : Contains (current world.journal) c =
+          subst (λ (journal : List Edit). Contains (current journal) c)
+          (journal_left (empty limits) events replies world run) in_rows in
           let found = row_at (rows_of items) c.seq (right.whole c here q a z) in (
             found.0,
             found.1,
             found.2,
-            row_document w.journal s.feed found.0 c
-                (All-contains (IsRowOf change_rows w.journal s.feed) _ found.0 right.rows found.1) here
+            row_document world.journal s.feed found.0 c
+                (All-contains (IsRowOf change_rows world.journal s.feed) _ found.0 right.rows found.1) here
                 found.2,
           );
     }

@@ -20,26 +20,27 @@ use Rattle.hub_world.proofs.Standing.{feed_found}
 use Rattle.hub_world.proofs.Stepping.{begin_leads}
 
 -- a row is due
-pub row_grows : (c : Core) (id : FeedId) → IsRowDue (feeds.due_to (hosted_of c.db) id.number)
-    → (w : World) → Shows c w → NeedsMemory w (Hand id)
-row_grows c id due w h = from (entry_in id.number c.db.feeds) refl due
+pub row_grows : (core : Core) (id : FeedId) → IsRowDue (feeds.due_to (hosted_of core.db) id.number)
+    → (world : World) → Shows core world → NeedsMemory world (Hand id)
+row_grows core id due world h = from (entry_in id.number core.db.feeds) refl due
   where
-    from : (o : Option Feed) → entry_in id.number c.db.feeds ≡ o
-        → IsRowDue (feeds.due_of (current c.db.journal) o)
-        → NeedsMemory w (Hand id)
+    from : (maybe_feed : Option Feed) → entry_in id.number core.db.feeds ≡ maybe_feed
+        → IsRowDue (feeds.due_of (current core.db.journal) maybe_feed)
+        → NeedsMemory world (Hand id)
     from None is due = absurd due
     from (Some feed) is due =
-        let s = feed_found c w id.number feed h is in
-        let same : due_in w.journal s.0.feed ≡ due_in c.db.journal feed =
-        ap (λ (J : List Edit). due_in J s.0.feed) h.journal ∙ ap (due_in c.db.journal) s.2 in
+        let s = feed_found core world id.number feed h is in
+        let same : due_in world.journal s.0.feed ≡ due_in core.db.journal feed =
+        ap (λ (journal : List Edit). due_in journal s.0.feed) h.journal ∙ ap (due_in core.db.journal) s.2 in
         rw s.1 (subst IsRowDue (sym same) due)
 
 -- a feed is opened
-pub begin_grows : (c : Core) (params : FeedParams) → feeds.refuses (hosted_of c.db) ≡ None → (w : World)
-    → Shows c w → NeedsMemory w (Begin params)
-begin_grows c params free w h =
-    let m = (begin_leads c params (record { number = c.db.next_feed }) refl free w h).1 in (m.0, m.1)
+pub begin_grows : (core : Core) (params : FeedParams) → feeds.refuses (hosted_of core.db) ≡ None
+    → (world : World) → Shows core world → NeedsMemory world (Begin params)
+begin_grows core params free world h =
+    let m = (begin_leads core params (record { number = core.db.next_feed }) refl free world h).1 in
+    (m.0, m.1)
 
 -- the same of the core of a program's world, as it is seen
-pub fails_as : (c seen : Core) (event : Event) → c ≡ seen → MayFail c event → MayFail seen event
-fails_as c seen event same fails = subst (λ (z : Core). MayFail z event) same fails
+pub fails_as : (core seen : Core) (event : Event) → core ≡ seen → MayFail core event → MayFail seen event
+fails_as core seen event same fails = subst (λ (other : Core). MayFail other event) same fails

@@ -18,7 +18,8 @@ Lists = List (ℕ × ListState)
 
 -- what the core has of a list
 pub entry_held : (number : ℕ) (lists : Lists)
-    → entry_in number (map held_entry lists) ≡ option_map (λ (k : ListState). k.held) (entry_in number lists)
+    → entry_in number (map held_entry lists) ≡ option_map (λ (state : ListState). state.held)
+    (entry_in number lists)
 entry_held number [] = refl
 entry_held number (p ∷ lists) =
     elim (cases_Bool (nat_eq p.0 number)) [ inl t ↦ rw t refl | inr t ↦ rw t (entry_held number lists) ]
@@ -31,12 +32,12 @@ back_held number lists =
     (entry_held number lists)
     ∙ from (entry_in number lists)
   where
-    from : (o : Option ListState)
+    from : (maybe_state : Option ListState)
         → option_and_then (λ (items : List ChangeItem). slice_get items (length items - 1))
-        (option_map (λ (k : ListState). k.held) o)
-        ≡ option_and_then last o
+        (option_map (λ (state : ListState). state.held) maybe_state)
+        ≡ option_and_then last maybe_state
     from None = refl
-    from (Some k) = refl
+    from (Some state) = refl
 
 pub front_held : (number : ℕ) (lists : Lists)
     → front number (map held_entry lists) ≡ option_and_then list.front (entry_in number lists)
@@ -44,12 +45,12 @@ front_held number lists =
     ap (option_and_then (λ (items : List ChangeItem). slice_get items 0)) (entry_held number lists)
     ∙ from (entry_in number lists)
   where
-    from : (o : Option ListState)
+    from : (maybe_state : Option ListState)
         → option_and_then (λ (items : List ChangeItem). slice_get items 0)
-        (option_map (λ (k : ListState). k.held) o)
-        ≡ option_and_then list.front o
+        (option_map (λ (state : ListState). state.held) maybe_state)
+        ≡ option_and_then list.front maybe_state
     from None = refl
-    from (Some k) = refl
+    from (Some state) = refl
 
 pub all_held : (number : ℕ) (lists : Lists)
     → held number (map held_entry lists) ≡ held_of (entry_in number lists)
@@ -57,13 +58,14 @@ all_held number lists =
     ap (λ (o : Option (List ChangeItem)). unwrap_or o []) (entry_held number lists)
     ∙ from (entry_in number lists)
   where
-    from : (o : Option ListState) → unwrap_or (option_map (λ (k : ListState). k.held) o) [] ≡ held_of o
+    from : (o : Option ListState)
+        → unwrap_or (option_map (λ (state : ListState). state.held) o) [] ≡ held_of o
     from None = refl
-    from (Some k) = refl
+    from (Some state) = refl
 
 -- a list changes
 pub changed_held : (number : ℕ) (change : ListState → ListState) (refill : List ChangeItem → List ChangeItem)
-    → ((k : ListState) → (change k).held ≡ refill k.held) → (lists : Lists)
+    → ((state : ListState) → (change state).held ≡ refill state.held) → (lists : Lists)
     → map held_entry (changed number change lists) ≡ changed number refill (map held_entry lists)
 changed_held number change refill same [] = refl
 changed_held number change refill same (p ∷ lists) =
@@ -85,14 +87,15 @@ without_held number [] = refl
 without_held number (p ∷ lists) =
     elim (cases_Bool (nat_eq p.0 number)) [
       | inl t ↦ rw t (without_held number lists)
-      | inr t ↦ rw t (ap (λ (ps : Lanes). (p.0, p.1.held) ∷ ps) (without_held number lists))
+      | inr t ↦ rw t (ap (λ (lanes : Lanes). (p.0, p.1.held) ∷ lanes) (without_held number lists))
     ]
 
 -- a list comes
-pub added_held : (number : ℕ) (k : ListState) (lists : Lists)
-    → map held_entry (lists ++ (number, k) ∷ []) ≡ map held_entry lists ++ (number, k.held) ∷ []
-added_held number k [] = refl
-added_held number k (p ∷ lists) = ap (λ (ps : Lanes). (p.0, p.1.held) ∷ ps) (added_held number k lists)
+pub added_held : (number : ℕ) (state : ListState) (lists : Lists)
+    → map held_entry (lists ++ (number, state) ∷ []) ≡ map held_entry lists ++ (number, state.held) ∷ []
+added_held number state [] = refl
+added_held number state (p ∷ lists) =
+    ap (λ (lanes : Lanes). (p.0, p.1.held) ∷ lanes) (added_held number state lists)
 
 -- lists that hold as many items at most
 module _ (capacity : ℕ) where
@@ -100,19 +103,20 @@ module _ (capacity : ℕ) where
   Fits p = p.1.capacity ≡ capacity
 
   -- so each of them
-  pub fits_entry : (number : ℕ) (k : ListState) (lists : Lists) → All Fits lists
-      → entry_in number lists ≡ Some k → k.capacity ≡ capacity
-  fits_entry number k [] fits is = absurd (none-some k is)
-  fits_entry number k (p ∷ lists) fits is =
+  pub fits_entry : (number : ℕ) (state : ListState) (lists : Lists) → All Fits lists
+      → entry_in number lists ≡ Some state → state.capacity ≡ capacity
+  fits_entry number state [] fits is = absurd (none-some state is)
+  fits_entry number state (p ∷ lists) fits is =
       elim (cases_Bool (nat_eq p.0 number)) [
-        | inl t ↦ ap (λ (l : ListState). l.capacity) (sym (same_Some p.1 k (rw t at is))) ∙ fits 0 p
+        | inl t ↦ ap (λ (other : ListState). other.capacity) (sym (same_Some p.1 state (rw t at is)))
+            ∙ fits 0 p
             (omega arith)
-        | inr t ↦ fits_entry number k lists (λ i d low. fits (suc i) d (omega arith)) (rw t at is)
+        | inr t ↦ fits_entry number state lists (λ i d low. fits (suc i) d (omega arith)) (rw t at is)
       ]
 
   -- and so once one changes, goes or comes
   pub fits_changed : (number : ℕ) (change : ListState → ListState)
-      → ((k : ListState) → (change k).capacity ≡ k.capacity) → (lists : Lists) → All Fits lists
+      → ((state : ListState) → (change state).capacity ≡ state.capacity) → (lists : Lists) → All Fits lists
       → All Fits (changed number change lists)
   fits_changed number change same lists fits =
       All-map Fits (λ (p : ℕ × ListState). if is_of number p then (p.0, change p.1) else p) lists
@@ -126,6 +130,6 @@ module _ (capacity : ℕ) where
   fits_without number lists fits =
       All-filter (λ (p : ℕ × ListState). not (is_of number p)) Fits lists fits
 
-  pub fits_added : (number : ℕ) (k : ListState) (lists : Lists) → k.capacity ≡ capacity → All Fits lists
-      → All Fits (lists ++ (number, k) ∷ [])
-  fits_added number k lists same fits = All-push Fits lists (number, k) fits same
+  pub fits_added : (number : ℕ) (state : ListState) (lists : Lists) → state.capacity ≡ capacity
+      → All Fits lists → All Fits (lists ++ (number, state) ∷ [])
+  fits_added number state lists same fits = All-push Fits lists (number, state) fits same

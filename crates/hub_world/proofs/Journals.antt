@@ -21,24 +21,27 @@ use Rattle.hub_model.proofs.Writes.{all_legal, merges_legal, makes_legal}
 
 -- the journal after an event
 abbrev journal_after : World → Event → List Edit
-journal_after w (Write docs) = (merged w (map edit_of docs)).journal
-journal_after w (Interactive docs) = (drafted w (map draft_of docs)).journal
-journal_after w _ = w.journal
+journal_after world (Write docs) = (merged world (map edit_of docs)).journal
+journal_after world (Interactive docs) = (drafted world (map draft_of docs)).journal
+journal_after world _ = world.journal
 
-journal_expired : (o : Option Subscription) (f : ℕ) (w : World) → (expired o f w).journal ≡ w.journal
-journal_expired None f w = refl
-journal_expired (Some s) f w = refl
+journal_expired : (maybe_subscription : Option Subscription) (f : ℕ) (world : World)
+    → (expired maybe_subscription f world).journal ≡ world.journal
+journal_expired None f world = refl
+journal_expired (Some subscription) f world = refl
 
-journal_took : (o : Option Subscription) (f : ℕ) (w : World) → (took o f w).journal ≡ w.journal
-journal_took None f w = refl
-journal_took (Some s) f w = refl
+journal_took : (maybe_subscription : Option Subscription) (f : ℕ) (world : World)
+    → (took maybe_subscription f world).journal ≡ world.journal
+journal_took None f world = refl
+journal_took (Some subscription) f world = refl
 
-journal_finished : (o : Option Subscription) (f : ℕ) (w : World) → (finished o f w).journal ≡ w.journal
-journal_finished None f w = refl
-journal_finished (Some s) f w = refl
+journal_finished : (maybe_subscription : Option Subscription) (f : ℕ) (world : World)
+    → (finished maybe_subscription f world).journal ≡ world.journal
+journal_finished None f world = refl
+journal_finished (Some subscription) f world = refl
 
 j : {a b : World} → a ≡ b → a.journal ≡ b.journal
-j e = ap (λ (w : World). w.journal) e
+j e = ap (λ (world : World). world.journal) e
 
 step_journal : (old : World) (event : Event) (reply : Reply) (new : World) → Step old event reply new
     → new.journal ≡ journal_after old event
@@ -74,7 +77,7 @@ step_journal old Delete _ new m = absurd m
 
 -- a fact about journals that each event keeps, each step keeps, and each run
 module _ (P : List Edit → Type 0)
-    (keeps : (w : World) (event : Event) → P w.journal → P (journal_after w event)) where
+    (keeps : (world : World) (event : Event) → P world.journal → P (journal_after world event)) where
   pub run_journal : (old : World) (events : List Event) (replies : List Reply) (new : World)
       → Run old events replies new → P old.journal → P new.journal
   run_journal old [] [] new r h = subst P (sym (j r)) h
@@ -84,27 +87,32 @@ module _ (P : List Edit → Type 0)
       run_journal r.0 events replies new r.2
       (subst P (sym (step_journal old event reply r.0 r.1)) (keeps old event h))
 
-legal_after : (w : World) (event : Event) → IsLegal w.journal → IsLegal (journal_after w event)
-legal_after w (Write docs) h =
-    all_legal (merges w.limits.journal) (merges_legal w.limits.journal) w.deleted w.journal (map edit_of docs)
+legal_after : (world : World) (event : Event) → IsLegal world.journal → IsLegal (journal_after world event)
+legal_after world (Write docs) h =
+    all_legal (merges world.limits.journal) (merges_legal world.limits.journal) world.deleted world.journal
+    (map edit_of docs)
     h
-legal_after w (Interactive docs) h =
-    all_legal (makes w.limits.journal) (makes_legal w.limits.journal) w.deleted w.journal (map draft_of docs)
+legal_after world (Interactive docs) h =
+    all_legal (makes world.limits.journal) (makes_legal world.limits.journal) world.deleted world.journal
+    (map draft_of docs)
     h
-legal_after w _ h = h
+legal_after world _ h = h
 
 pub stays_legal : StaysLegal
 stays_legal limits events replies w r = run_journal IsLegal legal_after (empty limits) events replies w r tt
 
 -- one more event adds to what was added
-adds_after : (J : List Edit) (w : World) (event : Event) → Adds J w.journal → Adds J (journal_after w event)
-adds_after J w (Write docs) a =
-    adds_both J w.journal _ a
-    (all_add (merges w.limits.journal) (merge_adds w.limits.journal) w.deleted w.journal (map edit_of docs))
-adds_after J w (Interactive docs) a =
-    adds_both J w.journal _ a
-    (all_add (makes w.limits.journal) (make_adds w.limits.journal) w.deleted w.journal (map draft_of docs))
-adds_after J w _ a = a
+adds_after : (journal : List Edit) (world : World) (event : Event) → Adds journal world.journal
+    → Adds journal (journal_after world event)
+adds_after journal world (Write docs) a =
+    adds_both journal world.journal _ a
+    (all_add (merges world.limits.journal) (merge_adds world.limits.journal) world.deleted world.journal
+    (map edit_of docs))
+adds_after journal world (Interactive docs) a =
+    adds_both journal world.journal _ a
+    (all_add (makes world.limits.journal) (make_adds world.limits.journal) world.deleted world.journal
+    (map draft_of docs))
+adds_after journal world _ a = a
 
 pub run_adds : (old : World) (events : List Event) (replies : List Reply) (new : World)
     → Run old events replies new → Adds old.journal new.journal

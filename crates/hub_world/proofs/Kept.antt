@@ -29,178 +29,222 @@ use Rattle.hub_world.specs.declared.reply.Reply.TheVariants.{Pushed, Full, Nothi
 use Rattle.hub_world.specs.Step.{Step, Run}
 use Rattle.hub_world.specs.Handed.{handed_by, taken_by, handed, taken}
 
--- what may happen to a subscription s, whose list of handed items is h and of taken ones t
+-- what may happen to a subscription subscription, whose list of handed items is h and of taken ones t
 pub record IsKept (Q : List Edit → Subscription → List ChangeItem → List ChangeItem → Type 0) : Type 0 where
-  pub grows : (J es : List Edit) (s : Subscription) (h t : List ChangeItem) → Q J s h t → Q (J ++ es) s h t
-  pub begins : (J : List Edit) (params : Params) (life : ℕ)
-      → Q J (record { feed = begin params (length J) life; lane = [] }) [] []
-  pub hands : (J : List Edit) (s : Subscription) (h t : List ChangeItem) (item : ChangeItem)
-      → change_due J s.feed ≡ Some item → Q J s h t
-      → Q J (pushed s (after_due s.feed (due_in J s.feed) (length J)) item) (h ++ item ∷ []) t
-  pub beats : (J : List Edit) (s : Subscription) (h t : List ChangeItem) → beat_due s.feed ≡ true → Q J s h t
-      → Q J (pushed s s.feed Beat) (h ++ Beat ∷ []) t
-  pub waits : (J : List Edit) (s : Subscription) (h t : List ChangeItem) → due_in J s.feed ≡ DueNothing
-      → Q J s h t → Q J (record s { feed = after_nothing s.feed (length J) }) h t
-  pub expires : (J : List Edit) (s : Subscription) (h t : List ChangeItem) → Q J s h t
-      → Q J (record s { feed = expire s.feed }) h t
-  pub ends : (J : List Edit) (s : Subscription) (h t : List ChangeItem) → Q J s h t → Q J (ended s) h t
-  pub finishes : (J : List Edit) (s : Subscription) (h t : List ChangeItem) → Q J s h t
-      → Q J (record { feed = finish s.feed; lane = [] }) h t
-  pub takes : (J : List Edit) (s : Subscription) (h t : List ChangeItem) (item : ChangeItem)
+  pub grows : (journal edits : List Edit) (subscription : Subscription) (h t : List ChangeItem)
+      → Q journal subscription h t → Q (journal ++ edits) subscription h t
+  pub begins : (journal : List Edit) (params : Params) (life : ℕ)
+      → Q journal (record { feed = begin params (length journal) life; lane = [] }) [] []
+  pub hands : (journal : List Edit) (subscription : Subscription) (h t : List ChangeItem) (item : ChangeItem)
+      → change_due journal subscription.feed ≡ Some item → Q journal subscription h t
+      → Q journal (pushed subscription
+      (after_due subscription.feed (due_in journal subscription.feed) (length journal)) item)
+      (h ++ item ∷ []) t
+  pub beats : (journal : List Edit) (subscription : Subscription) (h t : List ChangeItem)
+      → beat_due subscription.feed ≡ true → Q journal subscription h t
+      → Q journal (pushed subscription subscription.feed Beat) (h ++ Beat ∷ []) t
+  pub waits : (journal : List Edit) (subscription : Subscription) (h t : List ChangeItem)
+      → due_in journal subscription.feed ≡ DueNothing
+      → Q journal subscription h t
+      → Q journal (record subscription { feed = after_nothing subscription.feed (length journal) }) h t
+  pub expires : (journal : List Edit) (subscription : Subscription) (h t : List ChangeItem)
+      → Q journal subscription h t → Q journal (record subscription { feed = expire subscription.feed }) h t
+  pub ends : (journal : List Edit) (subscription : Subscription) (h t : List ChangeItem)
+      → Q journal subscription h t → Q journal (ended subscription) h t
+  pub finishes : (journal : List Edit) (subscription : Subscription) (h t : List ChangeItem)
+      → Q journal subscription h t → Q journal (record { feed = finish subscription.feed; lane = [] }) h t
+  pub takes : (journal : List Edit) (subscription : Subscription) (h t : List ChangeItem) (item : ChangeItem)
       (items : List ChangeItem)
-      → s.lane ≡ item ∷ items → Q J s h t → Q J (record s { lane = items }) h (t ++ item ∷ [])
+      → subscription.lane ≡ item ∷ items → Q journal subscription h t
+      → Q journal (record subscription { lane = items }) h (t ++ item ∷ [])
 
 -- the fact at a feed's number: nothing was handed and taken where there is no such feed
 abbrev pub In : (List Edit → Subscription → List ChangeItem → List ChangeItem → Type 0) → List Edit
     → Option Subscription → List ChangeItem → List ChangeItem → Type 0
-In Q J None h t = (h ≡ []) × (t ≡ [])
-In Q J (Some s) h t = Q J s h t
+In Q journal None items others = (items ≡ []) × (others ≡ [])
+In Q journal (Some subscription) items others = Q journal subscription items others
 
 -- a list with one place written
-pub get_set_same : (xs : List Subscription) (f : ℕ) (s t : Subscription) → slice_get xs f ≡ Some s
-    → slice_get (slice_set xs f t) f ≡ Some t
-get_set_same [] f s t e = absurd (cc)
-get_set_same (x ∷ xs) zero s t e = refl
-get_set_same (x ∷ xs) (suc f) s t e = get_set_same xs f s t e
+pub get_set_same : (subscriptions : List Subscription) (f : ℕ) (other t : Subscription)
+    → slice_get subscriptions f ≡ Some other → slice_get (slice_set subscriptions f t) f ≡ Some t
+get_set_same [] f other t e = absurd (cc)
+get_set_same (subscription ∷ subscriptions) zero other t e = refl
+get_set_same (subscription ∷ subscriptions) (suc f) other t e = get_set_same subscriptions f other t e
 
-pub get_set_other : (xs : List Subscription) (f g : ℕ) (t : Subscription) → f ≢ g
-    → slice_get (slice_set xs f t) g ≡ slice_get xs g
-get_set_other [] f g t n = refl
-get_set_other (x ∷ xs) zero zero t n = absurd (n refl)
-get_set_other (x ∷ xs) zero (suc g) t n = refl
-get_set_other (x ∷ xs) (suc f) zero t n = refl
-get_set_other (x ∷ xs) (suc f) (suc g) t n = get_set_other xs f g t (λ e. n (ap suc e))
+pub get_set_other : (subscriptions : List Subscription) (f g : ℕ) (other : Subscription) → f ≢ g
+    → slice_get (slice_set subscriptions f other) g ≡ slice_get subscriptions g
+get_set_other [] f g other n = refl
+get_set_other (subscription ∷ subscriptions) zero zero other n = absurd (n refl)
+get_set_other (subscription ∷ subscriptions) zero (suc g) other n = refl
+get_set_other (subscription ∷ subscriptions) (suc f) zero other n = refl
+get_set_other (subscription ∷ subscriptions) (suc f) (suc g) other n =
+    get_set_other subscriptions f g other (λ e. n (ap suc e))
 
 -- a list with one more at the back
-pub get_push : (xs : List Subscription) (t : Subscription) (g : ℕ)
-    → (slice_get (xs ++ t ∷ []) g ≡ slice_get xs g)
-    ⊎ ((slice_get xs g ≡ None) × (slice_get (xs ++ t ∷ []) g ≡ Some t))
-get_push [] t zero = inr (refl, refl)
-get_push [] t (suc g) = inl refl
-get_push (x ∷ xs) t zero = inl refl
-get_push (x ∷ xs) t (suc g) = get_push xs t g
+pub get_push : (subscriptions : List Subscription) (other : Subscription) (g : ℕ)
+    → (slice_get (subscriptions ++ other ∷ []) g ≡ slice_get subscriptions g)
+    ⊎ ((slice_get subscriptions g ≡ None) × (slice_get (subscriptions ++ other ∷ []) g ≡ Some other))
+get_push [] other zero = inr (refl, refl)
+get_push [] other (suc g) = inl refl
+get_push (subscription ∷ subscriptions) other zero = inl refl
+get_push (subscription ∷ subscriptions) other (suc g) = get_push subscriptions other g
 
 module _ (Q : List Edit → Subscription → List ChangeItem → List ChangeItem → Type 0) (k : IsKept Q) where
   -- nothing happens to the feed
-  stays : (J : List Edit) (o : Option Subscription) (h t : List ChangeItem) → In Q J o h t
-      → In Q J o (h ++ []) (t ++ [])
-  stays J o h t i = simp append-nil i
+  stays : (journal : List Edit) (maybe_subscription : Option Subscription) (items others : List ChangeItem)
+      → In Q journal maybe_subscription items others
+      → In Q journal maybe_subscription (items ++ []) (others ++ [])
+  stays journal maybe_subscription items others i = simp append-nil i
 
   -- the subscription f changes, by an item handed, one taken, or neither
-  changes : (J : List Edit) (xs : List Subscription) (f g : ℕ) (s s' : Subscription)
-      (h t hs ts : List ChangeItem)
-      → slice_get xs f ≡ Some s → (Q J s h t → Q J s' (h ++ hs) (t ++ ts)) →
-      In Q J (slice_get xs g) h t
-      → In Q J (slice_get (slice_set xs f s') g) (h ++ (if f == g then hs else []))
-      (t ++ (if f == g then ts else []))
-  changes J xs f g s s' h t hs ts e q i =
+  changes : (journal : List Edit) (subscriptions : List Subscription) (f g : ℕ)
+      (subscription s' : Subscription)
+      (rest t items others : List ChangeItem)
+      → slice_get subscriptions f ≡ Some subscription
+      → (Q journal subscription rest t → Q journal s' (rest ++ items) (t ++ others)) →
+      In Q journal (slice_get subscriptions g) rest t
+      → In Q journal (slice_get (slice_set subscriptions f s') g) (rest ++ (if f == g then items else []))
+      (t ++ (if f == g then others else []))
+  changes journal subscriptions f g subscription s' rest t items others e q i =
       elim (cases_eq f g) [
         | inl same ↦
             rw (eq-eqb f g same)
-            (subst (λ n. In Q J (slice_get (slice_set xs f s') n) (h ++ hs) (t ++ ts)) same
-            (subst (λ o. In Q J o (h ++ hs) (t ++ ts)) (sym (get_set_same xs f s s' e))
-            (q (subst (λ o. In Q J o h t) (ap (slice_get xs) (sym same) ∙ e) i))))
+            (subst (λ n. In Q journal (slice_get (slice_set subscriptions f s') n) (rest ++ items)
+            (t ++ others)) same
+            (subst (λ o. In Q journal o (rest ++ items) (t ++ others))
+            (sym (get_set_same subscriptions f subscription s' e))
+            (q (subst (λ o. In Q journal o rest t) (ap (slice_get subscriptions) (sym same) ∙ e) i))))
         | inr other ↦
             rw (ne_eqb f g other)
-            (subst (λ o. In Q J o (h ++ []) (t ++ [])) (sym (get_set_other xs f g s' other))
-            (stays J (slice_get xs g) h t i))
+            (subst (λ o. In Q journal o (rest ++ []) (t ++ []))
+            (sym (get_set_other subscriptions f g s' other))
+            (stays journal (slice_get subscriptions g) rest t i))
       ]
 
   -- it changes, and nothing is handed or taken
-  turns : (J : List Edit) (xs : List Subscription) (f g : ℕ) (s s' : Subscription) (h t : List ChangeItem)
-      → slice_get xs f ≡ Some s → (Q J s h t → Q J s' h t) →
-      In Q J (slice_get xs g) h t → In Q J (slice_get (slice_set xs f s') g) (h ++ []) (t ++ [])
-  turns J xs f g s s' h t e q i =
+  turns : (journal : List Edit) (subscriptions : List Subscription) (f g : ℕ) (subscription s' : Subscription)
+      (items others : List ChangeItem)
+      → slice_get subscriptions f ≡ Some subscription
+      → (Q journal subscription items others → Q journal s' items others) →
+      In Q journal (slice_get subscriptions g) items others
+      → In Q journal (slice_get (slice_set subscriptions f s') g) (items ++ []) (others ++ [])
+  turns journal subscriptions f g subscription s' items others e q i =
       elim (cases_eq f g) [
-        | inl same ↦ subst (λ n. In Q J (slice_get (slice_set xs f s') n) (h ++ []) (t ++ [])) same
-            (stays J _ h t
-            (subst (λ o. In Q J o h t) (sym (get_set_same xs f s s' e))
-            (q (subst (λ o. In Q J o h t) (ap (slice_get xs) (sym same) ∙ e) i))))
+        | inl same ↦ subst (λ n. In Q journal (slice_get (slice_set subscriptions f s') n) (items ++ [])
+            (others ++ [])) same
+            (stays journal _ items others
+            (subst (λ o. In Q journal o items others) (sym (get_set_same subscriptions f subscription s' e))
+            (q (subst (λ o. In Q journal o items others) (ap (slice_get subscriptions) (sym same) ∙ e) i))))
         | inr other ↦
-            subst (λ o. In Q J o (h ++ []) (t ++ [])) (sym (get_set_other xs f g s' other))
-            (stays J (slice_get xs g) h t i)
+            subst (λ o. In Q journal o (items ++ []) (others ++ []))
+            (sym (get_set_other subscriptions f g s' other))
+            (stays journal (slice_get subscriptions g) items others i)
       ]
 
   -- more edits come
-  more_edits : (J K : List Edit) (o : Option Subscription) (h t : List ChangeItem)
-      → ((es : List Edit) × (K ≡ J ++ es)) → In Q J o h t → In Q K o (h ++ []) (t ++ [])
-  more_edits J K None h t a i = (append-nil h ∙ i.0, append-nil t ∙ i.1)
-  more_edits J K (Some s) h t a i = simp append-nil (subst (λ L. Q L s h t) (sym a.1) (k.grows J a.0 s h t i))
+  more_edits : (journal other_journal : List Edit) (maybe_subscription : Option Subscription)
+      (items others : List ChangeItem)
+      → ((edits : List Edit) × (other_journal ≡ journal ++ edits))
+      → In Q journal maybe_subscription items others
+      → In Q other_journal maybe_subscription (items ++ []) (others ++ [])
+  more_edits journal other_journal None items others a i = (append-nil items ∙ i.0, append-nil others ∙ i.1)
+  more_edits journal other_journal (Some subscription) items others a i =
+      simp append-nil (subst (λ L. Q L subscription items others) (sym a.1)
+      (k.grows journal a.0 subscription items others i))
 
   -- a feed is opened
-  opens : (J : List Edit) (xs : List Subscription) (params : Params) (life g : ℕ) (h t : List ChangeItem)
-      → In Q J (slice_get xs g) h t
-      → In Q J
-      (slice_get (xs ++ record { feed = begin params (length J) life; lane = [] } ∷ []) g) (h ++ []) (t ++ [])
-  opens J xs params life g h t i =
-      elim (get_push xs (record { feed = begin params (length J) life; lane = [] }) g) [
-        | inl e ↦ subst (λ o. In Q J o (h ++ []) (t ++ [])) (sym e) (stays J (slice_get xs g) h t i)
-        | inr e ↦ let none : In Q J None h t = subst (λ o. In Q J o h t) e.0 i in
-            subst (λ o. In Q J o (h ++ []) (t ++ [])) (sym e.1)
-            (rw (append-nil h ∙ none.0, append-nil t ∙ none.1) (k.begins J params life))
+  opens : (journal : List Edit) (subscriptions : List Subscription) (params : Params) (life g : ℕ)
+      (items others : List ChangeItem) → In Q journal (slice_get subscriptions g) items others
+      → In Q journal
+      (slice_get (subscriptions ++ record { feed = begin params (length journal) life; lane = [] } ∷ []) g)
+      (items ++ []) (others ++ [])
+  opens journal subscriptions params life g items others i =
+      elim (get_push subscriptions (record { feed = begin params (length journal) life; lane = [] }) g) [
+        | inl e ↦ subst (λ o. In Q journal o (items ++ []) (others ++ [])) (sym e)
+            (stays journal (slice_get subscriptions g) items others i)
+        | inr e ↦ let none : In Q journal None items others =
+            subst (λ o. In Q journal o items others) e.0 i in
+            subst (λ o. In Q journal o (items ++ []) (others ++ [])) (sym e.1)
+            (rw (append-nil items ∙ none.0, append-nil others ∙ none.1) (k.begins journal params life))
       ]
 
   -- every open feed is closed
-  closes : (J : List Edit) (xs : List Subscription) (g : ℕ) (h t : List ChangeItem)
-      → In Q J (slice_get xs g) h t → In Q J (slice_get (map ended xs) g) (h ++ []) (t ++ [])
-  closes J xs g h t i =
-      subst (λ o. In Q J o (h ++ []) (t ++ [])) (sym (slice_get-map ended xs g)) (each (slice_get xs g) i)
+  closes : (journal : List Edit) (subscriptions : List Subscription) (g : ℕ) (items others : List ChangeItem)
+      → In Q journal (slice_get subscriptions g) items others
+      → In Q journal (slice_get (map ended subscriptions) g) (items ++ []) (others ++ [])
+  closes journal subscriptions g items others i =
+      subst (λ maybe_subscription. In Q journal maybe_subscription (items ++ []) (others ++ []))
+      (sym (slice_get-map ended subscriptions g)) (each (slice_get subscriptions g) i)
     where
-      each : (o : Option Subscription) → In Q J o h t → In Q J (option_map ended o) (h ++ []) (t ++ [])
-      each None j = (append-nil h ∙ j.0, append-nil t ∙ j.1)
-      each (Some s) j = simp append-nil (k.ends J s h t j)
+      each : (maybe_subscription : Option Subscription) → In Q journal maybe_subscription items others
+          → In Q journal (option_map ended maybe_subscription) (items ++ []) (others ++ [])
+      each None j = (append-nil items ∙ j.0, append-nil others ∙ j.1)
+      each (Some s) j = simp append-nil (k.ends journal s items others j)
 
-  expires_at : (w : World) (f g : ℕ) (o : Option Subscription) (h t : List ChangeItem)
-      → subscription w f ≡ o → In Q w.journal (subscription w g) h t
-      → In Q (expired o f w).journal (subscription (expired o f w) g) (h ++ []) (t ++ [])
-  expires_at w f g None h t e i = stays w.journal (subscription w g) h t i
-  expires_at w f g (Some s) h t e i =
-      turns w.journal w.feeds f g s (record s { feed = expire s.feed }) h t e (k.expires w.journal s h t) i
+  expires_at : (world : World) (f g : ℕ) (maybe_subscription : Option Subscription)
+      (items others : List ChangeItem)
+      → subscription world f ≡ maybe_subscription → In Q world.journal (subscription world g) items others
+      → In Q (expired maybe_subscription f world).journal
+      (subscription (expired maybe_subscription f world) g) (items ++ []) (others ++ [])
+  expires_at world f g None items others e i = stays world.journal (subscription world g) items others i
+  expires_at world f g (Some s) items others e i =
+      turns world.journal world.feeds f g s (record s { feed = expire s.feed }) items others e
+      (k.expires world.journal s items others) i
 
-  finishes_at : (w : World) (f g : ℕ) (o : Option Subscription) (h t : List ChangeItem)
-      → subscription w f ≡ o → In Q w.journal (subscription w g) h t
-      → In Q (finished o f w).journal (subscription (finished o f w) g) (h ++ []) (t ++ [])
-  finishes_at w f g None h t e i = stays w.journal (subscription w g) h t i
-  finishes_at w f g (Some s) h t e i =
-      turns w.journal w.feeds f g s (record { feed = finish s.feed; lane = [] }) h t e
-      (k.finishes w.journal s h t) i
+  finishes_at : (world : World) (f g : ℕ) (maybe_subscription : Option Subscription)
+      (items others : List ChangeItem)
+      → subscription world f ≡ maybe_subscription → In Q world.journal (subscription world g) items others
+      → In Q (finished maybe_subscription f world).journal
+      (subscription (finished maybe_subscription f world) g) (items ++ []) (others ++ [])
+  finishes_at world f g None items others e i = stays world.journal (subscription world g) items others i
+  finishes_at world f g (Some s) items others e i =
+      turns world.journal world.feeds f g s (record { feed = finish s.feed; lane = [] }) items others e
+      (k.finishes world.journal s items others) i
 
-  takes_from : (w : World) (feed : FeedId) (g : ℕ) (s : Subscription) (lane : List ChangeItem)
+  takes_from : (world : World) (feed : FeedId) (g : ℕ) (s : Subscription) (lane : List ChangeItem)
       (h t : List ChangeItem)
-      → s.lane ≡ lane → subscription w feed.number ≡ Some s → In Q w.journal (subscription w g) h t →
-      In Q w.journal (slice_get (slice_set w.feeds feed.number (record s { lane = drop 1 lane })) g) (h ++ [])
+      → s.lane ≡ lane → subscription world feed.number ≡ Some s
+      → In Q world.journal (subscription world g) h t →
+      In Q world.journal (slice_get (slice_set world.feeds feed.number (record s { lane = drop 1 lane })) g)
+      (h ++ [])
       (t ++ taken_by g (Take feed) (Took (slice_get lane 0)))
-  takes_from w feed g s [] h t l e i =
-      turns w.journal w.feeds feed.number g s (record s { lane = [] }) h t e
-      (λ q. subst (λ (x : List ChangeItem). Q w.journal (record s { lane = x }) h t) l q) i
-  takes_from w feed g s (item ∷ items) h t l e i =
+  takes_from world feed g s [] h t l e i =
+      turns world.journal world.feeds feed.number g s (record s { lane = [] }) h t e
+      (λ q. subst (λ (x : List ChangeItem). Q world.journal (record s { lane = x }) h t) l q) i
+  takes_from world feed g s (item ∷ items) h t l e i =
       elim (cases_eq feed.number g) [
         | inl same ↦
             let c =
-            changes w.journal w.feeds feed.number g s (record s { lane = items }) h t [] (item ∷ []) e
-            (λ q. simp append-nil (k.takes w.journal s h t item items l q)) i in
+            changes world.journal world.feeds feed.number g s (record s { lane = items }) h t [] (item ∷ []) e
+            (λ q. simp append-nil (k.takes world.journal s h t item items l q)) i in
             rw (eq-eqb feed.number g same) (rw (eq-eqb feed.number g same) at c)
         | inr other ↦
             let c =
-            changes w.journal w.feeds feed.number g s (record s { lane = items }) h t [] (item ∷ []) e
-            (λ q. simp append-nil (k.takes w.journal s h t item items l q)) i in
+            changes world.journal world.feeds feed.number g s (record s { lane = items }) h t [] (item ∷ []) e
+            (λ q. simp append-nil (k.takes world.journal s h t item items l q)) i in
             rw (ne_eqb feed.number g other) (rw (ne_eqb feed.number g other) at c)
       ]
 
-  takes_at : (w : World) (feed : FeedId) (g : ℕ) (o : Option Subscription) (h t : List ChangeItem)
-      → subscription w feed.number ≡ o → In Q w.journal (subscription w g) h t →
-      In Q (took o feed.number w).journal (subscription (took o feed.number w) g) (h ++ [])
-      (t ++ taken_by g (Take feed) (Took (slice_get (lane_of o) 0)))
-  takes_at w feed g None h t e i = stays w.journal (subscription w g) h t i
-  takes_at w feed g (Some s) h t e i = takes_from w feed g s s.lane h t refl e i
+  takes_at : (world : World) (feed : FeedId) (g : ℕ) (maybe_subscription : Option Subscription)
+      (items others : List ChangeItem)
+      → subscription world feed.number ≡ maybe_subscription
+      → In Q world.journal (subscription world g) items others →
+      In Q (took maybe_subscription feed.number world).journal
+      (subscription (took maybe_subscription feed.number world) g) (items ++ [])
+      (others ++ taken_by g (Take feed) (Took (slice_get (lane_of maybe_subscription) 0)))
+  takes_at world feed g None items others e i = stays world.journal (subscription world g) items others i
+  takes_at world feed g (Some s) items others e i = takes_from world feed g s s.lane items others refl e i
 
-  hands_at : (w : World) (f g : ℕ) (s s' : Subscription) (item : ChangeItem) (h t : List ChangeItem)
-      → subscription w f ≡ Some s → (Q w.journal s h t → Q w.journal s' (h ++ item ∷ []) t)
-      → In Q w.journal (subscription w g) h t →
-      In Q w.journal (slice_get (slice_set w.feeds f s') g)
-      (h ++ (if f == g then item ∷ [] else [])) (t ++ [])
-  hands_at w f g s s' item h t e q i =
-      let c = changes w.journal w.feeds f g s s' h t (item ∷ []) [] e (λ x. simp append-nil (q x)) i in
+  hands_at : (world : World) (f g : ℕ) (s s' : Subscription) (item : ChangeItem)
+      (items others : List ChangeItem)
+      → subscription world f ≡ Some s
+      → (Q world.journal s items others → Q world.journal s' (items ++ item ∷ []) others)
+      → In Q world.journal (subscription world g) items others →
+      In Q world.journal (slice_get (slice_set world.feeds f s') g)
+      (items ++ (if f == g then item ∷ [] else [])) (others ++ [])
+  hands_at world f g s s' item items others e q i =
+      let c = changes world.journal world.feeds f g s s' items others (item ∷ []) [] e
+      (λ x. simp append-nil (q x)) i in
       elim (cases_eq f g) [
         | inl same ↦ rw (eq-eqb f g same) (rw (eq-eqb f g same) at c)
         | inr other ↦ rw (ne_eqb f g other) (rw (ne_eqb f g other) at c)
@@ -258,16 +302,18 @@ module _ (Q : List Edit → Subscription → List ChangeItem → List ChangeItem
 
   -- a whole run
   pub run_keeps : (old : World) (events : List Event) (replies : List Reply) (new : World)
-      (g : ℕ) (h t : List ChangeItem)
-      → Run old events replies new → In Q old.journal (subscription old g) h t →
-      In Q new.journal (subscription new g) (h ++ handed g events replies) (t ++ taken g events replies)
-  run_keeps old [] [] new g h t r i = rw r (stays old.journal (subscription old g) h t i)
-  run_keeps old [] (reply ∷ replies) new g h t r i = absurd r
-  run_keeps old (event ∷ events) [] new g h t r i = absurd r
-  run_keeps old (event ∷ events) (reply ∷ replies) new g h t r i =
+      (g : ℕ) (items others : List ChangeItem)
+      → Run old events replies new → In Q old.journal (subscription old g) items others →
+      In Q new.journal (subscription new g) (items ++ handed g events replies)
+      (others ++ taken g events replies)
+  run_keeps old [] [] new g items others r i = rw r (stays old.journal (subscription old g) items others i)
+  run_keeps old [] (reply ∷ replies) new g items others r i = absurd r
+  run_keeps old (event ∷ events) [] new g items others r i = absurd r
+  run_keeps old (event ∷ events) (reply ∷ replies) new g items others r i =
       rw (
-        ← append_assoc h (handed_by g event reply) (handed g events replies),
-        ← append_assoc t (taken_by g event reply) (taken g events replies),
+        ← append_assoc items (handed_by g event reply) (handed g events replies),
+        ← append_assoc others (taken_by g event reply) (taken g events replies),
       )
-      (run_keeps r.0 events replies new g (h ++ handed_by g event reply) (t ++ taken_by g event reply) r.2
-      (step_keeps old event reply r.0 g h t r.1 i))
+      (run_keeps r.0 events replies new g (items ++ handed_by g event reply)
+      (others ++ taken_by g event reply) r.2
+      (step_keeps old event reply r.0 g items others r.1 i))

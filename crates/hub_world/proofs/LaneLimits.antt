@@ -22,21 +22,25 @@ use Rattle.hub_world.proofs.Kept.{get_set_same, get_set_other, get_push}
 
 -- each of these lanes holds at most so many items
 abbrev AreLimited : ℕ → List Subscription → Type 0
-AreLimited n feeds = (g : ℕ) (s : Subscription) → slice_get feeds g ≡ Some s → length s.lane ≤ n
+AreLimited n feeds =
+    (g : ℕ) (subscription : Subscription) → slice_get feeds g ≡ Some subscription
+    → length subscription.lane ≤ n
 
 -- the world has this limit, and its lanes are within it
-record HasLimit (n : ℕ) (w : World) : Type 0 where
-  limit : w.limits.lane ≡ n
-  lanes : AreLimited n w.feeds
+record HasLimit (n : ℕ) (world : World) : Type 0 where
+  limit : world.limits.lane ≡ n
+  lanes : AreLimited n world.feeds
 
 -- one of them is changed
-changed_limited : (n : ℕ) (feeds : List Subscription) (f : ℕ) (s t : Subscription)
-    → slice_get feeds f ≡ Some s → length t.lane ≤ n → AreLimited n feeds → AreLimited n (slice_set feeds f t)
-changed_limited n feeds f s t here fits all g u there =
+changed_limited : (n : ℕ) (feeds : List Subscription) (f : ℕ) (subscription t : Subscription)
+    → slice_get feeds f ≡ Some subscription → length t.lane ≤ n → AreLimited n feeds
+    → AreLimited n (slice_set feeds f t)
+changed_limited n feeds f subscription t here fits all g u there =
     elim (cases_eq f g) [
       | inl same ↦
           let is : Some t ≡ Some u =
-          sym (get_set_same feeds f s t here) ∙ (ap (slice_get (slice_set feeds f t)) same ∙ there) in
+          sym (get_set_same feeds f subscription t here)
+          ∙ (ap (slice_get (slice_set feeds f t)) same ∙ there) in
           subst (λ (x : Subscription). length x.lane ≤ n) (same_Some _ _ is) fits
       | inr other ↦ all g u (sym (get_set_other feeds f g t other) ∙ there)
     ]
@@ -48,7 +52,8 @@ opened_limited n feeds feed all g u there =
     elim (get_push feeds (record { feed = feed; lane = [] }) g) [
       | inl old ↦ all g u (sym old ∙ there)
       | inr new ↦
-          subst (λ (x : Subscription). length x.lane ≤ n) (same_Some _ _ (sym new.1 ∙ there)) (omega arith)
+          subst (λ (subscription : Subscription). length subscription.lane ≤ n)
+          (same_Some _ _ (sym new.1 ∙ there)) (omega arith)
     ]
 
 -- every open feed is closed
@@ -56,47 +61,53 @@ ended_limited : (n : ℕ) (feeds : List Subscription) → AreLimited n feeds →
 ended_limited n feeds all g u there =
     from (slice_get feeds g) refl (sym (slice_get-map ended feeds g) ∙ there)
   where
-    from : (o : Option Subscription) → slice_get feeds g ≡ o → option_map ended o ≡ Some u → length u.lane ≤ n
+    from : (maybe_subscription : Option Subscription) → slice_get feeds g ≡ maybe_subscription
+        → option_map ended maybe_subscription ≡ Some u → length u.lane ≤ n
     from None is e = absurd (none-some _ e)
-    from (Some s) is e = subst (λ (x : Subscription). length x.lane ≤ n) (same_Some _ _ e) (all g s is)
+    from (Some s) is e =
+        subst (λ (subscription : Subscription). length subscription.lane ≤ n) (same_Some _ _ e) (all g s is)
 
-expired_limited : (n f : ℕ) (w : World) (o : Option Subscription) → subscription w f ≡ o → HasLimit n w
-    → HasLimit n (expired o f w)
-expired_limited n f w None is h = h
-expired_limited n f w (Some s) is h = record {
+expired_limited : (n f : ℕ) (world : World) (maybe_subscription : Option Subscription)
+    → subscription world f ≡ maybe_subscription → HasLimit n world
+    → HasLimit n (expired maybe_subscription f world)
+expired_limited n f world None is h = h
+expired_limited n f world (Some s) is h = record {
   limit = h.limit;
-  lanes = changed_limited n w.feeds f s (record s { feed = expire s.feed }) is (h.lanes f s is) h.lanes;
+  lanes = changed_limited n world.feeds f s (record s { feed = expire s.feed }) is (h.lanes f s is) h.lanes;
 }
 
-finished_limited : (n f : ℕ) (w : World) (o : Option Subscription) → subscription w f ≡ o → HasLimit n w
-    → HasLimit n (finished o f w)
-finished_limited n f w None is h = h
-finished_limited n f w (Some s) is h = record {
+finished_limited : (n f : ℕ) (world : World) (maybe_subscription : Option Subscription)
+    → subscription world f ≡ maybe_subscription → HasLimit n world
+    → HasLimit n (finished maybe_subscription f world)
+finished_limited n f world None is h = h
+finished_limited n f world (Some s) is h = record {
   limit = h.limit;
-  lanes = changed_limited n w.feeds f s (record { feed = finish s.feed; lane = [] }) is (omega arith) h.lanes;
+  lanes =
+      changed_limited n world.feeds f s (record { feed = finish s.feed; lane = [] }) is (omega arith) h.lanes;
 }
 
-taken_limited : (n f : ℕ) (w : World) (o : Option Subscription) → subscription w f ≡ o → HasLimit n w
-    → HasLimit n (took o f w)
-taken_limited n f w None is h = h
-taken_limited n f w (Some s) is h =
+taken_limited : (n f : ℕ) (world : World) (maybe_subscription : Option Subscription)
+    → subscription world f ≡ maybe_subscription → HasLimit n world
+    → HasLimit n (took maybe_subscription f world)
+taken_limited n f world None is h = h
+taken_limited n f world (Some s) is h =
     let below : length s.lane ≤ n = h.lanes f s is in
     record {
       limit = h.limit;
       lanes =
-          changed_limited n w.feeds f s (record s { lane = drop 1 s.lane }) is
+          changed_limited n world.feeds f s (record s { lane = drop 1 s.lane }) is
           (omega (arith, below, length-drop 1 s.lane)) h.lanes;
     }
 
 -- an item goes into a lane that has room
-pushed_limited : (n f : ℕ) (w : World) (s : Subscription) (feed : Feed) (item : ChangeItem)
-    → subscription w f ≡ Some s → length s.lane + 1 ≤ w.limits.lane → HasLimit n w
-    → HasLimit n (with_subscription w f (pushed s feed item))
-pushed_limited n f w s feed item is room h =
+pushed_limited : (n f : ℕ) (world : World) (s : Subscription) (feed : Feed) (item : ChangeItem)
+    → subscription world f ≡ Some s → length s.lane + 1 ≤ world.limits.lane → HasLimit n world
+    → HasLimit n (with_subscription world f (pushed s feed item))
+pushed_limited n f world s feed item is room h =
     record {
       limit = h.limit;
       lanes =
-          changed_limited n w.feeds f s (pushed s feed item) is
+          changed_limited n world.feeds f s (pushed s feed item) is
           (omega (arith, room, h.limit, length_push s.lane item)) h.lanes;
     }
 

@@ -24,7 +24,7 @@ use Rattle.hub_world.proofs.Kept.{IsKept, In, step_keeps, run_keeps}
 
 -- the fitting alone
 FitsAlone : List Edit → Subscription → List ChangeItem → List ChangeItem → Type 0
-FitsAlone J s h t = Fits change_rows J s.feed h
+FitsAlone journal subscription items others = Fits change_rows journal subscription.feed items
 
 fitting_kept : IsKept FitsAlone
 unfolding FitsAlone
@@ -40,14 +40,14 @@ fitting_kept = record {
   takes = λ J s h t item items e q. q;
 }
 
-to_fits : (J : List Edit) (o : Option Subscription) (h t : List ChangeItem) → In FitsAlone J o h t
-    → FitsIn J o h
+to_fits : (journal : List Edit) (maybe_subscription : Option Subscription) (items others : List ChangeItem)
+    → In FitsAlone journal maybe_subscription items others → FitsIn journal maybe_subscription items
 unfolding FitsAlone
 to_fits J None h t i = i.0
 to_fits J (Some s) h t i = i
 
-from_fits : (J : List Edit) (o : Option Subscription) (h : List ChangeItem) → FitsIn J o h
-    → In FitsAlone J o h []
+from_fits : (journal : List Edit) (maybe_subscription : Option Subscription) (items : List ChangeItem)
+    → FitsIn journal maybe_subscription items → In FitsAlone journal maybe_subscription items []
 unfolding FitsAlone
 from_fits J None h i = (i, refl)
 from_fits J (Some s) h i = i
@@ -59,47 +59,48 @@ keeps_fitting old new event reply f items m i =
     (from_fits old.journal (subscription old f) items i))
 
 -- what was taken, then what the lane has, is what was handed, but for what a finished feed's lane had
-record Told (J : List Edit) (s : Subscription) (h t : List ChangeItem) : Type 0 where
-  pub fits : Fits change_rows J s.feed h
+record Told (journal : List Edit) (subscription : Subscription)
+    (items others : List ChangeItem) : Type 0 where
+  pub fits : Fits change_rows journal subscription.feed items
   pub dropped : List ChangeItem
-  pub in_order : t ++ (s.lane ++ dropped) ≡ h
-  pub none : is_finished s.feed.status ≡ false → dropped ≡ []
+  pub in_order : others ++ (subscription.lane ++ dropped) ≡ items
+  pub none : is_finished subscription.feed.status ≡ false → dropped ≡ []
 
 -- a feed that has something due isn't finished
-due_unfinished : (J : List Edit) (s : Subscription) (item : ChangeItem) → change_due J s.feed ≡ Some item
-    → is_finished s.feed.status ≡ false
-due_unfinished J s item i = from s.feed.status refl
+due_unfinished : (journal : List Edit) (subscription : Subscription) (item : ChangeItem)
+    → change_due journal subscription.feed ≡ Some item → is_finished subscription.feed.status ≡ false
+due_unfinished journal subscription item i = from subscription.feed.status refl
   where
-    from : (st : Status) → s.feed.status ≡ st → is_finished s.feed.status ≡ false
+    from : (st : Status) → subscription.feed.status ≡ st → is_finished subscription.feed.status ≡ false
     from Open e = ap is_finished e
     from Ending e = ap is_finished e
     from Ended e = ap is_finished e
     from Finished e = absurd (none-some item (rw e at i))
 
-expire_unfinished : (f : Feed) → is_finished (expire f).status ≡ false → is_finished f.status ≡ false
-expire_unfinished f h =
-    elim (cases_Bool (is_open f.status && waits f.params.mode)) [
-      | inl t ↦ open_stands f.status (and_parts _ _ t).0
+expire_unfinished : (feed : Feed) → is_finished (expire feed).status ≡ false → is_finished feed.status ≡ false
+expire_unfinished feed h =
+    elim (cases_Bool (is_open feed.status && waits feed.params.mode)) [
+      | inl t ↦ open_stands feed.status (and_parts _ _ t).0
       | inr t ↦ let h' = rw t at h in h'
     ]
 
-end_unfinished : (f : Feed) → is_finished (end f).status ≡ false → is_finished f.status ≡ false
-end_unfinished f h =
-    elim (cases_Bool (is_open f.status)) [
-      | inl t ↦ open_stands f.status t
+end_unfinished : (feed : Feed) → is_finished (end feed).status ≡ false → is_finished feed.status ≡ false
+end_unfinished feed h =
+    elim (cases_Bool (is_open feed.status)) [
+      | inl t ↦ open_stands feed.status t
       | inr t ↦ let h' = rw t at h in h'
     ]
 
 -- an item goes into the lane
-goes_in : (t lane dropped h : List ChangeItem) (item : ChangeItem) → dropped ≡ [] → t ++ (lane ++ dropped) ≡ h
-    → t ++ ((lane ++ item ∷ []) ++ []) ≡ h ++ item ∷ []
-goes_in t lane dropped h item d e =
-    let e' : t ++ lane ≡ h =
-    ap (λ (x : List ChangeItem). t ++ x)
-    (sym (append-nil lane) ∙ ap (λ (x : List ChangeItem). lane ++ x) (sym d))
+goes_in : (items lane dropped others : List ChangeItem) (item : ChangeItem) → dropped ≡ [] → items
+    ++ (lane ++ dropped) ≡ others → items ++ ((lane ++ item ∷ []) ++ []) ≡ others ++ item ∷ []
+goes_in items lane dropped others item d e =
+    let e' : items ++ lane ≡ others =
+    ap (λ (rest : List ChangeItem). items ++ rest)
+    (sym (append-nil lane) ∙ ap (λ (rest : List ChangeItem). lane ++ rest) (sym d))
     ∙ e in
-    ap (λ (x : List ChangeItem). t ++ x) (append-nil (lane ++ item ∷ []))
-    ∙ (sym (append_assoc t lane (item ∷ [])) ∙ ap (λ (x : List ChangeItem). x ++ item ∷ []) e')
+    ap (λ (rest : List ChangeItem). items ++ rest) (append-nil (lane ++ item ∷ []))
+    ∙ (sym (append_assoc items lane (item ∷ [])) ∙ ap (λ (rest : List ChangeItem). rest ++ item ∷ []) e')
 
 told_kept : IsKept Told
 told_kept = record {
@@ -158,16 +159,17 @@ told_kept = record {
   };
 }
 
-told : (limits : Limits) (events : List Event) (replies : List Reply) (w : World) (f : ℕ)
-    → Run (empty limits) events replies w
-    → In Told w.journal (subscription w f) (handed f events replies) (taken f events replies)
-told limits events replies w f r =
-    run_keeps Told told_kept (empty limits) events replies w f [] [] r (refl, refl)
+told : (limits : Limits) (events : List Event) (replies : List Reply) (world : World) (f : ℕ)
+    → Run (empty limits) events replies world
+    → In Told world.journal (subscription world f) (handed f events replies) (taken f events replies)
+told limits events replies world f r =
+    run_keeps Told told_kept (empty limits) events replies world f [] [] r (refl, refl)
 
 pub takes_in_order : TakesInOrder
 takes_in_order limits events replies w f r = from (subscription w f) (told limits events replies w f r)
   where
-    from : (o : Option Subscription) → In Told w.journal o (handed f events replies) (taken f events replies)
+    from : (maybe_subscription : Option Subscription)
+        → In Told w.journal maybe_subscription (handed f events replies) (taken f events replies)
         → IsPrefixOf (taken f events replies) (handed f events replies)
     from None i = ([], append-nil _ ∙ (i.1 ∙ sym i.0))
     from (Some s) i = (s.lane ++ i.dropped, i.in_order)
@@ -175,8 +177,9 @@ takes_in_order limits events replies w f r = from (subscription w f) (told limit
 pub hands_rightly : HandsRightly
 hands_rightly limits events replies w f r = from (subscription w f) (told limits events replies w f r)
   where
-    from : (o : Option Subscription) → In Told w.journal o (handed f events replies) (taken f events replies)
-        → IsRight w.journal o (handed f events replies)
+    from : (maybe_subscription : Option Subscription)
+        → In Told w.journal maybe_subscription (handed f events replies) (taken f events replies)
+        → IsRight w.journal maybe_subscription (handed f events replies)
     from None i = i.0
     from (Some s) i = i.fits.right
 
@@ -185,6 +188,6 @@ holds_the_rest limits events replies w f s r e n =
     let i =
     subst (λ o. In Told w.journal o (handed f events replies) (taken f events replies)) e
     (told limits events replies w f r) in
-    ap (λ (x : List ChangeItem). taken f events replies ++ x)
-    (sym (append-nil s.lane) ∙ ap (λ (x : List ChangeItem). s.lane ++ x) (sym (i.none n)))
+    ap (λ (items : List ChangeItem). taken f events replies ++ items)
+    (sym (append-nil s.lane) ∙ ap (λ (items : List ChangeItem). s.lane ++ items) (sym (i.none n)))
     ∙ i.in_order

@@ -49,44 +49,44 @@ Program = LockedState Database ListState
 
 -- what is told of a list that gave an item back
 abbrev pub Refuses : ListState → ChangeItem → Type 0
-Refuses k item = k.capacity ≤ length k.held
+Refuses state item = state.capacity ≤ length state.held
 
 -- the lists are those of a world's lanes
 abbrev pub HasLists : Program → Type 0
-HasLists p = (p.lane ≡ p.state.limits.lane) × All (Fits p.lane) p.senders
+HasLists program = (program.lane ≡ program.state.limits.lane) × All (Fits program.lane) program.senders
 
 -- it goes on being of a world, where it leads to what shows one
-pub leads_world : (old new : Program) (e : Event) (r : Reply) → IsWorld old
-    → Leads (core_of old) e r (core_of new) → HasLists new → IsWorld new
-leads_world old new e r of leads lists =
+pub leads_world : (old new : Program) (event : Event) (reply : Reply) → IsWorld old
+    → Leads (core_of old) event reply (core_of new) → HasLists new → IsWorld new
+leads_world old new event reply of leads lists =
     let shown = leads of.shown.0 of.shown.1 in
     record { lane = lists.0; room = lists.1; shown = (shown.0, shown.2) }
 
 -- a list that refuses is a lane that is full
-is_full : (p : Program) (number : ℕ) (k : ListState) → IsWorld p → entry_in number p.senders ≡ Some k
-    → k.capacity ≤ length k.held
-    → p.state.limits.lane ≤ length (held number (map held_entry p.senders))
-is_full p number k of is full =
-    let all : length (held number (map held_entry p.senders)) ≡ length k.held =
-    ap length (all_held number p.senders ∙ ap held_of is) in
-    omega (arith, full, all, fits_entry p.lane number k p.senders of.room is, of.lane)
+is_full : (program : Program) (number : ℕ) (state : ListState) → IsWorld program
+    → entry_in number program.senders ≡ Some state → state.capacity ≤ length state.held
+    → program.state.limits.lane ≤ length (held number (map held_entry program.senders))
+is_full program number state of is full =
+    let all : length (held number (map held_entry program.senders)) ≡ length state.held =
+    ap length (all_held number program.senders ∙ ap held_of is) in
+    omega (arith, full, all, fits_entry program.lane number state program.senders of.room is, of.lane)
 
 -- ---- the last item of a lane
 
-module _ (p : Program) (number : ℕ) where
-  pub no_list : entry_in number p.senders ≡ None → back number (core_of p).lanes ≡ None
-  no_list none = back_held number p.senders ∙ rw none refl
+module _ (program : Program) (number : ℕ) where
+  pub no_list : entry_in number program.senders ≡ None → back number (core_of program).lanes ≡ None
+  no_list none = back_held number program.senders ∙ rw none refl
 
-  module _ (k : ListState) (is : entry_in number p.senders ≡ Some k) where
-    pub list_back : back number (core_of p).lanes ≡ last k
-    list_back = back_held number p.senders ∙ rw is refl
+  module _ (k : ListState) (is : entry_in number program.senders ≡ Some k) where
+    pub list_back : back number (core_of program).lanes ≡ last k
+    list_back = back_held number program.senders ∙ rw is refl
 
-    pub list_within : IsWorld p → length k.held ≤ k.capacity
-        → length (held number (core_of p).lanes) ≤ p.state.limits.lane
+    pub list_within : IsWorld program → length k.held ≤ k.capacity
+        → length (held number (core_of program).lanes) ≤ program.state.limits.lane
     list_within of within =
-        let all : length (held number (map held_entry p.senders)) ≡ length k.held =
-        ap length (all_held number p.senders ∙ ap held_of is) in
-        omega (arith, within, all, fits_entry p.lane number k p.senders of.room is, of.lane)
+        let all : length (held number (map held_entry program.senders)) ≡ length k.held =
+        ap length (all_held number program.senders ∙ ap held_of is) in
+        omega (arith, within, all, fits_entry program.lane number k program.senders of.room is, of.lane)
 
 -- nothing is no item
 pub none_there : {A : Type 0} {o : Option A} → o ≡ None → IsSome o → ⊥
@@ -113,24 +113,27 @@ has_handed told (inl is) = subst HasHanded (sym is) tt
 has_handed told (inr is) = subst HasHanded (sym is) tt
 
 -- one more item lies in the lane of this number
-module _ (p : Program) (number : ℕ) (item : ChangeItem) where
-  pub sent_held : map held_entry (changed number (λ (k : ListState). behind k item) p.senders)
-      ≡ changed number (λ (items : List ChangeItem). items ++ item ∷ []) (map held_entry p.senders)
+module _ (program : Program) (number : ℕ) (item : ChangeItem) where
+  pub sent_held : map held_entry (changed number (λ (state : ListState). behind state item) program.senders)
+      ≡ changed number (λ (items : List ChangeItem). items ++ item ∷ []) (map held_entry program.senders)
   sent_held =
-      changed_held number (λ (k : ListState). behind k item) (λ (items : List ChangeItem). items ++ item ∷ [])
-      (λ k. refl) p.senders
+      changed_held number (λ (state : ListState). behind state item)
+      (λ (items : List ChangeItem). items ++ item ∷ [])
+      (λ state. refl) program.senders
 
-  pub sent_fits : All (Fits p.lane) p.senders
-      → All (Fits p.lane) (changed number (λ (k : ListState). behind k item) p.senders)
-  sent_fits = fits_changed p.lane number (λ (k : ListState). behind k item) (λ k. refl) p.senders
+  pub sent_fits : All (Fits program.lane) program.senders
+      → All (Fits program.lane) (changed number (λ (state : ListState). behind state item) program.senders)
+  sent_fits =
+      fits_changed program.lane number (λ (state : ListState). behind state item)
+      (λ state. refl) program.senders
 
 -- A hand of the program to the feed of this number, which answers so.
-module _ (p new : Program) (id : FeedId) (of : IsWorld p) where
+module _ (program new : Program) (id : FeedId) (of : IsWorld program) where
   abbrev pub Handing : Next ChangeRow → Handed → Type 0
-  Handing next done = Hands hosted_of with_hosted behind Refuses next p id.number done new
+  Handing next done = Hands hosted_of with_hosted behind Refuses next program id.number done new
 
   abbrev answer : Next ChangeRow
-  answer = feeds.answered (hosted_of p.state) id.number
+  answer = feeds.answered (hosted_of program.state) id.number
 
   -- the hand answers so
   abbrev pub told_as : Handed → Type 0
@@ -139,12 +142,12 @@ module _ (p new : Program) (id : FeedId) (of : IsWorld p) where
   -- an item was due, and was handed
   abbrev pub IsGiven : ChangeItem → Type 0
   IsGiven item =
-      (feeds.item_due (hosted_of p.state) id.number ≡ Some item)
-      × (new ≡ handed_on hosted_of with_hosted behind p id.number item)
+      (feeds.item_due (hosted_of program.state) id.number ≡ Some item)
+      × (new ≡ handed_on hosted_of with_hosted behind program id.number item)
 
   due_now : (item : ChangeItem) → next.Give item ≡ answer
-      → feeds.item_due (hosted_of p.state) id.number ≡ Some item
-  due_now item gives = given_by (hosted_of p.state) (entry_in id.number p.state.feeds) item gives
+      → feeds.item_due (hosted_of program.state) id.number ≡ Some item
+  due_now item gives = given_by (hosted_of program.state) (entry_in id.number program.state.feeds) item gives
 
   pub given : (told : Handed) → HasHanded told → Handing answer told → (item : ChangeItem) × IsGiven item
   given told has hands = from answer refl told has hands
@@ -161,174 +164,179 @@ module _ (p new : Program) (id : FeedId) (of : IsWorld p) where
 
   module _ (item : ChangeItem) (gives : IsGiven item) where
     given_lanes : (core_of new).lanes
-        ≡ changed id.number (λ (items : List ChangeItem). items ++ item ∷ []) (core_of p).lanes
-    given_lanes = ap (λ (q : Program). (core_of q).lanes) gives.1 ∙ sent_held p id.number item
+        ≡ changed id.number (λ (items : List ChangeItem). items ++ item ∷ []) (core_of program).lanes
+    given_lanes = ap (λ (q : Program). (core_of q).lanes) gives.1 ∙ sent_held program id.number item
 
-    found : (items : List ChangeItem) × (entry_in id.number (core_of p).lanes ≡ Some items)
-    found = due_lane (core_of p) id.number item gives.0 of.shown.0 of.shown.1
+    found : (items : List ChangeItem) × (entry_in id.number (core_of program).lanes ≡ Some items)
+    found = due_lane (core_of program) id.number item gives.0 of.shown.0 of.shown.1
 
     -- it is the last of the lane
     pub given_back : back id.number (core_of new).lanes ≡ Some item
     given_back = ap (back id.number) given_lanes ∙
-        (pushed_back id.number item (core_of p).lanes found.0 found.1).0
+        (pushed_back id.number item (core_of program).lanes found.0 found.1).0
 
     given_core : record {
-      db = with_hosted p.state (feeds.handed (hosted_of p.state) id.number);
-      lanes = changed id.number (λ (items : List ChangeItem). items ++ item ∷ []) (core_of p).lanes;
+      db = with_hosted program.state (feeds.handed (hosted_of program.state) id.number);
+      lanes = changed id.number (λ (items : List ChangeItem). items ++ item ∷ []) (core_of program).lanes;
     } ≡ core_of new
     given_core =
         sym (ap core_of gives.1
         ∙ ap (λ ls. record {
-          db = with_hosted p.state (feeds.handed (hosted_of p.state) id.number);
+          db = with_hosted program.state (feeds.handed (hosted_of program.state) id.number);
           lanes = ls;
-        }) (sent_held p id.number item))
+        }) (sent_held program id.number item))
 
     -- it goes on being of a world
     pub given_world : IsWorld new
     given_world =
-        let lists : HasLists new = subst HasLists (sym gives.1) (of.lane, sent_fits p id.number item of.room)
+        let lists : HasLists new = subst HasLists (sym gives.1)
+        (of.lane, sent_fits program id.number item of.room)
         in
         record {
           lane = lists.0;
           room = lists.1;
           shown =
               subst (λ c. (w : World) × Shows c w) given_core
-              (_, hand_shows (core_of p) id item gives.0 of.shown.0 of.shown.1);
+              (_, hand_shows (core_of program) id item gives.0 of.shown.0 of.shown.1);
         }
 
     -- where there is room for it this is a step
     pub given_leads : (said : ChangeItem) → back id.number (core_of new).lanes ≡ Some said
         → length (held id.number (core_of new).lanes) ≤ new.state.limits.lane
-        → Leads (core_of p) (event.Hand id) (reply.Pushed said) (core_of new)
+        → Leads (core_of program) (event.Hand id) (reply.Pushed said) (core_of new)
     given_leads said last within =
-        let lanes = pushed_back id.number item (core_of p).lanes found.0 found.1 in
+        let lanes = pushed_back id.number item (core_of program).lanes found.0 found.1 in
         let grown : length (held id.number (core_of new).lanes)
-        ≡ length (held id.number (core_of p).lanes) + 1 =
+        ≡ length (held id.number (core_of program).lanes) + 1 =
         ap (λ ls. length (held id.number ls)) given_lanes ∙ lanes.1 in
-        let limit : new.state.limits.lane ≡ p.state.limits.lane =
+        let limit : new.state.limits.lane ≡ program.state.limits.lane =
         ap (λ (q : Program). q.state.limits.lane) gives.1 in
-        subst (λ x. Leads (core_of p) (event.Hand id) (reply.Pushed x) (core_of new))
+        subst (λ x. Leads (core_of program) (event.Hand id) (reply.Pushed x) (core_of new))
         (same_Some item said (sym given_back ∙ last))
-        (subst (λ c. Leads (core_of p) (event.Hand id) (reply.Pushed item) c) given_core
-        (hand_pushed (core_of p) id item gives.0 (omega (arith, within, grown, limit))))
+        (subst (λ c. Leads (core_of program) (event.Hand id) (reply.Pushed item) c) given_core
+        (hand_pushed (core_of program) id item gives.0 (omega (arith, within, grown, limit))))
 
   -- and so is a hand that is told as it is
   pub full_leads : Handing answer did.Full
-      → (new ≡ p) × Leads (core_of p) (event.Hand id) reply.Full (core_of p)
+      → (new ≡ program) × Leads (core_of program) (event.Hand id) reply.Full (core_of program)
   full_leads hands = from answer refl hands
     where
       from : (x : Next ChangeRow) → x ≡ answer → Handing x did.Full
-          → (new ≡ p) × Leads (core_of p) (event.Hand id) reply.Full (core_of p)
+          → (new ≡ program) × Leads (core_of program) (event.Hand id) reply.Full (core_of program)
       from (next.Give item) now hands = (
         hands.1,
-        hand_full (core_of p) id item (due_now item now)
-            (is_full p id.number hands.0.0 of hands.0.1 hands.0.2),
+        hand_full (core_of program) id item (due_now item now)
+            (is_full program id.number hands.0.0 of hands.0.1 hands.0.2),
       )
       from next.Nothing now hands = absurd (cc)
       from next.Gone now hands = absurd (cc)
 
   pub nothing_leads : Handing answer did.Nothing
-      → HasLists new × Leads (core_of p) (event.Hand id) reply.Nothing (core_of new)
+      → HasLists new × Leads (core_of program) (event.Hand id) reply.Nothing (core_of new)
   nothing_leads hands = from answer refl hands
     where
       from : (x : Next ChangeRow) → x ≡ answer → Handing x did.Nothing
-          → HasLists new × Leads (core_of p) (event.Hand id) reply.Nothing (core_of new)
+          → HasLists new × Leads (core_of program) (event.Hand id) reply.Nothing (core_of new)
       from (next.Give item) now hands = absurd hands
       from next.Nothing now hands = (
         subst HasLists (sym hands.1) (of.lane, of.room),
-        subst (λ (q : Program). Leads (core_of p) (event.Hand id) reply.Nothing (core_of q)) (sym hands.1)
-            (hand_nothing (core_of p) id now),
+        subst (λ (other : Program). Leads (core_of program) (event.Hand id) reply.Nothing (core_of other))
+            (sym hands.1)
+            (hand_nothing (core_of program) id now),
       )
       from next.Gone now hands = absurd (cc)
 
   pub gone_leads : Handing answer did.Gone
-      → (new ≡ p) × Leads (core_of p) (event.Hand id) reply.Gone (core_of p)
+      → (new ≡ program) × Leads (core_of program) (event.Hand id) reply.Gone (core_of program)
   gone_leads hands = from answer refl hands
     where
       from : (x : Next ChangeRow) → x ≡ answer → Handing x did.Gone
-          → (new ≡ p) × Leads (core_of p) (event.Hand id) reply.Gone (core_of p)
+          → (new ≡ program) × Leads (core_of program) (event.Hand id) reply.Gone (core_of program)
       from (next.Give item) now hands = absurd hands
       from next.Nothing now hands = absurd (cc)
-      from next.Gone now hands = (hands.1, hand_gone (core_of p) id now)
+      from next.Gone now hands = (hands.1, hand_gone (core_of program) id now)
 
 -- ---- heartbeats
 
-module _ (p new : Program) (id : FeedId) (of : IsWorld p)
-    (due : feeds.is_beat_due (entry_in id.number p.state.feeds) ≡ true) where
+module _ (program new : Program) (id : FeedId) (of : IsWorld program)
+    (due : feeds.is_beat_due (entry_in id.number program.state.feeds) ≡ true) where
   abbrev pub Beating : Handed → Type 0
-  Beating done = Beats {S = Database} behind Refuses true p id.number done new
+  Beating done = Beats {S = Database} behind Refuses true program id.number done new
 
   -- as the beat is told
   pub as_due : (told : Handed)
-      → Beats {S = Database} behind Refuses (feeds.is_beat_due (entry_in id.number p.state.feeds)) p id.number
+      → Beats {S = Database} behind Refuses
+      (feeds.is_beat_due (entry_in id.number program.state.feeds)) program id.number
       told new
       → Beating told
-  as_due told = subst (λ (b : Bool). Beats {S = Database} behind Refuses b p id.number told new) due
+  as_due told = subst (λ (b : Bool). Beats {S = Database} behind Refuses b program id.number told new) due
 
   pub beat_full_leads : Beating did.Full
-      → (new ≡ p) × Leads (core_of p) (event.Heartbeat id) reply.Full (core_of p)
+      → (new ≡ program) × Leads (core_of program) (event.Heartbeat id) reply.Full (core_of program)
   beat_full_leads beats = (
     beats.1,
-    beat_full (core_of p) id due (is_full p id.number beats.0.0 of beats.0.1 beats.0.2),
+    beat_full (core_of program) id due (is_full program id.number beats.0.0 of beats.0.1 beats.0.2),
   )
 
-  module _ (sent : new ≡ record p {
-    senders = changed id.number (λ (k : ListState). behind k Beat) p.senders;
+  module _ (sent : new ≡ record program {
+    senders = changed id.number (λ (k : ListState). behind k Beat) program.senders;
   })
     where
       beat_lanes : (core_of new).lanes
-          ≡ changed id.number (λ (items : List ChangeItem). items ++ Beat ∷ []) (core_of p).lanes
-      beat_lanes = ap (λ (q : Program). (core_of q).lanes) sent ∙ sent_held p id.number Beat
+          ≡ changed id.number (λ (items : List ChangeItem). items ++ Beat ∷ []) (core_of program).lanes
+      beat_lanes = ap (λ (q : Program). (core_of q).lanes) sent ∙ sent_held program id.number Beat
 
-      beat_found : (items : List ChangeItem) × (entry_in id.number (core_of p).lanes ≡ Some items)
-      beat_found = beat_lane (core_of p) id.number due of.shown.0 of.shown.1
+      beat_found : (items : List ChangeItem) × (entry_in id.number (core_of program).lanes ≡ Some items)
+      beat_found = beat_lane (core_of program) id.number due of.shown.0 of.shown.1
 
       pub beat_back : back id.number (core_of new).lanes ≡ Some Beat
       beat_back =
           ap (back id.number) beat_lanes
-          ∙ (pushed_back id.number Beat (core_of p).lanes beat_found.0 beat_found.1).0
+          ∙ (pushed_back id.number Beat (core_of program).lanes beat_found.0 beat_found.1).0
 
       beat_core : record {
-        db = p.state;
-        lanes = changed id.number (λ (items : List ChangeItem). items ++ Beat ∷ []) (core_of p).lanes;
+        db = program.state;
+        lanes = changed id.number (λ (items : List ChangeItem). items ++ Beat ∷ []) (core_of program).lanes;
       } ≡ core_of new
       beat_core =
-          sym (ap core_of sent ∙ ap (λ ls. record { db = p.state; lanes = ls }) (sent_held p id.number Beat))
+          sym (ap core_of sent ∙ ap (λ ls. record { db = program.state; lanes = ls })
+          (sent_held program id.number Beat))
 
       pub beat_world : IsWorld new
       beat_world =
-          let lists : HasLists new = subst HasLists (sym sent) (of.lane, sent_fits p id.number Beat of.room)
+          let lists : HasLists new = subst HasLists (sym sent)
+          (of.lane, sent_fits program id.number Beat of.room)
           in
           record {
             lane = lists.0;
             room = lists.1;
             shown =
                 subst (λ c. (w : World) × Shows c w) beat_core
-                (_, beat_shows (core_of p) id due of.shown.0 of.shown.1);
+                (_, beat_shows (core_of program) id due of.shown.0 of.shown.1);
           }
 
       pub beat_leads : (said : ChangeItem) → back id.number (core_of new).lanes ≡ Some said
           → length (held id.number (core_of new).lanes) ≤ new.state.limits.lane
-          → Leads (core_of p) (event.Heartbeat id) (reply.Pushed said) (core_of new)
+          → Leads (core_of program) (event.Heartbeat id) (reply.Pushed said) (core_of new)
       beat_leads said last within =
-          let lanes = pushed_back id.number Beat (core_of p).lanes beat_found.0 beat_found.1 in
+          let lanes = pushed_back id.number Beat (core_of program).lanes beat_found.0 beat_found.1 in
           let grown : length (held id.number (core_of new).lanes)
-          ≡ length (held id.number (core_of p).lanes) + 1 =
+          ≡ length (held id.number (core_of program).lanes) + 1 =
           ap (λ ls. length (held id.number ls)) beat_lanes ∙ lanes.1 in
-          let limit : new.state.limits.lane ≡ p.state.limits.lane =
+          let limit : new.state.limits.lane ≡ program.state.limits.lane =
           ap (λ (q : Program). q.state.limits.lane) sent in
-          subst (λ x. Leads (core_of p) (event.Heartbeat id) (reply.Pushed x) (core_of new))
+          subst (λ x. Leads (core_of program) (event.Heartbeat id) (reply.Pushed x) (core_of new))
           (same_Some Beat said (sym beat_back ∙ last))
-          (subst (λ c. Leads (core_of p) (event.Heartbeat id) (reply.Pushed Beat) c) beat_core
-          (beat_pushed (core_of p) id due (omega (arith, within, grown, limit))))
+          (subst (λ c. Leads (core_of program) (event.Heartbeat id) (reply.Pushed Beat) c) beat_core
+          (beat_pushed (core_of program) id due (omega (arith, within, grown, limit))))
 
 -- ---- what keeps the lanes
 
 pub kept_lists : (old new : Program) → IsWorld old → new ≡ record old { state = new.state }
     → new.state.limits.lane ≡ old.state.limits.lane → HasLists new
 kept_lists old new of rest limit = (
-  ap (λ (p : Program). p.lane) rest ∙ (of.lane ∙ sym limit),
-  subst (λ (p : Program). All (Fits p.lane) p.senders) (sym rest) of.room,
+  ap (λ (program : Program). program.lane) rest ∙ (of.lane ∙ sym limit),
+  subst (λ (program : Program). All (Fits program.lane) program.senders) (sym rest) of.room,
 )
 
 -- ---- beginning, taking and ending
@@ -359,22 +367,23 @@ fault_of deleted full =
     None)
     open_fault.NoMemory
 
-pub told_deleted : (p : Program) (params : FeedParams)
-    → open_fault.Deleted ≡ feeds.opening_fault (hosted_of p.state)
-    → Leads (core_of p) (event.Begin params) reply.DatabaseDeleted (core_of p)
-told_deleted p params is w h =
-    (w, (h.deleted ∙ from p.state.deleted (feeds.is_full (hosted_of p.state)) is, refl), h)
+pub told_deleted : (program : Program) (params : FeedParams)
+    → open_fault.Deleted ≡ feeds.opening_fault (hosted_of program.state)
+    → Leads (core_of program) (event.Begin params) reply.DatabaseDeleted (core_of program)
+told_deleted program params is w h =
+    (w, (h.deleted ∙ from program.state.deleted (feeds.is_full (hosted_of program.state)) is, refl), h)
   where
     from : (deleted full : Bool) → open_fault.Deleted ≡ fault_of deleted full → deleted ≡ true
     from true full e = refl
     from false true e = absurd (cc)
     from false false e = absurd (cc)
 
-pub told_full : (p : Program) (params : FeedParams)
-    → open_fault.TooManyFeeds ≡ feeds.opening_fault (hosted_of p.state)
-    → Leads (core_of p) (event.Begin params) reply.TooManyFeeds (core_of p)
-told_full p params is =
-    begin_full (core_of p) params (from p.state.deleted (feeds.is_full (hosted_of p.state)) is)
+pub told_full : (program : Program) (params : FeedParams)
+    → open_fault.TooManyFeeds ≡ feeds.opening_fault (hosted_of program.state)
+    → Leads (core_of program) (event.Begin params) reply.TooManyFeeds (core_of program)
+told_full program params is =
+    begin_full (core_of program) params
+    (from program.state.deleted (feeds.is_full (hosted_of program.state)) is)
   where
     from : (deleted full : Bool) → open_fault.TooManyFeeds ≡ fault_of deleted full
         → (if deleted then Some open_fault.Deleted else if full then Some open_fault.TooManyFeeds else None)
@@ -383,11 +392,12 @@ told_full p params is =
     from false true e = refl
     from false false e = absurd (cc)
 
-pub told_memory : (p : Program) (params : FeedParams)
-    → open_fault.NoMemory ≡ feeds.opening_fault (hosted_of p.state)
-    → MayFail (core_of p) (event.Begin params)
-told_memory p params is =
-    begin_grows (core_of p) params (from p.state.deleted (feeds.is_full (hosted_of p.state)) is)
+pub told_memory : (program : Program) (params : FeedParams)
+    → open_fault.NoMemory ≡ feeds.opening_fault (hosted_of program.state)
+    → MayFail (core_of program) (event.Begin params)
+told_memory program params is =
+    begin_grows (core_of program) params
+    (from program.state.deleted (feeds.is_full (hosted_of program.state)) is)
   where
     from : (deleted full : Bool) → open_fault.NoMemory ≡ fault_of deleted full
         → (if deleted then Some open_fault.Deleted else if full then Some open_fault.TooManyFeeds else None)

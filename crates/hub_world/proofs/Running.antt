@@ -16,10 +16,10 @@ use Rattle.hub_world.specs.declared.reply.Reply.{Reply}
 use Rattle.hub_world.specs.declared.reply.Reply.TheVariants as reply
 
 -- a core without edits and feeds shows an empty world
-pub new_shows : (c : Core) (limits : hub.Limits) → c.db.journal ≡ [] → c.db.deleted ≡ false
-    → c.db.feeds ≡ [] → c.db.next_feed ≡ 0 → c.db.limits ≡ limits → c.db.life ≡ 1 → c.lanes ≡ []
-    → Shows c (empty (limits_of limits))
-new_shows c limits journal deleted feeds next_feed same life lanes = record {
+pub new_shows : (core : Core) (limits : hub.Limits) → core.db.journal ≡ [] → core.db.deleted ≡ false
+    → core.db.feeds ≡ [] → core.db.next_feed ≡ 0 → core.db.limits ≡ limits → core.db.life ≡ 1
+    → core.lanes ≡ [] → Shows core (empty (limits_of limits))
+new_shows core limits journal deleted feeds next_feed same life lanes = record {
   limits = ap limits_of (sym same);
   life = sym life;
   journal = sym journal;
@@ -66,14 +66,14 @@ replied_whole reply.Gone s = refl
 replied_whole (reply.Took item) s = refl
 replied_whole (reply.Left items) s = refl
 
-pub applied_whole : (old new : Core) (e : Event) (r : Reply) → Applies old e r new → Answers old e r new
-    → is_stopped r ≡ false
-    → CoreStep old e r new
-applied_whole old new e r applies answers whole w h =
+pub applied_whole : (old new : Core) (event : Event) (reply : Reply) → Applies old event reply new
+    → Answers old event reply new → is_stopped reply ≡ false
+    → CoreStep old event reply new
+applied_whole old new event reply applies answers whole w h =
     let s = applies w h in (
       s.0,
-      subst (λ (x : Event). Step w x r s.0) (happened_whole old new e r answers whole)
-          (subst (λ (x : Reply). Step w (happened e r) x s.0) (replied_whole r whole) s.1),
+      subst (λ (x : Event). Step w x reply s.0) (happened_whole old new event reply answers whole)
+          (subst (λ (x : Reply). Step w (happened event reply) x s.0) (replied_whole reply whole) s.1),
       s.2,
     )
 
@@ -81,7 +81,7 @@ applied_whole old new e r applies answers whole w h =
 pub run_more : (old : World) (events : List Event) (replies : List Reply) (mid : World) (e : Event)
     (r : Reply) (new : World)
     → Run old events replies mid → Step mid e r new → Run old (events ++ e ∷ []) (replies ++ r ∷ []) new
-run_more old [] [] mid e r new run step = (new, subst (λ (w : World). Step w e r new) run step, refl)
+run_more old [] [] mid e r new run step = (new, subst (λ (world : World). Step world e r new) run step, refl)
 run_more old [] (reply ∷ replies) mid e r new run step = absurd run
 run_more old (event ∷ events) [] mid e r new run step = absurd run
 run_more old (event ∷ events) (reply ∷ replies) mid e r new run step =

@@ -49,52 +49,55 @@ use Rattle.hub_world.proofs.Standing.{changed_absent, feed_finished, feed_opened
 use Rattle.hub_world.proofs.Standing.{feeds_deleted, journal_changed, gone_expires, gone_takes}
 
 abbrev pub Leads : Core → Event → Reply → Core → Type 0
-Leads c event reply d = CoreStep c event reply d
+Leads core event reply other = CoreStep core event reply other
 
 -- ---- writes
 
 stores_map : {A B : Type 0} (store : List Edit → B → Stores) (f : A → B) (deleted : Bool)
-    (J : List Edit) (xs : List A)
-    → stores_all (λ K x. store K (f x)) deleted J xs ≡ stores_all store deleted J (map f xs)
-stores_map store f deleted J [] = refl
-stores_map store f true J (x ∷ xs) =
-    ap (λ (s : StoresAll). record { outcomes = outcome.Refused fault.Deleted ∷ s.outcomes; journal = J })
-    (stores_map store f true J xs)
-stores_map store f false J (x ∷ xs) =
-    ap (λ (s : StoresAll). record { outcomes = (store J (f x)).outcome ∷ s.outcomes; journal = s.journal })
-    (stores_map store f false (store J (f x)).journal xs)
+    (journal : List Edit) (xs : List A)
+    → stores_all (λ K x. store K (f x)) deleted journal xs ≡ stores_all store deleted journal (map f xs)
+stores_map store f deleted journal [] = refl
+stores_map store f true journal (x ∷ xs) =
+    ap (λ (s : StoresAll). record
+    { outcomes = outcome.Refused fault.Deleted ∷ s.outcomes; journal = journal })
+    (stores_map store f true journal xs)
+stores_map store f false journal (x ∷ xs) =
+    ap (λ (s : StoresAll). record
+    { outcomes = (store journal (f x)).outcome ∷ s.outcomes; journal = s.journal })
+    (stores_map store f false (store journal (f x)).journal xs)
 
-pub write_leads : (c : Core) (docs : List Doc) (outcomes : List (Outcome Revision)) (J : List Edit)
-    → writes false c.db.deleted c.db.limits.journal c.db.journal docs
-    ≡ record { outcomes = outcomes; journal = J }
-    → Leads c (Write docs) (Outcomes (whole_batch outcomes)) (record c { db = record c.db { journal = J } })
-write_leads c docs outcomes J e w h =
-    let same : merged w (map edit_of docs) ≡ record { outcomes = outcomes; journal = J } =
+pub write_leads : (core : Core) (docs : List Doc) (outcomes : List (Outcome Revision)) (journal : List Edit)
+    → writes false core.db.deleted core.db.limits.journal core.db.journal docs
+    ≡ record { outcomes = outcomes; journal = journal }
+    → Leads core (Write docs) (Outcomes (whole_batch outcomes))
+    (record core { db = record core.db { journal = journal } })
+write_leads core docs outcomes journal e w h =
+    let same : merged w (map edit_of docs) ≡ record { outcomes = outcomes; journal = journal } =
     rw (h.limits, h.journal, h.deleted)
-    (sym (stores_map (merges c.db.limits.journal) edit_of c.db.deleted c.db.journal docs) ∙ e) in (
-      record w { journal = J },
+    (sym (stores_map (merges core.db.limits.journal) edit_of core.db.deleted core.db.journal docs) ∙ e) in (
+      record w { journal = journal },
       (
         ap (λ (s : StoresAll). whole_batch s.outcomes) (sym same),
         ap (λ (s : StoresAll). record w { journal = s.journal }) (sym same),
       ),
-      journal_changed c w J h,
+      journal_changed core w journal h,
     )
 
-pub make_leads : (c : Core) (docs : List Doc) (outcomes : List (Outcome Revision)) (J : List Edit)
-    → writes true c.db.deleted c.db.limits.journal c.db.journal docs
-    ≡ record { outcomes = outcomes; journal = J }
-    → Leads c (Interactive docs) (Outcomes (whole_batch outcomes))
-    (record c { db = record c.db { journal = J } })
-make_leads c docs outcomes J e w h =
-    let same : drafted w (map draft_of docs) ≡ record { outcomes = outcomes; journal = J } =
+pub make_leads : (core : Core) (docs : List Doc) (outcomes : List (Outcome Revision)) (journal : List Edit)
+    → writes true core.db.deleted core.db.limits.journal core.db.journal docs
+    ≡ record { outcomes = outcomes; journal = journal }
+    → Leads core (Interactive docs) (Outcomes (whole_batch outcomes))
+    (record core { db = record core.db { journal = journal } })
+make_leads core docs outcomes journal e w h =
+    let same : drafted w (map draft_of docs) ≡ record { outcomes = outcomes; journal = journal } =
     rw (h.limits, h.journal, h.deleted)
-    (sym (stores_map (makes c.db.limits.journal) draft_of c.db.deleted c.db.journal docs) ∙ e) in (
-      record w { journal = J },
+    (sym (stores_map (makes core.db.limits.journal) draft_of core.db.deleted core.db.journal docs) ∙ e) in (
+      record w { journal = journal },
       (
         ap (λ (s : StoresAll). whole_batch s.outcomes) (sym same),
         ap (λ (s : StoresAll). record w { journal = s.journal }) (sym same),
       ),
-      journal_changed c w J h,
+      journal_changed core w journal h,
     )
 
 -- ---- beginning and ending
@@ -107,18 +110,18 @@ refused true full e = absurd (none-some _ (sym e))
 refused false true e = absurd (none-some _ (sym e))
 refused false false e = (refl, refl)
 
-pub begin_leads : (c : Core) (params : FeedParams) (id : FeedId) → id.number ≡ c.db.next_feed
-    → feeds.refuses (hosted_of c.db) ≡ None
-    → Leads c (Begin params) (Opened id)
+pub begin_leads : (core : Core) (params : FeedParams) (id : FeedId) → id.number ≡ core.db.next_feed
+    → feeds.refuses (hosted_of core.db) ≡ None
+    → Leads core (Begin params) (Opened id)
     (record {
-      db = with_hosted c.db (feeds.opened (hosted_of c.db) (params_of params));
-      lanes = c.lanes ++ (c.db.next_feed, []) ∷ [];
+      db = with_hosted core.db (feeds.opened (hosted_of core.db) (params_of params));
+      lanes = core.lanes ++ (core.db.next_feed, []) ∷ [];
     })
-begin_leads c params id named e w h =
-    let free = refused c.db.deleted (feeds.is_full (hosted_of c.db)) e in (
+begin_leads core params id named e w h =
+    let free = refused core.db.deleted (feeds.is_full (hosted_of core.db)) e in (
       _,
-      (h.deleted ∙ free.0, sym (room_shown c w h) ∙ free.1, named ∙ sym h.given, refl),
-      feed_opened c w (params_of params) h,
+      (h.deleted ∙ free.0, sym (room_shown core w h) ∙ free.1, named ∙ sym h.given, refl),
+      feed_opened core w (params_of params) h,
     )
 
 told_full : (deleted full : Bool)
@@ -129,33 +132,34 @@ told_full true full e = absurd (cc)
 told_full false true e = (refl, refl)
 told_full false false e = absurd (none-some _ e)
 
-pub begin_full : (c : Core) (params : FeedParams)
-    → feeds.refuses (hosted_of c.db) ≡ Some open_fault.TooManyFeeds
-    → Leads c (Begin params) TooManyFeeds c
-begin_full c params e w h =
-    let t = told_full c.db.deleted (feeds.is_full (hosted_of c.db)) e in
-    (w, (h.deleted ∙ t.0, sym (room_shown c w h) ∙ t.1, refl), h)
+pub begin_full : (core : Core) (params : FeedParams)
+    → feeds.refuses (hosted_of core.db) ≡ Some open_fault.TooManyFeeds
+    → Leads core (Begin params) TooManyFeeds core
+begin_full core params e w h =
+    let t = told_full core.db.deleted (feeds.is_full (hosted_of core.db)) e in
+    (w, (h.deleted ∙ t.0, sym (room_shown core w h) ∙ t.1, refl), h)
 
-pub finish_leads : (c : Core) (id : FeedId)
-    → Leads c (Finish id) (Left (held id.number c.lanes))
+pub finish_leads : (core : Core) (id : FeedId)
+    → Leads core (Finish id) (Left (held id.number core.lanes))
     (record {
-      db = with_hosted c.db (feeds.finished (hosted_of c.db) id.number);
-      lanes = without id.number c.lanes;
+      db = with_hosted core.db (feeds.finished (hosted_of core.db) id.number);
+      lanes = without id.number core.lanes;
     })
-finish_leads c id w h =
-    (_, (held_lane (entry_in id.number c.db.feeds) refl, refl), feed_finished c w id.number h)
+finish_leads core id w h =
+    (_, (held_lane (entry_in id.number core.db.feeds) refl, refl), feed_finished core w id.number h)
   where
-    held_lane : (o : Option Feed) → entry_in id.number c.db.feeds ≡ o
-        → held id.number c.lanes ≡ lane_of (subscription w id.number)
+    held_lane : (maybe_feed : Option Feed) → entry_in id.number core.db.feeds ≡ maybe_feed
+        → held id.number core.lanes ≡ lane_of (subscription w id.number)
     held_lane None e =
-        let g = feed_gone c w id.number h e in
-        ap (λ (x : Option (List ChangeItem)). unwrap_or x []) g.1 ∙ sym (gone_takes c w id.number h g.0).0
+        let g = feed_gone core w id.number h e in
+        ap (λ (x : Option (List ChangeItem)). unwrap_or x []) g.1 ∙ sym (gone_takes core w id.number h g.0).0
     held_lane (Some feed) e =
-        let s = feed_found c w id.number feed h e in
+        let s = feed_found core w id.number feed h e in
         ap (λ (x : Option (List ChangeItem)). unwrap_or x []) s.4 ∙ ap lane_of (sym s.1)
 
-pub delete_leads : (c : Core) → c.db.deleted ≡ false → Leads c Delete Nothing (record c { db = deleted c.db })
-delete_leads c e w h = (_, (h.deleted ∙ e, refl), feeds_deleted c w h)
+pub delete_leads : (core : Core) → core.db.deleted ≡ false
+    → Leads core Delete Nothing (record core { db = deleted core.db })
+delete_leads core e w h = (_, (h.deleted ∙ e, refl), feeds_deleted core w h)
 
 -- ---- what is due
 
@@ -168,187 +172,208 @@ stays_open (Some limit) rows = from (nat_le limit rows)
     from false = refl
 
 -- a feed that goes on is not finished
-goes_on : (f : Feed) (d : Due) (len : ℕ) → is_finished f.status ≡ false
-    → is_finished (after_due f d len).status ≡ false
-goes_on f (DueRow c) len u = stays_open f.params.limit _
-goes_on f (DueEnd last_seq) len u = refl
-goes_on f DueNothing len u = u
-goes_on f DueGone len u = u
+goes_on : (feed : Feed) (due : Due) (len : ℕ) → is_finished feed.status ≡ false
+    → is_finished (after_due feed due len).status ≡ false
+goes_on feed (DueRow c) len u = stays_open feed.params.limit _
+goes_on feed (DueEnd last_seq) len u = refl
+goes_on feed DueNothing len u = u
+goes_on feed DueGone len u = u
 
 -- the feed that has something due
-pub due_feed : (J : List Edit) (o : Option Feed) (item : ChangeItem)
-    → option_and_then (change_due J) o ≡ Some item → (f : Feed) × (o ≡ Some f) × (change_due J f ≡ Some item)
-due_feed J None item e = absurd (none-some item e)
-due_feed J (Some f) item e = (f, refl, e)
+pub due_feed : (journal : List Edit) (maybe_feed : Option Feed) (item : ChangeItem)
+    → option_and_then (change_due journal) maybe_feed ≡ Some item → (feed : Feed) × (maybe_feed ≡ Some feed)
+    × (change_due journal feed ≡ Some item)
+due_feed journal None item e = absurd (none-some item e)
+due_feed journal (Some feed) item e = (feed, refl, e)
 
-module _ (c : Core) (f : ℕ) (item : ChangeItem) (ready : feeds.item_due (hosted_of c.db) f ≡ Some item)
-    (w : World) (h : Shows c w) where
-  abbrev pub found : (feed : Feed) × (entry_in f c.db.feeds ≡ Some feed) ×
-      (change_due c.db.journal feed ≡ Some item)
-  found = due_feed c.db.journal (entry_in f c.db.feeds) item ready
+module _ (core : Core) (f : ℕ) (item : ChangeItem) (ready : feeds.item_due (hosted_of core.db) f ≡ Some item)
+    (world : World) (h : Shows core world) where
+  abbrev pub found : (feed : Feed) × (entry_in f core.db.feeds ≡ Some feed) ×
+      (change_due core.db.journal feed ≡ Some item)
+  found = due_feed core.db.journal (entry_in f core.db.feeds) item ready
 
-  abbrev pub at : (s : Subscription) × (subscription w f ≡ Some s) × (s.feed ≡ found.0)
-      × (is_finished s.feed.status ≡ false) × (entry_in f c.lanes ≡ Some s.lane)
-  at = feed_found c w f found.0 h found.1
+  abbrev pub at : (s : Subscription) × (subscription world f ≡ Some s) × (s.feed ≡ found.0)
+      × (is_finished s.feed.status ≡ false) × (entry_in f core.lanes ≡ Some s.lane)
+  at = feed_found core world f found.0 h found.1
 
-  due_here : change_due w.journal at.0.feed ≡ Some item
+  due_here : change_due world.journal at.0.feed ≡ Some item
   due_here =
-      ap (λ (J : List Edit). change_due J at.0.feed) h.journal ∙ (ap (change_due c.db.journal) at.2 ∙ found.2)
+      ap (λ (journal : List Edit). change_due journal at.0.feed) h.journal
+      ∙ (ap (change_due core.db.journal) at.2 ∙ found.2)
 
-lane_limit : (c : Core) (w : World) → Shows c w → w.limits.lane ≡ c.db.limits.lane
-lane_limit c w h = ap (λ (l : Limits). l.lane) h.limits
+lane_limit : (core : Core) (world : World) → Shows core world → world.limits.lane ≡ core.db.limits.lane
+lane_limit core world h = ap (λ (limits : Limits). limits.lane) h.limits
 
 -- the lane to whose feed it is due
-pub due_lane : (c : Core) (f : ℕ) (item : ChangeItem) → feeds.item_due (hosted_of c.db) f ≡ Some item
-    → (w : World) → Shows c w → (items : List ChangeItem) × (entry_in f c.lanes ≡ Some items)
-due_lane c f item ready w h = let s = at c f item ready w h in (s.0.lane, s.4)
+pub due_lane : (core : Core) (f : ℕ) (item : ChangeItem) → feeds.item_due (hosted_of core.db) f ≡ Some item
+    → (world : World) → Shows core world → (items : List ChangeItem) × (entry_in f core.lanes ≡ Some items)
+due_lane core f item ready world h = let s = at core f item ready world h in (s.0.lane, s.4)
 
 -- what a lane holds that is found
-held_is : (c : Core) (f : ℕ) (items : List ChangeItem) → entry_in f c.lanes ≡ Some items
-    → length (held f c.lanes) ≡ length items
-held_is c f items is = ap (λ (o : Option (List ChangeItem)). length (unwrap_or o [])) is
+held_is : (core : Core) (f : ℕ) (items : List ChangeItem) → entry_in f core.lanes ≡ Some items
+    → length (held f core.lanes) ≡ length items
+held_is core f items is = ap (λ (o : Option (List ChangeItem)). length (unwrap_or o [])) is
 
 -- a feed with its lane once the item that was due to it was handed
 abbrev pub handed_over : World → Subscription → ChangeItem → Subscription
-handed_over w s item = pushed s (after_due s.feed (due_in w.journal s.feed) (length w.journal)) item
+handed_over world subscription item =
+    pushed subscription (after_due subscription.feed (due_in world.journal subscription.feed)
+    (length world.journal)) item
 
 -- the world once an item was handed
-pub hand_shows : (c : Core) (id : FeedId) (item : ChangeItem)
-    (ready : feeds.item_due (hosted_of c.db) id.number ≡ Some item) (w : World) (h : Shows c w)
+pub hand_shows : (core : Core) (id : FeedId) (item : ChangeItem)
+    (ready : feeds.item_due (hosted_of core.db) id.number ≡ Some item) (world : World) (h : Shows core world)
     → Shows (record {
-      db = with_hosted c.db (feeds.handed (hosted_of c.db) id.number);
-      lanes = changed id.number (λ items. items ++ item ∷ []) c.lanes;
-    }) (with_subscription w id.number (handed_over w (at c id.number item ready w h).0 item))
-hand_shows c id item ready w h =
-    let s = at c id.number item ready w h in
-    entry_changed c w id.number
-    (λ g. after_due g (due_in c.db.journal g) (length c.db.journal)) (λ items. items ++ item ∷ []) s.0
-    (handed_over w s.0 item) h s.1 s.3
-    (goes_on s.0.feed (due_in w.journal s.0.feed) (length w.journal) s.3)
-    (ap (λ (J : List Edit). after_due s.0.feed (due_in J s.0.feed) (length J)) (sym h.journal)) refl
+      db = with_hosted core.db (feeds.handed (hosted_of core.db) id.number);
+      lanes = changed id.number (λ items. items ++ item ∷ []) core.lanes;
+    }) (with_subscription world id.number (handed_over world (at core id.number item ready world h).0 item))
+hand_shows core id item ready world h =
+    let s = at core id.number item ready world h in
+    entry_changed core world id.number
+    (λ g. after_due g (due_in core.db.journal g) (length core.db.journal)) (λ items. items ++ item ∷ []) s.0
+    (handed_over world s.0 item) h s.1 s.3
+    (goes_on s.0.feed (due_in world.journal s.0.feed) (length world.journal) s.3)
+    (ap (λ (journal : List Edit). after_due s.0.feed (due_in journal s.0.feed) (length journal))
+    (sym h.journal)) refl
 
-pub hand_pushed : (c : Core) (id : FeedId) (item : ChangeItem)
-    → feeds.item_due (hosted_of c.db) id.number ≡ Some item
-    → length (held id.number c.lanes) < c.db.limits.lane
-    → Leads c (Hand id) (Pushed item)
+pub hand_pushed : (core : Core) (id : FeedId) (item : ChangeItem)
+    → feeds.item_due (hosted_of core.db) id.number ≡ Some item
+    → length (held id.number core.lanes) < core.db.limits.lane
+    → Leads core (Hand id) (Pushed item)
     (record {
-      db = with_hosted c.db (feeds.handed (hosted_of c.db) id.number);
-      lanes = changed id.number (λ items. items ++ item ∷ []) c.lanes;
+      db = with_hosted core.db (feeds.handed (hosted_of core.db) id.number);
+      lanes = changed id.number (λ items. items ++ item ∷ []) core.lanes;
     })
-hand_pushed c id item ready room w h =
-    let s = at c id.number item ready w h in
-    let holds = held_is c id.number s.0.lane s.4 in (
+hand_pushed core id item ready room w h =
+    let s = at core id.number item ready w h in
+    let holds = held_is core id.number s.0.lane s.4 in (
       _,
-      (s.0, s.1, due_here c id.number item ready w h, (omega (arith, room, holds, lane_limit c w h), refl)),
-      hand_shows c id item ready w h,
+      (
+        s.0,
+        s.1,
+        due_here core id.number item ready w h,
+        (omega (arith, room, holds, lane_limit core w h), refl),
+      ),
+      hand_shows core id item ready w h,
     )
 
-pub hand_full : (c : Core) (id : FeedId) (item : ChangeItem)
-    → feeds.item_due (hosted_of c.db) id.number ≡ Some item
-    → c.db.limits.lane ≤ length (held id.number c.lanes) → Leads c (Hand id) Full c
-hand_full c id item ready full w h =
-    let s = at c id.number item ready w h in
-    let holds = held_is c id.number s.0.lane s.4 in (
+pub hand_full : (core : Core) (id : FeedId) (item : ChangeItem)
+    → feeds.item_due (hosted_of core.db) id.number ≡ Some item
+    → core.db.limits.lane ≤ length (held id.number core.lanes) → Leads core (Hand id) Full core
+hand_full core id item ready full w h =
+    let s = at core id.number item ready w h in
+    let holds = held_is core id.number s.0.lane s.4 in (
       w,
       (
         s.0,
         s.1,
-        (item, due_here c id.number item ready w h),
-        omega (arith, full, holds, lane_limit c w h),
+        (item, due_here core id.number item ready w h),
+        omega (arith, full, holds, lane_limit core w h),
         refl,
       ),
       h,
     )
 
 -- what answers Nothing has nothing due
-due_nothing : (show : Current → ChangeRow) (rows : List Current) (d : Due)
-    → next_of show rows d ≡ next.Nothing → d ≡ DueNothing
+due_nothing : (show : Current → ChangeRow) (rows : List Current) (due : Due)
+    → next_of show rows due ≡ next.Nothing → due ≡ DueNothing
 due_nothing show rows (DueRow c) e = absurd (cc)
 due_nothing show rows (DueEnd last_seq) e = absurd (cc)
 due_nothing show rows DueNothing e = refl
 due_nothing show rows DueGone e = absurd (cc)
 
-due_gone : (show : Current → ChangeRow) (rows : List Current) (d : Due) → next_of show rows d ≡ next.Gone
-    → d ≡ DueGone
+due_gone : (show : Current → ChangeRow) (rows : List Current) (due : Due) → next_of show rows due ≡ next.Gone
+    → due ≡ DueGone
 due_gone show rows (DueRow c) e = absurd (cc)
 due_gone show rows (DueEnd last_seq) e = absurd (cc)
 due_gone show rows DueNothing e = absurd (cc)
 due_gone show rows DueGone e = refl
 
-pub hand_nothing : (c : Core) (id : FeedId) → next.Nothing ≡ feeds.answered (hosted_of c.db) id.number
-    → Leads c (Hand id) Nothing
-    (record c { db = with_hosted c.db (feeds.behind_answer (hosted_of c.db) id.number next.Nothing) })
-hand_nothing c id e w h = from (entry_in id.number c.db.feeds) refl
+pub hand_nothing : (core : Core) (id : FeedId) → next.Nothing ≡ feeds.answered (hosted_of core.db) id.number
+    → Leads core (Hand id) Nothing
+    (record core {
+      db = with_hosted core.db
+          (feeds.behind_answer (hosted_of core.db) id.number next.Nothing);
+    })
+hand_nothing core id e w h = from (entry_in id.number core.db.feeds) refl
   where
-    from : (o : Option Feed) → entry_in id.number c.db.feeds ≡ o
+    from : (maybe_feed : Option Feed) → entry_in id.number core.db.feeds ≡ maybe_feed
         → (new : World) × Step w (Hand id) Nothing new
         × Shows
-        (record c { db = with_hosted c.db (feeds.behind_answer (hosted_of c.db) id.number next.Nothing) }) new
-    from None q = absurd (nothing_gone (e ∙ ap (feeds.answer_of (hosted_of c.db)) q))
+        (record core {
+          db = with_hosted core.db
+              (feeds.behind_answer (hosted_of core.db) id.number next.Nothing);
+        }) new
+    from None q = absurd (nothing_gone (e ∙ ap (feeds.answer_of (hosted_of core.db)) q))
       where
         nothing_gone : ◌≡◌ {A = Next ChangeRow} next.Nothing next.Gone → ⊥
         nothing_gone x = cc
     from (Some feed) q =
-        let s = feed_found c w id.number feed h q in
-        let none : due_in c.db.journal feed ≡ DueNothing =
-        due_nothing (row_of c.db.journal feed.params.style feed.params.include_docs) (current c.db.journal)
-        (due_in c.db.journal feed) (sym (e ∙ ap (feeds.answer_of (hosted_of c.db)) q)) in
+        let s = feed_found core w id.number feed h q in
+        let none : due_in core.db.journal feed ≡ DueNothing =
+        due_nothing (row_of core.db.journal feed.params.style feed.params.include_docs)
+        (current core.db.journal)
+        (due_in core.db.journal feed) (sym (e ∙ ap (feeds.answer_of (hosted_of core.db)) q)) in
         let here : due_in w.journal s.0.feed ≡ DueNothing =
-        ap (λ (J : List Edit). due_in J s.0.feed) h.journal ∙ (ap (due_in c.db.journal) s.2 ∙ none) in
+        ap (λ (journal : List Edit). due_in journal s.0.feed) h.journal
+        ∙ (ap (due_in core.db.journal) s.2 ∙ none) in
         let shown =
-        entry_changed c w id.number (λ g. after_nothing g (length c.db.journal))
+        entry_changed core w id.number (λ g. after_nothing g (length core.db.journal))
         (λ items. items) s.0 (record s.0 { feed = after_nothing s.0.feed (length w.journal) }) h s.1 s.3 s.3
-        (ap (λ (J : List Edit). after_nothing s.0.feed (length J)) (sym h.journal)) refl in (
+        (ap (λ (journal : List Edit). after_nothing s.0.feed (length journal)) (sym h.journal)) refl in (
           _,
           (s.0, s.1, here, refl),
           subst (λ ls. Shows (record {
-            db = with_hosted c.db (feeds.behind_answer (hosted_of c.db) id.number next.Nothing);
+            db = with_hosted core.db (feeds.behind_answer (hosted_of core.db) id.number next.Nothing);
             lanes = ls;
           })
               (with_subscription w id.number
               (record s.0 { feed = after_nothing s.0.feed (length w.journal) })))
-              (changed_same id.number c.lanes) shown,
+              (changed_same id.number core.lanes) shown,
         )
 
 -- to a feed that is gone nothing is due, and no heartbeat
-gone_due : (w : World) (o : Option Subscription) → IsGone o
-    → feeds.due_of (current w.journal) (feed_of o) ≡ DueGone
-gone_due w None g = refl
-gone_due w (Some s) g = from s.feed.status g
+gone_due : (world : World) (maybe_subscription : Option Subscription) → IsGone maybe_subscription
+    → feeds.due_of (current world.journal) (feed_of maybe_subscription) ≡ DueGone
+gone_due world None g = refl
+gone_due world (Some subscription) g = from subscription.feed.status g
   where
-    from : (status : Status) → is_finished status ≡ true → due_at status (current w.journal) s.feed ≡ DueGone
+    from : (status : Status) → is_finished status ≡ true
+        → due_at status (current world.journal) subscription.feed ≡ DueGone
     from Open u = absurd (cc)
     from Ending u = absurd (cc)
     from Ended u = absurd (cc)
     from Finished u = refl
 
-gone_still : (o : Option Subscription) → IsGone o → feeds.is_beat_due (feed_of o) ≡ false
+gone_still : (maybe_subscription : Option Subscription) → IsGone maybe_subscription
+    → feeds.is_beat_due (feed_of maybe_subscription) ≡ false
 gone_still None g = refl
-gone_still (Some s) g = from s.feed.status refl g
+gone_still (Some subscription) g = from subscription.feed.status refl g
   where
-    from : (status : Status) → s.feed.status ≡ status → is_finished status ≡ true → beat_due s.feed ≡ false
+    from : (status : Status) → subscription.feed.status ≡ status → is_finished status ≡ true
+        → beat_due subscription.feed ≡ false
     from Open q u = absurd (cc)
     from Ending q u = absurd (cc)
     from Ended q u = absurd (cc)
     from Finished q u = rw q refl
 
-pub hand_gone : (c : Core) (id : FeedId) → next.Gone ≡ feeds.answered (hosted_of c.db) id.number
-    → Leads c (Hand id) Gone c
-hand_gone c id e w h = from (entry_in id.number c.db.feeds) refl
+pub hand_gone : (core : Core) (id : FeedId) → next.Gone ≡ feeds.answered (hosted_of core.db) id.number
+    → Leads core (Hand id) Gone core
+hand_gone core id e w h = from (entry_in id.number core.db.feeds) refl
   where
-    from : (o : Option Feed) → entry_in id.number c.db.feeds ≡ o
-        → (new : World) × Step w (Hand id) Gone new × Shows c new
-    from None q = (w, (gone_due w (subscription w id.number) (feed_gone c w id.number h q).0, refl), h)
+    from : (maybe_feed : Option Feed) → entry_in id.number core.db.feeds ≡ maybe_feed
+        → (new : World) × Step w (Hand id) Gone new × Shows core new
+    from None q = (w, (gone_due w (subscription w id.number) (feed_gone core w id.number h q).0, refl), h)
     from (Some feed) q =
-        let s = feed_found c w id.number feed h q in
-        let gone : due_in c.db.journal feed ≡ DueGone =
-        due_gone (row_of c.db.journal feed.params.style feed.params.include_docs) (current c.db.journal)
-        (due_in c.db.journal feed) (sym (e ∙ ap (feeds.answer_of (hosted_of c.db)) q)) in (
+        let s = feed_found core w id.number feed h q in
+        let gone : due_in core.db.journal feed ≡ DueGone =
+        due_gone (row_of core.db.journal feed.params.style feed.params.include_docs) (current core.db.journal)
+        (due_in core.db.journal feed) (sym (e ∙ ap (feeds.answer_of (hosted_of core.db)) q)) in (
           w,
           (
-            ap (λ o. feeds.due_of (current w.journal) (feed_of o)) s.1
-                ∙ (ap (λ (J : List Edit). due_in J s.0.feed) h.journal
-                ∙ (ap (due_in c.db.journal) s.2 ∙ gone)),
+            ap (λ maybe_feed. feeds.due_of (current w.journal) (feed_of maybe_feed)) s.1
+                ∙ (ap (λ (journal : List Edit). due_in journal s.0.feed) h.journal
+                ∙ (ap (due_in core.db.journal) s.2 ∙ gone)),
             refl,
           ),
           h,
@@ -356,78 +381,80 @@ hand_gone c id e w h = from (entry_in id.number c.db.feeds) refl
 
 -- ---- heartbeats
 
-pub beating : (o : Option Feed) → feeds.is_beat_due o ≡ true → (f : Feed) × (o ≡ Some f) × (beat_due f ≡ true)
+pub beating : (maybe_feed : Option Feed) → feeds.is_beat_due maybe_feed ≡ true → (feed : Feed)
+    × (maybe_feed ≡ Some feed) × (beat_due feed ≡ true)
 beating None e = absurd (cc)
-beating (Some f) e = (f, refl, e)
+beating (Some feed) e = (feed, refl, e)
 
 -- the lane of its feed
-pub beat_lane : (c : Core) (f : ℕ) → feeds.is_beat_due (entry_in f c.db.feeds) ≡ true → (w : World)
-    → Shows c w → (items : List ChangeItem) × (entry_in f c.lanes ≡ Some items)
-beat_lane c f beats w h =
-    let b = beating (entry_in f c.db.feeds) beats in
-    let s = feed_found c w f b.0 h b.1 in
+pub beat_lane : (core : Core) (f : ℕ) → feeds.is_beat_due (entry_in f core.db.feeds) ≡ true → (world : World)
+    → Shows core world → (items : List ChangeItem) × (entry_in f core.lanes ≡ Some items)
+beat_lane core f beats world h =
+    let b = beating (entry_in f core.db.feeds) beats in
+    let s = feed_found core world f b.0 h b.1 in
     (s.0.lane, s.4)
 
 -- the feed that it is due to
-abbrev pub beaten : (c : Core) (f : ℕ) → feeds.is_beat_due (entry_in f c.db.feeds) ≡ true → (w : World)
-    → Shows c w
-    → (s : Subscription) × (subscription w f ≡ Some s) × (beat_due s.feed ≡ true)
-    × (is_finished s.feed.status ≡ false) × (entry_in f c.lanes ≡ Some s.lane)
-beaten c f beats w h =
-    let b = beating (entry_in f c.db.feeds) beats in
-    let s = feed_found c w f b.0 h b.1 in
+abbrev pub beaten : (core : Core) (f : ℕ) → feeds.is_beat_due (entry_in f core.db.feeds) ≡ true
+    → (world : World) → Shows core world
+    → (s : Subscription) × (subscription world f ≡ Some s) × (beat_due s.feed ≡ true)
+    × (is_finished s.feed.status ≡ false) × (entry_in f core.lanes ≡ Some s.lane)
+beaten core f beats world h =
+    let b = beating (entry_in f core.db.feeds) beats in
+    let s = feed_found core world f b.0 h b.1 in
     (s.0, s.1, ap beat_due s.2 ∙ b.2, s.3, s.4)
 
 -- the world once it was handed
-pub beat_shows : (c : Core) (id : FeedId) (beats : feeds.is_beat_due (entry_in id.number c.db.feeds) ≡ true)
-    (w : World) (h : Shows c w)
-    → Shows (record c { lanes = changed id.number (λ items. items ++ Beat ∷ []) c.lanes })
-    (with_subscription w id.number
-    (pushed (beaten c id.number beats w h).0 (beaten c id.number beats w h).0.feed Beat))
-beat_shows c id beats w h =
-    let s = beaten c id.number beats w h in
+pub beat_shows : (core : Core) (id : FeedId)
+    (beats : feeds.is_beat_due (entry_in id.number core.db.feeds) ≡ true)
+    (world : World) (h : Shows core world)
+    → Shows (record core { lanes = changed id.number (λ items. items ++ Beat ∷ []) core.lanes })
+    (with_subscription world id.number
+    (pushed (beaten core id.number beats world h).0 (beaten core id.number beats world h).0.feed Beat))
+beat_shows core id beats world h =
+    let s = beaten core id.number beats world h in
     let shown =
-    entry_changed c w id.number (λ g. g) (λ items. items ++ Beat ∷ []) s.0
+    entry_changed core world id.number (λ g. g) (λ items. items ++ Beat ∷ []) s.0
     (pushed s.0 s.0.feed Beat) h s.1 s.3 s.3 refl refl in
     subst (λ fs. Shows (record {
-      db = record c.db { feeds = fs };
-      lanes = changed id.number (λ items. items ++ Beat ∷ []) c.lanes;
+      db = record core.db { feeds = fs };
+      lanes = changed id.number (λ items. items ++ Beat ∷ []) core.lanes;
     })
-    (with_subscription w id.number (pushed s.0 s.0.feed Beat)))
-    (changed_same id.number c.db.feeds) shown
+    (with_subscription world id.number (pushed s.0 s.0.feed Beat)))
+    (changed_same id.number core.db.feeds) shown
 
-pub beat_pushed : (c : Core) (id : FeedId) → feeds.is_beat_due (entry_in id.number c.db.feeds) ≡ true
-    → length (held id.number c.lanes) < c.db.limits.lane
-    → Leads c (Heartbeat id) (Pushed Beat)
-    (record c { lanes = changed id.number (λ items. items ++ Beat ∷ []) c.lanes })
-beat_pushed c id beats room w h =
-    let s = beaten c id.number beats w h in
-    let holds = held_is c id.number s.0.lane s.4 in (
+pub beat_pushed : (core : Core) (id : FeedId) → feeds.is_beat_due (entry_in id.number core.db.feeds) ≡ true
+    → length (held id.number core.lanes) < core.db.limits.lane
+    → Leads core (Heartbeat id) (Pushed Beat)
+    (record core { lanes = changed id.number (λ items. items ++ Beat ∷ []) core.lanes })
+beat_pushed core id beats room w h =
+    let s = beaten core id.number beats w h in
+    let holds = held_is core id.number s.0.lane s.4 in (
       _,
-      (s.0, s.1, s.2, refl, (omega (arith, room, holds, lane_limit c w h), refl)),
-      beat_shows c id beats w h,
+      (s.0, s.1, s.2, refl, (omega (arith, room, holds, lane_limit core w h), refl)),
+      beat_shows core id beats w h,
     )
 
-pub beat_full : (c : Core) (id : FeedId) → feeds.is_beat_due (entry_in id.number c.db.feeds) ≡ true
-    → c.db.limits.lane ≤ length (held id.number c.lanes) → Leads c (Heartbeat id) Full c
-beat_full c id beats full w h =
-    let b = beating (entry_in id.number c.db.feeds) beats in
-    let s = feed_found c w id.number b.0 h b.1 in
-    let holds = held_is c id.number s.0.lane s.4 in
-    (w, (s.0, s.1, ap beat_due s.2 ∙ b.2, omega (arith, full, holds, lane_limit c w h), refl), h)
+pub beat_full : (core : Core) (id : FeedId) → feeds.is_beat_due (entry_in id.number core.db.feeds) ≡ true
+    → core.db.limits.lane ≤ length (held id.number core.lanes) → Leads core (Heartbeat id) Full core
+beat_full core id beats full w h =
+    let b = beating (entry_in id.number core.db.feeds) beats in
+    let s = feed_found core w id.number b.0 h b.1 in
+    let holds = held_is core id.number s.0.lane s.4 in
+    (w, (s.0, s.1, ap beat_due s.2 ∙ b.2, omega (arith, full, holds, lane_limit core w h), refl), h)
 
-pub beat_nothing : (c : Core) (id : FeedId) → feeds.is_beat_due (entry_in id.number c.db.feeds) ≡ false
-    → Leads c (Heartbeat id) Nothing c
-beat_nothing c id e w h = from (entry_in id.number c.db.feeds) refl
+pub beat_nothing : (core : Core) (id : FeedId) → feeds.is_beat_due (entry_in id.number core.db.feeds) ≡ false
+    → Leads core (Heartbeat id) Nothing core
+beat_nothing core id e w h = from (entry_in id.number core.db.feeds) refl
   where
-    from : (o : Option Feed) → entry_in id.number c.db.feeds ≡ o
-        → (new : World) × Step w (Heartbeat id) Nothing new × Shows c new
-    from None q = (w, (gone_still (subscription w id.number) (feed_gone c w id.number h q).0, refl), h)
+    from : (maybe_feed : Option Feed) → entry_in id.number core.db.feeds ≡ maybe_feed
+        → (new : World) × Step w (Heartbeat id) Nothing new × Shows core new
+    from None q = (w, (gone_still (subscription w id.number) (feed_gone core w id.number h q).0, refl), h)
     from (Some feed) q =
-        let s = feed_found c w id.number feed h q in (
+        let s = feed_found core w id.number feed h q in (
           w,
           (
-            ap (λ o. feeds.is_beat_due (feed_of o)) s.1
+            ap (λ maybe_feed. feeds.is_beat_due (feed_of maybe_feed)) s.1
                 ∙ (ap beat_due s.2 ∙ (ap feeds.is_beat_due (sym q) ∙ e)),
             refl,
           ),
@@ -436,76 +463,76 @@ beat_nothing c id e w h = from (entry_in id.number c.db.feeds) refl
 
 -- ---- expiry and takes
 
-expire_on : (f : Feed) → is_finished f.status ≡ false → is_finished (expire f).status ≡ false
-expire_on f u = from (is_open f.status && waits f.params.mode)
+expire_on : (feed : Feed) → is_finished feed.status ≡ false → is_finished (expire feed).status ≡ false
+expire_on feed u = from (is_open feed.status && waits feed.params.mode)
   where
-    from : (b : Bool) → is_finished (if b then record f { status = Ending } else f).status ≡ false
+    from : (b : Bool) → is_finished (if b then record feed { status = Ending } else feed).status ≡ false
     from true = refl
     from false = u
 
-pub expire_leads : (c : Core) (id : FeedId)
-    → Leads c (Expire id) Nothing
-    (record c { db = with_hosted c.db (feeds.expired (hosted_of c.db) id.number) })
-expire_leads c id w h = from (entry_in id.number c.db.feeds) refl
+pub expire_leads : (core : Core) (id : FeedId)
+    → Leads core (Expire id) Nothing
+    (record core { db = with_hosted core.db (feeds.expired (hosted_of core.db) id.number) })
+expire_leads core id w h = from (entry_in id.number core.db.feeds) refl
   where
-    from : (o : Option Feed) → entry_in id.number c.db.feeds ≡ o
+    from : (maybe_feed : Option Feed) → entry_in id.number core.db.feeds ≡ maybe_feed
         → (new : World) × Step w (Expire id) Nothing new
-        × Shows (record c { db = with_hosted c.db (feeds.expired (hosted_of c.db) id.number) }) new
+        × Shows (record core { db = with_hosted core.db (feeds.expired (hosted_of core.db) id.number) }) new
     from None q = (
       w,
-      sym (gone_expires c w id.number h (feed_gone c w id.number h q).0),
-      subst (λ fs. Shows (record { db = record c.db { feeds = fs }; lanes = c.lanes }) w)
-          (sym (changed_absent id.number expire c.db.feeds q)) h,
+      sym (gone_expires core w id.number h (feed_gone core w id.number h q).0),
+      subst (λ fs. Shows (record { db = record core.db { feeds = fs }; lanes = core.lanes }) w)
+          (sym (changed_absent id.number expire core.db.feeds q)) h,
     )
     from (Some feed) q =
-        let s = feed_found c w id.number feed h q in
+        let s = feed_found core w id.number feed h q in
         let shown =
-        entry_changed c w id.number expire (λ items. items) s.0
+        entry_changed core w id.number expire (λ items. items) s.0
         (record s.0 { feed = expire s.0.feed }) h s.1 s.3
         (expire_on s.0.feed s.3) refl refl in (
           _,
-          ap (λ o. expired o id.number w) (sym s.1),
+          ap (λ maybe_feed. expired maybe_feed id.number w) (sym s.1),
           subst (λ ls. Shows
-              (record { db = with_hosted c.db (feeds.expired (hosted_of c.db) id.number); lanes = ls })
+              (record { db = with_hosted core.db (feeds.expired (hosted_of core.db) id.number); lanes = ls })
               (with_subscription w id.number (record s.0 { feed = expire s.0.feed })))
-              (changed_same id.number c.lanes) shown,
+              (changed_same id.number core.lanes) shown,
         )
 
-pub take_leads : (c : Core) (id : FeedId)
-    → Leads c (Take id) (Took (front id.number c.lanes))
-    (record c { lanes = without_front id.number c.lanes })
-take_leads c id w h = from (entry_in id.number c.db.feeds) refl
+pub take_leads : (core : Core) (id : FeedId)
+    → Leads core (Take id) (Took (front id.number core.lanes))
+    (record core { lanes = without_front id.number core.lanes })
+take_leads core id w h = from (entry_in id.number core.db.feeds) refl
   where
-    from : (o : Option Feed) → entry_in id.number c.db.feeds ≡ o
-        → (new : World) × Step w (Take id) (Took (front id.number c.lanes)) new
-        × Shows (record c { lanes = without_front id.number c.lanes }) new
+    from : (maybe_feed : Option Feed) → entry_in id.number core.db.feeds ≡ maybe_feed
+        → (new : World) × Step w (Take id) (Took (front id.number core.lanes)) new
+        × Shows (record core { lanes = without_front id.number core.lanes }) new
     from None q =
-        let g = feed_gone c w id.number h q in
-        let t = gone_takes c w id.number h g.0 in (
+        let g = feed_gone core w id.number h q in
+        let t = gone_takes core w id.number h g.0 in (
           w,
           (
             ap (option_and_then (λ (items : List ChangeItem). slice_get items 0)) g.1
                 ∙ ap (λ (items : List ChangeItem). slice_get items 0) (sym t.0),
             sym t.1,
           ),
-          subst (λ ls. Shows (record { db = c.db; lanes = ls }) w)
-              (sym (changed_absent id.number (drop 1) c.lanes g.1)) h,
+          subst (λ ls. Shows (record { db = core.db; lanes = ls }) w)
+              (sym (changed_absent id.number (drop 1) core.lanes g.1)) h,
         )
     from (Some feed) q =
-        let s = feed_found c w id.number feed h q in
+        let s = feed_found core w id.number feed h q in
         let shown =
-        entry_changed c w id.number (λ g. g) (drop 1) s.0
+        entry_changed core w id.number (λ g. g) (drop 1) s.0
         (record s.0 { lane = drop 1 s.0.lane }) h s.1 s.3 s.3 refl refl in (
           _,
           (
             ap (option_and_then (λ (items : List ChangeItem). slice_get items 0)) s.4
-                ∙ ap (λ o. slice_get (lane_of o) 0) (sym s.1),
-            ap (λ o. took o id.number w) (sym s.1),
+                ∙ ap (λ maybe_feed. slice_get (lane_of maybe_feed) 0) (sym s.1),
+            ap (λ maybe_feed. took maybe_feed id.number w) (sym s.1),
           ),
           subst (λ fs. Shows
-              (record { db = record c.db { feeds = fs }; lanes = without_front id.number c.lanes })
+              (record { db = record core.db { feeds = fs }; lanes = without_front id.number core.lanes })
               (with_subscription w id.number (record s.0 { lane = drop 1 s.0.lane })))
-              (changed_same id.number c.db.feeds) shown,
+              (changed_same id.number core.db.feeds) shown,
         )
 
 -- ---- cores that are the same, and that show some world
@@ -518,6 +545,6 @@ pub to_same : (old new now : Core) (event : Event) (reply : Reply) → new ≡ n
     → Leads old event reply now
 to_same old new now event reply e l = subst (λ c. Leads old event reply c) e l
 
-pub still_shows : (old new : Core) (event : Event) (reply : Reply) → (w : World) × Shows old w
-    → Leads old event reply new → (w : World) × Shows new w
-still_shows old new event reply x l = let s = l x.0 x.1 in (s.0, s.2)
+pub still_shows : (old new : Core) (event : Event) (reply : Reply) → (other : World) × Shows old other
+    → Leads old event reply new → (other : World) × Shows new other
+still_shows old new event reply world l = let s = l world.0 world.1 in (s.0, s.2)

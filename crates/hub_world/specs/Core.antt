@@ -30,12 +30,13 @@ limits_of limits = record { journal = limits.journal; feeds = limits.feeds; lane
 -- of which the second is finished, they are (4, the first) and (6, the third).
 abbrev pub standing_from : ℕ → List Subscription → List (ℕ × Subscription)
 standing_from n [] = []
-standing_from n (s ∷ ss) =
-    if is_finished s.feed.status then standing_from (n + 1) ss else (n, s) ∷ standing_from (n + 1) ss
+standing_from n (subscription ∷ subscriptions) =
+    if is_finished subscription.feed.status then standing_from (n + 1) subscriptions else (n, subscription)
+    ∷ standing_from (n + 1) subscriptions
 
 -- the feeds of a world that are not finished, with their numbers
 abbrev pub standing : World → List (ℕ × Subscription)
-standing w = standing_from 0 w.feeds
+standing world = standing_from 0 world.feeds
 
 -- the feed of a numbered subscription, with its number
 abbrev pub feed_entry : ℕ × Subscription → ℕ × Feed
@@ -47,23 +48,23 @@ lane_entry p = (p.0, p.1.lane)
 
 -- a finished feed has nothing in its lane
 abbrev pub IsEmptied : Subscription → Type 0
-IsEmptied s = is_finished s.feed.status ≡ true → s.lane ≡ []
+IsEmptied subscription = is_finished subscription.feed.status ≡ true → subscription.lane ≡ []
 
 -- the core shows this world. Of a world with two feeds, of which feed 0 is finished, it has feed 1 and its
 -- lane alone, and 2 as the number of the next feed.
-pub record Shows (c : Core) (w : World) : Type 0 where
-  pub limits : w.limits ≡ limits_of c.db.limits
-  pub life : w.life ≡ c.db.life
-  pub journal : w.journal ≡ c.db.journal
-  pub deleted : w.deleted ≡ c.db.deleted
-  pub given : length w.feeds ≡ c.db.next_feed
-  pub feeds : map feed_entry (standing w) ≡ c.db.feeds
-  pub lanes : map lane_entry (standing w) ≡ c.lanes
-  pub emptied : All IsEmptied w.feeds
+pub record Shows (core : Core) (world : World) : Type 0 where
+  pub limits : world.limits ≡ limits_of core.db.limits
+  pub life : world.life ≡ core.db.life
+  pub journal : world.journal ≡ core.db.journal
+  pub deleted : world.deleted ≡ core.db.deleted
+  pub given : length world.feeds ≡ core.db.next_feed
+  pub feeds : map feed_entry (standing world) ≡ core.db.feeds
+  pub lanes : map lane_entry (standing world) ≡ core.lanes
+  pub emptied : All IsEmptied world.feeds
 
 -- What lies under a lock shows some world, and each of its lanes holds as many items as its limits say. With
 -- a limit of 64 that is the capacity of each lane, and of those that come.
 pub record IsWorld (l : LockedState Database ListState) : Type 0 where
   pub lane : l.lane ≡ l.state.limits.lane
   pub room : All (λ (p : ℕ × ListState). p.1.capacity ≡ l.lane) l.senders
-  pub shown : (w : World) × Shows (core_of l) w
+  pub shown : (world : World) × Shows (core_of l) world

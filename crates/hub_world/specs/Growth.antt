@@ -14,17 +14,17 @@ use Rattle.hub_world.specs.declared.event.Event.TheVariants.{Expire, Take, Finis
 -- full, and one with an End due takes none. Neither does a heartbeat, nor a feed that is refused, since the
 -- database is deleted.
 abbrev pub NeedsMemory : World → Event → Type 0
-NeedsMemory w (Write docs) = 0 < length docs
-NeedsMemory w (Interactive docs) = 0 < length docs
-NeedsMemory w (Begin params) = (w.deleted ≡ false) × (has_no_room w ≡ false)
-NeedsMemory w (Hand feed) =
-    IsRowDue (due_of (current w.journal) (feed_of (subscription w feed.number)))
-NeedsMemory w (Heartbeat feed) = ⊥
-NeedsMemory w (Expire feed) = ⊥
-NeedsMemory w (Take feed) = ⊥
-NeedsMemory w (Finish feed) = ⊥
-NeedsMemory w Delete = ⊥
+NeedsMemory world (Write docs) = 0 < length docs
+NeedsMemory world (Interactive docs) = 0 < length docs
+NeedsMemory world (Begin params) = (world.deleted ≡ false) × (has_no_room world ≡ false)
+NeedsMemory world (Hand feed) =
+    IsRowDue (due_of (current world.journal) (feed_of (subscription world feed.number)))
+NeedsMemory world (Heartbeat feed) = ⊥
+NeedsMemory world (Expire feed) = ⊥
+NeedsMemory world (Take feed) = ⊥
+NeedsMemory world (Finish feed) = ⊥
+NeedsMemory world Delete = ⊥
 
 -- the event may find no memory in the program's core: in each world that it shows the event takes some
 abbrev pub MayFail : Core → Event → Type 0
-MayFail c event = (w : World) → Shows c w → NeedsMemory w event
+MayFail core event = (world : World) → Shows core world → NeedsMemory world event

@@ -40,4 +40,4 @@ taken number _ _ = []
 -- the second list begins with the first. Row 6, or nothing, is a prefix of the rows 6, 7 and 8; row 7 is
 -- none.
 abbrev pub IsPrefixOf : List ChangeItem → List ChangeItem → Type 0
-IsPrefixOf xs ys = (rest : List ChangeItem) × (xs ++ rest ≡ ys)
+IsPrefixOf items others = (rest : List ChangeItem) × (items ++ rest ≡ others)

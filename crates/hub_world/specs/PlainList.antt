@@ -22,21 +22,21 @@ new_list label capacity = record { label = label; held = []; sent = []; capacity
 
 -- the list behind an item: x and y are x, y and z behind z
 abbrev pub behind : ListState → ChangeItem → ListState
-behind k item = record k { held = k.held ++ item ∷ []; sent = k.sent ++ item ∷ [] }
+behind state item = record state { held = state.held ++ item ∷ []; sent = state.sent ++ item ∷ [] }
 
 -- what a list holds; nothing where there is no list
 abbrev pub held_of : Option ListState → List ChangeItem
 held_of None = []
-held_of (Some k) = k.held
+held_of (Some state) = state.held
 
 -- its front: of x and y it is x
 abbrev pub front : ListState → Option ChangeItem
-front k = slice_get k.held 0
+front state = slice_get state.held 0
 
 -- the list, its front taken: of x and y there y stays
 abbrev pub without_front : ListState → ListState
-without_front k = record k { held = drop 1 k.held }
+without_front state = record state { held = drop 1 state.held }
 
 -- its last item: of x and y it is y
 abbrev pub last : ListState → Option ChangeItem
-last k = slice_get k.held (length k.held - 1)
+last state = slice_get state.held (length state.held - 1)

@@ -42,70 +42,77 @@ is_finished Finished = true
 
 -- how many feeds are not finished
 abbrev pub open_feeds : World → ℕ
-open_feeds w = count_by (λ s. not (is_finished s.feed.status)) w.feeds
+open_feeds world = count_by (λ s. not (is_finished s.feed.status)) world.feeds
 
 -- whether there may be no feed more: as many as may be are not finished, or no number is left. Where there
 -- may be one feed at most and one is open, no other may be opened; once that one is finished, another may
 -- (proved: `FeedsAreCounted`).
 abbrev pub has_no_room : World → Bool
-has_no_room w = nat_le w.limits.feeds (open_feeds w) || nat_le (2 ^ 64 - 1) (length w.feeds)
+has_no_room world = nat_le world.limits.feeds (open_feeds world) || nat_le (2 ^ 64 - 1) (length world.feeds)
 
 -- feed f, where there is one
 abbrev pub subscription : World → ℕ → Option Subscription
-subscription w f = slice_get w.feeds f
+subscription world f = slice_get world.feeds f
 
 -- the world with this in the place of feed f
 abbrev pub with_subscription : World → ℕ → Subscription → World
-with_subscription w f s = record w { feeds = slice_set w.feeds f s }
+with_subscription world f subscription = record world { feeds = slice_set world.feeds f subscription }
 
 -- the feed itself
 abbrev pub feed_of : Option Subscription → Option Feed
-feed_of o = option_map (λ s. s.feed) o
+feed_of maybe_subscription = option_map (λ s. s.feed) maybe_subscription
 
 -- what was handed and not taken
 abbrev pub lane_of : Option Subscription → List ChangeItem
 lane_of None = []
-lane_of (Some s) = s.lane
+lane_of (Some subscription) = subscription.lane
 
 -- what writing these edits with their histories answers, and the journal after it
 abbrev pub merged : World → List Edit → StoresAll
-merged w edits = stores_all (merges w.limits.journal) w.deleted w.journal edits
+merged world edits = stores_all (merges world.limits.journal) world.deleted world.journal edits
 
 -- what writing these drafts answers, and the journal after it
 abbrev pub drafted : World → List Draft → StoresAll
-drafted w drafts = stores_all (makes w.limits.journal) w.deleted w.journal drafts
+drafted world drafts = stores_all (makes world.limits.journal) world.deleted world.journal drafts
 
 -- the world with one feed more, which has an empty lane
 abbrev pub with_feed : World → Params → World
-with_feed w params =
-    record w { feeds = w.feeds ++ record { feed = begin params (length w.journal) w.life; lane = [] } ∷ [] }
+with_feed world params =
+    record world {
+      feeds = world.feeds
+          ++ record { feed = begin params (length world.journal) world.life; lane = [] } ∷ [];
+    }
 
 -- the feed with its lane once the item went into it, and the feed went on so
 abbrev pub pushed : Subscription → Feed → ChangeItem → Subscription
-pushed s feed item = record { feed = feed; lane = s.lane ++ item ∷ [] }
+pushed subscription feed item = record { feed = feed; lane = subscription.lane ++ item ∷ [] }
 
 -- there is room in the lane of f, and new is the world with the item in it. Where a lane holds 2 items at
 -- most, and has row 1 and row 2, there is no room for row 3 (proved: `LaneFills`).
 abbrev pub Pushes : World → ℕ → Subscription → Feed → ChangeItem → World → Type 0
-Pushes old f s feed item new =
-    (length s.lane < old.limits.lane) × (new ≡ with_subscription old f (pushed s feed item))
+Pushes old f subscription feed item new =
+    (length subscription.lane < old.limits.lane)
+    × (new ≡ with_subscription old f (pushed subscription feed item))
 
 -- the world once the time of feed f is over; without such a feed it stays as it is
 abbrev pub expired : Option Subscription → ℕ → World → World
-expired None f w = w
-expired (Some s) f w = with_subscription w f (record s { feed = expire s.feed })
+expired None f world = world
+expired (Some subscription) f world =
+    with_subscription world f (record subscription { feed = expire subscription.feed })
 
 -- the world once the front item of feed f's lane is taken: of row 1 and row 2 there row 2 stays
 abbrev pub took : Option Subscription → ℕ → World → World
-took None f w = w
-took (Some s) f w = with_subscription w f (record s { lane = drop 1 s.lane })
+took None f world = world
+took (Some subscription) f world =
+    with_subscription world f (record subscription { lane = drop 1 subscription.lane })
 
 -- The world once the subscriber of feed f is gone: the feed is finished, and its lane is empty. So the
 -- heartbeats that were in the lane are never taken (proved: `BeatsAreAsked`).
 abbrev pub finished : Option Subscription → ℕ → World → World
-finished None f w = w
-finished (Some s) f w = with_subscription w f (record { feed = finish s.feed; lane = [] })
+finished None f world = world
+finished (Some subscription) f world =
+    with_subscription world f (record { feed = finish subscription.feed; lane = [] })
 
 -- a feed with its lane once its database is deleted: the items in the lane stay there
 abbrev pub ended : Subscription → Subscription
-ended s = record s { feed = end s.feed }
+ended subscription = record subscription { feed = end subscription.feed }

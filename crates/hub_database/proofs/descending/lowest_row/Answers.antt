@@ -5,6 +5,6 @@ use Rattle.hub_database.proofs.descending.lowest_row.Goals as goal
 
 pub returns-in-Some : goal.returns-in-Some
 returns-in-Some c =
-    ap (λ (r : ChangeRow). r.seq) c.row.view_is
+    ap (λ (row : ChangeRow). row.seq) c.row.view_is
     ∙ lowest_last c.args.since c.args.rows.now
     (length c.args.rows.now - 1) c.in-Some.row.now refl c.in-Some.ensures.value

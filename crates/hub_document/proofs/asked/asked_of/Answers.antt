@@ -8,18 +8,19 @@ use Rattle.hub_document.specs.Asking.{in_front, revs_in, asked_of}
 use Rattle.hub_document.proofs.asked.asked_of.Goals as goal
 
 -- one that is put in front of the rest stands behind those before
-regrouped : (done : List Asked) (a : Asked) (rest : Option (List Asked))
-    → option_map (λ others. done ++ others) (in_front a rest)
-    ≡ option_map (λ others. (done ++ a ∷ []) ++ others) rest
-regrouped done a None = refl
-regrouped done a (Some others) = ap Some (sym (append_assoc done (a ∷ []) others))
+regrouped : (done : List Asked) (asked : Asked) (rest : Option (List Asked))
+    → option_map (λ others. done ++ others) (in_front asked rest)
+    ≡ option_map (λ others. (done ++ asked ∷ []) ++ others) rest
+regrouped done asked None = refl
+regrouped done asked (Some others) = ap Some (sym (append_assoc done (asked ∷ []) others))
 
 -- one more member
-one_more : (done : List Asked) (id : List ℕ) (d : Data) (ms : Members) (revs : List Revision)
-    → revs_in d ≡ Some revs
-    → option_map (λ others. done ++ others) (asked_of (member id d ms))
-    ≡ option_map (λ others. (done ++ record { id = id; revs = revs } ∷ []) ++ others) (asked_of ms)
-one_more done id d ms revs found = rw found (regrouped done (record { id = id; revs = revs }) (asked_of ms))
+one_more : (done : List Asked) (id : List ℕ) (content : Data) (members : Members) (revs : List Revision)
+    → revs_in content ≡ Some revs
+    → option_map (λ others. done ++ others) (asked_of (member id content members))
+    ≡ option_map (λ others. (done ++ record { id = id; revs = revs } ∷ []) ++ others) (asked_of members)
+one_more done id content members revs found =
+    rw found (regrouped done (record { id = id; revs = revs }) (asked_of members))
 
 pub loop-key-preserved : goal.loop-key-preserved
 loop-key-preserved c =

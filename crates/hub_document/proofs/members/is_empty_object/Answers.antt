@@ -5,9 +5,9 @@ use Rattle.serde_json.proofs.Views.{Entry, view-Object}
 use Rattle.hub_document.specs.SpecialMembers.{is_empty_object}
 use Rattle.hub_document.proofs.members.is_empty_object.Goals as goal
 
-none_there : (es : List Entry) → eqb (length es) 0 ≡ is_empty_object (object (members_view es))
+none_there : (entries : List Entry) → eqb (length entries) 0 ≡ is_empty_object (object (members_view entries))
 none_there [] = refl
-none_there (e ∷ es) = grind arith
+none_there (e ∷ entries) = grind arith
 
 pub returns-in-Object : goal.returns-in-Object
 returns-in-Object c =

@@ -13,7 +13,7 @@ loop-id-preserved g c =
     let here =
     c.next_of.ensures
     ∙ ap (λ (id : List ℕ).
-    option_map (λ (r : Current). r.seq) (first_listed c.args.place c.args.bound (id ∷ []) rows))
+    option_map (λ (row : Current). row.seq) (first_listed c.args.place c.args.bound (id ∷ []) rows))
     (c.as_str.ensures.value ∙ ap string_bytes c.id-item.is) in
     c.lesser-first.ensures
     ∙ listed_step c.args.place c.args.bound rows

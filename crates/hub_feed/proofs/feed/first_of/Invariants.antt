@@ -6,5 +6,5 @@ use Rattle.hub_feed.proofs.feed.first_of.Given as goal
 
 abbrev pub invariant-loop-id : goal.invariant-loop-id
 invariant-loop-id g l =
-    l.first ≡ option_map (λ (c : Current). c.seq)
+    l.first ≡ option_map (λ (row : Current). row.seq)
     (first_listed l.place l.bound (map string_bytes (take l.id-index l.ids)) (g.S.Source.current l.source))

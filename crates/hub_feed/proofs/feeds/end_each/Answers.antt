@@ -15,7 +15,7 @@ loop-feed-preserved c =
     record {
       now =
           rw (sym c.feed-item.is)
-          (ap (λ (f : Feed). slice_set items at (x.0, f)) now
+          (ap (λ (feed : Feed). slice_set items at (x.0, feed)) now
           ∙ map_over_more ended c.args.feeds.now.items items
           at x low c.loop-feed.invariant.now c.feed-item.is);
     }

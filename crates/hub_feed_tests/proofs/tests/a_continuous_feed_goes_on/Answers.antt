@@ -7,5 +7,5 @@ use Rattle.hub_feed_tests.proofs.tests.a_continuous_feed_goes_on.Goals as goal
 
 pub walk-requires-3 : goal.walk-requires-3
 walk-requires-3 g c =
-    subst (λ (f : Feed). IsWithin f 5) (sym c.expire.ensures)
+    subst (λ (feed : Feed). IsWithin feed 5) (sym c.expire.ensures)
     (within_expire c.walk-2.new.feed 5 c.walk-2.ensures)

@@ -9,7 +9,7 @@ use Rattle.hub_feed_tests.proofs.EditsLemmas.{within_next, within_due, given_acc
 use Rattle.hub_feed_tests.proofs.tests.take.Goals as goal
 
 show : Feed → Current → Shown
-show f c = record { seq = c.seq; style = f.params.style; include_docs = f.params.include_docs }
+show feed row = record { seq = row.seq; style = feed.params.style; include_docs = feed.params.include_docs }
 
 pub accept_item-requires : goal.accept_item-requires
 unfolding show
@@ -28,7 +28,7 @@ returns-in-Give c =
     let rows = rows_of 1 edits in
     let next = c.in_ok-next.ensures in
     let looked =
-    subst (λ (f : Feed). IsWithin f (length edits)) (sym next.new)
+    subst (λ (feed : Feed). IsWithin feed (length edits)) (sym next.new)
     (within_next c.args.feed.now (due rows c.args.feed.now) (length edits) c.requires) in
-    subst (λ (f : Feed). IsWithin f (length edits)) (sym c.accept_item.ensures)
+    subst (λ (feed : Feed). IsWithin feed (length edits)) (sym c.accept_item.ensures)
     (within_due rows c.next_item.new.self (length edits) (rows_within edits) looked)

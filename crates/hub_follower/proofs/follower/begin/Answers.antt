@@ -17,5 +17,6 @@ returns-clause-err g c =
     let begun = c.start.ensures ∙ ap follow.SourceStart c.in-Ok.ensures.ok in
     broken_begins_not gs gt ls lt
     (standing_of (follow.SourceStart c.args.session_id.now) s t) new c.drive.result
-    (subst (λ (z : follow.Follower). IfErr c.drive.result (λ e. Breaks gs gt ls lt e (standing_of z s t) new))
+    (subst (λ (follower : follow.Follower).
+    IfErr c.drive.result (λ e. Breaks gs gt ls lt e (standing_of follower s t) new))
     begun c.drive.ensures.err)

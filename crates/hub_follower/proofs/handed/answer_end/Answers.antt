@@ -43,7 +43,7 @@ returns-in_err-rows-clause-memory c =
     let whole =
     c.in_ok-rebuild.ensures.ok.1 ∙ whole_rebuilt J c.update_seq-2.result c.update_seq-2.ensures.value in
     licensed J since items c.from_residual-in_err-rows.result c.in-Some.last
-    (subst (λ (z : List Edit). 0 < length z) whole c.in_err-rows.ensures.memory)
+    (subst (λ (edits : List Edit). 0 < length edits) whole c.in_err-rows.ensures.memory)
     (sym (c.in-Some.ensures ∙ ap (λ n. numbered_end n since items) c.update_seq.ensures.value))
 
 pub returns-then-are_listed-clause-right : goal.returns-then-are_listed-clause-right
@@ -55,7 +55,8 @@ returns-then-are_listed-clause-right c =
     let whole =
     c.in_ok-rebuild.ensures.ok.1 ∙ whole_rebuilt J c.update_seq-2.result c.update_seq-2.ensures.value in
     let same =
-    c.as_slice.ensures.value ∙ (c.in_ok-rows.ensures.ok ∙ ap (λ (z : List Edit). all_above z since) whole) in
+    c.as_slice.ensures.value ∙
+    (c.in_ok-rows.ensures.ok ∙ ap (λ (edits : List Edit). all_above edits since) whole) in
     decided J since items last
     (sym (c.in-Some.ensures ∙ ap (λ n. numbered_end n since items) c.update_seq.ensures.value))
     (sym c.in_ok-are_shown.ensures.ok ∙ c.if-not-branch.false)
@@ -70,7 +71,8 @@ returns-clause-wrong c =
     let whole =
     c.in_ok-rebuild.ensures.ok.1 ∙ whole_rebuilt J c.update_seq-2.result c.update_seq-2.ensures.value in
     let same =
-    c.as_slice.ensures.value ∙ (c.in_ok-rows.ensures.ok ∙ ap (λ (z : List Edit). all_above z since) whole) in
+    c.as_slice.ensures.value ∙
+    (c.in_ok-rows.ensures.ok ∙ ap (λ (edits : List Edit). all_above edits since) whole) in
     λ _ rows other. not_listed J since items last
     (sym (c.in-Some.ensures ∙ ap (λ n. numbered_end n since items) c.update_seq.ensures.value))
     (ap (are_listed last (rows_of items)) (sym same) ∙ (sym c.are_listed.ensures ∙ c.if-are_listed.false))

@@ -67,22 +67,23 @@ returns-in-Missing-clause-err c =
       length-append c.loop-opened.yielded c.loop-opened.opened-iterator.rest.items,
     ) in
     let here : c.loop-opened.opened-iterator.rest.items ≡ Missing c.in-Missing.field-0 ∷ rest =
-    step.0 ∙ ap (λ z. z ∷ rest) c.in-Missing.is in
+    step.0 ∙ ap (λ asked. asked ∷ rest) c.in-Missing.is in
     let first = c.index-as_slice-at.result in
     let listed : c.as_slice.result.now ≡ revs =
-    c.as_slice.ensures ∙ ap (λ (z : Asked). z.revs) c.asked.view_is in
-    let named : string_bytes c.asked.inside.id ≡ c.args.asked.id = ap (λ (z : Asked). z.id) c.asked.view_is in
+    c.as_slice.ensures ∙ ap (λ (asked : Asked). asked.revs) c.asked.view_is in
+    let named : string_bytes c.asked.inside.id ≡ c.args.asked.id = ap
+    (λ (asked : Asked). asked.id) c.asked.view_is in
     let is : get_or revs at first ≡ first =
-    ap (λ z. get_or z at first) (sym listed) ∙ sym c.index-as_slice-at.is in
+    ap (λ asked. get_or asked at first) (sym listed) ∙ sym c.index-as_slice-at.is in
     let whole : opens c.args.asked.id revs c.args.found.items c.args.got.items
     ≡ Err (follow.MissingRevision c.args.asked.id (get_or revs at first)) =
     sym i.left
-    ∙ (ap (λ z. opens c.args.asked.id (drop at revs) z got) here
-    ∙ ap (λ z. opens c.args.asked.id z (Missing c.in-Missing.field-0 ∷ rest) got)
+    ∙ (ap (λ asked. opens c.args.asked.id (drop at revs) asked got) here
+    ∙ ap (λ asked. opens c.args.asked.id asked (Missing c.in-Missing.field-0 ∷ rest) got)
     (drop_more revs at first below)) in
     opens_err c.args.asked.id revs c.args.found.items c.args.got.items _ c.requires.many whole
-    ∙ (ap (λ z. Err (follow.MissingRevision z (get_or revs at first))) (sym named)
-    ∙ ap (λ z. Err (follow.MissingRevision (string_bytes c.asked.inside.id) z)) is)
+    ∙ (ap (λ asked. Err (follow.MissingRevision asked (get_or revs at first))) (sym named)
+    ∙ ap (λ asked. Err (follow.MissingRevision (string_bytes c.asked.inside.id) asked)) is)
 
 pub returns-clause-ok : goal.returns-clause-ok
 returns-clause-ok c =

@@ -11,11 +11,11 @@ returns-in-Ok c =
     let doc = c.in-Some.doc in
     let one : c.as_slice.result.now ≡ doc ∷ [] =
     c.as_slice.ensures.value
-    ∙ (c.in_ok-push.ensures.items ∙ ap (λ (z : List Doc). z ++ doc ∷ []) c.new-docs.ensures.items) in
+    ∙ (c.in_ok-push.ensures.items ∙ ap (λ (docs : List Doc). docs ++ doc ∷ []) c.new-docs.ensures.items) in
     record {
       ok =
           added c.args.db.now.journal copy c.merged.new.db doc c.args.seq c.in-Ok._replies c.requires.copy
           c.requires.next c.requires.within (sym c.in-Some.is ∙ c.in_ok-doc.ensures.doc)
-          (ap (λ z. merges_all copy.limits.journal copy.journal (map edit_of z)) (sym one)
+          (ap (λ docs. merges_all copy.limits.journal copy.journal (map edit_of docs)) (sym one)
           ∙ c.in-Ok.ensures.ok) c.in-Ok.ensures.rest;
     }

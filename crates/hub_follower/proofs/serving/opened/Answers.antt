@@ -10,10 +10,11 @@ pub returns-in-Ok-open_revs-clause-ok : goal.returns-in-Ok-open_revs-clause-ok
 returns-in-Ok-open_revs-clause-ok c =
     let J = c.args.db.now.journal in
     let id = c.as_str.result.now in
-    let named = c.as_str.ensures.value ∙ ap (λ (z : Asked). z.id) c.asked.view_is in
-    let listed = c.in-Ok.ensures.value ∙ ap (λ (z : Asked). z.revs) c.asked.view_is in
-    ap (λ z. map found_edit z) c.in-Ok-open_revs.ensures.ok.1 ∙ (opened_shown J id c.in-Ok.revs
-    ∙ (ap (λ z. map (shown J z) c.in-Ok.revs) named ∙ ap (λ z. map (shown J c.args.asked.now.id) z) listed))
+    let named = c.as_str.ensures.value ∙ ap (λ (asked : Asked). asked.id) c.asked.view_is in
+    let listed = c.in-Ok.ensures.value ∙ ap (λ (asked : Asked). asked.revs) c.asked.view_is in
+    ap (λ asked. map found_edit asked) c.in-Ok-open_revs.ensures.ok.1 ∙ (opened_shown J id c.in-Ok.revs
+    ∙ (ap (λ asked. map (shown J asked) c.in-Ok.revs) named
+    ∙ ap (λ asked. map (shown J c.args.asked.now.id) asked) listed))
 
 pub returns-in-Ok-open_revs-clause-paths : goal.returns-in-Ok-open_revs-clause-paths
 returns-in-Ok-open_revs-clause-paths c =

@@ -24,9 +24,9 @@ loop-at-preserved c = record {
   rest =
       c.loop-at.invariant.rest
       ∙ (ap (λ m.
-      find (λ (r : ℕ × ℕ). nat_lt r.0 c.args.end) (reverse (slot_rows 0 (take m c.args.slots.now))))
+      find (λ (row : ℕ × ℕ). nat_lt row.0 c.args.end) (reverse (slot_rows 0 (take m c.args.slots.now))))
       (omega arith)
-      ∙ ap (find (λ (r : ℕ × ℕ). nat_lt r.0 c.args.end))
+      ∙ ap (find (λ (row : ℕ × ℕ). nat_lt row.0 c.args.end))
       (last_empty c.args.slots.now (c.loop-at.at - 1) (omega arith) c.in_default.is));
 }
 
@@ -34,12 +34,13 @@ pub returns-in-Some : goal.returns-in-Some
 returns-in-Some c =
     sym
     (c.loop-at.invariant.rest
-    ∙ (ap (λ m. find (λ (r : ℕ × ℕ). nat_lt r.0 c.args.end) (reverse (slot_rows 0 (take m c.args.slots.now))))
+    ∙ (ap (λ m. find (λ (row : ℕ × ℕ). nat_lt row.0 c.args.end)
+    (reverse (slot_rows 0 (take m c.args.slots.now))))
     (omega arith)
-    ∙ (ap (find (λ (r : ℕ × ℕ). nat_lt r.0 c.args.end))
+    ∙ (ap (find (λ (row : ℕ × ℕ). nat_lt row.0 c.args.end))
     (last_full c.args.slots.now (c.loop-at.at - 1) (omega arith) c.in-Some.document c.in-Some.is)
     ∙ ap (λ b. cond b (Some (c.loop-at.at - 1, c.in-Some.document))
-    (find (λ (r : ℕ × ℕ). nat_lt r.0 c.args.end)
+    (find (λ (row : ℕ × ℕ). nat_lt row.0 c.args.end)
     (reverse (slot_rows 0 (take (c.loop-at.at - 1) c.args.slots.now)))))
     (lt-ltb (c.loop-at.at - 1) c.args.end (omega arith)))))
 
@@ -47,5 +48,6 @@ pub returns : goal.returns
 returns c =
     let none : c.loop-at.at ≡ 0 = omega arith in
     sym (c.loop-at.invariant.rest
-    ∙ ap (λ m. find (λ (r : ℕ × ℕ). nat_lt r.0 c.args.end) (reverse (slot_rows 0 (take m c.args.slots.now))))
+    ∙ ap (λ m. find (λ (row : ℕ × ℕ). nat_lt row.0 c.args.end)
+    (reverse (slot_rows 0 (take m c.args.slots.now))))
     none)

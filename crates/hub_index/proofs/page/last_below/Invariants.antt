@@ -6,8 +6,8 @@ abbrev pub invariant-loop-at : goal.invariant-loop-at
 invariant-loop-at l = record {
   within : l.at ≤ length l.slots;
   below : l.at ≤ l.fn.end;
-  rest : find (λ (r : ℕ × ℕ). nat_lt r.0 l.fn.end) (reverse (slot_rows 0 l.slots))
-      ≡ find (λ (r : ℕ × ℕ). nat_lt r.0 l.fn.end) (reverse (slot_rows 0 (take l.at l.slots)));
+  rest : find (λ (row : ℕ × ℕ). nat_lt row.0 l.fn.end) (reverse (slot_rows 0 l.slots))
+      ≡ find (λ (row : ℕ × ℕ). nat_lt row.0 l.fn.end) (reverse (slot_rows 0 (take l.at l.slots)));
 }
 
 -- proposed from the loop's first test

@@ -6,7 +6,7 @@ use Rattle.hub_index.proofs.page_index.row_after.Goals as goal
 
 pub loop-at-init : goal.loop-at-init
 loop-at-init c =
-    find_same (λ (r : ℕ × ℕ). nat_lt c.args.place r.0) (rows_of c.args.pages.now)
+    find_same (λ (row : ℕ × ℕ). nat_lt c.args.place row.0) (rows_of c.args.pages.now)
     (rows_of (drop c.place_of-at.result c.args.pages.now))
     (from_page c.args.place c.place_of-at.result c.args.pages.now c.requires.pages
     c.place_of-at.ensures.within c.place_of-at.ensures.parted.0)
@@ -14,22 +14,24 @@ loop-at-init c =
 pub returns-in-Some : goal.returns-in-Some
 returns-in-Some c =
     let x : ℕ × List (Option ℕ) = c.index-pages-at.result in
-    let found : Some c.in-Some.row ≡ find (λ (r : ℕ × ℕ). nat_lt c.args.place r.0) (page_rows x) =
+    let found : Some c.in-Some.row ≡ find (λ (row : ℕ × ℕ). nat_lt c.args.place row.0) (page_rows x) =
     c.in-Some.ensures in
     sym
     (c.loop-at.invariant
-    ∙ (ap (λ pages. find (λ (r : ℕ × ℕ). nat_lt c.args.place r.0) (rows_of pages))
+    ∙ (ap (λ pages. find (λ (row : ℕ × ℕ). nat_lt c.args.place row.0) (rows_of pages))
     (drop_more c.args.pages.now c.loop-at.at x c.loop-at-test.true
     ∙ ap (λ y. y ∷ drop (c.loop-at.at + 1) c.args.pages.now) (sym c.index-pages-at.is))
-    ∙ found_first (λ (r : ℕ × ℕ). nat_lt c.args.place r.0) x
+    ∙ found_first (λ (row : ℕ × ℕ). nat_lt c.args.place row.0) x
     (drop (c.loop-at.at + 1) c.args.pages.now) c.in-Some.row found))
 
 pub loop-at-preserved : goal.loop-at-preserved
 loop-at-preserved c =
     let x : ℕ × List (Option ℕ) = c.index-pages-at.result in
-    let none : None ≡ find (λ (r : ℕ × ℕ). nat_lt c.args.place r.0) (page_rows x) = c.in_default.ensures in
+    let none : None ≡ find (λ (row : ℕ × ℕ). nat_lt c.args.place row.0) (page_rows x) = c.in_default.ensures
+    in
     c.loop-at.invariant
-    ∙ (ap (λ pages. find (λ (r : ℕ × ℕ). nat_lt c.args.place r.0) (rows_of pages))
+    ∙ (ap (λ pages. find (λ (row : ℕ × ℕ). nat_lt c.args.place row.0) (rows_of pages))
     (drop_more c.args.pages.now c.loop-at.at x c.loop-at-test.true
     ∙ ap (λ y. y ∷ drop (c.loop-at.at + 1) c.args.pages.now) (sym c.index-pages-at.is))
-    ∙ found_later (λ (r : ℕ × ℕ). nat_lt c.args.place r.0) x (drop (c.loop-at.at + 1) c.args.pages.now) none)
+    ∙ found_later (λ (row : ℕ × ℕ). nat_lt c.args.place row.0) x
+    (drop (c.loop-at.at + 1) c.args.pages.now) none)

@@ -5,8 +5,8 @@ use Rattle.hub_index.proofs.page_index.row_before.Given as goal
 abbrev pub invariant-loop-at : goal.invariant-loop-at
 invariant-loop-at l = record {
   within : l.at ≤ length l.pages;
-  rest : find (λ (r : ℕ × ℕ). nat_lt r.0 l.fn.place) (reverse (rows_of l.pages))
-      ≡ find (λ (r : ℕ × ℕ). nat_lt r.0 l.fn.place) (reverse (rows_of (take l.at l.pages)));
+  rest : find (λ (row : ℕ × ℕ). nat_lt row.0 l.fn.place) (reverse (rows_of l.pages))
+      ≡ find (λ (row : ℕ × ℕ). nat_lt row.0 l.fn.place) (reverse (rows_of (take l.at l.pages)));
 }
 
 -- proposed from the loop's first test

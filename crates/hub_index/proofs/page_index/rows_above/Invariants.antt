@@ -4,5 +4,5 @@ use Rattle.hub_index.proofs.page_index.rows_above.Given as goal
 
 abbrev pub invariant-loop-at : goal.invariant-loop-at
 invariant-loop-at l =
-    l.count + count_by (λ (r : ℕ × ℕ). nat_lt l.fn.place r.0) (rows_of (drop l.at l.pages))
-    ≡ count_by (λ (r : ℕ × ℕ). nat_lt l.fn.place r.0) (rows_of l.pages)
+    l.count + count_by (λ (row : ℕ × ℕ). nat_lt l.fn.place row.0) (rows_of (drop l.at l.pages))
+    ≡ count_by (λ (row : ℕ × ℕ). nat_lt l.fn.place row.0) (rows_of l.pages)

@@ -5,9 +5,10 @@ use Rattle.hub_index_tests.proofs.tests.move_both.Goals as goal
 pub returns-clause-upto : goal.returns-clause-upto
 returns-clause-upto g c =
     rw c.in_ok-move_in.ensures
-    (All-push (λ (r : ℕ × ℕ). r.0 ≤ c.args.new)
-    (filter (λ (r : ℕ × ℕ). not (nat_eq r.1 c.args.document)) c.args.plain.now.items)
+    (All-push (λ (row : ℕ × ℕ). row.0 ≤ c.args.new)
+    (filter (λ (row : ℕ × ℕ). not (nat_eq row.1 c.args.document)) c.args.plain.now.items)
     (c.args.new, c.args.document)
-    (All-filter (λ (r : ℕ × ℕ). not (nat_eq r.1 c.args.document))
-    (λ (r : ℕ × ℕ). r.0 ≤ c.args.new) c.args.plain.now.items (λ k d l. omega (arith, c.requires.above k d l)))
+    (All-filter (λ (row : ℕ × ℕ). not (nat_eq row.1 c.args.document))
+    (λ (row : ℕ × ℕ). row.0 ≤ c.args.new) c.args.plain.now.items
+    (λ k d l. omega (arith, c.requires.above k d l)))
     (omega arith))

@@ -24,12 +24,13 @@ loop-next-preserved c =
           walk_next c.args.stems.now c.requires.stems c.loop-next.next c.in-Some.place
           c.index-stems-place.result c.loop-next.invariant.within c.in-Some.is c.index-stems-place.is;
       whole =
-          ap (λ z. z ++ map (λ (r : Revision). r.hash) rest)
+          ap (λ z. z ++ map (λ (revision : Revision). revision.hash) rest)
           (c.in_ok-append_digests.ensures c.if-not-branch.false)
-          ∙ append_assoc (map encode_lower c.loop-next.digests.items) (map (λ (r : Revision). r.hash) own)
-          (map (λ (r : Revision). r.hash) rest)
+          ∙ append_assoc (map encode_lower c.loop-next.digests.items)
+          (map (λ (revision : Revision). revision.hash) own)
+          (map (λ (revision : Revision). revision.hash) rest)
           ∙ ap (λ z. map encode_lower c.loop-next.digests.items ++ z)
-          (sym (map-append (λ (r : Revision). r.hash) own rest)
-          ∙ ap (map (λ (r : Revision). r.hash)) (sym on))
+          (sym (map-append (λ (revision : Revision). revision.hash) own rest)
+          ∙ ap (map (λ (revision : Revision). revision.hash)) (sym on))
           ∙ c.loop-next.invariant.whole;
     })

@@ -26,12 +26,13 @@ loop-next-preserved c =
     record {
       within = c.beyond-next.ensures.within;
       whole =
-          ap (λ z. z ++ map (λ (r : Revision). r.hash) rest)
+          ap (λ z. z ++ map (λ (revision : Revision). revision.hash) rest)
           (c.in_ok-append_chain_digests.ensures c.if-not-branch.false)
-          ∙ append_assoc (map encode_lower c.loop-next.digests.items) (map (λ (r : Revision). r.hash) chain)
-          (map (λ (r : Revision). r.hash) rest)
+          ∙ append_assoc (map encode_lower c.loop-next.digests.items)
+          (map (λ (revision : Revision). revision.hash) chain)
+          (map (λ (revision : Revision). revision.hash) rest)
           ∙ ap (λ z. map encode_lower c.loop-next.digests.items ++ z)
-          (sym (map-append (λ (r : Revision). r.hash) chain rest)
-          ∙ ap (map (λ (r : Revision). r.hash)) (sym on))
+          (sym (map-append (λ (revision : Revision). revision.hash) chain rest)
+          ∙ ap (map (λ (revision : Revision). revision.hash)) (sym on))
           ∙ c.loop-next.invariant.whole;
     }

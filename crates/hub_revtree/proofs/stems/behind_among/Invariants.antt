@@ -7,5 +7,5 @@ use Rattle.hub_revtree.proofs.stems.behind_among.Given as goal
 
 abbrev pub invariant-loop-number : goal.invariant-loop-number
 invariant-loop-number l =
-    (k : ℕ) (stem : Stem) (r : Revision) → k < l.number → slice_get l.stems k ≡ Some stem
-    → ¬ IsNext (own_path l.stems stem) l.rev r
+    (k : ℕ) (stem : Stem) (revision : Revision) → k < l.number → slice_get l.stems k ≡ Some stem
+    → ¬ IsNext (own_path l.stems stem) l.rev revision

@@ -24,6 +24,7 @@ pub returns-clause-behind : goal.returns-clause-behind
 returns-clause-behind c = λ x last.
     let xs = c.args.stems.now in
     let same = same_Some c.end_of-last.result x (sym c.end_of-last.ensures ∙ last) in
-    subst (λ (z : Revision). rev_at xs c.place_behind.result ≡ behind_in z (edits_in (branches_of xs))) same
+    subst (λ (revision : Revision).
+    rev_at xs c.place_behind.result ≡ behind_in revision (edits_in (branches_of xs))) same
     (found_behind xs c.requires.stems c.requires.legal c.end_of-last.result c.place_behind.result
     c.place_behind.ensures.found c.place_behind.ensures.none)

@@ -19,18 +19,21 @@ abbrev is_winner : List ℕ → Database → Option Winner → Type 0
 is_winner id db found = found ≡ winner_in db id
 
 -- where a look finds no winner, there is no such document
-leaf_missed : (id : List ℕ) (short : Option (List ℕ)) (known : List ℕ) (rev : Revision) (w : Option Winner)
-    → short ≡ Some known → IsFound (is_winner id) (Ok w) → w ≡ None → DeletesLeaf id short rev (Err Missing)
-leaf_missed id short known rev w is has none =
+leaf_missed : (id : List ℕ) (short : Option (List ℕ)) (known : List ℕ) (rev : Revision)
+    (maybe_winner : Option Winner)
+    → short ≡ Some known → IsFound (is_winner id) (Ok maybe_winner) → maybe_winner ≡ None
+    → DeletesLeaf id short rev (Err Missing)
+leaf_missed id short known rev maybe_winner is has none =
     subst (λ s. DeletesLeaf id s rev (Err Missing)) (sym is)
     (inl (inl (refl, record { db = has.db; legal = has.legal; held = (has.held.0, sym has.held.1 ∙ none) })))
 
 -- and where it finds one, the edit is written
-leaf_written : (id : List ℕ) (short : Option (List ℕ)) (known : List ℕ) (rev : Revision) (w : Option Winner)
-    (won : Winner) (r : Result Response Refusal) → short ≡ Some known → IsFound (is_winner id) (Ok w)
-    → w ≡ Some won
+leaf_written : (id : List ℕ) (short : Option (List ℕ)) (known : List ℕ) (rev : Revision)
+    (maybe_winner : Option Winner)
+    (won : Winner) (r : Result Response Refusal) → short ≡ Some known
+    → IsFound (is_winner id) (Ok maybe_winner) → maybe_winner ≡ Some won
     → IsWritten (λ db. edits 200 db (deletion known rev)) r → DeletesLeaf id short rev r
-leaf_written id short known rev w won r is has some written =
+leaf_written id short known rev maybe_winner won r is has some written =
     subst (λ s. DeletesLeaf id s rev r) (sym is)
     (inr (inr (
       record {
@@ -38,7 +41,7 @@ leaf_written id short known rev w won r is has some written =
         legal = has.legal;
         held = (
           has.held.0,
-          λ none. subst T (sym (subst IsSome (has.held.1 ∙ none) (some_is_some w won some))) tt,
+          λ none. subst T (sym (subst IsSome (has.held.1 ∙ none) (some_is_some maybe_winner won some))) tt,
         );
       },
       written,

@@ -16,8 +16,8 @@ count_between-pending-requires c =
 pub returns-clause-ok : goal.returns-clause-ok
 returns-clause-ok c =
     rw (
-      sym (ap (λ (f : Followed). f.edits) c.rows-rows.ensures),
-      sym (ap (λ (f : Followed). f.life) c.rows-rows.ensures),
+      sym (ap (λ (followed : Followed). followed.edits) c.rows-rows.ensures),
+      sym (ap (λ (followed : Followed). followed.life) c.rows-rows.ensures),
       sym c.life-life.ensures,
     )
     (answer_is c.rows-rows.result.edits (params_of c.args.params.now) c.within-since.result
@@ -30,8 +30,8 @@ returns-clause-ok c =
 pub returns-in_err-falling-clause-memory : goal.returns-in_err-falling-clause-memory
 returns-in_err-falling-clause-memory c =
     rw (
-      sym (ap (λ (f : Followed). f.edits) c.rows-rows.ensures),
-      sym (ap (λ (f : Followed). f.life) c.rows-rows.ensures),
+      sym (ap (λ (followed : Followed). followed.edits) c.rows-rows.ensures),
+      sym (ap (λ (followed : Followed). followed.life) c.rows-rows.ensures),
       sym c.life-life.ensures,
     )
     (on_err c.from_residual.result _

@@ -12,5 +12,5 @@ returns c =
     omega (arith, below, c.len-doc_count.ensures, store.documents.ok.0) in
     info_by store c.self.invariant.0 c.self.invariant.1
     (c.len-doc_count.result - store.deleted) c.update_seq.result c.self.inside.life sum
-    (c.update_seq.ensures.value ∙ sym (ap (λ (z : Contents). length z.journal) c.self.view_is))
-    ∙ ap (λ (z : Contents). info_of z.journal z.life) c.self.view_is
+    (c.update_seq.ensures.value ∙ sym (ap (λ (contents : Contents). length contents.journal) c.self.view_is))
+    ∙ ap (λ (contents : Contents). info_of contents.journal contents.life) c.self.view_is

@@ -28,18 +28,19 @@ returns-clause-err c =
     record { journal = K; locals = locals; limits = c.write.new.self.limits; life = life } in
     let old : Contents =
     record { journal = J; locals = locals; limits = c.self.inside.store.limits; life = life } in
-    let stays : K ≡ J → new ≡ old = λ e. ap (λ (j : List Edit).
-    record { journal = j; locals = locals; limits = c.write.new.self.limits; life = life }) e
-    ∙ ap (λ (l : Limits). record { journal = J; locals = locals; limits = l; life = life })
+    let stays : K ≡ J → new ≡ old = λ e. ap (λ (edits : List Edit).
+    record { journal = edits; locals = locals; limits = c.write.new.self.limits; life = life }) e
+    ∙ ap (λ (limits : Limits). record { journal = J; locals = locals; limits = limits; life = life })
     c.in_ok-outcome.ensures.limits in
-    subst (λ (z : Contents). IfErr c.reply.result (λ e. (new ≡ z)
+    subst (λ (contents : Contents). IfErr c.reply.result (λ e. (new ≡ contents)
     × ((e ≡ NoMemory)
-    ⊎ ((f : Fault) × (e ≡ Refused f)
-    × (makes z.limits.journal z.journal (draft_of c.args.doc) ≡ refuses z.journal f))))) c.self.view_is
+    ⊎ ((fault : Fault) × (e ≡ Refused fault)
+    × (makes contents.limits.journal contents.journal
+    (draft_of c.args.doc) ≡ refuses contents.journal fault))))) c.self.view_is
     (subst (λ r. IfErr r (λ e. (new ≡ old)
     × ((e ≡ NoMemory)
-    ⊎ ((f : Fault) × (e ≡ Refused f)
-    × (makes c.self.inside.store.limits.journal J (draft_of c.args.doc) ≡ refuses J f)))))
+    ⊎ ((fault : Fault) × (e ≡ Refused fault)
+    × (makes c.self.inside.store.limits.journal J (draft_of c.args.doc) ≡ refuses J fault)))))
     (sym c.reply.ensures)
     (weaker (reply_of c.in_ok-outcome.outcome) _ _ (λ e p. (stays p.0, p.1))
     (made_reply c.self.inside.store.limits.journal J
@@ -48,6 +49,6 @@ returns-clause-err c =
 pub returns-clause-grows : goal.returns-clause-grows
 returns-clause-grows c =
     let K = edits_of_store c.write.new.self in
-    subst (λ (z : Contents). length z.journal ≤ length K) c.self.view_is
+    subst (λ (contents : Contents). length contents.journal ≤ length K) c.self.view_is
     (write_grows true c.self.inside.store.limits.journal
     (edits_of_store c.self.inside.store) c.args.doc c.in_ok-outcome.outcome K c.in_ok-outcome.ensures.ok)

@@ -10,7 +10,7 @@ pub invariant_of-self : goal.invariant_of-self
 invariant_of-self c =
     let new = c.accept_marked.new.self in
     let J = c.rows-rows.result.edits in (
-      subst (λ (f : Followed). AreBehind (length f.edits) new.feeds) c.rows-rows.ensures
+      subst (λ (followed : Followed). AreBehind (length followed.edits) new.feeds) c.rows-rows.ensures
           c.accept_marked.ensures.behind,
       handed_kept {R = ChangeRow} c.self.inside.contents.journal (length J) (current J)
           (row_of J) c.self.inside.feeds new c.args.feed.number c.self.inside.listing

@@ -25,6 +25,6 @@ returns-clause-first c =
     c.in_ok-ids.ensures c.place-2.ensures c.bound.ensures
     (c.if-not-holds.ensures.held refl) c.first_between.ensures in
     let there = subst (IsFirst first (current J)) (sym c.state_at-state.ensures.found) is in
-    let here = subst (λ (f : Followed). IsFirst first (current f.edits)
+    let here = subst (λ (followed : Followed). IsFirst first (current followed.edits)
     (entry_in id c.self.inside.feeds.feeds)) c.rows-rows.ensures there in
     subst (λ (db : Database). IsFirst first (current db.journal) (entry_in id db.feeds)) c.self.view_is here

@@ -34,7 +34,7 @@ returns-in_default-clause-ok g c =
     let db = c.args.self.now in
     let sink = c.args.sink.now in
     let none : entry_in id db.feeds ≡ None =
-    subst (λ (x : Database). entry_in id x.feeds ≡ None) c.self.view_is
+    subst (λ (database : Database). entry_in id database.feeds ≡ None) c.self.view_is
     (no_entry id state.feeds.feeds (sym c.in_default.ensures.at)) in
     subst (λ o. HandsTo g.K.Sink.behind (g.H.Pushes.refuses c.args.handle.now) db
     (with_hosted db (handed (hosted_of db) id))
@@ -59,7 +59,7 @@ invariant_of-self-3 g c =
     let refuses = g.H.Pushes.refuses c.args.handle.now in
     let K : FeedList → Type 0 = λ z. IsListing db.contents.journal z.feeds z.next db.listing in
     let kept = c.self-2.invariant.1 in (
-      subst (λ (f : Followed). AreBehind (length f.edits) new.feeds) c.rows-rows.ensures
+      subst (λ (followed : Followed). AreBehind (length followed.edits) new.feeds) c.rows-rows.ensures
           c.hand_at.ensures.behind,
       ok_or_err {P = K new} c.hand_at.result
           (λ did hands. hands_keeps behind refuses c.args.sink.now K old given looked new kept
@@ -108,16 +108,18 @@ returns-clause-ok g c =
     let looked = feeds_of (behind_answer seen id Nothing) in
     both_ok c.hand_at.result
     (λ did hands _.
-    subst (λ (x : Database). HandsTo behind refuses x
-    (with_hosted x (handed (hosted_of x) id))
-    (with_hosted x (behind_answer (hosted_of x) id Nothing)) sink
-    (answered (hosted_of x) id) did (whole new) taker) same
+    subst (λ (database : Database). HandsTo behind refuses database
+    (with_hosted database (handed (hosted_of database) id))
+    (with_hosted database (behind_answer (hosted_of database) id Nothing)) sink
+    (answered (hosted_of database) id) did (whole new) taker) same
     (hands_lifted behind refuses sink old given looked new
     (whole old) (whole given) (whole looked) (whole new)
     (ap whole) (ap whole) (ap whole) (answered seen id) did taker
-    (subst (λ (f : Followed). HandsTo behind refuses old
-    (feeds_of (handed (over (length f.edits) (current f.edits) (row_of f.edits) old) id))
-    (feeds_of (behind_answer (over (length f.edits) (current f.edits) (row_of f.edits) old) id Nothing))
-    sink (answered (over (length f.edits) (current f.edits) (row_of f.edits) old) id) did new taker)
+    (subst (λ (followed : Followed). HandsTo behind refuses old
+    (feeds_of (handed (over (length followed.edits) (current followed.edits) (row_of followed.edits) old) id))
+    (feeds_of (behind_answer (over (length followed.edits) (current followed.edits)
+    (row_of followed.edits) old) id Nothing))
+    sink (answered (over (length followed.edits) (current followed.edits) (row_of followed.edits) old) id) did
+    new taker)
     c.rows-rows.ensures hands)))
     c.hand_at.ensures.ok c.hand_at.ensures.ok

@@ -30,7 +30,7 @@ returns-in_default-clause-ok c =
     } in
     let db = c.args.self.now in
     let none : entry_in id db.feeds ≡ None =
-    subst (λ (x : Database). entry_in id x.feeds ≡ None) c.self.view_is
+    subst (λ (database : Database). entry_in id database.feeds ≡ None) c.self.view_is
     (no_entry id state.feeds.feeds (sym c.in_default.ensures.at)) in
     let gone : Next ChangeRow = Gone in (
       subst (λ o. gone ≡ answer_of (hosted_of db) o) (sym none) refl,
@@ -42,12 +42,12 @@ invariant_of-self-3 c =
     let db = c.self-2.inside in
     let new = c.next_at.new.self in
     let J = c.rows-rows.result.edits in (
-      subst (λ (f : Followed). AreBehind (length f.edits) new.feeds) c.rows-rows.ensures
+      subst (λ (followed : Followed). AreBehind (length followed.edits) new.feeds) c.rows-rows.ensures
           c.next_at.ensures.behind,
       ok_or_err {P = IsListing db.contents.journal new.feeds new.next db.listing} c.next_at.result
           (λ answer is. answer_kept {R = ChangeRow} db.contents.journal (length J) (current J)
           (row_of J) db.feeds new c.args.feed.number answer db.listing is c.self-2.invariant.1)
-          (λ w. subst (λ (z : FeedList). IsListing db.contents.journal z.feeds z.next db.listing)
+          (λ w. subst (λ (list : FeedList). IsListing db.contents.journal list.feeds list.next db.listing)
           (sym w.0) c.self-2.invariant.1)
           c.next_at.ensures.new c.next_at.ensures.err,
     )

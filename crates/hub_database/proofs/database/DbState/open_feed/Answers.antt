@@ -19,9 +19,10 @@ invariant_of-self c =
           (subst (λ n. AreBehind n old.feeds)
           (sym c.update_seq-length.ensures.value) c.self.invariant.0)),
       ok_or_err {P = IsListing J new.feeds new.next listing} c.open.result
-          (λ id is. subst (λ (z : FeedList). IsListing J z.feeds z.next listing) (sym is)
+          (λ id is. subst (λ (list : FeedList). IsListing J list.feeds list.next listing) (sym is)
           (kept_on J old.feeds (old.feeds ++ (old.next, begun) ∷ []) old.next (old.next + 1) (omega arith)
           (one_comes old.next begun old.feeds) listing c.self.invariant.1))
-          (λ is. subst (λ (z : FeedList). IsListing J z.feeds z.next listing) (sym is) c.self.invariant.1)
+          (λ is. subst (λ (list : FeedList). IsListing J list.feeds list.next listing)
+          (sym is) c.self.invariant.1)
           c.open.ensures.ok c.open.ensures.err,
     )

@@ -9,6 +9,7 @@ returns-then-self-clause-ok c =
     let db = c.args.self.now in
     both_ok c.refuse_all.result
     (λ batch is _. refused_batch c.args.new_edits db.deleted db.limits.journal db.journal c.args.docs.items
-    c.len.result batch.replies (sym (ap (λ (z : Database). z.deleted) c.self.view_is) ∙ c.if-self.true)
+    c.len.result batch.replies
+    (sym (ap (λ (database : Database). database.deleted) c.self.view_is) ∙ c.if-self.true)
     (omega (arith, c.len.ensures, c.args.docs.ok.0)) is.0)
     c.refuse_all.ensures.ok c.refuse_all.ensures.ok

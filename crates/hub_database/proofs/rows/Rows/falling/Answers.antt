@@ -13,9 +13,9 @@ pub loop-seq-init : goal.loop-seq-init
 loop-seq-init c =
     let J = c.args.self.now.edits in
     let asked = params_of c.args.params.now in
-    subst (λ (rs : List ChangeRow). all_shown J asked c.args.since c.most_of-most.result
-    ≡ rs ++ map (show J asked c.args.since)
-    (take (c.most_of-most.result - length rs) (left J asked c.args.since (c.length-place.result + 1))))
+    subst (λ (rows : List ChangeRow). all_shown J asked c.args.since c.most_of-most.result
+    ≡ rows ++ map (show J asked c.args.since)
+    (take (c.most_of-most.result - length rows) (left J asked c.args.since (c.length-place.result + 1))))
     (sym c.new-rows.ensures.items)
     (begins J asked c.args.since c.most_of-most.result (c.length-place.result + 1)
     (ap (λ n. n + 1) c.length-place.ensures))
@@ -58,8 +58,8 @@ loop-seq-preserved-then-not-passes c =
     let asked = params_of c.args.params.now in
     let row : Current = record { seq = c.in-Some.seq; id = c.in-Some.id.now } in
     c.loop-seq.invariant
-    ∙ ap (λ (cs : List Current). c.loop-seq.rows.items
-    ++ map (show J asked c.args.since) (take (c.most_of-most.result - length c.loop-seq.rows.items) cs))
+    ∙ ap (λ (rows : List Current). c.loop-seq.rows.items
+    ++ map (show J asked c.args.since) (take (c.most_of-most.result - length c.loop-seq.rows.items) rows))
     (passed_by J asked c.args.since c.loop-seq.place row c.in-Some.ensures c.if-seq-since.false
     (sym c.if-not-passes.ensures))
 

@@ -36,11 +36,12 @@ pub returns : goal.returns
 returns c =
     let s = c.self.inside.store.now in
     let l = row_lies (edits_of_store s) c.args.seq (rw (sym c.self.view_is) at c.requires) in
-    subst (λ (f : Followed). IfOk c.row.result (λ r. (c' : Current) → Contains (current f.edits) c'
-    → c'.seq ≡ c.args.seq → r ≡ row_of f.edits c.args.style c.args.include_docs c')) c.self.view_is
+    subst (λ (followed : Followed).
+    IfOk c.row.result (λ r. (row : Current) → Contains (current followed.edits) row
+    → row.seq ≡ c.args.seq → r ≡ row_of followed.edits c.args.style c.args.include_docs row)) c.self.view_is
     (row_answer s.limits.journal (number_by s) s.documents.items s.journal.items c.self.invariant.0.filed
     c.row.result c.args.seq c.length.result (c.args.seq - 1) c.index-entry.result.now (omega (arith, l.0))
     (omega (arith, l.0, l.1, length-map s.journal.items (edit_at (files s.documents.items))))
     c.index-entry.ensures c.index-document.result.now c.index-document.ensures
     c.args.style c.args.include_docs c.row.ensures.row c.row.ensures.tree
-    (c.length.ensures ∙ sym (ap (λ (f : Followed). length f.edits) c.self.view_is)))
+    (c.length.ensures ∙ sym (ap (λ (followed : Followed). length followed.edits) c.self.view_is)))

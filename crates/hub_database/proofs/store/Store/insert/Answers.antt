@@ -13,7 +13,8 @@ use Rattle.hub_database.proofs.store.Store.insert.Goals as goal
 
 pub returns-in_err-reserve_one-in-Ready-clause-memory : goal.returns-in_err-reserve_one-in-Ready-clause-memory
 returns-in_err-reserve_one-in-Ready-clause-memory c =
-    let none : c.new-document.result.tree.edits ≡ [] = ap (λ (z : Filed). z.edits) c.new-document.ensures in
+    let none : c.new-document.result.tree.edits ≡ [] = ap
+    (λ (filed : Filed). filed.edits) c.new-document.ensures in
     subst (λ es. OnErr c.from_residual-in_err-reserve_one-in-Ready.result (NeedsRoomFor es [] c.args.edit))
     none
     (ready_needs c.from_residual-in_err-reserve_one-in-Ready.result c.new-document.result.id
@@ -23,7 +24,8 @@ returns-in_err-reserve_one-in-Ready-clause-memory c =
 pub returns-in_err-reserve_one-in-Ready-2-clause-memory :
     goal.returns-in_err-reserve_one-in-Ready-2-clause-memory
 returns-in_err-reserve_one-in-Ready-2-clause-memory c =
-    let none : c.new-document.result.tree.edits ≡ [] = ap (λ (z : Filed). z.edits) c.new-document.ensures in
+    let none : c.new-document.result.tree.edits ≡ [] = ap
+    (λ (filed : Filed). filed.edits) c.new-document.ensures in
     subst (λ es. OnErr c.from_residual-in_err-reserve_one-in-Ready-2.result (NeedsRoomFor es [] c.args.edit))
     none
     (ready_needs c.from_residual-in_err-reserve_one-in-Ready-2.result c.new-document.result.id
@@ -43,7 +45,8 @@ overflow_cast-number c =
 
 pub returns-in_err-enter-in-Ready-clause-memory : goal.returns-in_err-enter-in-Ready-clause-memory
 returns-in_err-enter-in-Ready-clause-memory c =
-    let none : c.new-document.result.tree.edits ≡ [] = ap (λ (z : Filed). z.edits) c.new-document.ensures in
+    let none : c.new-document.result.tree.edits ≡ [] = ap
+    (λ (filed : Filed). filed.edits) c.new-document.ensures in
     subst (λ es. OnErr c.from_residual-in_err-enter-in-Ready.result (NeedsRoomFor es [] c.args.edit)) none
     (ready_needs c.from_residual-in_err-enter-in-Ready.result c.new-document.result.id
     c.new-document.result.tree.edits _ c.args.edit c.in_ok-look.field-0 c.in-Ready.ready c.in-Ready.is

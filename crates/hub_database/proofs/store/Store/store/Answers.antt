@@ -43,7 +43,7 @@ returns-in_err-outcome-in-Some-clause-state c =
     sym (rw c.as_str.ensures.value at c.in-Some.ensures) in
     let at = document_there s c.requires.state c.args.id k there d c.index_mut-document.ensures.value in
     let e = c.in_err-outcome-in-Some.ensures.err in
-    store_stays s _ k d c.extend.new.self c.requires.state at (ap (λ (z : Filed). z.id) e.0) refl refl
+    store_stays s _ k d c.extend.new.self c.requires.state at (ap (λ (filed : Filed). filed.id) e.0) refl refl
     (unchanged s.limits.journal (number_by s) s.documents.items s.journal.items c.requires.state.filed k d
     at s.index c.extend.new.index c.requires.rows c.extend.new.self c.extend.new.journal.items e.0 e.1 e.2).0
 

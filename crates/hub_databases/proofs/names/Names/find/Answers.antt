@@ -7,7 +7,7 @@ use Rattle.hub_databases.proofs.names.Names.find.Goals as goal
 
 pub returns-clause-some : goal.returns-clause-some
 returns-clause-some g c =
-    subst (λ (s : NamesState). IsSome c.get.result ↔ Contains s.names c.args.name.now) c.self.view_is
+    subst (λ (state : NamesState). IsSome c.get.result ↔ Contains state.names c.args.name.now) c.self.view_is
     (there c.get.result
     (subst (λ r. IsSome r ↔ Contains (names_of c.self.inside.list.entries) c.args.name.now)
     (sym c.get.ensures.value) (found_iff c.self.inside.list.entries c.args.name.now)))

@@ -9,9 +9,9 @@ use Rattle.hub_databases.proofs.names.Names.put.Goals as goal
 pub invariant_of-self : goal.invariant_of-self
 invariant_of-self g c =
     let seen : length (names_of c.self.inside.list.entries) ≡ length c.args.self.now.names =
-    ap (λ (s : NamesState). length s.names) c.self.view_is in
+    ap (λ (state : NamesState). length state.names) c.self.view_is in
     let limit : c.self.inside.limit ≡ c.args.self.now.limit =
-    ap (λ (s : NamesState). s.limit) c.self.view_is in
+    ap (λ (state : NamesState). state.limit) c.self.view_is in
     let room : length c.self.inside.list.entries < c.self.inside.limit = omega (
       arith,
       seen,

@@ -12,7 +12,8 @@ invariant_of-self g c =
 
 pub returns-clause-some : goal.returns-clause-some
 returns-clause-some g c =
-    subst (λ (s : NamesState). IsSome c.remove.result ↔ Contains s.names c.args.name.now) c.self.view_is
+    subst (λ (state : NamesState). IsSome c.remove.result ↔ Contains state.names c.args.name.now)
+    c.self.view_is
     (subst (λ r. IsSome r ↔ Contains (names_of c.self.inside.list.entries) c.args.name.now)
     (sym c.remove.ensures.value) (found_iff c.self.inside.list.entries c.args.name.now))
 

@@ -5,11 +5,11 @@ use Rattle.hub_model.specs.Path.{names}
 use Rattle.hub_document.proofs.PlaceLemmas.{named}
 use Rattle.hub_document.proofs.path.Path.names.Goals as goal
 
-if_found : (path : List Revision) (r : Revision) (place : Option ℕ)
-    → IfSome place (λ k. slice_get path k ≡ Some r) → IfNone place (names path r ≡ false)
-    → is_some place ≡ names path r
-if_found path r (Some k) found absent = sym (named path k r found)
-if_found path r None found absent = sym absent
+if_found : (path : List Revision) (revision : Revision) (place : Option ℕ)
+    → IfSome place (λ k. slice_get path k ≡ Some revision) → IfNone place (names path revision ≡ false)
+    → is_some place ≡ names path revision
+if_found path revision (Some k) found absent = sym (named path k revision found)
+if_found path revision None found absent = sym absent
 
 pub returns : goal.returns
 returns c =

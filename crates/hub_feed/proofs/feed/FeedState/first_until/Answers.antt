@@ -12,9 +12,11 @@ returns-in_err-seq-clause-whole g c =
     let rows = g.S.Source.current c.args.source.now in
     let here : Feed = record c.args.self.now { place = c.loop.place } in
     let none =
-    subst (λ (f : Feed). None ≡ first_within c.loop.place f.bound rows) c.self.view_is c.in_err-seq.ensures in
+    subst (λ (feed : Feed). None ≡ first_within c.loop.place feed.bound rows) c.self.view_is
+    c.in_err-seq.ensures in
     λ reached. c.from_residual.ensures
-    ∙ sym (ap (option_map (λ (r : Current). r.seq)) (c.loop.invariant.kept ∙ none_in_reach here rows none))
+    ∙ sym (ap (option_map (λ (row : Current). row.seq))
+    (c.loop.invariant.kept ∙ none_in_reach here rows none))
 
 pub returns-then-passes : goal.returns-then-passes
 returns-then-passes g c =
@@ -22,10 +24,10 @@ returns-then-passes g c =
     let here : Feed = record c.args.self.now { place = c.loop.place } in
     let row : Current = record { seq = c.in_ok-seq.seq; id = c.in_ok-seq.id.now } in
     let found =
-    subst (λ (f : Feed). Some row ≡ first_within c.loop.place f.bound rows)
+    subst (λ (feed : Feed). Some row ≡ first_within c.loop.place feed.bound rows)
     c.self.view_is c.in_ok-seq.ensures in
     let shown =
-    subst (λ (f : Feed). true ≡ passes f.params.filter row.id) c.self.view_is c.if-passes.ensures in
+    subst (λ (feed : Feed). true ≡ passes feed.params.filter row.id) c.self.view_is c.if-passes.ensures in
     let same =
     sym (ap (option_map (λ (r : Current). r.seq))
     (c.loop.invariant.kept ∙ found_in_reach here rows row found (sym shown))) in
@@ -37,10 +39,10 @@ loop-preserved g c =
     let here : Feed = record c.args.self.now { place = c.loop.place } in
     let row : Current = record { seq = c.in_ok-seq.seq; id = c.in_ok-seq.id.now } in
     let found =
-    subst (λ (f : Feed). Some row ≡ first_within c.loop.place f.bound rows)
+    subst (λ (feed : Feed). Some row ≡ first_within c.loop.place feed.bound rows)
     c.self.view_is c.in_ok-seq.ensures in
     let hidden =
-    subst (λ (f : Feed). false ≡ passes f.params.filter row.id) c.self.view_is c.if-passes.ensures in
+    subst (λ (feed : Feed). false ≡ passes feed.params.filter row.id) c.self.view_is c.if-passes.ensures in
     let above = ahead_above here rows row found in
     record {
       passed = omega (arith, above, c.loop.invariant.passed);
@@ -52,7 +54,7 @@ loop-preserved g c =
 pub returns-clause-whole : goal.returns-clause-whole
 returns-clause-whole g c =
     let here : Feed = record c.args.self.now { place = c.loop.place } in
-    λ reached. sym (ap (option_map (λ (r : Current). r.seq))
+    λ reached. sym (ap (option_map (λ (row : Current). row.seq))
     (c.loop.invariant.kept
     ∙ none_above here (g.S.Source.current c.args.source.now) (g.S.Source.length c.args.source.now)
     (g.met.S.Source.within c.args.source.now) (omega arith)))

@@ -14,6 +14,6 @@ returns-in-Ending-clause-ok g c =
     let rows = g.S.Source.current c.args.source.now in
     let show = g.S.Source.shown c.args.source.now f.params.style f.params.include_docs in
     let ending : f.status ≡ Ending =
-    sym (ap (λ (x : Feed). x.status) c.self.view_is) ∙ ap status_of c.in-Ending.is in
-    let place = ap (λ (x : Feed). x.place) c.self.view_is in
+    sym (ap (λ (feed : Feed). feed.status) c.self.view_is) ∙ ap status_of c.in-Ending.is in
+    let place = ap (λ (feed : Feed). feed.place) c.self.view_is in
     ap Give (c.end_at.ensures ∙ ap (λ p. End p (pending rows p)) place) ∙ sym (ending_end show rows f ending)

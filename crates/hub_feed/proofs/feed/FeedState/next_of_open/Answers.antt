@@ -19,9 +19,10 @@ returns-in-Some-clause-ok g c =
     let rows = g.S.Source.current c.args.source.now in
     let test = is_in_reach c.args.self.now in
     let (row, found, seq) = row_found (find test rows) c.in-Some.seq (sym c.in-Some.is ∙ c.requires.first) in
-    let show = λ (f : Feed). g.S.Source.shown c.args.source.now f.params.style f.params.include_docs in
+    let show = λ (feed : Feed).
+    g.S.Source.shown c.args.source.now feed.params.style feed.params.include_docs in
     let shown =
-    subst (λ (f : Feed). c.in_ok-row.row ≡ show f row) c.self.view_is
+    subst (λ (feed : Feed). c.in_ok-row.row ≡ show feed row) c.self.view_is
     (c.in_ok-row.ensures row (find_is test rows row found).1 seq) in
     ap (λ r. Give (Row r)) shown
     ∙ sym (open_row (show c.args.self.now) rows c.args.self.now row c.requires.open found)

@@ -13,8 +13,8 @@ returns-in_default-clause-new g c =
     let id = c.args.feed.number in
     let none : position (λ (p : ℕ × Feed). nat_eq p.0 id) c.self.inside.list.items ≡ None =
     rw c.as_slice.ensures.value at (sym c.place_near.ensures ∙ c.in_default.is) in
-    subst (λ (z : FeedList). z ≡ feeds_of (handed (over (g.S.Source.length c.args.source.now)
-    (g.S.Source.current c.args.source.now) (g.S.Source.shown c.args.source.now) z) id)) c.self.view_is
+    subst (λ (list : FeedList). list ≡ feeds_of (handed (over (g.S.Source.length c.args.source.now)
+    (g.S.Source.current c.args.source.now) (g.S.Source.shown c.args.source.now) list) id)) c.self.view_is
     (ap (λ (fs : List (ℕ × Feed)). record { feeds = fs; next = c.self.inside.next })
     (sym (changed_absent id _ c.self.inside.list.items (no_entry id c.self.inside.list.items none))))
 
@@ -29,8 +29,8 @@ accept_marked-requires g c =
     let p = c.index_mut-feed.result.now in
     let is = c.index_mut-feed.ensures.value in
     let asked =
-    subst (λ (z : FeedList). option_map (mark_of g.S.Source.seq_of)
-    (item_due (over len rows (g.S.Source.shown c.args.source.now) z) id)
+    subst (λ (list : FeedList). option_map (mark_of g.S.Source.seq_of)
+    (item_due (over len rows (g.S.Source.shown c.args.source.now) list) id)
     ≡ Some c.args.mark)
     (sym c.self.view_is) c.requires.due in
     record { due = rw (entry_here id feeds c.in-Some.at placed p is) at asked }
@@ -62,12 +62,12 @@ returns-clause-new g c =
     let p = c.index_mut-feed.result.now in
     let is = c.index_mut-feed.ensures.value in
     let change : Feed → Feed = λ f. after_due f (due rows f) len in
-    subst (λ (z : FeedList). ◌≡◌ {A = FeedList}
+    subst (λ (list : FeedList). ◌≡◌ {A = FeedList}
     (record {
       feeds = slice_set feeds c.in-Some.at (p.0, c.accept_marked.new.self);
       next = c.self.inside.next;
     })
-    (feeds_of (handed (over len rows (g.S.Source.shown c.args.source.now) z) id))) c.self.view_is
+    (feeds_of (handed (over len rows (g.S.Source.shown c.args.source.now) list) id))) c.self.view_is
     (ap (λ (fs : List (ℕ × Feed)). record { feeds = fs; next = c.self.inside.next })
     (changed_here id feeds c.in-Some.at placed p is change c.accept_marked.new.self c.self.invariant.rising
     c.accept_marked.ensures))
@@ -84,7 +84,7 @@ returns-clause-behind g c =
     let is = c.index_mut-feed.ensures.value in
     let change : Feed → Feed = λ f. after_due f (due rows f) len in
     let behind : AreBehind len feeds =
-    subst (λ (z : FeedList). AreBehind len z.feeds) (sym c.self.view_is) c.requires.behind in
+    subst (λ (list : FeedList). AreBehind len list.feeds) (sym c.self.view_is) c.requires.behind in
     subst (AreBehind len)
     (sym (changed_here id feeds c.in-Some.at placed p is change c.accept_marked.new.self
     c.self.invariant.rising c.accept_marked.ensures))

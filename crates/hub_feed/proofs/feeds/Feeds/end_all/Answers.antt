@@ -12,4 +12,4 @@ pub returns-clause-behind : goal.returns-clause-behind
 returns-clause-behind c = λ len behind.
     subst (AreBehind len) (sym c.end_each.ensures)
     (behind_ended len c.self.inside.list.items
-    (subst (λ (z : FeedList). AreBehind len z.feeds) (sym c.self.view_is) behind))
+    (subst (λ (list : FeedList). AreBehind len list.feeds) (sym c.self.view_is) behind))

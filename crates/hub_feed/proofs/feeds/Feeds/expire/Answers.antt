@@ -11,7 +11,7 @@ pub returns-in_default-clause-new : goal.returns-in_default-clause-new
 returns-in_default-clause-new c =
     let none : position (λ (p : ℕ × Feed). nat_eq p.0 c.args.feed.number) c.self.inside.list.items ≡ None =
     rw c.as_slice.ensures.value at (sym c.place_of.ensures ∙ c.in_default.is) in
-    subst (λ (z : FeedList). z ≡ record z { feeds = changed c.args.feed.number expire z.feeds })
+    subst (λ (list : FeedList). list ≡ record list { feeds = changed c.args.feed.number expire list.feeds })
     c.self.view_is
     (ap (λ (fs : List (ℕ × Feed)). record { feeds = fs; next = c.self.inside.next })
     (sym (changed_absent c.args.feed.number expire c.self.inside.list.items
@@ -38,12 +38,12 @@ returns-clause-new c =
     let now =
     changed_here id feeds c.in-Some.at placed c.index_mut-feed.result.now c.index_mut-feed.ensures.value
     expire c.expire.new.self c.self.invariant.rising c.expire.ensures in
-    subst (λ (z : FeedList). ◌≡◌ {A = FeedList}
+    subst (λ (list : FeedList). ◌≡◌ {A = FeedList}
     (record {
       feeds = slice_set feeds c.in-Some.at (c.index_mut-feed.result.now.0, c.expire.new.self);
       next = c.self.inside.next;
     })
-    (record z { feeds = changed id expire z.feeds })) c.self.view_is
+    (record list { feeds = changed id expire list.feeds })) c.self.view_is
     (ap (λ (fs : List (ℕ × Feed)). record { feeds = fs; next = c.self.inside.next }) now)
 
 pub returns-clause-behind : goal.returns-clause-behind
@@ -57,4 +57,4 @@ returns-clause-behind c =
     expire c.expire.new.self c.self.invariant.rising c.expire.ensures in
     λ len behind. subst (AreBehind len) (sym now)
     (behind_changed id expire len feeds (expired_behind len)
-    (subst (λ (z : FeedList). AreBehind len z.feeds) (sym c.self.view_is) behind))
+    (subst (λ (list : FeedList). AreBehind len list.feeds) (sym c.self.view_is) behind))

@@ -17,8 +17,8 @@ pub returns-clause-new : goal.returns-clause-new
 returns-clause-new c =
     let left : c.retain.new.self.items ≡ without c.args.feed.number c.self.inside.list.items =
     filter_same _ _ _ (λ x b f' k. search rules) _ _ c.retain.ensures.filtered in
-    subst (λ (z : FeedList). record { feeds = c.retain.new.self.items; next = c.self.inside.next }
-    ≡ record z { feeds = without c.args.feed.number z.feeds }) c.self.view_is
+    subst (λ (list : FeedList). record { feeds = c.retain.new.self.items; next = c.self.inside.next }
+    ≡ record list { feeds = without c.args.feed.number list.feeds }) c.self.view_is
     (ap (λ (fs : List (ℕ × Feed)). record { feeds = fs; next = c.self.inside.next }) left)
 
 pub returns-clause-behind : goal.returns-clause-behind
@@ -27,4 +27,4 @@ returns-clause-behind c =
     filter_same _ _ _ (λ x b f' k. search rules) _ _ c.retain.ensures.filtered in
     λ len behind. subst (AreBehind len) (sym left)
     (behind_left len c.args.feed.number c.self.inside.list.items
-    (subst (λ (z : FeedList). AreBehind len z.feeds) (sym c.self.view_is) behind))
+    (subst (λ (list : FeedList). AreBehind len list.feeds) (sym c.self.view_is) behind))

@@ -12,9 +12,10 @@ returns g c =
     let feeds = c.self.inside.list.items in
     let rows = g.S.Source.current c.args.source.now in
     let first = c.first_of_open.result in
-    let placed = subst (λ (z : FeedList). Some c.args.at ≡ position (is_of id) z.feeds) (sym c.self.view_is)
+    let placed = subst (λ (list : FeedList). Some c.args.at ≡ position (is_of id) list.feeds)
+    (sym c.self.view_is)
     c.requires.placed in
-    subst (λ (z : FeedList). IsFirst first rows (entry_in id z.feeds)) c.self.view_is
+    subst (λ (list : FeedList). IsFirst first rows (entry_in id list.feeds)) c.self.view_is
     (subst (IsFirst first rows)
     (sym (entry_here id feeds c.args.at placed c.index-state.result.now c.index-state.ensures))
     c.first_of_open.ensures)

@@ -21,9 +21,10 @@ hand-requires-clause-first g c =
     let id = c.args.feed.number in
     let feeds = c.self.inside.list.items in
     let rows = g.S.Source.current c.args.source.now in
-    let placed = subst (λ (z : FeedList). Some c.args.at ≡ position (is_of id) z.feeds) (sym c.self.view_is)
+    let placed = subst (λ (list : FeedList). Some c.args.at ≡ position (is_of id) list.feeds)
+    (sym c.self.view_is)
     c.requires.placed in
-    let asked = subst (λ (z : FeedList). IsFirst c.args.first rows (entry_in id z.feeds))
+    let asked = subst (λ (list : FeedList). IsFirst c.args.first rows (entry_in id list.feeds))
     (sym c.self.view_is) c.requires.first in
     subst (IsFirst c.args.first rows)
     (entry_here id feeds c.args.at placed c.index_mut-state.result.now c.index_mut-state.ensures.value) asked
@@ -120,12 +121,12 @@ returns-clause-behind g c =
     c.requires.placed in
     let behind : AreBehind len feeds =
     subst (λ (z : FeedList). AreBehind len z.feeds) (sym c.self.view_is) c.requires.behind in
-    let goes : Feed → Feed = λ f. after_due f (due rows f) len in
-    let looks : Feed → Feed = λ f. after_nothing f len in
+    let goes : Feed → Feed = λ feed. after_due feed (due rows feed) len in
+    let looks : Feed → Feed = λ feed. after_nothing feed len in
     let list : FeedList = record { feeds = feeds; next = c.self.inside.next } in
     ok_or_err {P = AreBehind len (slice_set feeds at (p.0, new))} c.hand.result
     (λ did hands. hands_keeps g.K.Sink.behind (g.H.Pushes.refuses c.args.handle.now) c.args.sink.now
-    (λ (f : Feed). AreBehind len (slice_set feeds at (p.0, f))) p.1 (goes p.1) (looks p.1) new
+    (λ (feed : Feed). AreBehind len (slice_set feeds at (p.0, feed))) p.1 (goes p.1) (looks p.1) new
     (subst (AreBehind len) (sym (stays_here id feeds at placed p is p.1 refl)) behind)
     (subst (AreBehind len)
     (sym (changed_here id feeds at placed p is goes (goes p.1) c.self.invariant.rising refl))
@@ -133,7 +134,7 @@ returns-clause-behind g c =
     behind))
     (subst (AreBehind len)
     (sym (changed_here id feeds at placed p is looks (looks p.1) c.self.invariant.rising refl))
-    (behind_changed id looks len feeds (λ f. looks_behind len DueNothing f) behind))
+    (behind_changed id looks len feeds (λ feed. looks_behind len DueNothing feed) behind))
     (answer_of (over len rows shown list) (Some p.1)) did c.hand.new.sink hands)
     (λ w. subst (AreBehind len) (sym (stays_here id feeds at placed p is new w.0)) behind)
     c.hand.ensures.ok c.hand.ensures.err

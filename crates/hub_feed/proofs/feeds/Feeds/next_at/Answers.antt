@@ -16,9 +16,10 @@ next_item_at-requires-clause-first g c =
     let id = c.args.feed.number in
     let feeds = c.self.inside.list.items in
     let rows = g.S.Source.current c.args.source.now in
-    let placed = subst (λ (z : FeedList). Some c.args.at ≡ position (is_of id) z.feeds) (sym c.self.view_is)
+    let placed = subst (λ (list : FeedList). Some c.args.at ≡ position (is_of id) list.feeds)
+    (sym c.self.view_is)
     c.requires.placed in
-    let asked = subst (λ (z : FeedList). IsFirst c.args.first rows (entry_in id z.feeds))
+    let asked = subst (λ (list : FeedList). IsFirst c.args.first rows (entry_in id list.feeds))
     (sym c.self.view_is) c.requires.first in
     subst (IsFirst c.args.first rows)
     (entry_here id feeds c.args.at placed c.index_mut-state.result.now c.index_mut-state.ensures.value) asked
@@ -29,7 +30,8 @@ invariant_of-self g c =
     let feeds = c.self.inside.list.items in
     let len = g.S.Source.length c.args.source.now in
     let rows = g.S.Source.current c.args.source.now in
-    let placed = subst (λ (z : FeedList). Some c.args.at ≡ position (is_of id) z.feeds) (sym c.self.view_is)
+    let placed = subst (λ (list : FeedList). Some c.args.at ≡ position (is_of id) list.feeds)
+    (sym c.self.view_is)
     c.requires.placed in
     let p = c.index_mut-state.result.now in
     let is = c.index_mut-state.ensures.value in
@@ -50,13 +52,14 @@ returns-clause-ok g c =
     let feeds = c.self.inside.list.items in
     let len = g.S.Source.length c.args.source.now in
     let rows = g.S.Source.current c.args.source.now in
-    let placed = subst (λ (z : FeedList). Some c.args.at ≡ position (is_of id) z.feeds) (sym c.self.view_is)
+    let placed = subst (λ (list : FeedList). Some c.args.at ≡ position (is_of id) list.feeds)
+    (sym c.self.view_is)
     c.requires.placed in
     let p = c.index_mut-state.result.now in
     let is = c.index_mut-state.ensures.value in
     both_ok c.next_item_at.result
     (λ next same _.
-    subst (λ (z : FeedList). next ≡ answered (over len rows (g.S.Source.shown c.args.source.now) z) id)
+    subst (λ (list : FeedList). next ≡ answered (over len rows (g.S.Source.shown c.args.source.now) list) id)
     c.self.view_is (rw (entry_here id feeds c.args.at placed p is) same))
     c.next_item_at.ensures.ok c.next_item_at.ensures.ok
 
@@ -66,17 +69,18 @@ returns-clause-new g c =
     let feeds = c.self.inside.list.items in
     let len = g.S.Source.length c.args.source.now in
     let rows = g.S.Source.current c.args.source.now in
-    let placed = subst (λ (z : FeedList). Some c.args.at ≡ position (is_of id) z.feeds) (sym c.self.view_is)
+    let placed = subst (λ (list : FeedList). Some c.args.at ≡ position (is_of id) list.feeds)
+    (sym c.self.view_is)
     c.requires.placed in
     let p = c.index_mut-state.result.now in
     let is = c.index_mut-state.ensures.value in
     both_ok c.next_item_at.result
-    (λ next same new. subst (λ (z : FeedList). ◌≡◌ {A = FeedList}
+    (λ next same new. subst (λ (list : FeedList). ◌≡◌ {A = FeedList}
     (record {
       feeds = slice_set feeds c.args.at (p.0, c.next_item_at.new.self);
       next = c.self.inside.next;
     })
-    (feeds_of (behind_answer (over len rows (g.S.Source.shown c.args.source.now) z) id next)))
+    (feeds_of (behind_answer (over len rows (g.S.Source.shown c.args.source.now) list) id next)))
     c.self.view_is
     (ap (λ (fs : List (ℕ × Feed)). record { feeds = fs; next = c.self.inside.next })
     (behind_here id feeds c.args.at placed p is _ rows len c.next_item_at.new.self c.self.invariant.rising
@@ -89,20 +93,22 @@ returns-clause-err g c =
     let feeds = c.self.inside.list.items in
     let len = g.S.Source.length c.args.source.now in
     let rows = g.S.Source.current c.args.source.now in
-    let placed = subst (λ (z : FeedList). Some c.args.at ≡ position (is_of id) z.feeds) (sym c.self.view_is)
+    let placed = subst (λ (list : FeedList). Some c.args.at ≡ position (is_of id) list.feeds)
+    (sym c.self.view_is)
     c.requires.placed in
     let p = c.index_mut-state.result.now in
     let is = c.index_mut-state.ensures.value in
     err_then c.next_item_at.result
     (λ w. (
-      subst (λ (z : FeedList). ◌≡◌ {A = FeedList}
+      subst (λ (list : FeedList). ◌≡◌ {A = FeedList}
           (record {
             feeds = slice_set feeds c.args.at (p.0, c.next_item_at.new.self);
             next = c.self.inside.next;
-          }) z) c.self.view_is
+          }) list) c.self.view_is
           (ap (λ (fs : List (ℕ × Feed)). record { feeds = fs; next = c.self.inside.next })
           (stays_here id feeds c.args.at placed p is c.next_item_at.new.self w.0)),
-      subst (λ (z : FeedList). IsRowDue (due_to (over len rows (g.S.Source.shown c.args.source.now) z) id))
+      subst (λ (list : FeedList).
+          IsRowDue (due_to (over len rows (g.S.Source.shown c.args.source.now) list) id))
           c.self.view_is
           (subst IsRowDue (sym (ap (due_of rows) (entry_here id feeds c.args.at placed p is))) w.1),
     )) c.next_item_at.ensures.err
@@ -113,13 +119,14 @@ returns-clause-behind g c =
     let feeds = c.self.inside.list.items in
     let len = g.S.Source.length c.args.source.now in
     let rows = g.S.Source.current c.args.source.now in
-    let placed = subst (λ (z : FeedList). Some c.args.at ≡ position (is_of id) z.feeds) (sym c.self.view_is)
+    let placed = subst (λ (list : FeedList). Some c.args.at ≡ position (is_of id) list.feeds)
+    (sym c.self.view_is)
     c.requires.placed in
     let p = c.index_mut-state.result.now in
     let is = c.index_mut-state.ensures.value in
     let change : Feed → Feed = λ f. after_next f (due rows f) len in
     let behind : AreBehind len feeds =
-    subst (λ (z : FeedList). AreBehind len z.feeds) (sym c.self.view_is) c.requires.behind in
+    subst (λ (list : FeedList). AreBehind len list.feeds) (sym c.self.view_is) c.requires.behind in
     ok_or_err {P = AreBehind len (slice_set feeds c.args.at (p.0, c.next_item_at.new.self))}
     c.next_item_at.result
     (λ next new. subst (AreBehind len)

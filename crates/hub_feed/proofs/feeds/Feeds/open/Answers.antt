@@ -9,7 +9,7 @@ use Rattle.hub_feed.proofs.feeds.Feeds.open.Goals as goal
 
 pub returns-clause-fresh : goal.returns-clause-fresh
 returns-clause-fresh c =
-    subst (λ (z : FeedList). entry_in c.self.inside.next z.feeds ≡ None) c.self.view_is
+    subst (λ (list : FeedList). entry_in c.self.inside.next list.feeds ≡ None) c.self.view_is
     (none_above c.self.inside.next c.self.inside.list.items c.self.invariant.given)
 
 pub returns-clause-behind : goal.returns-clause-behind
@@ -22,4 +22,4 @@ returns-clause-behind c =
     ∙ ap (λ f. feeds ++ (c.self.inside.next, f) ∷ []) c.begin.ensures) in
     λ behind. subst (AreBehind c.args.length) (sym more)
     (behind_opened c.args.length c.args.life c.self.inside.next (params_of c.args.params) feeds
-    (subst (λ (z : FeedList). AreBehind c.args.length z.feeds) (sym c.self.view_is) behind))
+    (subst (λ (list : FeedList). AreBehind c.args.length list.feeds) (sym c.self.view_is) behind))

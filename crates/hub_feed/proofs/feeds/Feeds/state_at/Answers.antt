@@ -10,17 +10,19 @@ pub returns-clause-found : goal.returns-clause-found
 returns-clause-found c =
     let id = c.args.feed.number in
     let feeds = c.self.inside.list.items in
-    let placed = subst (λ (z : FeedList). Some c.args.at ≡ position (is_of id) z.feeds) (sym c.self.view_is)
+    let placed = subst (λ (list : FeedList). Some c.args.at ≡ position (is_of id) list.feeds)
+    (sym c.self.view_is)
     c.requires.placed in
-    subst (λ (z : FeedList). entry_in id z.feeds ≡ Some c.index-state.result.now.1) c.self.view_is
+    subst (λ (list : FeedList). entry_in id list.feeds ≡ Some c.index-state.result.now.1) c.self.view_is
     (entry_here id feeds c.args.at placed c.index-state.result.now c.index-state.ensures)
 
 pub returns-clause-given : goal.returns-clause-given
 returns-clause-given c =
     let id = c.args.feed.number in
     let feeds = c.self.inside.list.items in
-    let placed = subst (λ (z : FeedList). Some c.args.at ≡ position (is_of id) z.feeds) (sym c.self.view_is)
+    let placed = subst (λ (list : FeedList). Some c.args.at ≡ position (is_of id) list.feeds)
+    (sym c.self.view_is)
     c.requires.placed in
-    subst (λ (z : FeedList). id < z.next) c.self.view_is
+    subst (λ (list : FeedList). id < list.next) c.self.view_is
     (entry_given c.self.inside.next id feeds c.index-state.result.now.1 c.self.invariant.given
     (entry_here id feeds c.args.at placed c.index-state.result.now c.index-state.ensures))

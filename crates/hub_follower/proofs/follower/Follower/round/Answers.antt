@@ -10,6 +10,7 @@ returns-in_err-drive-clause-err g c =
     let new = c.drive.new in
     let fault = c.in_err-drive.field-0.0 in
     if_err_on c.from_residual.result _ fault c.from_residual.ensures.1
-    (subst (λ (z : follow.Follower). Breaks g.S.Peer.gives g.T.Peer.gives g.S.Peer.loses g.T.Peer.loses fault
-    (standing_of z s.source s.target) (standing_of new.core new.source new.target))
+    (subst (λ (follower : follow.Follower).
+    Breaks g.S.Peer.gives g.T.Peer.gives g.S.Peer.loses g.T.Peer.loses fault
+    (standing_of follower s.source s.target) (standing_of new.core new.source new.target))
     c.begin_round.ensures c.in_err-drive.ensures.err)

@@ -20,11 +20,12 @@ loop-event-preserved c =
     let new = c.step.new.self in
     record {
       run =
-          subst (λ (z : List world.Event). world.Run (world.empty_world 4294967295) z new)
+          subst (λ (events : List world.Event). world.Run (world.empty_world 4294967295) events new)
           (sym (map_push event_of so_far event))
           (run_more (map event_of so_far) (event_of event)
           (world.empty_world 4294967295) c.loop-event.world new i.run c.in_ok-step.ensures);
-      events = append_assoc so_far (event ∷ []) rest ∙ (ap (λ z. so_far ++ z) (sym step.0) ∙ i.events);
+      events =
+          append_assoc so_far (event ∷ []) rest ∙ (ap (λ events. so_far ++ events) (sym step.0) ∙ i.events);
     }
 
 pub returns-clause-run : goal.returns-clause-run

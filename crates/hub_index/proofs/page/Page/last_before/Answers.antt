@@ -5,7 +5,7 @@ use Rattle.hub_index.proofs.page.Page.last_before.Goals as goal
 
 pub returns-in_err-at : goal.returns-in_err-at
 returns-in_err-at c =
-    let e : None ≡ find (λ (r : ℕ × ℕ). nat_lt r.0 c.saturating_sub-end.result)
+    let e : None ≡ find (λ (row : ℕ × ℕ). nat_lt row.0 c.saturating_sub-end.result)
     (reverse (slot_rows 0 c.as_slice.result.now)) =
     c.in_err-at.ensures in
     c.from_residual.ensures
@@ -15,7 +15,7 @@ returns-in_err-at c =
 pub overflow_add-result : goal.overflow_add-result
 overflow_add-result c =
     let e : Some (c.in_ok-at.at, c.in_ok-at.document)
-    ≡ find (λ (r : ℕ × ℕ). nat_lt r.0 c.saturating_sub-end.result)
+    ≡ find (λ (row : ℕ × ℕ). nat_lt row.0 c.saturating_sub-end.result)
     (reverse (slot_rows 0 c.as_slice.result.now)) =
     c.in_ok-at.ensures in
     omega (
@@ -29,7 +29,7 @@ overflow_add-result c =
 pub overflow_add-result-2 : goal.overflow_add-result-2
 overflow_add-result-2 c =
     let e : Some (c.in_ok-at.at, c.in_ok-at.document)
-    ≡ find (λ (r : ℕ × ℕ). nat_lt r.0 c.saturating_sub-end.result)
+    ≡ find (λ (row : ℕ × ℕ). nat_lt row.0 c.saturating_sub-end.result)
     (reverse (slot_rows 0 c.as_slice.result.now)) =
     c.in_ok-at.ensures in
     omega (
@@ -43,7 +43,7 @@ overflow_add-result-2 c =
 pub returns : goal.returns
 returns c =
     let e : Some (c.in_ok-at.at, c.in_ok-at.document)
-    ≡ find (λ (r : ℕ × ℕ). nat_lt r.0 c.saturating_sub-end.result)
+    ≡ find (λ (row : ℕ × ℕ). nat_lt row.0 c.saturating_sub-end.result)
     (reverse (slot_rows 0 c.as_slice.result.now)) =
     c.in_ok-at.ensures in
     found_below (256 * c.args.number) c.args.place c.saturating_sub-end.result c.args.self.now

@@ -5,7 +5,7 @@ use Rattle.hub_index.proofs.page.Page.next_after.Goals as goal
 
 pub returns-in_err-at : goal.returns-in_err-at
 returns-in_err-at c =
-    let e : None ≡ find (λ (r : ℕ × ℕ). nat_le c.saturating_sub-from.result r.0)
+    let e : None ≡ find (λ (row : ℕ × ℕ). nat_le c.saturating_sub-from.result row.0)
     (slot_rows 0 c.as_slice.result.now) =
     c.in_err-at.ensures in
     c.from_residual.ensures
@@ -15,7 +15,7 @@ returns-in_err-at c =
 pub overflow_add-result : goal.overflow_add-result
 overflow_add-result c =
     let e : Some (c.in_ok-at.at, c.in_ok-at.document)
-    ≡ find (λ (r : ℕ × ℕ). nat_le c.saturating_sub-from.result r.0) (slot_rows 0 c.as_slice.result.now) =
+    ≡ find (λ (row : ℕ × ℕ). nat_le c.saturating_sub-from.result row.0) (slot_rows 0 c.as_slice.result.now) =
     c.in_ok-at.ensures in
     omega (
       arith,
@@ -27,7 +27,7 @@ overflow_add-result c =
 pub overflow_add-result-2 : goal.overflow_add-result-2
 overflow_add-result-2 c =
     let e : Some (c.in_ok-at.at, c.in_ok-at.document)
-    ≡ find (λ (r : ℕ × ℕ). nat_le c.saturating_sub-from.result r.0) (slot_rows 0 c.as_slice.result.now) =
+    ≡ find (λ (row : ℕ × ℕ). nat_le c.saturating_sub-from.result row.0) (slot_rows 0 c.as_slice.result.now) =
     c.in_ok-at.ensures in
     omega (
       arith,
@@ -39,7 +39,7 @@ overflow_add-result-2 c =
 pub returns : goal.returns
 returns c =
     let e : Some (c.in_ok-at.at, c.in_ok-at.document)
-    ≡ find (λ (r : ℕ × ℕ). nat_le c.saturating_sub-from.result r.0) (slot_rows 0 c.as_slice.result.now) =
+    ≡ find (λ (row : ℕ × ℕ). nat_le c.saturating_sub-from.result row.0) (slot_rows 0 c.as_slice.result.now) =
     c.in_ok-at.ensures in
     found_from (256 * c.args.number) c.args.place c.saturating_sub-from.result c.args.self.now
     c.as_slice.result.now (c.as_slice.ensures.value ∙ c.self.view_is) c.saturating_sub-from.ensures

@@ -7,7 +7,8 @@ pub returns : goal.returns
 returns c =
     c.remove_row.ensures.rows
     ∙ (removed_is c.args.seq _ c.self.invariant.index.rising
-    ∙ ap (λ (rows : List (ℕ × ℕ)). filter (λ (r : ℕ × ℕ). not (nat_eq r.0 c.args.seq)) rows) c.self.view_is)
+    ∙ ap (λ (rows : List (ℕ × ℕ)). filter (λ (row : ℕ × ℕ). not (nat_eq row.0 c.args.seq)) rows)
+    c.self.view_is)
 
 pub invariant_of-self : goal.invariant_of-self
 invariant_of-self c = record {
@@ -15,5 +16,5 @@ invariant_of-self c = record {
   rising = c.remove_row.ensures.rising;
   index =
       subst IsIndex (sym (c.remove_row.ensures.rows ∙ removed_is c.args.seq _ c.self.invariant.index.rising))
-      (index_less (λ (r : ℕ × ℕ). not (nat_eq r.0 c.args.seq)) _ c.self.invariant.index);
+      (index_less (λ (row : ℕ × ℕ). not (nat_eq row.0 c.args.seq)) _ c.self.invariant.index);
 }

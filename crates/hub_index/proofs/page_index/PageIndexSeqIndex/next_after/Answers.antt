@@ -5,10 +5,10 @@ use Rattle.hub_index.proofs.page_index.PageIndexSeqIndex.next_after.Goals as goa
 
 pub returns-in_err-seq-clause-next : goal.returns-in_err-seq-clause-next
 returns-in_err-seq-clause-next c =
-    let none : None ≡ find (λ (r : ℕ × ℕ). nat_lt c.args.place r.0) (rows_of c.self.inside.pages.items) =
+    let none : None ≡ find (λ (row : ℕ × ℕ). nat_lt c.args.place row.0) (rows_of c.self.inside.pages.items) =
     c.in_err-seq.ensures
     ∙ ap (λ (pages : List (ℕ × List (Option ℕ))).
-    find (λ (r : ℕ × ℕ). nat_lt c.args.place r.0) (rows_of pages)) c.as_slice.ensures.value in
+    find (λ (row : ℕ × ℕ). nat_lt c.args.place row.0) (rows_of pages)) c.as_slice.ensures.value in
     rw (← c.self.view_is)
     (c.from_residual.ensures
     ∙ sym (nothing (rows_of c.self.inside.pages.items) c.args.place c.args.bound (sym none)))
@@ -16,10 +16,10 @@ returns-in_err-seq-clause-next c =
 pub returns-in-Some-clause-next : goal.returns-in-Some-clause-next
 returns-in-Some-clause-next c =
     let found : Some (c.in_ok-seq.seq, c.in_ok-seq.document)
-    ≡ find (λ (r : ℕ × ℕ). nat_lt c.args.place r.0) (rows_of c.self.inside.pages.items) =
+    ≡ find (λ (row : ℕ × ℕ). nat_lt c.args.place row.0) (rows_of c.self.inside.pages.items) =
     c.in_ok-seq.ensures
     ∙ ap (λ (pages : List (ℕ × List (Option ℕ))).
-    find (λ (r : ℕ × ℕ). nat_lt c.args.place r.0) (rows_of pages)) c.as_slice.ensures.value in
+    find (λ (row : ℕ × ℕ). nat_lt c.args.place row.0) (rows_of pages)) c.as_slice.ensures.value in
     rw (← c.self.view_is, c.in-Some.is)
     (sym (beyond c.args.place c.in-Some.bound (rows_of c.self.inside.pages.items)
     (c.in_ok-seq.seq, c.in_ok-seq.document) c.self.invariant.index.rising (sym found) c.if-bound-seq.true))
@@ -27,10 +27,10 @@ returns-in-Some-clause-next c =
 pub returns-in_default-clause-next : goal.returns-in_default-clause-next
 returns-in_default-clause-next c =
     let found : Some (c.in_ok-seq.seq, c.in_ok-seq.document)
-    ≡ find (λ (r : ℕ × ℕ). nat_lt c.args.place r.0) (rows_of c.self.inside.pages.items) =
+    ≡ find (λ (row : ℕ × ℕ). nat_lt c.args.place row.0) (rows_of c.self.inside.pages.items) =
     c.in_ok-seq.ensures
     ∙ ap (λ (pages : List (ℕ × List (Option ℕ))).
-    find (λ (r : ℕ × ℕ). nat_lt c.args.place r.0) (rows_of pages)) c.as_slice.ensures.value in
+    find (λ (row : ℕ × ℕ). nat_lt c.args.place row.0) (rows_of pages)) c.as_slice.ensures.value in
     rw (← c.self.view_is, c.in-Some.is)
     (sym (within c.args.place c.in-Some.bound (rows_of c.self.inside.pages.items)
     (c.in_ok-seq.seq, c.in_ok-seq.document) (sym found) c.if-bound-seq.false))

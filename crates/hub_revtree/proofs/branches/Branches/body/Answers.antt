@@ -8,14 +8,14 @@ pub index-requires : goal.index-requires
 index-requires c =
     let low =
     low_stem c.self.inside.stems.items c.args.self.now.list c.args.at
-    (ap (λ (z : Storage). z.list) c.self.view_is) c.requires in
+    (ap (λ (storage : Storage). storage.list) c.self.view_is) c.requires in
     omega (arith, low, c.self.inside.stems.ok.0)
 
 pub returns : goal.returns
 returns c =
     let low =
     low_stem c.self.inside.stems.items c.args.self.now.list c.args.at
-    (ap (λ (z : Storage). z.list) c.self.view_is) c.requires in
+    (ap (λ (storage : Storage). storage.list) c.self.view_is) c.requires in
     rw (sym c.self.view_is)
     (head_body c.self.inside.stems.items c.self.invariant.0 c.args.at c.index.result.now
     (read_stem c.self.inside.stems.items c.args.at c.index.result.now low c.index.ensures)

@@ -9,14 +9,14 @@ pub index-requires : goal.index-requires
 index-requires c =
     let low =
     low_stem c.self.inside.stems.items c.args.self.now.list c.args.at
-    (ap (λ (z : Storage). z.list) c.self.view_is) c.requires in
+    (ap (λ (storage : Storage). storage.list) c.self.view_is) c.requires in
     omega (arith, low, c.self.inside.stems.ok.0)
 
 pub newest-requires : goal.newest-requires
 newest-requires c =
     let low =
     low_stem c.self.inside.stems.items c.args.self.now.list c.args.at
-    (ap (λ (z : Storage). z.list) c.self.view_is) c.requires in
+    (ap (λ (storage : Storage). storage.list) c.self.view_is) c.requires in
     c.self.invariant.0.falling c.args.at c.index.result.now
     (read_stem c.self.inside.stems.items c.args.at c.index.result.now low c.index.ensures)
 
@@ -24,7 +24,7 @@ pub returns-in_err-changes-clause-memory : goal.returns-in_err-changes-clause-me
 returns-in_err-changes-clause-memory c =
     let low =
     low_stem c.self.inside.stems.items c.args.self.now.list c.args.at
-    (ap (λ (z : Storage). z.list) c.self.view_is) c.requires in
+    (ap (λ (storage : Storage). storage.list) c.self.view_is) c.requires in
     on_err c.from_residual.result _
     (rw (sym c.self.view_is)
     (head_other c.self.inside.stems.items c.self.invariant.0 c.args.at c.index.result.now
@@ -35,7 +35,7 @@ pub returns-clause-ok : goal.returns-clause-ok
 returns-clause-ok c =
     let low =
     low_stem c.self.inside.stems.items c.args.self.now.list c.args.at
-    (ap (λ (z : Storage). z.list) c.self.view_is) c.requires in
+    (ap (λ (storage : Storage). storage.list) c.self.view_is) c.requires in
     rw (sym c.self.view_is)
     (head_alone c.self.inside.stems.items c.self.invariant.0 c.args.at c.index.result.now
     (read_stem c.self.inside.stems.items c.args.at c.index.result.now low c.index.ensures)

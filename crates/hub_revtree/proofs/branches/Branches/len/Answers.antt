@@ -8,4 +8,4 @@ returns c =
     c.len.ensures
     ∙ c.self.inside.stems.ok.0
     ∙ sym (as_many c.self.inside.stems.items)
-    ∙ ap (λ (z : Storage). length z.list) c.self.view_is
+    ∙ ap (λ (storage : Storage). length storage.list) c.self.view_is

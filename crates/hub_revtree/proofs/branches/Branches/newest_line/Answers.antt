@@ -15,5 +15,5 @@ returns c =
     let first = sym (rw c.as_slice.ensures.value at c.is_newest.ensures) ∙ c.if-not-is_newest.false in
     rw (sym c.self.view_is)
     (newest
-    ∙ ap (λ o. map (λ (r : Revision). r.hash) (line_to (edits_in (branches_of stems)) o))
+    ∙ ap (λ o. map (λ (revision : Revision). revision.hash) (line_to (edits_in (branches_of stems)) o))
     (first_there 0 (revisions_at stems _) c.args.rev.now first))

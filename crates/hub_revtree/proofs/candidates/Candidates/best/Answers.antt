@@ -23,7 +23,8 @@ returns-then-not-is_head_inner-clause-best c =
     let are = c.loop-top.invariant.candidates in
     let top = c.in-Some.top.now in
     let there = here (goal.at.returns-then-not-is_head_inner-clause-best c).In-Some in
-    let same : c.top.inside.number ≡ top.number = ap (λ (z : Candidate). z.number) c.top.view_is in
+    let same : c.top.inside.number ≡ top.number = ap
+    (λ (candidate : Candidate). candidate.number) c.top.view_is in
     let number = ap (λ k. option_and_then head_in (slice_get bs k)) same in
     let leads =
     sym (c.is_head_inner.ensures (winner_in top) (number ∙ are.heads top there))
@@ -38,7 +39,8 @@ loop-top-preserved c =
     let are = c.loop-top.invariant.candidates in
     let top = c.in-Some.top.now in
     let there = here (goal.at.loop-top-preserved c).In-Some in
-    let same : c.top.inside.number ≡ top.number = ap (λ (z : Candidate). z.number) c.top.view_is in
+    let same : c.top.inside.number ≡ top.number = ap
+    (λ (candidate : Candidate). candidate.number) c.top.view_is in
     let number = ap (λ k. option_and_then head_in (slice_get bs k)) same in
     let passed =
     sym (c.is_head_inner.ensures (winner_in top) (number ∙ are.heads top there))

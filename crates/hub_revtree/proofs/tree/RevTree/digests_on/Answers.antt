@@ -8,7 +8,7 @@ use Rattle.hub_revtree.proofs.tree.RevTree.digests_on.Goals as goal
 pub returns : goal.returns
 returns c =
     let line = line_to c.args.self.now.edits c.args.older.now in
-    let hashes = map (λ (r : Revision). r.hash) line in
+    let hashes = map (λ (revision : Revision). revision.hash) line in
     c.from_digests.ensures
     ∙ digests_whole c.args.rev.now line c.generation.result c.append_digests.new.digests.items
     c.requires.falls c.generation.ensures.value

@@ -14,7 +14,7 @@ returns-clause-asked g c =
     ap (λ (n : ℕ). record { parts = g.C.Count.parts c.self.inside.share; count = n }) c.self.invariant.1
     ∙ c.self.view_is in (
       db,
-      subst (λ (h : HandleState). IsFoundBy g.C.Count.counts g.C.Count.all_parts h db)
+      subst (λ (state : HandleState). IsFoundBy g.C.Count.counts g.C.Count.all_parts state db)
           counted c.look.ensures.found,
       c.look.ensures.asked,
     )

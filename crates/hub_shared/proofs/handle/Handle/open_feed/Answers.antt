@@ -20,7 +20,7 @@ returns-in_default-clause-err g c =
     ap (λ (n : ℕ). record { parts = g.C.Count.parts c.self.inside.share; count = n }) c.self.invariant.1
     ∙ c.self.view_is in (
       db,
-      subst (λ (h : HandleState). IsFoundBy g.C.Count.counts g.C.Count.all_parts h db) counted
+      subst (λ (state : HandleState). IsFoundBy g.C.Count.counts g.C.Count.all_parts state db) counted
           c.opening_fault.ensures.found,
       c.opening_fault.ensures.fault,
     )
@@ -36,7 +36,7 @@ returns-in_err-id-clause-err g c =
     ap (λ (n : ℕ). record { parts = g.C.Count.parts c.self.inside.share; count = n }) c.self.invariant.1
     ∙ c.self.view_is in
     let found =
-    subst (λ (h : HandleState). IsFoundBy g.C.Count.counts g.C.Count.all_parts h db) counted
+    subst (λ (state : HandleState). IsFoundBy g.C.Count.counts g.C.Count.all_parts state db) counted
     c.open_feed.ensures.found in
     let told : IfErr c.from_residual.result (λ e. e ≡ opening_fault (hosted_of db)) = search rules in
     err_by c.from_residual.result (λ e is. (db, found, is)) told
@@ -52,7 +52,7 @@ returns-clause-opened g c =
     ap (λ (n : ℕ). record { parts = g.C.Count.parts c.self.inside.share; count = n }) c.self.invariant.1
     ∙ c.self.view_is in
     let found =
-    subst (λ (h : HandleState). IsFoundBy g.C.Count.counts g.C.Count.all_parts h db) counted
+    subst (λ (state : HandleState). IsFoundBy g.C.Count.counts g.C.Count.all_parts state db) counted
     c.open_feed.ensures.found in (
       db,
       found,

@@ -12,8 +12,8 @@ returns-clause-edited g c =
     ≡ c.args.self.now =
     ap (λ (n : ℕ). record { parts = g.C.Count.parts c.self.inside.share; count = n }) c.self.invariant.1
     ∙ c.self.view_is in
-    subst (λ (h : HandleState).
-    IsEditedBy g.C.Count.counts g.C.Count.all_parts h c.args.doc (Ok c.in_ok-rev.rev))
+    subst (λ (state : HandleState).
+    IsEditedBy g.C.Count.counts g.C.Count.all_parts state c.args.doc (Ok c.in_ok-rev.rev))
     counted c.in_ok-rev.ensures.edited
 
 pub returns-in_err-rev-clause-edited : goal.returns-in_err-rev-clause-edited
@@ -28,6 +28,6 @@ returns-in_err-rev-clause-edited g c =
     ap (λ (n : ℕ). record { parts = g.C.Count.parts c.self.inside.share; count = n }) c.self.invariant.1
     ∙ c.self.view_is in
     subst (λ r. IsEditedBy g.C.Count.counts g.C.Count.all_parts c.args.self.now c.args.doc r) (sym same)
-    (subst (λ (h : HandleState).
-    IsEditedBy g.C.Count.counts g.C.Count.all_parts h c.args.doc (Err e))
+    (subst (λ (state : HandleState).
+    IsEditedBy g.C.Count.counts g.C.Count.all_parts state c.args.doc (Err e))
     counted c.in_err-rev.ensures.refused)

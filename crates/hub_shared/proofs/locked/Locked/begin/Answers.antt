@@ -31,7 +31,8 @@ invariant_of-self-in-Ok-open_feed g c =
     c.push_reserved.ensures.items
     ∙ (λ k. c.try_reserve.ensures.items k ++ (own.number k, made k) ∷ []) in
     let begins =
-    subst (λ l. (p : Params) → h.fits l.state (begin p (h.hosted l.state).length (h.hosted l.state).life) [])
+    subst (λ l. (params : Params)
+    → h.fits l.state (begin params (h.hosted l.state).length (h.hosted l.state).life) [])
     (sym c.self.view_is) c.open_outbox.ensures.begins in
     let fresh : entry_in next (h.hosted s).feeds ≡ None =
     subst (λ n. entry_in n (h.hosted s).feeds ≡ None) own.number own.new in (

@@ -26,7 +26,7 @@ invariant_of-self-2 g c =
       stored_served g.K.Outbox.label g.K.Outbox.items c.args.new_edits c.args.docs.items old new
           c.self.inside.subscribers.items a done
           c.self.invariant.1,
-      subst (λ (z : ℕ × ℕ). IsBookOf counts z.0 z.1)
+      subst (λ (row : ℕ × ℕ). IsBookOf counts row.0 row.1)
           (λ k. (sym c.add-rise.ensures.total k, sym done.longer k)) grown,
     )
 

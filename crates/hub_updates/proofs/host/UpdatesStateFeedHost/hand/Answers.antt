@@ -29,7 +29,7 @@ returns-in_default-clause-ok g c =
       life = state.log.life;
     } in
     let none : entry_in id log.feeds ≡ None =
-    subst (λ (x : Updates). entry_in id x.feeds ≡ None) c.self.view_is
+    subst (λ (updates : Updates). entry_in id updates.feeds ≡ None) c.self.view_is
     (no_entry id state.feeds.feeds (sym c.in_default.ensures.at)) in
     subst (λ o. HandsTo g.K.Sink.behind (g.H.Pushes.refuses c.args.handle.now) log
     (with_hosted log (handed (hosted_of log) id))

@@ -85,7 +85,7 @@ returns-in_ok-raise-in-Some-clause-ok c =
     let last : c.len.result + 1 ≡ length s.notes.items + 1 =
     omega (arith, c.len.ensures, c.in_ok-try_reserve.ensures.len, s.notes.ok.0) in
     rw (sym c.self.view_is)
-    (ap (λ (ns : List Note). record { notes = ns; life = s.life })
+    (ap (λ (notes : List Note). record { notes = notes; life = s.life })
     (raised_so (get_by_text s.numbers) (ids_of s.pairs.items) s.notes.items s.index c.self.invariant
     c.args.notice.now c.in-Some.number (c.len.result + 1) last known (ids_of c.raise.new.pairs.items)
     c.push_reserved.new.self.items c.raise.new.index c.in_ok-raise-in-Some.ensures.pairs
@@ -99,7 +99,7 @@ returns-in_ok-number-in-None-clause-ok c =
     let last : c.len.result + 1 ≡ length s.notes.items + 1 =
     omega (arith, c.len.ensures, c.in_ok-try_reserve.ensures.len, s.notes.ok.0) in
     rw (sym c.self.view_is)
-    (ap (λ (ns : List Note). record { notes = ns; life = s.life })
+    (ap (λ (notes : List Note). record { notes = notes; life = s.life })
     (added_so (get_by_text s.numbers)
     (ids_of s.pairs.items) s.notes.items s.index c.self.invariant c.args.notice.now
     (c.len.result + 1) last (string_bytes c.in_ok-id.id) c.in_ok-id.ensures none c.in_ok-number-in-None.number

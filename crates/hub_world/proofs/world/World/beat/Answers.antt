@@ -58,7 +58,8 @@ returns-in-Full c =
     (as_due old c.beat.new.self c.args.feed c.self.invariant due did.Full c.in-Full.ensures) in
     from_same (core_of old) c.args.self.now (core_of c.beat.new.self)
     (event.Heartbeat c.args.feed) reply.Full c.self.view_is
-    (subst (λ (p : Program). Leads (core_of old) (event.Heartbeat c.args.feed) reply.Full (core_of p))
+    (subst (λ (program : Program).
+    Leads (core_of old) (event.Heartbeat c.args.feed) reply.Full (core_of program))
     (sym full.0) full.1)
 
 pub returns-in-Nothing : goal.returns-in-Nothing

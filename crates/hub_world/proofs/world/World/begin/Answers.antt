@@ -41,16 +41,16 @@ returns-clause-ok c =
           rw w.result-is
           (from_same (core_of old) c.args.self.now (core_of c.begin.new.self) (event.Begin c.args.params)
           reply.DatabaseDeleted c.self.view_is
-          (subst (λ (p : Program). Leads (core_of old) (event.Begin c.args.params) reply.DatabaseDeleted
-          (core_of p))
+          (subst (λ (program : Program). Leads (core_of old) (event.Begin c.args.params) reply.DatabaseDeleted
+          (core_of program))
           (sym same) (told_deleted old c.args.params (sym w.in-Deleted.is ∙ w.in-Err.ensures.err.1))))
       | in-Err+in-TooManyFeeds w ↦
           let same = w.in-Err.ensures.err.0 in
           rw w.result-is
           (from_same (core_of old) c.args.self.now (core_of c.begin.new.self) (event.Begin c.args.params)
           reply.TooManyFeeds c.self.view_is
-          (subst (λ (p : Program). Leads (core_of old) (event.Begin c.args.params) reply.TooManyFeeds
-          (core_of p))
+          (subst (λ (program : Program). Leads (core_of old) (event.Begin c.args.params) reply.TooManyFeeds
+          (core_of program))
           (sym same) (told_full old c.args.params (sym w.in-TooManyFeeds.is ∙ w.in-Err.ensures.err.1))))
       | in-Err+in-NoMemory w ↦ rw w.result-is tt
     ]

@@ -11,7 +11,7 @@ leads : (c : goal.In-Ok)
     → Leads (core_of c.self.inside.locked) event.Delete reply.Nothing (core_of c.delete.new.self)
 leads c =
     let old = c.self.inside.locked in
-    subst (λ (p : Program). Leads (core_of old) event.Delete reply.Nothing (core_of p))
+    subst (λ (program : Program). Leads (core_of old) event.Delete reply.Nothing (core_of program))
     (sym c.in-Ok.ensures.ok.1) (delete_leads (core_of old) c.in-Ok.ensures.ok.0)
 
 pub invariant_of-self-2 : goal.invariant_of-self-2
@@ -20,8 +20,8 @@ invariant_of-self-2 c =
     let step = c.in-Ok.ensures.ok.1 in
     leads_world old c.delete.new.self event.Delete reply.Nothing c.self.invariant (leads c)
     (kept_lists old c.delete.new.self c.self.invariant
-    (subst (λ (p : Program). p ≡ record old { state = p.state }) (sym step) refl)
-    (ap (λ (p : Program). p.state.limits.lane) step))
+    (subst (λ (program : Program). program ≡ record old { state = program.state }) (sym step) refl)
+    (ap (λ (program : Program). program.state.limits.lane) step))
 
 pub returns : goal.returns
 returns c =

@@ -13,7 +13,8 @@ leads : (c : After-expire)
     (core_of c.expire.new.self)
 leads c =
     let old = c.self.inside.locked in
-    subst (λ (p : Program). Leads (core_of old) (event.Expire c.args.feed) reply.Nothing (core_of p))
+    subst (λ (program : Program).
+    Leads (core_of old) (event.Expire c.args.feed) reply.Nothing (core_of program))
     (sym c.expire.ensures) (expire_leads (core_of old) c.args.feed)
 
 pub invariant_of-self : goal.invariant_of-self
@@ -22,8 +23,8 @@ invariant_of-self c =
     let step = c.expire.ensures in
     leads_world old c.expire.new.self (event.Expire c.args.feed) reply.Nothing c.self.invariant (leads c)
     (kept_lists old c.expire.new.self c.self.invariant
-    (subst (λ (p : Program). p ≡ record old { state = p.state }) (sym step) refl)
-    (ap (λ (p : Program). p.state.limits.lane) step))
+    (subst (λ (program : Program). program ≡ record old { state = program.state }) (sym step) refl)
+    (ap (λ (program : Program). program.state.limits.lane) step))
 
 pub returns : goal.returns
 returns c =

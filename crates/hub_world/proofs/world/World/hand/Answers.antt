@@ -55,8 +55,8 @@ returns-in-Full-clause-ok c =
     c.in-Full.is c.in_ok-hand.ensures.ok) in
     from_same (core_of c.self.inside.locked) c.args.self.now (core_of c.hand.new.self)
     (event.Hand c.args.feed) reply.Full c.self.view_is
-    (subst (λ (p : Program). Leads (core_of c.self.inside.locked) (event.Hand c.args.feed) reply.Full
-    (core_of p)) (sym full.0) full.1)
+    (subst (λ (program : Program). Leads (core_of c.self.inside.locked) (event.Hand c.args.feed) reply.Full
+    (core_of program)) (sym full.0) full.1)
 
 pub invariant_of-self-in-Nothing : goal.invariant_of-self-in-Nothing
 invariant_of-self-in-Nothing c =
@@ -84,5 +84,5 @@ returns-in-Gone-clause-ok c =
     c.in-Gone.is c.in_ok-hand.ensures.ok) in
     from_same (core_of c.self.inside.locked) c.args.self.now (core_of c.hand.new.self)
     (event.Hand c.args.feed) reply.Gone c.self.view_is
-    (subst (λ (p : Program). Leads (core_of c.self.inside.locked) (event.Hand c.args.feed) reply.Gone
-    (core_of p)) (sym gone.0) gone.1)
+    (subst (λ (program : Program). Leads (core_of c.self.inside.locked) (event.Hand c.args.feed) reply.Gone
+    (core_of program)) (sym gone.0) gone.1)

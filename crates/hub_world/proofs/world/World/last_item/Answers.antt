@@ -8,26 +8,26 @@ use Rattle.hub_world.proofs.world.World.last_item.Goals as goal
 pub unreachable-requires : goal.unreachable-requires
 unreachable-requires c =
     let f = c.args.feed.number in
-    none_there (ap (λ (z : Core). back f z.lanes) (sym c.self.view_is)
+    none_there (ap (λ (core : Core). back f core.lanes) (sym c.self.view_is)
     ∙ no_list c.self.inside.locked f c.in_default.ensures.none) c.requires
 
 pub unreachable-requires-in_default-last : goal.unreachable-requires-in_default-last
 unreachable-requires-in_default-last c =
     let f = c.args.feed.number in
-    none_there (ap (λ (z : Core). back f z.lanes) (sym c.self.view_is)
+    none_there (ap (λ (core : Core). back f core.lanes) (sym c.self.view_is)
     ∙ (list_back c.self.inside.locked f c.in-Some.list.now c.in-Some.ensures.found
     ∙ c.in_default-last.ensures.none)) c.requires
 
 pub returns-clause-item : goal.returns-clause-item
 returns-clause-item c =
     let f = c.args.feed.number in
-    ap (λ (z : Core). back f z.lanes) (sym c.self.view_is)
+    ap (λ (core : Core). back f core.lanes) (sym c.self.view_is)
     ∙ (list_back c.self.inside.locked f c.in-Some.list.now c.in-Some.ensures.found
     ∙ (c.in-Some-last.ensures.some ∙ ap Some (sym c.of.ensures)))
 
 pub returns-clause-within : goal.returns-clause-within
 returns-clause-within c =
     let f = c.args.feed.number in
-    subst (λ (z : Core). length (held f z.lanes) ≤ z.db.limits.lane) c.self.view_is
+    subst (λ (core : Core). length (held f core.lanes) ≤ core.db.limits.lane) c.self.view_is
     (list_within c.self.inside.locked f c.in-Some.list.now c.in-Some.ensures.found c.self.invariant
     c.last.ensures.within)

@@ -52,7 +52,7 @@ returns-clause-ok c =
       record {
         whole = did.whole;
         stopped = did.stopped;
-        stops = λ stopped. subst (λ (z : Core). StopsAt true z.db.deleted new.db.journal
+        stops = λ stopped. subst (λ (core : Core). StopsAt true core.db.deleted new.db.journal
             (length c.in-Ok.batch.replies) c.into_vec.result.items)
             c.self.view_is (did.stops stopped);
       },

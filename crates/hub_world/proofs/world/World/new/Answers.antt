@@ -10,7 +10,7 @@ invariant_of-result c =
     let e = c.new-state.ensures in
     subst IsWorld (sym c.new.ensures)
     (record {
-      lane = sym (ap (λ (l : hub.Limits). l.lane) e.limits);
+      lane = sym (ap (λ (limits : hub.Limits). limits.lane) e.limits);
       room = λ i d low. absurd (omega (arith, low));
       shown = (
         empty (limits_of c.args.limits),

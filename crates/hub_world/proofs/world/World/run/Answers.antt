@@ -45,11 +45,11 @@ whole c =
     (search (c.in-None.ensures.steps, c.loop-event.event-iterator.rest)) in
     let all : c.loop-event.yielded ≡ c.args.events.items =
     sym (append-nil c.loop-event.yielded)
-    ∙ (ap (λ es. c.loop-event.yielded ++ es) (sym over) ∙ c.loop-event.invariant.events) in
+    ∙ (ap (λ events. c.loop-event.yielded ++ events) (sym over) ∙ c.loop-event.invariant.events) in
     let run = c.loop-event.invariant.run in (
       run.0,
-      subst (λ (es : List Event).
-          Run (empty (limits_of c.args.limits)) es c.loop-event.replies.items run.0) all run.1,
+      subst (λ (events : List Event).
+          Run (empty (limits_of c.args.limits)) events c.loop-event.replies.items run.0) all run.1,
       run.2,
     )
 
