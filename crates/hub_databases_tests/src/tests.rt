@@ -30,20 +30,19 @@ impl Gate for Open {
 }
 
 // What a call gives, which is made again where it finds no memory.
-fn again<T: Drop, F>(call: F) -> Result<T, AllocError>
-where
-    F: Fn() -> Result<T, AllocError>,
-    requires { F.IsAlwaysCallable call }
-{
-    match call() {
-        Ok(given) => Ok(given),
-        Err(AllocError) => call(),
-    }
+macro_rules! again {
+    ($call:expr) => {
+        match $call {
+            Ok(given) => Ok(given),
+            Err(std::alloc::AllocError) => $call,
+        }
+    };
 }
+pub(crate) use again;
 
 // A hub within these limits that has no databases yet.
 fn hub_within(alloc: Global, limits: Limits) -> Result<Hub, AllocError> {
-    again(|| Hub::new(alloc, limits))
+    again!(Hub::new(alloc, limits))
 }
 
 // The same within the widest limits.

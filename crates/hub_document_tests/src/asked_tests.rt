@@ -47,7 +47,7 @@ fn revisions_of_one_document(rt: HostRuntime) -> Result<(), Fail> {
     ];
     let alloc = rt.alloc();
     for (text, expected) in cases {
-        let found = grown(|| open_revs(alloc, text))?;
+        let found = grown!(open_revs(alloc, text))?;
         assert_eq!(rt; found.as_slice(), expected.as_bytes(), "{text}");
     }
     Ok(())
@@ -89,7 +89,7 @@ fn revisions_of_documents(rt: HostRuntime) -> Result<(), Fail> {
     ];
     let alloc = rt.alloc();
     for (text, expected) in cases {
-        let found = again(|| shown(alloc, text))?;
+        let found = again!(shown(alloc, text))?;
         assert_eq!(rt; found.as_slice(), expected.as_bytes(), "{text}");
     }
     Ok(())
@@ -114,7 +114,7 @@ fn faults_in_order(rt: HostRuntime) -> Result<(), Fail> {
     ];
     let alloc = rt.alloc();
     for (text, expected) in cases {
-        let found = again(|| asked(alloc, text)).err();
+        let found = again!(asked(alloc, text)).err();
         assert_eq!(rt; found, Some(expected), "{text}");
     }
     Ok(())

@@ -42,20 +42,19 @@ fn at(n: u64) -> Option<Seq> {
 const TRIES: u64 = 2;
 
 // What a call gives, which is made again where it finds no memory.
-fn again<T: Drop, F>(call: F) -> Result<T, AllocError>
-where
-    F: Fn() -> Result<T, AllocError>,
-    requires { F.IsAlwaysCallable call }
-{
-    match call() {
-        Ok(given) => Ok(given),
-        Err(AllocError) => call(),
-    }
+macro_rules! again {
+    ($call:expr) => {
+        match $call {
+            Ok(given) => Ok(given),
+            Err(std::alloc::AllocError) => $call,
+        }
+    };
 }
+pub(crate) use again;
 
 // A database without documents, within these limits and of the life of this number.
 fn database_within(alloc: Global, limits: Limits, life: u64) -> Result<Db<Plain>, AllocError> {
-    let (db, _handle) = again(|| Db::new(alloc, limits, life, Plain))?;
+    let (db, _handle) = again!(Db::new(alloc, limits, life, Plain))?;
     Ok(db)
 }
 
@@ -156,7 +155,7 @@ fn agree<R: Wait>(
     ids: &[&str],
 ) -> Result<bool, AllocError> {
     for id in ids {
-        if !again(|| have_same(rt, alloc, source, target, *id))? {
+        if !again!(have_same(rt, alloc, source, target, *id))? {
             return Ok(false);
         }
     }

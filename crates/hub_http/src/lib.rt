@@ -10,36 +10,20 @@ mod fixed;
 mod head;
 mod inbox;
 mod input;
-#[cfg(test)]
-mod interruption_tests;
 mod item;
 mod length;
-#[cfg(test)]
-mod made_again;
 mod next;
-#[cfg(test)]
-mod offer_tests;
 mod outbox;
-#[cfg(test)]
-mod outbox_tests;
 mod output;
 mod pending;
 mod read;
 mod refusal;
 mod reply;
 mod request;
-#[cfg(test)]
-mod request_tests;
 mod requests;
 mod row_text;
 mod tally;
-#[cfg(test)]
-mod tally_tests;
 mod text;
-#[cfg(test)]
-mod text_tests;
-#[cfg(test)]
-mod update_tests;
 mod update_text;
 
 pub use chunk::{ChunkFault, ChunkWriter};

@@ -111,7 +111,7 @@ fn fill_room<R: Input>(
 
 /// Reads until so many bytes are held, and answers whether they came. The room for them grows with
 /// those that came.
-pub(crate) fn fill<R: Input>(
+fn fill<R: Input>(
     reader: &mut R,
     block: &mut Block,
     held: &mut Vec<u8>,

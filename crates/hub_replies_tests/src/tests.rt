@@ -22,13 +22,13 @@ const ODD: &str = "\"\\\n\u{1}é😀";
 const ODD_TEXT: &str = r#""\"\\\n\u0001é😀""#;
 
 // What a call gives, made again where it fails.
-fn again<T: Drop, E: Drop, F: Fn() -> Result<T, E>>(call: F) -> Result<T, E>
-    requires { F.IsAlwaysCallable call }
-{
-    match call() {
-        Ok(found) => Ok(found),
-        Err(_) => call(),
-    }
+macro_rules! again {
+    ($call:expr) => {
+        match $call {
+            Ok(found) => Ok(found),
+            Err(_) => $call,
+        }
+    };
 }
 
 // A body is this text and a line feed.
@@ -84,14 +84,14 @@ fn listed(alloc: Global, names: &[&str]) -> Result<Vec<u8>, AllocError> {
 #[test]
 fn names_are_listed(rt: HostRuntime) -> Result<(), Fail> {
     let alloc = rt.alloc();
-    let body = again(|| listed(alloc, &[]))?;
+    let body = again!(listed(alloc, &[]))?;
     is_line(&rt, body.as_slice(), "[]");
-    let body = again(|| listed(alloc, &["b/c"]))?;
+    let body = again!(listed(alloc, &["b/c"]))?;
     is_line(&rt, body.as_slice(), r#"["b/c"]"#);
-    let body = again(|| listed(alloc, &["b/c", "a"]))?;
+    let body = again!(listed(alloc, &["b/c", "a"]))?;
     is_line(&rt, body.as_slice(), r#"["b/c","a"]"#);
-    let body = again(|| listed(alloc, &["b/c", "a", ODD]))?;
-    let expected = again(|| format!(in alloc; r#"["b/c","a",{ODD_TEXT}]"#))?;
+    let body = again!(listed(alloc, &["b/c", "a", ODD]))?;
+    let expected = again!(format!(in alloc; r#"["b/c","a",{ODD_TEXT}]"#))?;
     is_line(&rt, body.as_slice(), expected.as_str());
     Ok(())
 }
@@ -105,7 +105,7 @@ fn databases_say_of_themselves(rt: HostRuntime) -> Result<(), Fail> {
         update_seq: 3,
         life: 1,
     };
-    let body = again(|| info_body(alloc, "d", &info))?;
+    let body = again!(info_body(alloc, "d", &info))?;
     let expected =
         r#"{"db_name":"d","doc_count":2,"doc_del_count":0,"update_seq":"3-1","instance_start_time":"0"}"#;
     is_line(&rt, body.as_slice(), expected);
@@ -115,14 +115,14 @@ fn databases_say_of_themselves(rt: HostRuntime) -> Result<(), Fail> {
         update_seq: 18446744073709551615,
         life: 18446744073709551615,
     };
-    let body = again(|| info_body(alloc, ODD, &info))?;
+    let body = again!(info_body(alloc, ODD, &info))?;
     let counts = concat!(
         r#""doc_count":10,"doc_del_count":4294967295,"#,
         r#""update_seq":"18446744073709551615-18446744073709551615""#
     );
-    let expected = again(|| {
+    let expected = again!(
         format!(in alloc; r#"{{"db_name":{ODD_TEXT},{counts},"instance_start_time":"0"}}"#)
-    })?;
+    )?;
     is_line(&rt, body.as_slice(), expected.as_str());
     Ok(())
 }
@@ -136,13 +136,13 @@ fn edited(alloc: Global, id: &str, rev: &RevId) -> Result<Vec<u8>, AllocError> {
 fn edits_are_answered(rt: HostRuntime) -> Result<(), Fail> {
     let alloc = rt.alloc();
     let rev = RevId::read("1-a").expect(&rt, "a revision");
-    let body = again(|| edited(alloc, "a", &rev))?;
+    let body = again!(edited(alloc, "a", &rev))?;
     is_line(&rt, body.as_slice(), r#"{"ok":true,"id":"a","rev":"1-a"}"#);
     let rev = RevId::read("65535-0Zz9").expect(&rt, "a revision");
-    let body = again(|| edited(alloc, ODD, &rev))?;
-    let expected = again(|| {
+    let body = again!(edited(alloc, ODD, &rev))?;
+    let expected = again!(
         format!(in alloc; r#"{{"ok":true,"id":{ODD_TEXT},"rev":"65535-0Zz9"}}"#)
-    })?;
+    )?;
     is_line(&rt, body.as_slice(), expected.as_str());
     Ok(())
 }
@@ -155,16 +155,16 @@ fn locally_edited(alloc: Global, id: &str, count: u64) -> Result<Vec<u8>, AllocE
 #[test]
 fn local_edits_are_answered(rt: HostRuntime) -> Result<(), Fail> {
     let alloc = rt.alloc();
-    let body = again(|| locally_edited(alloc, "_local/k", 2))?;
+    let body = again!(locally_edited(alloc, "_local/k", 2))?;
     is_line(
         &rt,
         body.as_slice(),
         r#"{"ok":true,"id":"_local/k","rev":"0-2"}"#,
     );
-    let body = again(|| locally_edited(alloc, ODD, 18446744073709551615))?;
-    let expected = again(|| {
+    let body = again!(locally_edited(alloc, ODD, 18446744073709551615))?;
+    let expected = again!(
         format!(in alloc; r#"{{"ok":true,"id":{ODD_TEXT},"rev":"0-18446744073709551615"}}"#)
-    })?;
+    )?;
     is_line(&rt, body.as_slice(), expected.as_str());
     Ok(())
 }
@@ -173,8 +173,8 @@ fn local_edits_are_answered(rt: HostRuntime) -> Result<(), Fail> {
 fn documents_are_shown(rt: HostRuntime) -> Result<(), Fail> {
     let alloc = rt.alloc();
     let text = r#"{"_id":"d","_rev":"2-b","_revisions":{"start":2,"ids":["b","a"]},"k":"\u0001é"}"#;
-    let doc = again(|| Doc::read(alloc, text.as_bytes(), false))?;
-    let body = again(|| doc_body(alloc, &doc))?;
+    let doc = again!(Doc::read(alloc, text.as_bytes(), false))?;
+    let body = again!(doc_body(alloc, &doc))?;
     is_line(&rt, body.as_slice(), text);
     Ok(())
 }
@@ -183,21 +183,21 @@ fn documents_are_shown(rt: HostRuntime) -> Result<(), Fail> {
 fn local_documents_are_shown(rt: HostRuntime) -> Result<(), Fail> {
     let alloc = rt.alloc();
     let text = r#"{"_id":"d","_rev":"1-a","k":[1,null]}"#;
-    let doc = again(|| Doc::read(alloc, text.as_bytes(), false))?;
+    let doc = again!(Doc::read(alloc, text.as_bytes(), false))?;
     let local = Local {
         count: 12,
         body: doc.body,
     };
-    let body = again(|| local_doc_body(alloc, "_local/k", &local))?;
+    let body = again!(local_doc_body(alloc, "_local/k", &local))?;
     is_line(
         &rt,
         body.as_slice(),
         r#"{"_id":"_local/k","_rev":"0-12","k":[1,null]}"#,
     );
-    let body = again(|| local_doc_body(alloc, ODD, &local))?;
-    let expected = again(|| {
+    let body = again!(local_doc_body(alloc, ODD, &local))?;
+    let expected = again!(
         format!(in alloc; r#"{{"_id":{ODD_TEXT},"_rev":"0-12","k":[1,null]}}"#)
-    })?;
+    )?;
     is_line(&rt, body.as_slice(), expected.as_str());
     Ok(())
 }
@@ -205,25 +205,25 @@ fn local_documents_are_shown(rt: HostRuntime) -> Result<(), Fail> {
 #[test]
 fn revisions_that_were_asked_for(rt: HostRuntime) -> Result<(), Fail> {
     let alloc = rt.alloc();
-    let body = again(|| open_revs_body(alloc, &[]))?;
+    let body = again!(open_revs_body(alloc, &[]))?;
     is_line(&rt, body.as_slice(), "[]");
     let text = r#"{"_id":"d","_rev":"1-a","_deleted":true,"k":1}"#;
     let shown =
         r#"{"_id":"d","_rev":"1-a","_deleted":true,"_revisions":{"start":1,"ids":["a"]},"k":1}"#;
-    let doc = again(|| Doc::read(alloc, text.as_bytes(), false))?;
+    let doc = again!(Doc::read(alloc, text.as_bytes(), false))?;
     let missing = RevId::read("9-z").expect(&rt, "a revision");
     let revs = [OpenRev::Missing(missing)];
-    let body = again(|| open_revs_body(alloc, &revs))?;
+    let body = again!(open_revs_body(alloc, &revs))?;
     is_line(&rt, body.as_slice(), r#"[{"missing":"9-z"}]"#);
     let revs = [
         OpenRev::Missing(missing),
         OpenRev::Found(doc),
         OpenRev::Missing(missing),
     ];
-    let body = again(|| open_revs_body(alloc, &revs))?;
-    let expected = again(|| {
+    let body = again!(open_revs_body(alloc, &revs))?;
+    let expected = again!(
         format!(in alloc; r#"[{{"missing":"9-z"}},{{"ok":{shown}}},{{"missing":"9-z"}}]"#)
-    })?;
+    )?;
     is_line(&rt, body.as_slice(), expected.as_str());
     Ok(())
 }
@@ -231,24 +231,24 @@ fn revisions_that_were_asked_for(rt: HostRuntime) -> Result<(), Fail> {
 #[test]
 fn revisions_that_are_missing(rt: HostRuntime) -> Result<(), Fail> {
     let alloc = rt.alloc();
-    let body = again(|| diffs_body(alloc, &[]))?;
+    let body = again!(diffs_body(alloc, &[]))?;
     is_line(&rt, body.as_slice(), "{}");
     let of_a = r#"{"missing":["2-d","3-e"],"possible_ancestors":["2-c"]}"#;
-    let diffs = [again(|| diff(alloc, "a", &["2-d", "3-e"], &["2-c"]))?];
-    let body = again(|| diffs_body(alloc, &diffs))?;
-    let expected = again(|| format!(in alloc; r#"{{"a":{of_a}}}"#))?;
+    let diffs = [again!(diff(alloc, "a", &["2-d", "3-e"], &["2-c"]))?];
+    let body = again!(diffs_body(alloc, &diffs))?;
+    let expected = again!(format!(in alloc; r#"{{"a":{of_a}}}"#))?;
     is_line(&rt, body.as_slice(), expected.as_str());
     let diffs = [
-        again(|| diff(alloc, "a", &["2-d", "3-e"], &["2-c"]))?,
-        again(|| diff(alloc, "z", &["1-q"], &[]))?,
-        again(|| diff(alloc, ODD, &["4-w"], &["3-y", "3-x"]))?,
+        again!(diff(alloc, "a", &["2-d", "3-e"], &["2-c"]))?,
+        again!(diff(alloc, "z", &["1-q"], &[]))?,
+        again!(diff(alloc, ODD, &["4-w"], &["3-y", "3-x"]))?,
     ];
-    let body = again(|| diffs_body(alloc, &diffs))?;
+    let body = again!(diffs_body(alloc, &diffs))?;
     let of_z = r#"{"missing":["1-q"]}"#;
     let of_odd = r#"{"missing":["4-w"],"possible_ancestors":["3-y","3-x"]}"#;
-    let expected = again(|| {
+    let expected = again!(
         format!(in alloc; r#"{{"a":{of_a},"z":{of_z},{ODD_TEXT}:{of_odd}}}"#)
-    })?;
+    )?;
     is_line(&rt, body.as_slice(), expected.as_str());
     Ok(())
 }
@@ -270,7 +270,7 @@ const BATCH_REPLIES: &str = concat!(
 #[test]
 fn batches_are_answered(rt: HostRuntime) -> Result<(), Fail> {
     let alloc = rt.alloc();
-    let list = again(|| Value::from_str(alloc, BATCH))?;
+    let list = again!(Value::from_str(alloc, BATCH))?;
     let elements = list.as_array().expect(&rt, "a list");
     let one = RevId::read("1-a").expect(&rt, "a revision");
     let two = RevId::read("2-b").expect(&rt, "a revision");
@@ -283,11 +283,11 @@ fn batches_are_answered(rt: HostRuntime) -> Result<(), Fail> {
         Some(BatchReply::Refused(Refusal::BadId)),
         Some(BatchReply::Refused(Refusal::Conflict)),
     ];
-    let body = again(|| batch_body(alloc, elements.as_slice(), &replies))?;
+    let body = again!(batch_body(alloc, elements.as_slice(), &replies))?;
     is_line(&rt, body.as_slice(), BATCH_REPLIES);
-    let body = again(|| batch_body(alloc, elements.as_slice(), &[None, None]))?;
+    let body = again!(batch_body(alloc, elements.as_slice(), &[None, None]))?;
     is_line(&rt, body.as_slice(), "[]");
-    let body = again(|| batch_body(alloc, &[], &replies))?;
+    let body = again!(batch_body(alloc, &[], &replies))?;
     is_line(&rt, body.as_slice(), "[]");
     Ok(())
 }

@@ -63,22 +63,16 @@ const ADDED: Result<Merged, MergeFault> = Ok(Merged::Added);
 /// An edit whose revision is known.
 const KNOWN: Result<Merged, MergeFault> = Ok(Merged::Known);
 
-// How often a call is made until it answers.
-const TRIES: u64 = 2;
-
 // What a call gives, which is made again where it finds no memory; None where it finds none each time.
-fn again<T: Drop, F>(call: F) -> Option<T>
-where
-    F: Fn() -> Result<T, AllocError>,
-    requires { F.IsAlwaysCallable call }
-{
-    for _ in 0..TRIES {
-        if let Ok(given) = call() {
-            return Some(given);
+macro_rules! again {
+    ($call:expr) => {
+        match $call {
+            Ok(given) => Some(given),
+            Err(std::alloc::AllocError) => $call.ok(),
         }
-    }
-    None
+    };
 }
+pub(crate) use again;
 
 // What a tree shows in constant time, for which it takes no memory: how many edits it has, and its winner.
 fn shown(tree: &RevTree) -> (usize, Option<Best>) {
@@ -87,22 +81,17 @@ fn shown(tree: &RevTree) -> (usize, Option<Best>) {
 
 // What a call on a tree gives. One that finds no memory leaves what the tree shows, and is made again; None
 // where it leaves something else, or finds no memory each time.
-fn again_on<T: Drop, F>(tree: &mut RevTree, call: F) -> Option<T>
-where
-    F: Fn(&mut RevTree) -> Result<T, AllocError>,
-    requires { F.IsAlwaysCallable call }
-{
-    for _ in 0..TRIES {
-        let before = shown(tree);
-        if let Ok(given) = call(tree) {
-            return Some(given);
+macro_rules! again_on {
+    ($tree:expr, $call:expr) => {{
+        let before = $crate::tests::shown($tree);
+        match $call {
+            Ok(given) => Some(given),
+            Err(std::alloc::AllocError) if $crate::tests::shown($tree) == before => $call.ok(),
+            Err(std::alloc::AllocError) => None,
         }
-        if shown(tree) != before {
-            return None;
-        }
-    }
-    None
+    }};
 }
+pub(crate) use again_on;
 
 // The revisions' texts, each with a blank behind it.
 fn texts_of(alloc: Global, revs: &[RevId]) -> Result<Vec<u8>, AllocError> {
@@ -166,7 +155,7 @@ fn try_merge(
 
 // The same, also where a growth of it is refused.
 fn merge(alloc: Global, tree: &mut RevTree, text: &str) -> Option<Result<Merged, MergeFault>> {
-    again_on(tree, |tree| try_merge(alloc, tree, text))
+    again_on!(tree, try_merge(alloc, tree, text))
 }
 
 // What becomes of an edit of the document `a` that is made; an error where it finds no memory.
@@ -193,7 +182,7 @@ fn make(
     parent: Option<RevId>,
     deleted: bool,
 ) -> Option<Result<RevId, EditFault>> {
-    again_on(tree, |tree| try_make(alloc, tree, parent, deleted))
+    again_on!(tree, try_make(alloc, tree, parent, deleted))
 }
 
 // A document whose history has so many revisions.
@@ -214,7 +203,7 @@ where
 {
     let mut added = 0usize;
     for number in 0..count {
-        let Some(text) = again(|| text_of(alloc, number)) else {
+        let Some(text) = again!(text_of(alloc, number)) else {
             return added;
         };
         if merge(alloc, tree, text.as_str()) == Some(ADDED) {
@@ -323,7 +312,7 @@ fn holds(alloc: Global, tree: &mut RevTree, step: &Step) -> Result<bool, AllocEr
 fn first_wrong(alloc: Global, tree: &mut RevTree, steps: &[Step]) -> Option<usize> {
     let mut at = 0usize;
     for step in steps {
-        if again_on(tree, |tree| holds(alloc, tree, step)) != Some(true) {
+        if again_on!(tree, holds(alloc, tree, step)) != Some(true) {
             return Some(at);
         }
         at = at.saturating_add(1);

@@ -293,13 +293,13 @@ fn shown(alloc: Global, answer: &Result<Route<'_>, RouteFault>) -> Result<String
 }
 
 // What a call gives, made again where it finds no memory.
-fn again<T: Drop, F: Fn() -> Result<T, AllocError>>(call: F) -> Result<T, AllocError>
-    requires { F.IsAlwaysCallable call }
-{
-    match call() {
-        Ok(found) => Ok(found),
-        Err(AllocError) => call(),
-    }
+macro_rules! again {
+    ($call:expr) => {
+        match $call {
+            Ok(found) => Ok(found),
+            Err(std::alloc::AllocError) => $call,
+        }
+    };
 }
 
 // A request, made again where it finds no memory.
@@ -339,11 +339,11 @@ fn routed<'r>(
 }
 
 fn go(rt: &impl Abort, alloc: Global, requests: &[(&str, &[u8], bool, &str)]) -> Result<(), Fail> {
-    let routes = again(|| Routes::new(alloc))?;
+    let routes = again!(Routes::new(alloc))?;
     for (method, target, has_length, want) in requests {
         let request = asked(alloc, method, target, *has_length)?;
         let answer = routed(alloc, &routes, &request);
-        let text = again(|| shown(alloc, &answer))?;
+        let text = again!(shown(alloc, &answer))?;
         assert_eq!(rt; text.as_str(), *want);
     }
     Ok(())
@@ -434,7 +434,7 @@ fn own_texts(route: &Route<'_>) -> (bool, bool) {
 
 #[test]
 fn plain_requests_take_no_memory(rt: HostRuntime) -> Result<(), Fail> {
-    let routes = again(|| Routes::new(rt.alloc()))?;
+    let routes = again!(Routes::new(rt.alloc()))?;
     for (method, target, has_length) in &PLAIN {
         let request = asked(rt.alloc(), method, target, *has_length)?;
         let route = routes.route(rt.alloc(), &request);
@@ -449,7 +449,7 @@ fn plain_requests_take_no_memory(rt: HostRuntime) -> Result<(), Fail> {
 
 #[test]
 fn each_escaped_part_takes_memory(rt: HostRuntime) -> Result<(), Fail> {
-    let routes = again(|| Routes::new(rt.alloc()))?;
+    let routes = again!(Routes::new(rt.alloc()))?;
     for (method, target, name, id) in &ESCAPED {
         let request = asked(rt.alloc(), method, target, NO_LENGTH)?;
         let route = routed(rt.alloc(), &routes, &request);

@@ -85,8 +85,8 @@ fn delete<N: Wait>(rt: &N, hub: &Hub) -> bool {
 #[test]
 fn a_deleted_database(rt: HostRuntime) -> Result<(), Fail> {
     let alloc = rt.alloc();
-    let hub = again(move || Hub::new(alloc, Limits::full()))?;
-    let routes = again(move || Routes::new(alloc))?;
+    let hub = again!(Hub::new(alloc, Limits::full()))?;
+    let routes = again!(Routes::new(alloc))?;
     let mut connection = Connection::new(&rt, alloc, &hub, &routes, ByTurns::new(&rt));
     assert!(rt;
         is_done(

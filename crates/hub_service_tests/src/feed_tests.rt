@@ -380,8 +380,8 @@ fn held_count<N: Wait>(
 #[test]
 fn broken_feeds(rt: HostRuntime) -> Result<(), Fail> {
     let alloc = rt.alloc();
-    let hub = again(move || Hub::new(alloc, one_feed()))?;
-    let routes = again(move || Routes::new(alloc))?;
+    let hub = again!(Hub::new(alloc, one_feed()))?;
+    let routes = again!(Routes::new(alloc))?;
     let mut connection = Connection::new(&rt, alloc, &hub, &routes, ByTurns::new(&rt));
     assert!(rt; is_held(alloc, &mut connection, MAKING, 1000)?);
     let shown = held_count(alloc, &mut connection, ONE_FEED)?;

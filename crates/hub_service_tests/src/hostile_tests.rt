@@ -115,8 +115,8 @@ fn cut_input(rt: HostRuntime) -> Result<(), Fail> {
     for count in 0..RUN.len() {
         let whole = &RUN[..count];
         let next = &RUN[..count + 1];
-        let cut = again(move || cut_count(rt, alloc, whole, next))?;
-        let asked = again(move || asks(alloc, next))?;
+        let cut = again!(cut_count(rt, alloc, whole, next))?;
+        let asked = again!(asks(alloc, next))?;
         assert_eq!(rt; cut, asked.len());
     }
     Ok(())

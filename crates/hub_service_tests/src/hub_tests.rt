@@ -53,7 +53,7 @@ pub(crate) fn answered<N: Wait>(
     connection: &mut Connection<'_, N, ByTurns<'_, N>>,
     text: &str,
 ) -> Option<Answer> {
-    let request = again(move || request(alloc, text)).ok()?;
+    let request = again!(request(alloc, text)).ok()?;
     match connection.answer(&request) {
         Answer::Whole(Reply::Refused(Refusal::NoMemory)) => Some(connection.answer(&request)),
         answer => Some(answer),
@@ -95,8 +95,8 @@ fn items_of_removed<N: Wait>(
 #[test]
 fn a_feed_of_a_removed_database(rt: HostRuntime) -> Result<(), Fail> {
     let alloc = rt.alloc();
-    let hub = again(move || Hub::new(alloc, Limits::full()))?;
-    let routes = again(move || Routes::new(alloc))?;
+    let hub = again!(Hub::new(alloc, Limits::full()))?;
+    let routes = again!(Routes::new(alloc))?;
     let mut writer = Connection::new(&rt, alloc, &hub, &routes, ByTurns::new(&rt));
     let mut reader = Connection::new(&rt, alloc, &hub, &routes, ByTurns::new(&rt));
     let items = items_of_removed(alloc, &mut writer, &mut reader);

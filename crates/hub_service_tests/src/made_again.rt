@@ -31,14 +31,15 @@ const REFUSALS: &[&str] = &[
 ];
 
 /// What a call gives, made again where it finds no memory.
-pub(crate) fn again<T: Drop, F: Fn() -> Result<T, AllocError>>(call: F) -> Result<T, AllocError>
-    requires { F.IsAlwaysCallable call }
-{
-    match call() {
-        Ok(found) => Ok(found),
-        Err(AllocError) => call(),
-    }
+macro_rules! again {
+    ($call:expr) => {
+        match $call {
+            Ok(found) => Ok(found),
+            Err(std::alloc::AllocError) => $call,
+        }
+    };
 }
+pub(crate) use again;
 
 /// Whether bytes begin with a refusal that tells out of memory, or are a front of one.
 fn is_refusal(bytes: &[u8]) -> bool {

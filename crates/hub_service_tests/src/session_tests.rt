@@ -320,9 +320,9 @@ pub(crate) fn assert_session<N: Abort + Wait>(
     limits: Limits,
     end: Closing,
 ) -> Result<(), Fail> {
-    assert!(rt; again(move || is_session(rt, alloc, exchanges, limits, end))?);
+    assert!(rt; again!(is_session(rt, alloc, exchanges, limits, end))?);
     if end == Closing::Finished {
-        assert!(rt; again(move || are_steps(rt, alloc, exchanges, limits))?);
+        assert!(rt; again!(are_steps(rt, alloc, exchanges, limits))?);
     }
     Ok(())
 }

@@ -261,7 +261,7 @@ fn assert_faults<N: Abort + Wait>(
     alloc: Global,
     faults: &[(Exchange, HttpFault)],
 ) -> Result<(), Fail> {
-    let count = again(move || fault_count(rt, alloc, faults))?;
+    let count = again!(fault_count(rt, alloc, faults))?;
     assert_eq!(rt; count, faults.len());
     Ok(())
 }

@@ -119,13 +119,13 @@ fn front_count<N: Wait>(
 #[test]
 fn broken_writers(rt: HostRuntime) -> Result<(), Fail> {
     let (rt, alloc) = (&rt, rt.alloc());
-    let input = again(move || asks(alloc, RUN))?;
-    let expected = again(move || answers(alloc, RUN))?;
+    let input = again!(asks(alloc, RUN))?;
+    let expected = again!(answers(alloc, RUN))?;
     let (input, expected) = (input.as_bytes(), expected.as_bytes());
     let end = Closing::Finished;
-    let is_whole = again(move || is_written(rt, alloc, input, usize::MAX, expected, end))?;
+    let is_whole = again!(is_written(rt, alloc, input, usize::MAX, expected, end))?;
     assert!(rt; is_whole);
-    let count = again(move || front_count(rt, alloc, input, expected))?;
+    let count = again!(front_count(rt, alloc, input, expected))?;
     assert_eq!(rt; count, expected.len());
     Ok(())
 }
@@ -176,8 +176,8 @@ fn failing_readers(rt: HostRuntime) -> Result<(), Fail> {
     for count in 0..RUN.len() {
         let whole = &RUN[..count];
         let next = &RUN[..count + 1];
-        let failed = again(move || failed_count(rt, alloc, whole, next))?;
-        let asked = again(move || asks(alloc, next))?;
+        let failed = again!(failed_count(rt, alloc, whole, next))?;
+        let asked = again!(asks(alloc, next))?;
         assert_eq!(rt; failed, asked.len());
     }
     Ok(())
@@ -209,8 +209,8 @@ fn cut_count<N: Wait>(rt: &N, alloc: Global, head: &[u8]) -> Result<usize, Alloc
 #[test]
 fn heads_that_end(rt: HostRuntime) -> Result<(), Fail> {
     let (rt, alloc) = (&rt, rt.alloc());
-    assert!(rt; again(move || is_cut(rt, alloc, b"", Closing::Finished))?);
-    let count = again(move || cut_count(rt, alloc, HEAD.as_bytes()))?;
+    assert!(rt; again!(is_cut(rt, alloc, b"", Closing::Finished))?);
+    let count = again!(cut_count(rt, alloc, HEAD.as_bytes()))?;
     assert_eq!(rt; count, HEAD.len());
     Ok(())
 }

@@ -1,7 +1,7 @@
 //! Where sessions flush.
 
 use crate::cut::CutWriter;
-use crate::made_again::{TRIES, Told, is_right, judged};
+use crate::made_again::{Told, is_right};
 use crate::rows::{
     CONTINUOUS, CREATED, CREATED_HEAD, Exchange, FEED_HEAD, LONGPOLL, MISSING, MISSING_BODY,
     NORMAL, NORMAL_END, VERSION, answers, asks, two_rows, written,
@@ -111,13 +111,9 @@ fn is_flushed(alloc: Global, flushes: &Flushes) -> Result<bool, AllocError> {
     let Flushes(exchanges, _, _, _, end) = flushes;
     let input = asks(alloc, exchanges)?;
     let expected = answers(alloc, exchanges)?;
-    for _ in 0..TRIES {
-        let told = session(alloc, input.as_bytes(), flushes);
-        if let Some(right) = judged(&told, exchanges, expected.as_bytes(), Some(*end)) {
-            return Ok(right);
-        }
-    }
-    Ok(false)
+    let (input, expected) = (input.as_bytes(), expected.as_bytes());
+    let end = Some(*end);
+    Ok(is_right!(exchanges, expected, end, session(alloc, input, flushes)))
 }
 
 /// Asserts that these answers are flushed so.
@@ -166,7 +162,7 @@ fn a_stopped_stream_is_flushed(rt: HostRuntime) -> Result<(), Fail> {
         return Err(Fail::new("another end"));
     };
     let end = Some(Closing::Cut);
-    let right = is_right(NORMAL_FEED, expected, end, move || stopped(alloc, input));
+    let right = is_right!(NORMAL_FEED, expected, end, stopped(alloc, input));
     assert!(rt; right);
     Ok(())
 }

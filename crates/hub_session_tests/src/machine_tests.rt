@@ -169,7 +169,7 @@ fn cuts_change_no_byte(rt: HostRuntime) -> Result<(), Fail> {
     for (size, most) in [(1, 1), (1, all), (7, 3), (all, 1), (all, all)] {
         let driver = Driver { input, size, most };
         let end = Some(Closing::Finished);
-        let right = is_right(EXCHANGES, expected, end, move || told(alloc, driver, ITEMS));
+        let right = is_right!(EXCHANGES, expected, end, told(alloc, driver, ITEMS));
         assert!(rt; right, "{size} bytes an offer, {most} a write");
     }
     Ok(())
@@ -195,7 +195,7 @@ fn inputs_that_end(rt: HostRuntime) -> Result<(), Fail> {
             size: 5,
             most: usize::MAX,
         };
-        let right = is_right(before, expected, Some(end), move || told(alloc, driver, 0));
+        let right = is_right!(before, expected, Some(end), told(alloc, driver, 0));
         assert!(rt; right, "ended behind {count}");
     }
     Ok(())
@@ -221,7 +221,7 @@ fn closed_sessions_answer_nothing(rt: HostRuntime) -> Result<(), Fail> {
             most: 2,
         };
         let end = Some(Closing::Fault(HttpFault::Version));
-        let right = is_right(CLOSES, expected, end, move || told(alloc, driver, 0));
+        let right = is_right!(CLOSES, expected, end, told(alloc, driver, 0));
         assert!(rt; right, "{size} bytes an offer");
     }
     Ok(())
@@ -278,9 +278,12 @@ fn bytes_without_memory(rt: HostRuntime) -> Result<(), Fail> {
         let expected = answers(alloc, exchanges)?;
         let (input, expected) = (input.as_bytes(), expected.as_bytes());
         let end = Some(Closing::Fault(HttpFault::NoMemory));
-        let right = is_right(exchanges, expected, end, move || {
+        let right = is_right!(
+            exchanges,
+            expected,
+            end,
             refused(alloc, input).unwrap_or(cut(alloc))
-        });
+        );
         assert!(rt; right, "behind {} bytes", input.len());
     }
     Ok(())

@@ -8,10 +8,6 @@
 use crate::rows::Exchange;
 use hub_http::HttpFault;
 use hub_session::Closing;
-use std::alloc::AllocError;
-
-/// How often a session is held until it is right.
-pub(crate) const TRIES: u64 = 2;
 
 /// The refusal that tells out of memory, behind which a session goes on.
 const REFUSED: &str = concat!(
@@ -41,14 +37,15 @@ pub(crate) struct Told {
 }
 
 /// What a call gives, made again where it finds no memory.
-pub(crate) fn grown<T: Drop, F: Fn() -> Result<T, AllocError>>(call: F) -> Result<T, AllocError>
-    requires { F.IsAlwaysCallable call }
-{
-    match call() {
-        Ok(found) => Ok(found),
-        Err(AllocError) => call(),
-    }
+macro_rules! grown {
+    ($call:expr) => {
+        match $call {
+            Ok(found) => Ok(found),
+            Err(std::alloc::AllocError) => $call,
+        }
+    };
 }
+pub(crate) use grown;
 
 /// What stands behind an answer; None where the answer does not stand in front.
 fn behind<'a>(output: &'a [u8], answer: &[&str]) -> Option<&'a [u8]> {
@@ -102,7 +99,7 @@ fn is_closing(closing: Option<Closing>, ample: Option<Closing>) -> bool {
 /// Whether a session told these bytes and this end. None where it met no memory and wrote a front of the
 /// answers: it is held again.
 pub(crate) fn judged(
-    told: &Told,
+    told: Told,
     exchanges: &[Exchange],
     expected: &[u8],
     end: Option<Closing>,
@@ -119,19 +116,12 @@ pub(crate) fn judged(
 
 /// Whether a session over these exchanges writes these bytes, and closes so. One that met no memory wrote a
 /// front of the answers, and is held again.
-pub(crate) fn is_right<F: Fn() -> Told>(
-    exchanges: &[Exchange],
-    expected: &[u8],
-    end: Option<Closing>,
-    session: F,
-) -> bool
-    requires { F.IsAlwaysCallable session }
-{
-    for _ in 0..TRIES {
-        let told = session();
-        if let Some(right) = judged(&told, exchanges, expected, end) {
-            return right;
+macro_rules! is_right {
+    ($exchanges:expr, $expected:expr, $end:expr, $session:expr) => {
+        match $crate::made_again::judged($session, $exchanges, $expected, $end) {
+            Some(right) => right,
+            None => $crate::made_again::judged($session, $exchanges, $expected, $end) == Some(true),
         }
-    }
-    false
+    };
 }
+pub(crate) use is_right;

@@ -29,14 +29,20 @@ fn readers_that_are_cut(rt: HostRuntime) -> Result<(), Fail> {
         let (input, expected) = (input.as_bytes(), expected.as_bytes());
         for count in whole..input.len() {
             let end = Some(Closing::Fault(HttpFault::IoFault));
-            let failed = is_right(before, expected, end, move || {
+            let failed = is_right!(
+                before,
+                expected,
+                end,
                 served(alloc, CutReader::failing(input, 1, count), two_rows(alloc))
-            });
+            );
             assert!(rt; failed, "failed behind {count}");
             let end = Some(closing_of_end(count, whole));
-            let ended = is_right(before, expected, end, move || {
+            let ended = is_right!(
+                before,
+                expected,
+                end,
                 served(alloc, CutReader::ending(input, 1, count), two_rows(alloc))
-            });
+            );
             assert!(rt; ended, "ended behind {count}");
         }
     }
@@ -51,10 +57,12 @@ fn requests_of_one_read(rt: HostRuntime) -> Result<(), Fail> {
     let expected = answers(alloc, EXCHANGES)?;
     let (input, expected) = (input.as_bytes(), expected.as_bytes());
     let end = Some(Closing::Fault(HttpFault::IoFault));
-    let right = is_right(EXCHANGES, expected, end, move || {
-        let reader = CutReader::failing(input, usize::MAX, 1);
-        served(alloc, reader, two_rows(alloc))
-    });
+    let right = is_right!(
+        EXCHANGES,
+        expected,
+        end,
+        served(alloc, CutReader::failing(input, usize::MAX, 1), two_rows(alloc))
+    );
     assert!(rt; right);
     Ok(())
 }

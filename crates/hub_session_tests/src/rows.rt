@@ -237,12 +237,12 @@ fn answers_of(alloc: Global, exchanges: &[Exchange]) -> Result<String, AllocErro
 
 /// The requests of these exchanges, made again where they find no memory.
 pub(crate) fn asks(alloc: Global, exchanges: &[Exchange]) -> Result<String, AllocError> {
-    grown(|| requests_of(alloc, exchanges))
+    grown!(requests_of(alloc, exchanges))
 }
 
 /// The answers of these exchanges, made again where they find no memory.
 pub(crate) fn answers(alloc: Global, exchanges: &[Exchange]) -> Result<String, AllocError> {
-    grown(|| answers_of(alloc, exchanges))
+    grown!(answers_of(alloc, exchanges))
 }
 
 /// What became of a session over this reader.

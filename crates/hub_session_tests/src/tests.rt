@@ -17,9 +17,12 @@ fn is_session(alloc: Global, exchanges: &[Exchange], end: Closing) -> Result<boo
     let input = asks(alloc, exchanges)?;
     let expected = answers(alloc, exchanges)?;
     let (input, expected) = (input.as_bytes(), expected.as_bytes());
-    Ok(is_right(exchanges, expected, Some(end), move || {
+    Ok(is_right!(
+        exchanges,
+        expected,
+        Some(end),
         served(alloc, CutReader::whole(input, 1), two_rows(alloc))
-    }))
+    ))
 }
 
 /// The exchanges of a session whose bytes come one by one.
@@ -93,7 +96,7 @@ fn a_stopped_stream(rt: HostRuntime) -> Result<(), Fail> {
         return Err(Fail::new("another end"));
     };
     let end = Some(Closing::Cut);
-    let right = is_right(FEED_AND_MORE, expected, end, move || stopped(alloc, input));
+    let right = is_right!(FEED_AND_MORE, expected, end, stopped(alloc, input));
     assert!(rt; right);
     Ok(())
 }
@@ -193,14 +196,14 @@ fn one_step(rt: HostRuntime) -> Result<(), Fail> {
     let alloc = rt.alloc();
     let input = asks(alloc, ONE)?;
     let input = input.as_bytes();
-    let served = is_right(
+    let served = is_right!(
         ONE,
         CREATED.as_bytes(),
         None,
-        move || first_served(alloc, input),
+        first_served(alloc, input)
     );
     assert!(rt; served);
-    let sent = is_right(STREAM, NORMAL.as_bytes(), None, move || streamed(alloc));
+    let sent = is_right!(STREAM, NORMAL.as_bytes(), None, streamed(alloc));
     assert!(rt; sent);
     Ok(())
 }
@@ -230,9 +233,7 @@ fn ended_requests(rt: HostRuntime) -> Result<(), Fail> {
     let input = asks(alloc, ENDED)?;
     let input = input.as_bytes();
     let end = Some(Closing::Fault(HttpFault::Version));
-    let right = is_right(ENDED, VERSION.as_bytes(), end, move || {
-        served_again(alloc, input)
-    });
+    let right = is_right!(ENDED, VERSION.as_bytes(), end, served_again(alloc, input));
     assert!(rt; right);
     Ok(())
 }

@@ -140,7 +140,7 @@ fn streams_of_updates(rt: HostRuntime) -> Result<(), Fail> {
         let (input, expected) = (input.as_bytes(), expected.as_bytes());
         let end = Some(Closing::Finished);
         let mode = *mode;
-        let right = is_right(exchanges, expected, end, move || served(alloc, mode, input));
+        let right = is_right!(exchanges, expected, end, served(alloc, mode, input));
         assert!(rt; right, "of {mode:?}");
     }
     Ok(())

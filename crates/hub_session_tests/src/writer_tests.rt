@@ -34,18 +34,18 @@ fn broken(alloc: Global, input: &[u8], room: usize) -> Told {
 #[test]
 fn a_writer_that_breaks(rt: HostRuntime) -> Result<(), Fail> {
     let alloc = rt.alloc();
-    let exchanges = grown(|| up_to_last(alloc))?;
+    let exchanges = grown!(up_to_last(alloc))?;
     let exchanges = exchanges.as_slice();
     let input = asks(alloc, exchanges)?;
     let whole = answers(alloc, exchanges)?;
     let (input, whole) = (input.as_bytes(), whole.as_bytes());
     for room in 0..whole.len() {
         let end = Some(Closing::Broken);
-        let right = is_right(
+        let right = is_right!(
             exchanges,
             &whole[..room],
             end,
-            move || broken(alloc, input, room),
+            broken(alloc, input, room)
         );
         assert!(rt; right, "behind {room}");
     }
@@ -72,7 +72,7 @@ fn a_writer_of_one_byte_a_write(rt: HostRuntime) -> Result<(), Fail> {
     let (input, expected) = (input.as_bytes(), expected.as_bytes());
     let end = Some(Closing::Finished);
     let writes = expected.len();
-    let right = is_right(EXCHANGES, expected, end, move || slow(alloc, input, writes));
+    let right = is_right!(EXCHANGES, expected, end, slow(alloc, input, writes));
     assert!(rt; right);
     Ok(())
 }
@@ -124,9 +124,12 @@ fn streams_that_are_not_sent_on(rt: HostRuntime) -> Result<(), Fail> {
         let expected = answers(alloc, &exchanges)?;
         assert!(rt; *count <= expected.len());
         let expected = &expected.as_bytes()[..*count];
-        let right = is_right(&exchanges, expected, Some(*end), move || {
+        let right = is_right!(
+            &exchanges,
+            expected,
+            Some(*end),
             given_back(alloc, input, room, stops, dropped)
-        });
+        );
         let Exchange(asked, _) = exchange;
         assert!(rt; right, "of {asked} and {room}");
     }

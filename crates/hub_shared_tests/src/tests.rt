@@ -70,16 +70,15 @@ fn holds<F: FnOnce(Global, &mut Database) -> Result<bool, Fail>>(
 const TRIES: u64 = 2;
 
 // What a call gives, which is made again where it finds no memory.
-fn again<T: Drop, F>(call: F) -> Result<T, AllocError>
-where
-    F: Fn() -> Result<T, AllocError>,
-    requires { F.IsAlwaysCallable call }
-{
-    match call() {
-        Ok(given) => Ok(given),
-        Err(AllocError) => call(),
-    }
+macro_rules! again {
+    ($call:expr) => {
+        match $call {
+            Ok(given) => Ok(given),
+            Err(std::alloc::AllocError) => $call,
+        }
+    };
 }
+pub(crate) use again;
 
 // What a database shows of itself, for which it takes no memory.
 fn shown(database: &Database) -> Result<Info, DbFault> {
@@ -88,16 +87,14 @@ fn shown(database: &Database) -> Result<Info, DbFault> {
 
 // What a call on a database gives. One that finds no memory leaves what the database shows, and is made
 // again; an error where it leaves something else.
-fn again_on<T: Drop, F>(database: &mut Database, call: F) -> Result<T, AllocError>
-where
-    F: Fn(&mut Database) -> Result<T, AllocError>,
-    requires { F.IsAlwaysCallable call }
-{
-    let before = shown(database);
-    match call(database) {
-        Err(AllocError) if shown(database) == before => call(database),
-        given => given,
-    }
+macro_rules! again_on {
+    ($database:expr, $call:expr) => {{
+        let before = shown($database);
+        match $call {
+            Err(AllocError) if shown($database) == before => $call,
+            given => given,
+        }
+    }};
 }
 
 // The documents that the texts are; an error where they find no memory, and each time where one is none.
@@ -145,7 +142,7 @@ fn write_all(
     texts: &[&str],
     is_in_room: bool,
 ) -> Result<Vec<Receipt>, Fail> {
-    let mut receipts = again(|| Vec::with_capacity(alloc, texts.len()))?;
+    let mut receipts = again!(Vec::with_capacity(alloc, texts.len()))?;
     let mut from = 0usize;
     for _ in 0..TRIES {
         if texts.len() < from {
@@ -192,7 +189,7 @@ fn begin(
     database: &mut Database,
     query: &str,
 ) -> Result<Result<(FeedId, Taker), OpenFault>, AllocError> {
-    again_on(database, |database| try_begin(alloc, database, query))
+    again_on!(database, try_begin(alloc, database, query))
 }
 
 // A feed that the query opens, and its receiver.
@@ -216,7 +213,7 @@ fn hands<R: Wait>(
     feed: FeedId,
     wanted: Handed,
 ) -> Result<bool, Fail> {
-    let handed = again_on(database, |database| database.hand(&Through(rt), feed))?;
+    let handed = again_on!(database, database.hand(&Through(rt), feed))?;
     Ok(handed == wanted)
 }
 
@@ -384,12 +381,12 @@ const WRONG: [Parts; 6] = [
 fn wrong_receipts_are_told(alloc: Global, database: &mut Database) -> Result<bool, Fail> {
     let _receipts = write(alloc, database, &THREE)?;
     for wrong in WRONG {
-        let list = again(|| receipts(alloc, wrong))?;
+        let list = again!(receipts(alloc, wrong))?;
         if audit_of(database.state(), list.as_slice()) != Err(AuditFault::WrongReceipt { at: 1 }) {
             return Ok(false);
         }
     }
-    let list = again(|| receipts(alloc, (2, "b", "1-b")))?;
+    let list = again!(receipts(alloc, (2, "b", "1-b")))?;
     Ok(audit_of(database.state(), list.as_slice()).is_ok())
 }
 
@@ -412,7 +409,7 @@ fn try_put(alloc: Global, database: &mut Database) -> Result<Result<u64, DbFault
 
 // Whether storing a local document has this answer, also where a growth of it is refused.
 fn puts(alloc: Global, database: &mut Database, answer: Result<u64, DbFault>) -> bool {
-    match again_on(database, |database| try_put(alloc, database)) {
+    match again_on!(database, try_put(alloc, database)) {
         Ok(put) => put == answer,
         Err(AllocError) => false,
     }

@@ -37,17 +37,13 @@ enum Step<'a> {
 const TRIES: u64 = 2;
 
 // What a call gives, which is made again where it finds no memory.
-fn again<T: Drop, F>(call: F) -> Result<T, AllocError>
-where
-    F: Fn() -> Result<T, AllocError>,
-    requires { F.IsAlwaysCallable call }
-{
-    for _ in 1..TRIES {
-        if let Ok(found) = call() {
-            return Ok(found);
+macro_rules! again {
+    ($call:expr) => {
+        match $call {
+            Ok(found) => Ok(found),
+            Err(std::alloc::AllocError) => $call,
         }
-    }
-    call()
+    };
 }
 
 // Documents of these texts come with their histories or without; an error where they find no memory, and
@@ -142,7 +138,7 @@ fn writes(
         let Reply::Outcomes(batch) = &reply else {
             return false;
         };
-        let Ok(told) = again(|| outcomes_text(alloc, batch)) else {
+        let Ok(told) = again!(outcomes_text(alloc, batch)) else {
             return false;
         };
         if !wanted[at..].starts_with(told.as_bytes()) {
@@ -164,7 +160,7 @@ fn replies(alloc: Global, world: &mut World, step: Step<'_>, wanted: &str) -> bo
             continue;
         };
         if let Ok(reply) = world.apply(event) {
-            return match again(|| reply_text(alloc, &reply)) {
+            return match again!(reply_text(alloc, &reply)) {
                 Ok(text) => text.as_str() == wanted,
                 Err(AllocError) => false,
             };
@@ -212,8 +208,8 @@ fn is_told(
     steps: &[(Step<'_>, &str)],
 ) -> Result<(), Fail> {
     assert_eq!(rt; count_told(alloc, limits, steps), steps.len());
-    let told = again(|| told(alloc, limits, steps))?;
-    let wanted = again(|| wanted(alloc, steps))?;
+    let told = again!(told(alloc, limits, steps))?;
+    let wanted = again!(wanted(alloc, steps))?;
     assert_eq!(rt; told.as_str(), wanted.as_str());
     Ok(())
 }

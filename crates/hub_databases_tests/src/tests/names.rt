@@ -49,7 +49,7 @@ fn answers<R: Wait>(rt: &R, hub: &Hub, call: &Call) -> Result<bool, AllocError> 
         Create(name, answer) => Ok(create(rt, hub, name)? == *answer),
         Find(name, answer) => Ok(finds(rt, hub, name) == *answer),
         Remove(name, answer) => Ok(remove(rt, hub, name)? == *answer),
-        List(names) => again(|| lists(rt, hub, *names)),
+        List(names) => again!(lists(rt, hub, *names)),
     }
 }
 
@@ -241,7 +241,7 @@ fn texts_that_are_names(rt: HostRuntime) -> Result<(), Fail> {
     }
     let alloc = rt.alloc();
     for (count, is_one) in [(238, true), (239, false)] {
-        let text = again(|| long_text(alloc, count))?;
+        let text = again!(long_text(alloc, count))?;
         assert_eq!(rt; is_name(text.as_str()), is_one, "{count} letters");
     }
     Ok(())

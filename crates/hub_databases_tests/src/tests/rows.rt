@@ -53,7 +53,7 @@ pub(crate) fn open<R: Wait>(
     hub: &Hub,
     query: &str,
 ) -> Result<UpdatesFeed, AllocError> {
-    again(|| try_open(rt, alloc, hub, query))
+    again!(try_open(rt, alloc, hub, query))
 }
 
 // Whether just these were handed to a feed and not taken yet. The feed is finished.
@@ -77,7 +77,7 @@ pub(crate) fn shows<R: Wait>(
 ) -> Result<bool, Fail> {
     let feed = open(rt, alloc, hub, query)?;
     let id = feed.id();
-    if again(|| hub.hold_updates(rt, id, Turn::Hand, &Open))? != Handed::End {
+    if again!(hub.hold_updates(rt, id, Turn::Hand, &Open))? != Handed::End {
         return Ok(false);
     }
     Ok(has_handed(rt, feed, told))
@@ -134,7 +134,7 @@ fn a_pump_hands_the_log(rt: HostRuntime) -> Result<(), Fail> {
     let hub = noted(&rt, alloc)?;
     let feed = open(&rt, alloc, &hub, "since=1")?;
     let id = feed.id();
-    again(|| hub.pump_updates(&rt, id, &Open, &Still))?;
+    again!(hub.pump_updates(&rt, id, &Open, &Still))?;
     assert!(rt; feed.is_over());
     assert!(rt; has_handed(&rt, feed, &[Row(Updated, "d", 2), End(2, 0)]));
     Ok(())
@@ -212,12 +212,12 @@ pub(crate) fn follow<R: Wait>(
     db: &HubDb,
     query: &str,
 ) -> Result<Feed<Plain>, AllocError> {
-    again(|| try_follow(rt, alloc, db, query))
+    again!(try_follow(rt, alloc, db, query))
 }
 
 // What a holding hands of a feed, also where a growth of it is refused: what it handed stays handed.
 fn hand<R: Wait>(rt: &R, db: &HubDb, feed: &Feed<Plain>) -> Result<Handed, AllocError> {
-    again(|| hold(rt, db.db(), feed.id(), Turn::Hand, &Open))
+    again!(hold(rt, db.db(), feed.id(), Turn::Hand, &Open))
 }
 
 // Of a normal feed of a database that the query opens: its life, where it begins, and the sequence of its

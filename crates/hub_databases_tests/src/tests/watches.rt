@@ -82,8 +82,8 @@ fn changes_of_a_hub_are_told(rt: HostRuntime) -> Result<(), Fail> {
     let db = created(&rt, &hub, "d")?;
     let changes = follow(&rt, alloc, &db, "feed=continuous")?;
     let updates = open(&rt, alloc, &hub, "feed=continuous")?;
-    let watched = again(|| Watched::new(alloc))?;
-    again(|| watched.watch(&rt, &changes, &updates))?;
+    let watched = again!(Watched::new(alloc))?;
+    again!(watched.watch(&rt, &changes, &updates))?;
     assert!(rt; are_told(&rt, alloc, &hub, &db, &watched)?);
     drop(changes.finish(&rt));
     drop(updates.finish(&rt));

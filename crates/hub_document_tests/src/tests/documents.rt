@@ -11,7 +11,7 @@ const FULL: &str = concat!(
 
 // Whether a text is read as this document.
 fn is_read(alloc: Global, text: &str, new_edits: bool, expected: &str) -> Result<bool, DocFault> {
-    let doc = again(|| Doc::read(alloc, text.as_bytes(), new_edits))?;
+    let doc = again!(Doc::read(alloc, text.as_bytes(), new_edits))?;
     Ok(is_shown(&doc, expected))
 }
 
@@ -68,7 +68,7 @@ fn is_path(doc: &Doc) -> bool {
 #[test]
 fn a_path(rt: HostRuntime) -> Result<(), Fail> {
     let alloc = rt.alloc();
-    let doc = again(|| Doc::read(alloc, FULL.as_bytes(), false))?;
+    let doc = again!(Doc::read(alloc, FULL.as_bytes(), false))?;
     assert!(rt; is_path(&doc));
     Ok(())
 }
@@ -112,7 +112,7 @@ fn histories(rt: HostRuntime) -> Result<(), Fail> {
     for line in HISTORIES.lines() {
         let (text, rest) = parts(line);
         let (whole, front) = parts(rest);
-        let holds = again(|| has_path(alloc, text, whole, front))?;
+        let holds = again!(has_path(alloc, text, whole, front))?;
         assert!(rt; holds, "{text}");
     }
     Ok(())
@@ -129,9 +129,9 @@ fn list_of(alloc: Global, rev: RevId) -> Result<Revisions, AllocError> {
 fn a_list_of_revisions(rt: HostRuntime) -> Result<(), Fail> {
     let alloc = rt.alloc();
     let rev = RevId::read("1-a").expect(&rt, "a revision");
-    let revisions = grown(|| list_of(alloc, rev))?;
+    let revisions = grown!(list_of(alloc, rev))?;
     assert_eq!(rt; revisions.as_slice().first().copied(), RevId::read("1-a"));
-    let copy = grown(|| revisions.copy(alloc))?;
+    let copy = grown!(revisions.copy(alloc))?;
     assert_eq!(rt; copy.as_slice(), revisions.as_slice());
     Ok(())
 }
@@ -140,7 +140,7 @@ fn a_list_of_revisions(rt: HostRuntime) -> Result<(), Fail> {
 fn a_copy_of_no_revisions(rt: HostRuntime) -> Result<(), Fail> {
     let alloc = rt.alloc();
     let none = Revisions::new(Vec::new(alloc));
-    let copy = grown(|| none.copy(alloc))?;
+    let copy = grown!(none.copy(alloc))?;
     assert!(rt; copy.as_slice().is_empty());
     Ok(())
 }

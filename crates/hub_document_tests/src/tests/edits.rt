@@ -42,7 +42,7 @@ fn a_chain_of_edits(rt: HostRuntime) -> Result<(), Fail> {
     let mut last = None;
     for (edit, expected) in CHAIN.iter().enumerate() {
         let parent = last;
-        last = again(|| made(alloc, edit == 1, parent, r#"{"_id":"a"}"#))?;
+        last = again!(made(alloc, edit == 1, parent, r#"{"_id":"a"}"#))?;
         assert_eq!(rt; last, RevId::read(expected));
     }
     Ok(())
@@ -53,7 +53,7 @@ fn first_edits(rt: HostRuntime) -> Result<(), Fail> {
     let alloc = rt.alloc();
     for line in FIRST.lines() {
         let (text, expected) = parts(line);
-        let rev = again(|| made(alloc, false, None, text))?;
+        let rev = again!(made(alloc, false, None, text))?;
         assert_eq!(rt; rev, RevId::read(expected));
     }
     Ok(())

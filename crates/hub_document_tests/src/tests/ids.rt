@@ -18,7 +18,7 @@ fn wrong(
     good: bool,
 ) -> Result<Option<&'static str>, AllocError> {
     for text in table.split(' ') {
-        if !grown(|| is_right(alloc, text, good))? {
+        if !grown!(is_right(alloc, text, good))? {
             return Ok(Some(text));
         }
     }
@@ -26,8 +26,8 @@ fn wrong(
 }
 
 fn is_id_of_length(alloc: Global, length: usize) -> Result<bool, AllocError> {
-    let text = grown(|| "i".repeat(alloc, length))?;
-    grown(|| is_right(alloc, text.as_str(), true))
+    let text = grown!("i".repeat(alloc, length))?;
+    grown!(is_right(alloc, text.as_str(), true))
 }
 
 #[test]
@@ -57,11 +57,11 @@ fn is_local_id(alloc: Global, length: usize) -> Result<bool, AllocError> {
 fn local_ids(rt: HostRuntime) -> Result<(), Fail> {
     let alloc = rt.alloc();
     for (length, expected) in [(0, false), (1, true), (505, true), (506, false)] {
-        let found = grown(|| is_local_id(alloc, length))?;
+        let found = grown!(is_local_id(alloc, length))?;
         assert_eq!(rt; found, expected, "{length}");
     }
     for text in ["", "x", "_local", "_design/x", "_local_/x", "/_local/x"] {
-        let found = grown(|| LocalId::read(alloc, text))?;
+        let found = grown!(LocalId::read(alloc, text))?;
         assert!(rt; found.is_none(), "{text}");
     }
     Ok(())

@@ -25,7 +25,7 @@ fn is_read(alloc: Global, text: &str, expected: &str) -> Result<bool, DocFault> 
 fn other(alloc: Global) -> Result<Option<&'static str>, DocFault> {
     for line in CONTENTS.lines() {
         let (text, expected) = parts(line);
-        if !again(|| is_read(alloc, text, expected))? {
+        if !again!(is_read(alloc, text, expected))? {
             return Ok(Some(line));
         }
     }
@@ -59,7 +59,7 @@ x | {"v":1.5} | BadNumber
 x | {"_deleted":true} | BadId"#;
 
 fn fault(alloc: Global, id: &str, text: &str) -> &'static str {
-    fault_name(again(|| LocalDoc::read(alloc, id, text.as_bytes())).err())
+    fault_name(again!(LocalDoc::read(alloc, id, text.as_bytes())).err())
 }
 
 // The first case with another fault.
@@ -81,8 +81,8 @@ fn faults(rt: HostRuntime) -> Result<(), Fail> {
 }
 
 fn fault_of_length(alloc: Global, length: usize, text: &str) -> Result<&'static str, AllocError> {
-    let name = grown(|| "i".repeat(alloc, length))?;
-    let id = grown(|| format!(in alloc; "_local/{name}"))?;
+    let name = grown!("i".repeat(alloc, length))?;
+    let id = grown!(format!(in alloc; "_local/{name}"))?;
     Ok(fault(alloc, id.as_str(), text))
 }
 
@@ -120,8 +120,8 @@ fn is_written(
 #[test]
 fn the_text_of_an_empty_document(rt: HostRuntime) -> Result<(), Fail> {
     let alloc = rt.alloc();
-    let body = grown(|| Body::empty(alloc))?;
-    let found = grown(|| is_written(alloc, "_local/x", 1, &body, EMPTY));
+    let body = grown!(Body::empty(alloc))?;
+    let found = grown!(is_written(alloc, "_local/x", 1, &body, EMPTY));
     assert_eq!(rt; found, Ok(true));
     Ok(())
 }
@@ -129,8 +129,8 @@ fn the_text_of_an_empty_document(rt: HostRuntime) -> Result<(), Fail> {
 #[test]
 fn the_text_of_a_document(rt: HostRuntime) -> Result<(), Fail> {
     let alloc = rt.alloc();
-    let doc = again(|| LocalDoc::read(alloc, "_local/q\"", br#"{"v":{"w":7},"b":""}"#))?;
-    let found = grown(|| is_written(alloc, doc.id.as_str(), u64::MAX, &doc.body, LARGE));
+    let doc = again!(LocalDoc::read(alloc, "_local/q\"", br#"{"v":{"w":7},"b":""}"#))?;
+    let found = grown!(is_written(alloc, doc.id.as_str(), u64::MAX, &doc.body, LARGE));
     assert_eq!(rt; found, Ok(true));
     Ok(())
 }

@@ -25,7 +25,7 @@ fn other(alloc: Global) -> Result<Option<&'static str>, DocFault> {
     for line in CONTENTS.lines() {
         let (place, case) = parts(line);
         let (text, expected) = parts(case);
-        let doc = again(|| put(alloc, place, true, text))?;
+        let doc = again!(put(alloc, place, true, text))?;
         if !is_shown(&doc, expected) {
             return Ok(Some(line));
         }
@@ -66,7 +66,7 @@ a, 1-a | {"_rev":"1-a"} | BadMember
 a, x | {"_x":1} | BadRev"#;
 
 fn fault(alloc: Global, place: &str, new_edits: bool, text: &str) -> &'static str {
-    fault_name(again(|| put(alloc, place, new_edits, text)).err())
+    fault_name(again!(put(alloc, place, new_edits, text)).err())
 }
 
 // The first case with another fault.
@@ -95,8 +95,8 @@ fn fault_of_length(
     rev: Option<&str>,
     new_edits: bool,
 ) -> Result<&'static str, AllocError> {
-    let id = grown(|| "i".repeat(alloc, length))?;
-    let read = again(|| Doc::read_put(alloc, id.as_str(), rev, new_edits, b"{}"));
+    let id = grown!("i".repeat(alloc, length))?;
+    let read = again!(Doc::read_put(alloc, id.as_str(), rev, new_edits, b"{}"));
     Ok(fault_name(read.err()))
 }
 

@@ -85,7 +85,7 @@ const TWO: &str = r#"[1.5 | NotJson
 {"_id":"a","_rev":"2-a","_revisions":[],"_x":1} | BadRevisions"#;
 
 fn fault(alloc: Global, text: &str, new_edits: bool) -> &'static str {
-    fault_name(again(|| Doc::read(alloc, text.as_bytes(), new_edits)).err())
+    fault_name(again!(Doc::read(alloc, text.as_bytes(), new_edits)).err())
 }
 
 // The first case that is wrong.
@@ -113,25 +113,25 @@ fn faults(rt: HostRuntime) -> Result<(), Fail> {
 
 // The fault of an id and a value of `_attachments`.
 fn with_id(alloc: Global, length: usize, attachments: &str) -> Result<&'static str, AllocError> {
-    let id = grown(|| "i".repeat(alloc, length))?;
-    let text = grown(|| format!(in alloc; r#"{{"_id":"{id}","_attachments":{attachments}}}"#))?;
+    let id = grown!("i".repeat(alloc, length))?;
+    let text = grown!(format!(in alloc; r#"{{"_id":"{id}","_attachments":{attachments}}}"#))?;
     Ok(fault(alloc, text.as_str(), true))
 }
 
 // The fault of a value that nests so deep.
 fn with_depth(alloc: Global, depth: usize) -> Result<&'static str, AllocError> {
-    let open = grown(|| "[".repeat(alloc, depth))?;
-    let close = grown(|| "]".repeat(alloc, depth))?;
-    let text = grown(|| format!(in alloc; r#"{{"_id":"a","m":{open}{close}}}"#))?;
+    let open = grown!("[".repeat(alloc, depth))?;
+    let close = grown!("]".repeat(alloc, depth))?;
+    let text = grown!(format!(in alloc; r#"{{"_id":"a","m":{open}{close}}}"#))?;
     Ok(fault(alloc, text.as_str(), true))
 }
 
 // The fault of a history of one hash.
 fn with_hash(alloc: Global, length: usize) -> Result<&'static str, AllocError> {
-    let hash = grown(|| "h".repeat(alloc, length))?;
-    let text = grown(|| {
+    let hash = grown!("h".repeat(alloc, length))?;
+    let text = grown!(
         format!(in alloc; r#"{{"_id":"a","_revisions":{{"start":1,"ids":["{hash}"]}}}}"#)
-    })?;
+    )?;
     Ok(fault(alloc, text.as_str(), false))
 }
 
@@ -163,7 +163,7 @@ fn sizes(rt: HostRuntime) -> Result<(), Fail> {
 #[test]
 fn bytes(rt: HostRuntime) -> Result<(), Fail> {
     let alloc = rt.alloc();
-    let read = again(|| Doc::read(alloc, b"{\"_id\":\"\xff\"}", true));
+    let read = again!(Doc::read(alloc, b"{\"_id\":\"\xff\"}", true));
     assert_eq!(rt; read.err(), Some(DocFault::NotJson));
     Ok(())
 }
@@ -184,7 +184,7 @@ const REASONS: [(DocFault, &str); 9] = [
 fn reasons(rt: HostRuntime) -> Result<(), Fail> {
     let alloc = rt.alloc();
     for (fault, expected) in &REASONS {
-        let found = grown(|| format!(in alloc; "{fault}"))?;
+        let found = grown!(format!(in alloc; "{fault}"))?;
         assert_eq!(rt; found.as_str(), *expected);
     }
     Ok(())

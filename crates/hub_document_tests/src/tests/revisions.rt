@@ -24,12 +24,12 @@ fn is_read(alloc: Global, text: &str, generation: u16, hash: &str) -> Result<boo
 #[test]
 fn texts_that_are_revisions(rt: HostRuntime) -> Result<(), Fail> {
     let alloc = rt.alloc();
-    let long = grown(|| format!(in alloc; "2-{LONG}"))?;
+    let long = grown!(format!(in alloc; "2-{LONG}"))?;
     let found = [
-        grown(|| is_read(alloc, "1-a", 1, "a")),
-        grown(|| is_read(alloc, "10-0aZ", 10, "0aZ")),
-        grown(|| is_read(alloc, "65535-9", 65535, "9")),
-        grown(|| is_read(alloc, long.as_str(), 2, LONG)),
+        grown!(is_read(alloc, "1-a", 1, "a")),
+        grown!(is_read(alloc, "10-0aZ", 10, "0aZ")),
+        grown!(is_read(alloc, "65535-9", 65535, "9")),
+        grown!(is_read(alloc, long.as_str(), 2, LONG)),
     ];
     assert_eq!(rt; found, [Ok(true), Ok(true), Ok(true), Ok(true)]);
     Ok(())

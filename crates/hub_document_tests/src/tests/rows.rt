@@ -39,7 +39,7 @@ fn written(alloc: Global, deleted: bool, body: &Body) -> Result<Vec<u8>, DocFaul
 #[test]
 fn a_copy_of_a_row(rt: HostRuntime) -> Result<(), Fail> {
     let alloc = rt.alloc();
-    let doc = again(|| Doc::read(alloc, br#"{"_id":"a","v":7}"#, true))?;
+    let doc = again!(Doc::read(alloc, br#"{"_id":"a","v":7}"#, true))?;
     let row = ChangeRow {
         seq: 3,
         id: doc.id,
@@ -48,7 +48,7 @@ fn a_copy_of_a_row(rt: HostRuntime) -> Result<(), Fail> {
         doc: Some(doc.body),
         seen: 4,
     };
-    let copy = grown(|| row.copy(alloc))?;
+    let copy = grown!(row.copy(alloc))?;
     assert_eq!(rt;
         (copy.seq, copy.id.as_str(), copy.deleted, copy.seen),
         (3, "a", true, 4)
@@ -67,14 +67,14 @@ fn copies_of_rows_of_updates(rt: HostRuntime) -> Result<(), Fail> {
         ("d", UpdateKind::Updated, 3, 4),
         ("team/mail-1", UpdateKind::Deleted, u64::MAX, u64::MAX),
     ] {
-        let db_name = grown(|| String::from_str(alloc, name))?;
+        let db_name = grown!(String::from_str(alloc, name))?;
         let row = UpdateRow {
             db_name,
             kind,
             seq,
             seen,
         };
-        let copy = grown(|| row.copy(alloc))?;
+        let copy = grown!(row.copy(alloc))?;
         assert_eq!(rt;
             (copy.db_name.as_str(), copy.kind, copy.seq, copy.seen),
             (name, kind, seq, seen)
@@ -86,10 +86,10 @@ fn copies_of_rows_of_updates(rt: HostRuntime) -> Result<(), Fail> {
 #[test]
 fn documents_of_rows(rt: HostRuntime) -> Result<(), Fail> {
     let alloc = rt.alloc();
-    let doc = again(|| Doc::read(alloc, br#"{"_id":"b","v":7}"#, true))?;
-    let here = again(|| written(alloc, false, &doc.body))?;
-    let empty = grown(|| Body::empty(alloc))?;
-    let deleted = again(|| written(alloc, true, &empty))?;
+    let doc = again!(Doc::read(alloc, br#"{"_id":"b","v":7}"#, true))?;
+    let here = again!(written(alloc, false, &doc.body))?;
+    let empty = grown!(Body::empty(alloc))?;
+    let deleted = again!(written(alloc, true, &empty))?;
     assert_eq!(rt;
         here.as_slice(),
         br#" {"_id":"a","_rev":"1-x","v":7}"#.as_slice()

@@ -19,11 +19,11 @@ fn of_value(alloc: Global, text: &str, new_edits: bool) -> Result<Doc, DocFault>
 #[test]
 fn documents_of_values(rt: HostRuntime) -> Result<(), Fail> {
     let alloc = rt.alloc();
-    let here = again(|| of_value(alloc, VALUE, true))?;
+    let here = again!(of_value(alloc, VALUE, true))?;
     assert!(rt; is_shown(&here, r#"a | 2-c |  | {"v":7}"#));
-    let elsewhere = again(|| of_value(alloc, VALUE, false))?;
+    let elsewhere = again!(of_value(alloc, VALUE, false))?;
     assert!(rt; is_shown(&elsewhere, r#"a | 2-c | path | {"v":7}"#));
-    let fault = again(|| of_value(alloc, "[]", true)).err();
+    let fault = again!(of_value(alloc, "[]", true)).err();
     assert_eq!(rt; fault, Some(DocFault::NotObject));
     Ok(())
 }
@@ -82,7 +82,7 @@ fn place_of(path: &Path, rev: &RevId) -> Option<u16> {
 #[test]
 fn places_in_a_path(rt: HostRuntime) -> Result<(), Fail> {
     let alloc = rt.alloc();
-    let Doc { path, .. } = again(|| Doc::read(alloc, HISTORY.as_bytes(), false))?;
+    let Doc { path, .. } = again!(Doc::read(alloc, HISTORY.as_bytes(), false))?;
     let Some(path) = path else {
         return Err(Fail::new("no path"));
     };
@@ -116,7 +116,7 @@ fn revisions_of_rows(rt: HostRuntime) -> Result<(), Fail> {
     let alloc = rt.alloc();
     for (text, is_made) in HASHES {
         let rev = RevId::read(text).expect(&rt, "a revision");
-        let changes = grown(|| Changes::one(alloc, rev))?;
+        let changes = grown!(Changes::one(alloc, rev))?;
         assert_eq!(rt; lent_first(&changes), (is_made, Some(rev)), "{text}");
         assert_eq!(rt;
             (changes.get(0), changes.get(1)),
@@ -126,7 +126,7 @@ fn revisions_of_rows(rt: HostRuntime) -> Result<(), Fail> {
     }
     let changes = Changes::of_digest(DigestRev::new(3, DIGEST));
     assert_eq!(rt; lent_first(&changes), (true, RevId::read(MADE)));
-    let list = grown(|| list_of(alloc, &changes))?;
+    let list = grown!(list_of(alloc, &changes))?;
     assert_eq!(rt; list.as_slice().len(), 1);
     assert_eq!(rt; list.as_slice().first().copied(), RevId::read(MADE));
     Ok(())
@@ -155,7 +155,7 @@ const PUT: &str = concat!(
 #[test]
 fn texts_in_quotes(rt: HostRuntime) -> Result<(), Fail> {
     let alloc = rt.alloc();
-    let out = grown(|| put_all(alloc))?;
+    let out = grown!(put_all(alloc))?;
     assert_eq!(rt; out.as_slice(), PUT.as_bytes());
     Ok(())
 }

@@ -4,27 +4,28 @@
 //! has the answer that it has with ample memory.
 
 use hub_document::{Doc, DocFault, RevId};
-use std::alloc::AllocError;
 
 /// What a call answers, made again where it finds no memory.
-pub fn again<T: Drop, F: Fn() -> Result<T, DocFault>>(call: F) -> Result<T, DocFault>
-    requires { F.IsAlwaysCallable call }
-{
-    match call() {
-        Err(DocFault::NoMemory) => call(),
-        found => found,
-    }
+macro_rules! again {
+    ($call:expr) => {
+        match $call {
+            Err(hub_document::DocFault::NoMemory) => $call,
+            found => found,
+        }
+    };
 }
+pub(crate) use again;
 
 /// What a call answers that memory alone refuses, made again where it does.
-pub fn grown<T: Drop, F: Fn() -> Result<T, AllocError>>(call: F) -> Result<T, AllocError>
-    requires { F.IsAlwaysCallable call }
-{
-    match call() {
-        Ok(found) => Ok(found),
-        Err(AllocError) => call(),
-    }
+macro_rules! grown {
+    ($call:expr) => {
+        match $call {
+            Ok(found) => Ok(found),
+            Err(std::alloc::AllocError) => $call,
+        }
+    };
 }
+pub(crate) use grown;
 
 /// What stands before the first bar and what stands behind it.
 pub fn parts(line: &str) -> (&str, &str) {

@@ -22,7 +22,7 @@ const CONTROL: &str = concat!(
 fn other(alloc: Global, table: &'static str) -> Result<Option<&'static str>, DocFault> {
     for line in table.lines() {
         let (text, expected) = parts(line);
-        let doc = again(|| Doc::read(alloc, text.as_bytes(), true))?;
+        let doc = again!(Doc::read(alloc, text.as_bytes(), true))?;
         if doc.body.as_bytes() != expected.as_bytes() {
             return Ok(Some(line));
         }
@@ -50,7 +50,7 @@ const REFUSED: &str = r#"{"_id":"a","s":"\ud83d"} | NotJson
 {"_id":"a","v":-0} | BadNumber"#;
 
 fn fault(alloc: Global, text: &str) -> &'static str {
-    fault_name(again(|| Doc::read(alloc, text.as_bytes(), true)).err())
+    fault_name(again!(Doc::read(alloc, text.as_bytes(), true)).err())
 }
 
 // The first case with another fault.

@@ -45,8 +45,8 @@ fn other(
 ) -> Result<Option<&'static str>, DocFault> {
     for line in table.lines() {
         let (text, expected) = parts(line);
-        let doc = again(|| Doc::read(alloc, text.as_bytes(), new_edits))?;
-        if !grown(|| is_written(alloc, &doc, expected))? {
+        let doc = again!(Doc::read(alloc, text.as_bytes(), new_edits))?;
+        if !grown!(is_written(alloc, &doc, expected))? {
             return Ok(Some(line));
         }
     }
@@ -75,10 +75,10 @@ fn are_copied(alloc: Global, doc: &Doc) -> Result<bool, AllocError> {
 fn parts_of_documents(rt: HostRuntime) -> Result<(), Fail> {
     let alloc = rt.alloc();
     let text = br#"{"_id":"a","_revisions":{"start":2,"ids":["c","a"]},"v":1}"#;
-    let doc = again(|| Doc::read(alloc, text, false))?;
-    let empty = grown(|| Body::empty(alloc))?;
+    let doc = again!(Doc::read(alloc, text, false))?;
+    let empty = grown!(Body::empty(alloc))?;
     let is_empty = empty.as_bytes() == b"{}".as_slice();
-    let copied = grown(|| are_copied(alloc, &doc))?;
+    let copied = grown!(are_copied(alloc, &doc))?;
     assert!(rt; copied && is_empty);
     Ok(())
 }

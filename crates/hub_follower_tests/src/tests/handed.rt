@@ -145,7 +145,7 @@ fn hand_all(
     between: &[&str],
 ) -> Result<Vec<Item<ChangeRow>>, Fail> {
     let feed = open_feed(db, since)?;
-    let mut items = again(|| Vec::with_capacity(alloc, ITEMS))?;
+    let mut items = again!(Vec::with_capacity(alloc, ITEMS))?;
     for text in between {
         items.push(hand(db, feed)?)?;
         write(alloc, db, &[*text])?;
@@ -173,7 +173,7 @@ fn is_right(
     since: u64,
     items: &[Item<ChangeRow>],
 ) -> Result<bool, AllocError> {
-    again(|| rightly_handed(alloc, db, since, items))
+    again!(rightly_handed(alloc, db, since, items))
 }
 
 // Whether what a feed hands above a sequence behind FIVE is right, and of how many items it is.
@@ -284,7 +284,7 @@ fn first_other(
     cases: &[(u64, &[Shown], bool)],
 ) -> Result<Option<usize>, AllocError> {
     for (at, (since, all, right)) in cases.iter().enumerate() {
-        let items = again(|| items_of(alloc, *all))?;
+        let items = again!(items_of(alloc, *all))?;
         if is_right(alloc, db, *since, items.as_slice())? != *right {
             return Ok(Some(at));
         }
@@ -366,11 +366,11 @@ fn only_row(alloc: Global, number: u64) -> Result<ChangeRow, AllocError> {
 
 // A row of each of so many documents, and their end.
 fn rows_of_many(alloc: Global, db: &mut DbState, count: u64) -> Result<Vec<Item<ChangeRow>>, Fail> {
-    let mut items = again(|| Vec::with_capacity(alloc, ITEMS + 1))?;
+    let mut items = again!(Vec::with_capacity(alloc, ITEMS + 1))?;
     for at in 0..count {
-        let text = again(|| format!(in alloc; r#"{{"_id":"d{at}","_rev":"1-a"}}"#))?;
+        let text = again!(format!(in alloc; r#"{{"_id":"d{at}","_rev":"1-a"}}"#))?;
         write(alloc, db, &[text.as_str()])?;
-        items.push(Item::Row(again(|| only_row(alloc, at))?))?;
+        items.push(Item::Row(again!(only_row(alloc, at))?))?;
     }
     items.push(Item::End {
         last_seq: count,

@@ -23,7 +23,7 @@ fn grow<R: Wait>(
 ) -> Result<(u64, u64), Fail> {
     write(rt, alloc, source, texts)?;
     let stored = edits(rt, source)?;
-    let session_id = again(|| format!(in alloc; "S{stored}"))?;
+    let session_id = again!(format!(in alloc; "S{stored}"))?;
     copy_unrecorded(rt, alloc, (source, target), session_id.as_str())?;
     if !have_leaves(rt, alloc, (source, target), "x", leaves)? {
         return Err(Fail::new("other leaves"));

@@ -52,7 +52,7 @@ fn found<R: Wait>(rt: &R, hub: &Hub, name: &str) -> Result<HubDb, Fail> {
 
 // A hub with both databases, of the lives 1 and 2, and two documents at the source.
 fn hub<R: Wait>(rt: &R, alloc: Global) -> Result<Hub, Fail> {
-    let hub = again(|| Hub::new(alloc, Limits::full()))?;
+    let hub = again!(Hub::new(alloc, Limits::full()))?;
     make(rt, &hub, SOURCE)?;
     make(rt, &hub, TARGET)?;
     write(rt, alloc, found(rt, &hub, SOURCE)?.db(), &TWO)?;
@@ -282,8 +282,8 @@ fn resume<R: Wait>(
     (source_log, target_log): (&str, &str),
 ) -> Result<(), Fail> {
     write(rt, alloc, source, &AGAIN)?;
-    again(|| put_log(rt, alloc, source, source_log))?;
-    again(|| put_log(rt, alloc, target, target_log))?;
+    again!(put_log(rt, alloc, source, source_log))?;
+    again!(put_log(rt, alloc, target, target_log))?;
     Ok(())
 }
 
@@ -354,7 +354,7 @@ fn logs_of_whole_numbers_go_on_with_texts(rt: HostRuntime) -> Result<(), Fail> {
     let (source, target) = resumed(&rt, rt.alloc(), ("2", "2"))?;
     assert_session(&rt, rt.alloc(), (&source, &target), "S1", GOING_ON)?;
     for db in [&source, &target] {
-        assert!(rt; again(|| keeps(&rt, rt.alloc(), db, GONE_ON))?);
+        assert!(rt; again!(keeps(&rt, rt.alloc(), db, GONE_ON))?);
     }
     Ok(())
 }

@@ -77,10 +77,10 @@ fn agreed_alone(alloc: Global, entries: &[(&str, Seq)]) -> Result<(Seq, Seq), Al
 #[test]
 fn sequences_up_to_which_logs_agree(rt: HostRuntime) -> Result<(), Fail> {
     let alloc = rt.alloc();
-    assert_eq!(rt; again(|| agreed(alloc, SOURCE, TARGET))?, FOUR);
-    assert_eq!(rt; again(|| agreed(alloc, SOURCE, LATER_TARGET))?, SEVEN);
+    assert_eq!(rt; again!(agreed(alloc, SOURCE, TARGET))?, FOUR);
+    assert_eq!(rt; again!(agreed(alloc, SOURCE, LATER_TARGET))?, SEVEN);
     for entries in [SOURCE, LATER_TARGET] {
-        assert_eq!(rt; again(|| agreed_alone(alloc, entries))?, (bare(0), bare(0)));
+        assert_eq!(rt; again!(agreed_alone(alloc, entries))?, (bare(0), bare(0)));
     }
     Ok(())
 }
@@ -132,7 +132,7 @@ fn sequences_of_lives(rt: HostRuntime) -> Result<(), Fail> {
     let alloc = rt.alloc();
     for (source, target, n, life) in LIVES {
         for sessions in LAST_SESSIONS {
-            let common = again(|| agreed_of_lives(alloc, (*source, *target), *sessions))?;
+            let common = again!(agreed_of_lives(alloc, (*source, *target), *sessions))?;
             assert_eq!(rt; common, Seq { n: *n, life: *life });
         }
     }
@@ -202,10 +202,10 @@ const SESSIONS: &[(&str, Seq)] = &[("S\"2", SEVEN_OF_ONE), ("S1", FOUR)];
 #[test]
 fn a_log_is_read_as_it_was_written(rt: HostRuntime) -> Result<(), Fail> {
     let alloc = rt.alloc();
-    let text = again(|| text_of(alloc, SESSIONS))?;
+    let text = again!(text_of(alloc, SESSIONS))?;
     let bytes = text.as_slice();
     assert!(rt; bytes == WRITTEN_LOG.as_bytes());
-    assert!(rt; again(|| is_read(alloc, bytes, "S\"2", SEVEN_OF_ONE, ENTRIES))?);
+    assert!(rt; again!(is_read(alloc, bytes, "S\"2", SEVEN_OF_ONE, ENTRIES))?);
     Ok(())
 }
 
@@ -230,7 +230,7 @@ const MIXED_ENTRIES: &[(Seq, Seq, Seq)] = &[(
 #[test]
 fn a_log_of_numbers_and_texts_is_read(rt: HostRuntime) -> Result<(), Fail> {
     let (alloc, last) = (rt.alloc(), bare(u64::MAX));
-    assert!(rt; again(|| is_read(alloc, MIXED.as_bytes(), "S", last, MIXED_ENTRIES))?);
+    assert!(rt; again!(is_read(alloc, MIXED.as_bytes(), "S", last, MIXED_ENTRIES))?);
     Ok(())
 }
 
@@ -267,7 +267,7 @@ fn is_written(alloc: Global, seq: &str) -> Result<bool, AllocError> {
 fn sequences_that_are_written(rt: HostRuntime) -> Result<(), Fail> {
     let alloc = rt.alloc();
     for (seq, is_one) in WRITTEN {
-        assert_eq!(rt; again(|| is_written(alloc, *seq))?, *is_one, "{seq}");
+        assert_eq!(rt; again!(is_written(alloc, *seq))?, *is_one, "{seq}");
     }
     Ok(())
 }
@@ -297,10 +297,10 @@ fn is_read_of(alloc: Global, count: u64) -> Result<bool, AllocError> {
 fn logs_that_are_absent(rt: HostRuntime) -> Result<(), Fail> {
     let alloc = rt.alloc();
     for text in ABSENT {
-        assert!(rt; !again(|| is_a_log(alloc, text.as_bytes()))?, "{text}");
+        assert!(rt; !again!(is_a_log(alloc, text.as_bytes()))?, "{text}");
     }
     for (count, is_there) in [(50, true), (51, false)] {
-        assert!(rt; again(|| is_read_of(alloc, count))? == is_there);
+        assert!(rt; again!(is_read_of(alloc, count))? == is_there);
     }
     Ok(())
 }

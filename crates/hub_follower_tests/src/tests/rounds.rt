@@ -33,7 +33,7 @@ fn a_round_copies_and_the_next_is_idle(rt: HostRuntime) -> Result<(), Fail> {
 // Stores so many documents.
 fn write_many<R: Wait>(rt: &R, alloc: Global, db: &Db<Plain>, count: u64) -> Result<(), Fail> {
     for number in 0..count {
-        let text = again(|| format!(in alloc; r#"{{"_id":"d{number}","_rev":"1-a"}}"#))?;
+        let text = again!(format!(in alloc; r#"{{"_id":"d{number}","_rev":"1-a"}}"#))?;
         write(rt, alloc, db, &[text.as_str()])?;
     }
     Ok(())

@@ -60,7 +60,7 @@ pub(crate) fn have_leaves<R: Wait>(
     texts: &[&str],
 ) -> Result<bool, AllocError> {
     for db in [source, target] {
-        let found = again(|| leaves(rt, alloc, db, id))?;
+        let found = again!(leaves(rt, alloc, db, id))?;
         if !are_texts(found.as_slice(), texts) {
             return Ok(false);
         }
@@ -149,7 +149,7 @@ fn holds<R: Wait, S: Peer + Drop, T: Peer + Drop>(
         }
         Step::Stores(count) => edits(rt, target)? == *count,
         Step::HaveLeaves(id, texts) => have_leaves(rt, alloc, peers, *id, *texts)?,
-        Step::HasAll(since, answer) => again(|| has_all(rt, alloc, peers, *since))? == *answer,
+        Step::HasAll(since, answer) => again!(has_all(rt, alloc, peers, *since))? == *answer,
         Step::HasNoLog => recorded(rt, alloc, target)?.is_none(),
     })
 }

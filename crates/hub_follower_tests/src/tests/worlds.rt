@@ -52,7 +52,7 @@ fn try_place(alloc: Global, signs: &str) -> Result<Option<Seq>, AllocError> {
 
 // The same, also where a growth of it is refused: the run is then made again.
 fn place(alloc: Global, signs: &str) -> Result<Option<Seq>, AllocError> {
-    again(|| try_place(alloc, signs))
+    again!(try_place(alloc, signs))
 }
 
 // The logs; the changes, what is missing, two documents, the merge; and the two logs. A later session

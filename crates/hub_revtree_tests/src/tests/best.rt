@@ -166,7 +166,7 @@ const ROWS: &[Row] = &[
 #[test]
 fn best_leaf_follows_the_best(rt: HostRuntime) -> Result<(), Fail> {
     for row in ROWS {
-        let Some((wrong, winner)) = again(|| outcome(rt.alloc(), row)) else {
+        let Some((wrong, winner)) = again!(outcome(rt.alloc(), row)) else {
             return Err(Fail::new("out of memory"));
         };
         assert_eq!(rt; wrong, None);

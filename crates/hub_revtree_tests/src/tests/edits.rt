@@ -111,7 +111,7 @@ fn is_last_behind(alloc: Global, tree: &mut RevTree) -> bool {
 #[test]
 fn last_generation_is_not_extended(rt: HostRuntime) -> Result<(), Fail> {
     let alloc = rt.alloc();
-    let Some(text) = again(|| long_history(alloc, 65534)) else {
+    let Some(text) = again!(long_history(alloc, 65534)) else {
         return Err(Fail::new("no history"));
     };
     let mut tree = RevTree::new(alloc);

@@ -31,7 +31,7 @@ fn is_known(alloc: Global, tree: &RevTree, number: usize) -> Result<bool, AllocE
 fn known(alloc: Global, tree: &RevTree, count: usize) -> usize {
     let mut known = 0usize;
     for number in 0..count {
-        if again(|| is_known(alloc, tree, number)) == Some(true) {
+        if again!(is_known(alloc, tree, number)) == Some(true) {
             known = known.saturating_add(1);
         }
     }

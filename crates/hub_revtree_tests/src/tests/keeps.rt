@@ -98,7 +98,7 @@ fn line_of_edits_is_kept_once(rt: HostRuntime) -> Result<(), Fail> {
     assert!(rt; grow(alloc, &mut tree, 5000));
     assert_eq!(rt; tree.len(), 5000);
     assert_eq!(rt; tree.nodes(), 5000);
-    let len = again(|| winner_line(alloc, &tree));
+    let len = again!(winner_line(alloc, &tree));
     assert_eq!(rt; len, Some(5000));
     Ok(())
 }
@@ -129,7 +129,7 @@ fn is_longest(alloc: Global, tree: &RevTree) -> Result<bool, AllocError> {
 #[test]
 fn longest_path_is_kept_whole(rt: HostRuntime) -> Result<(), Fail> {
     let alloc = rt.alloc();
-    let Some(text) = again(|| long_history(alloc, 65535)) else {
+    let Some(text) = again!(long_history(alloc, 65535)) else {
         return Err(Fail::new("no history"));
     };
     let mut tree = RevTree::new(alloc);
@@ -139,7 +139,7 @@ fn longest_path_is_kept_whole(rt: HostRuntime) -> Result<(), Fail> {
     );
     assert_eq!(rt; tree.winner(), RevId::read("65535-a"));
     assert_eq!(rt; tree.nodes(), 65535);
-    let whole = again(|| is_longest(alloc, &tree));
+    let whole = again!(is_longest(alloc, &tree));
     assert_eq!(rt; whole, Some(true));
     Ok(())
 }

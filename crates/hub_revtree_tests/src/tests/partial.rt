@@ -135,7 +135,7 @@ fn room_alone(alloc: Global) -> Result<Option<usize>, AllocError> {
 
 #[test]
 fn path_has_room_for_its_revisions_alone(rt: HostRuntime) -> Result<(), Fail> {
-    assert_eq!(rt; again(|| room_alone(rt.alloc())), Some(Some(1)));
+    assert_eq!(rt; again!(room_alone(rt.alloc())), Some(Some(1)));
     Ok(())
 }
 
@@ -322,7 +322,7 @@ fn has_parent(alloc: Global, tree: &RevTree, number: usize) -> Result<bool, Allo
 fn count_parents(alloc: Global, tree: &RevTree, count: usize) -> usize {
     let mut found = 0usize;
     for number in 0..count {
-        if again(|| has_parent(alloc, tree, number)) == Some(true) {
+        if again!(has_parent(alloc, tree, number)) == Some(true) {
             found = found.saturating_add(1);
         }
     }
@@ -343,7 +343,7 @@ fn many_revisions_get_parents(rt: HostRuntime) -> Result<(), Fail> {
     assert_eq!(rt; add_all(rt.alloc(), &mut tree, 400, alone), 400);
     assert_eq!(rt; add_all(rt.alloc(), &mut tree, 400, on_it), 400);
     assert_eq!(rt; (tree.len(), tree.nodes()), (800, 1200));
-    assert_eq!(rt; again(|| count_leaves(rt.alloc(), &tree)), Some(400));
+    assert_eq!(rt; again!(count_leaves(rt.alloc(), &tree)), Some(400));
     assert_eq!(rt; count_parents(rt.alloc(), &tree, 400), 400);
     Ok(())
 }

@@ -8,7 +8,7 @@ use std::test::Fail;
 
 // A line without revisions that has room for all of a test.
 fn line_of_none(alloc: Global) -> Option<Vec<RevId>> {
-    again(|| Vec::with_capacity(alloc, 400))
+    again!(Vec::with_capacity(alloc, 400))
 }
 
 // Whether these revisions, oldest first, are the last one and what stands behind it.
@@ -24,7 +24,7 @@ fn is_path(alloc: Global, tree: &RevTree, line: &[RevId]) -> Result<bool, AllocE
 
 // The same, also where a growth of it is refused.
 fn has_line(alloc: Global, tree: &mut RevTree, line: &[RevId]) -> bool {
-    again_on(tree, |tree| is_path(alloc, tree, line)) == Some(true)
+    again_on!(tree, is_path(alloc, tree, line)) == Some(true)
 }
 
 // Makes so many edits, each on the last of the line, behind which it comes; false where one is not made, or
@@ -111,7 +111,7 @@ fn two_lines_of_many_edits(rt: HostRuntime) -> Result<(), Fail> {
     assert!(rt; grow(alloc, &mut tree, &mut live, false, 50));
     assert_eq!(rt; tree.len(), 411);
     assert_eq!(rt; tree.nodes(), 411);
-    let ends = again(|| ends(alloc, &tree));
+    let ends = again!(ends(alloc, &tree));
     assert_eq!(rt; ends, Some((live.last().copied(), dead.last().copied())));
     Ok(())
 }
@@ -139,7 +139,7 @@ fn take_the_second(
 // The same on the last of the line, behind which the second comes; false where it is not made.
 fn goes_on(alloc: Global, tree: &mut RevTree, line: &mut Vec<RevId>) -> bool {
     let last = line.last().copied();
-    match again_on(tree, |tree| take_the_second(alloc, tree, last)) {
+    match again_on!(tree, take_the_second(alloc, tree, last)) {
         Some((first, second)) => first != second && line.push(second).is_ok(),
         None => false,
     }

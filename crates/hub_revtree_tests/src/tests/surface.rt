@@ -62,7 +62,7 @@ fn looks_change_nothing(rt: HostRuntime) {
     let alloc = rt.alloc();
     let mut tree = RevTree::new(alloc);
     for (text, takes, wanted, count) in LOOKS {
-        let found = again_on(&mut tree, |tree| try_look(alloc, tree, text, *takes));
+        let found = again_on!(&tree, try_look(alloc, &mut tree, text, *takes));
         let wanted = match wanted {
             Ok(Some(rev)) => Ok(RevId::read(rev)),
             Ok(None) => Ok(None),
@@ -118,11 +118,11 @@ fn winners_with_their_members(rt: HostRuntime) {
     let alloc = rt.alloc();
     let mut tree = RevTree::new(alloc);
     assert!(rt; tree.is_empty() && !tree.is_deleted() && tree.winner_body().is_none());
-    assert_eq!(rt; again(|| alone(alloc, &tree)), Some((0, None)));
+    assert_eq!(rt; again!(alone(alloc, &tree)), Some((0, None)));
     for (text, (rev, deleted, members, _)) in EDITS {
         assert_eq!(rt; merge(alloc, &mut tree, text), Some(ADDED), "{text}");
         assert_eq!(rt;
-            again(|| alone(alloc, &tree)),
+            again!(alone(alloc, &tree)),
             Some((1, RevId::read(rev))),
             "{text}"
         );

@@ -102,8 +102,8 @@ fn a_note_tells<R: Wait>(rt: &R, alloc: Global) -> Result<bool, AllocError> {
 
 #[test]
 fn feeds_of_any_host_are_told_of_changes(rt: HostRuntime) -> Result<(), Fail> {
-    assert!(rt; again(|| a_write_tells(&rt, rt.alloc()))?);
-    assert!(rt; again(|| a_note_tells(&rt, rt.alloc()))?);
+    assert!(rt; again!(a_write_tells(&rt, rt.alloc()))?);
+    assert!(rt; again!(a_note_tells(&rt, rt.alloc()))?);
     Ok(())
 }
 
@@ -147,7 +147,7 @@ fn follow<R: Wait>(
 fn hands_three<R: Wait>(rt: &R, alloc: Global, db: &Db<Plain>) -> Result<bool, AllocError> {
     let mut last = 0u64;
     for _ in 0..2 {
-        let mut feed = again(|| follow(rt, alloc, db, last))?;
+        let mut feed = again!(follow(rt, alloc, db, last))?;
         let is_so = takes_rows(rt, &mut feed, &mut last);
         let is_over = feed.is_over();
         drop(feed.finish(rt));
@@ -160,7 +160,7 @@ fn hands_three<R: Wait>(rt: &R, alloc: Global, db: &Db<Plain>) -> Result<bool, A
 
 #[test]
 fn rows_go_on_behind_a_feed_without_memory(rt: HostRuntime) -> Result<(), Fail> {
-    let db = again(|| with_three(&rt, rt.alloc()))?;
+    let db = again!(with_three(&rt, rt.alloc()))?;
     assert!(rt; hands_three(&rt, rt.alloc(), &db)?);
     Ok(())
 }

@@ -36,8 +36,8 @@ fn edits(alloc: Global, state: &DbState) -> Result<Option<u64>, DbFault> {
 
 fn a_lent_database_answers(alloc: Global, database: &mut Database) -> Result<bool, Fail> {
     let _receipts = write(alloc, database, &THREE)?;
-    let found = again(|| winner(alloc, database.state(), "b"))? == RevId::read("1-b");
-    let none = again(|| winner(alloc, database.state(), "d"))?.is_none();
+    let found = again!(winner(alloc, database.state(), "b"))? == RevId::read("1-b");
+    let none = again!(winner(alloc, database.state(), "d"))?.is_none();
     let counted = edits(alloc, database.state()) == Ok(Some(3));
     database.delete()?;
     let deleted = edits(alloc, database.state()) == Err(DbFault::Refused(Fault::Deleted));
@@ -100,7 +100,7 @@ fn a_log_hands_a_note<R: Wait>(rt: &R, alloc: Global) -> Result<bool, AllocError
 
 #[test]
 fn notes_go_under_a_lock(rt: HostRuntime) -> Result<(), Fail> {
-    assert!(rt; again(|| a_log_hands_a_note(&rt, rt.alloc()))?);
+    assert!(rt; again!(a_log_hands_a_note(&rt, rt.alloc()))?);
     Ok(())
 }
 
@@ -183,6 +183,6 @@ fn both_hand<R: Wait>(rt: &R, alloc: Global) -> Result<bool, AllocError> {
 
 #[test]
 fn feeds_of_any_host_are_handed(rt: HostRuntime) -> Result<(), Fail> {
-    assert!(rt; again(|| both_hand(&rt, rt.alloc()))?);
+    assert!(rt; again!(both_hand(&rt, rt.alloc()))?);
     Ok(())
 }

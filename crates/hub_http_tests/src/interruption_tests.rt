@@ -1,5 +1,5 @@
 use crate::made_again::{again, next_of};
-use crate::{HttpFault, Input, IoFault, Output, Request, Requests, Tally, send, write_all};
+use hub_http::{HttpFault, Input, IoFault, Output, Request, Requests, Tally, send, write_all};
 use std::alloc::Global;
 use std::io;
 use std::io::{ErrorKind, Read, Write};
@@ -86,7 +86,7 @@ fn read_two(alloc: Global, times: u32) -> Result<(Vec<Request>, u64), Fail> {
             times,
         }),
     );
-    let mut found = again(|| Vec::with_capacity(alloc, 2))?;
+    let mut found = again!(Vec::with_capacity(alloc, 2))?;
     for _ in 0..2 {
         match next_of(&mut requests)? {
             Some(request) => found.push(request)?,

@@ -1,5 +1,5 @@
 use crate::made_again::again;
-use crate::{Handed, Outbox, Output, write_vec};
+use hub_http::{Handed, Outbox, Output, write_vec};
 use std::alloc::{AllocError, Global};
 use std::io;
 use std::io::{ErrorKind, Write};
@@ -15,7 +15,7 @@ struct Slow {
 impl Slow {
     /// Room for so many bytes, of which none is taken.
     fn new(alloc: Global, room: usize) -> Result<Slow, AllocError> {
-        let held = again(|| Vec::with_capacity(alloc, room))?;
+        let held = again!(Vec::with_capacity(alloc, room))?;
         Ok(Slow { held, full: false })
     }
 }
@@ -38,8 +38,8 @@ impl Write for Slow {
 
 /// An outbox to which two texts were written, with a vector between them.
 fn three_texts(alloc: Global) -> Result<Outbox, Fail> {
-    let vector = again(|| Vec::from_slice(alloc, b"defgh"))?;
-    let mut outbox = again(|| Outbox::new(alloc))?;
+    let vector = again!(Vec::from_slice(alloc, b"defgh"))?;
+    let mut outbox = again!(Outbox::new(alloc))?;
     outbox.write(b"abc")?;
     write_vec(&mut outbox, vector)?;
     if outbox.write(b"ij").is_err() {

@@ -1,5 +1,5 @@
 use crate::made_again::again;
-use crate::{Input, Output, Tally};
+use hub_http::{Input, Output, Tally};
 use std::alloc::Global;
 use std::io;
 use std::process::Abort;
@@ -39,7 +39,7 @@ fn written(alloc: Global) -> io::Result<(usize, Tally<Vec<u8>>)> {
 #[test]
 fn writes_memory(rt: HostRuntime) -> Result<(), Fail> {
     let alloc = rt.alloc();
-    let (count, output) = again(|| written(alloc))?;
+    let (count, output) = again!(written(alloc))?;
     assert_eq!(rt; (count, Output::faults(&output)), (3, 0));
     let held = output.into_inner();
     assert_eq!(rt; held.as_slice(), b"abc".as_slice());

@@ -1,7 +1,5 @@
-use crate::block::Block;
 use crate::made_again::{again, next_of};
-use crate::requests::fill;
-use crate::{HttpFault, Input, Request, Requests, Tally};
+use hub_http::{HttpFault, Input, Request, Requests, Tally};
 use std::alloc::{AllocError, Global};
 use std::io;
 use std::io::{ErrorKind, Read};
@@ -47,7 +45,7 @@ const MOST: usize = 8;
 /// The requests of a text, and why no more came.
 fn read_all(alloc: Global, text: &[u8]) -> (Vec<Request>, Option<HttpFault>) {
     let mut requests = Requests::new(alloc, Tally::new(text));
-    let Ok(mut out) = again(|| Vec::with_capacity(alloc, MOST)) else {
+    let Ok(mut out) = again!(Vec::with_capacity(alloc, MOST)) else {
         return (Vec::new(alloc), Some(HttpFault::NoMemory));
     };
     for _ in 0..MOST {
@@ -301,7 +299,7 @@ const LIMITS: &[(usize, usize, usize, Option<HttpFault>)] = &[
 fn limits_of_heads(rt: HostRuntime) -> Result<(), Fail> {
     let alloc = rt.alloc();
     for (fields, len, count, end) in LIMITS {
-        let text = again(|| head_of(alloc, *fields, *len))?;
+        let text = again!(head_of(alloc, *fields, *len))?;
         has_outcome(&rt, alloc, text.as_slice(), *count, *end);
     }
     Ok(())
@@ -318,7 +316,7 @@ const PARTS: &[(usize, HttpFault)] = &[
 fn parts_of_a_long_head(rt: HostRuntime) -> Result<(), Fail> {
     let alloc = rt.alloc();
     for (len, fault) in PARTS {
-        let mut text = again(|| head_of(alloc, 1, 20_000))?;
+        let mut text = again!(head_of(alloc, 1, 20_000))?;
         text.truncate(*len);
         has_outcome(&rt, alloc, text.as_slice(), 0, Some(*fault));
     }
@@ -394,10 +392,14 @@ fn body_of(alloc: Global, len: usize) -> Result<Vec<u8>, AllocError> {
     Ok(body)
 }
 
+/// A head that announces a body of so many bytes.
+fn put_head(alloc: Global, announced: usize) -> Result<String, AllocError> {
+    format!(in alloc; "PUT / HTTP/1.1\r\nContent-Length: {announced}\r\n\r\n")
+}
+
 /// A request with this body, and one with a short body behind it.
 fn with_body(alloc: Global, body: &[u8]) -> Result<Vec<u8>, AllocError> {
-    let len = body.len();
-    let head = format!(in alloc; "PUT / HTTP/1.1\r\nContent-Length: {len}\r\n\r\n")?;
+    let head = put_head(alloc, body.len())?;
     let mut text = Vec::new(alloc);
     text.extend_from_slice(head.as_bytes())?;
     text.extend_from_slice(body)?;
@@ -417,52 +419,53 @@ fn reads_both(rt: &impl Abort, alloc: Global, text: &[u8], body: &[u8]) {
 fn long_bodies(rt: HostRuntime) -> Result<(), Fail> {
     let alloc = rt.alloc();
     for len in [4095, 4096, 4097, 10_000] {
-        let body = again(|| body_of(alloc, len))?;
-        let text = again(|| with_body(alloc, body.as_slice()))?;
+        let body = again!(body_of(alloc, len))?;
+        let text = again!(with_body(alloc, body.as_slice()))?;
         reads_both(&rt, alloc, text.as_slice(), body.as_slice());
     }
     Ok(())
 }
 
-/// So many bytes are announced and come, and for so many there is room then.
-const ROOM: &[(usize, usize, usize)] = &[
-    (8_388_608, 3, 65_536),
-    (8_388_608, 65_537, 131_072),
-    (8_388_608, 100_000, 131_072),
-    (100_000, 100_000, 100_000),
-    (100_000, 70_000, 100_000),
-    (5000, 5000, 5000),
-    (5000, 1, 5000),
-];
-
-/// There is so much room where so many bytes are announced and these come.
-fn has_room(
-    rt: &impl Abort,
-    alloc: Global,
-    wanted: usize,
-    come: &[u8],
-    room: usize,
-) -> Result<(), Fail> {
-    let mut reader = Tally::new(come);
-    let mut block = Block::new();
-    let mut held = Vec::new(alloc);
-    let full = match fill(&mut reader, &mut block, &mut held, wanted) {
-        Err(HttpFault::NoMemory) => fill(&mut reader, &mut block, &mut held, wanted)?,
-        full => full?,
-    };
-    assert_eq!(rt;
-        (full, held.len(), held.capacity()),
-        (come.len() == wanted, come.len(), room)
-    );
-    Ok(())
+/// What comes of a request, of whose body so many bytes are announced and come.
+fn what_came(alloc: Global, announced: usize, come: usize) -> Result<Vec<u8>, AllocError> {
+    let body = body_of(alloc, come)?;
+    let head = put_head(alloc, announced)?;
+    let mut text = Vec::new(alloc);
+    text.extend_from_slice(head.as_bytes())?;
+    text.extend_from_slice(body.as_slice())?;
+    Ok(text)
 }
 
+/// So many bytes of a body are announced and come.
+const ROOM: &[(usize, usize)] = &[
+    (8_388_608, 3),
+    (8_388_608, 65_537),
+    (8_388_608, 100_000),
+    (100_000, 100_000),
+    (100_000, 70_000),
+    (5000, 5000),
+    (5000, 1),
+];
+
+/// The one request of a text has a body of so many bytes, in room for the text and no more.
+fn has_room(rt: &impl Abort, alloc: Global, text: &[u8], len: usize) {
+    let (requests, end) = read_all(alloc, text);
+    assert_eq!(rt; (requests.len(), end), (1, None), "{len}");
+    let body = &requests[0].body;
+    assert_eq!(rt; (body.len(), body.capacity()), (len, text.len()));
+}
+
+/// A body that is not whole is none. A long one keeps the room that it came into, which is its request's.
 #[test]
 fn room_for_what_came(rt: HostRuntime) -> Result<(), Fail> {
     let alloc = rt.alloc();
-    for (wanted, come, room) in ROOM {
-        let text = again(|| body_of(alloc, *come))?;
-        has_room(&rt, alloc, *wanted, text.as_slice(), *room)?;
+    for (announced, come) in ROOM {
+        let text = again!(what_came(alloc, *announced, *come))?;
+        if come == announced {
+            has_room(&rt, alloc, text.as_slice(), *come);
+        } else {
+            has_outcome(&rt, alloc, text.as_slice(), 0, Some(HttpFault::Ended));
+        }
     }
     Ok(())
 }

@@ -1,10 +1,10 @@
 use crate::made_again::again;
-use crate::{
+use http::StatusCode;
+use hub_document::{ChangeRow, Changes, Doc, DocFault, RevId, Revisions};
+use hub_http::{
     ChunkFault, ChunkWriter, Refusal, Reply, Tally, feed_head, item_text, no_memory_text,
     reply_bytes, stream_head_text,
 };
-use http::StatusCode;
-use hub_document::{ChangeRow, Changes, Doc, DocFault, RevId, Revisions};
 use hub_model::{Fault, Item, Mode};
 use std::alloc::{AllocError, Global};
 use std::process::Abort;
@@ -223,7 +223,7 @@ fn is_sent(
     (head_only, close): (bool, bool),
     expected: &str,
 ) -> Result<(), Fail> {
-    let bytes = again(|| reply_bytes(alloc, reply, head_only, close))?;
+    let bytes = again!(reply_bytes(alloc, reply, head_only, close))?;
     assert_eq!(rt; bytes.as_slice(), expected.as_bytes());
     Ok(())
 }
@@ -245,7 +245,7 @@ fn refusal_text(
 fn refusals(rt: HostRuntime) -> Result<(), Fail> {
     let alloc = rt.alloc();
     for (refusal, status, error, reason) in REFUSALS {
-        let text = again(|| refusal_text(alloc, status, error, reason))?;
+        let text = again!(refusal_text(alloc, status, error, reason))?;
         let reply = Reply::Refused(*refusal);
         is_sent(&rt, alloc, &reply, (false, false), text.as_str())?;
     }
@@ -274,7 +274,7 @@ fn a_whole_reply(rt: HostRuntime) -> Result<(), Fail> {
         "\n"
     );
     let alloc = rt.alloc();
-    let done = again(|| done(alloc))?;
+    let done = again!(done(alloc))?;
     is_sent(&rt, alloc, &done, (false, false), expected)
 }
 
@@ -285,7 +285,7 @@ fn a_head_alone_before_the_end(rt: HostRuntime) -> Result<(), Fail> {
         "Connection: close\r\n\r\n"
     );
     let alloc = rt.alloc();
-    let done = again(|| done(alloc))?;
+    let done = again!(done(alloc))?;
     is_sent(&rt, alloc, &done, (true, true), expected)
 }
 
@@ -396,15 +396,15 @@ fn is_shown(
     item: &Item<ChangeRow>,
     expected: &str,
 ) -> Result<(), Fail> {
-    let text = again(|| text_of(alloc, mode, rows_before, item))?;
+    let text = again!(text_of(alloc, mode, rows_before, item))?;
     assert_eq!(rt; text.as_slice(), expected.as_bytes());
     Ok(())
 }
 
 // The row of this text, behind the rows of the sequences before it in a normal feed.
 fn row_text(alloc: Global, seq: u64, text: &str) -> Result<Vec<u8>, Fail> {
-    let item = again(|| row(alloc, seq, text, None, false))?;
-    Ok(again(|| text_of(alloc, Mode::Normal, seq.saturating_sub(1), &item))?)
+    let item = again!(row(alloc, seq, text, None, false))?;
+    Ok(again!(text_of(alloc, Mode::Normal, seq.saturating_sub(1), &item))?)
 }
 
 // Each text as a chunk.
@@ -437,12 +437,9 @@ fn two_rows_in_chunks(alloc: Global) -> Result<Vec<u8>, Fail> {
         last_seq: 2,
         pending: 0,
     };
-    let end = again(|| text_of(alloc, Mode::Normal, 2, &end))?;
+    let end = again!(text_of(alloc, Mode::Normal, 2, &end))?;
     let (first, second, end) = (first.as_slice(), second.as_slice(), end.as_slice());
-    match four_chunks(alloc, head, first, second, end) {
-        Ok(sent) => Ok(sent),
-        Err(_) => Ok(four_chunks(alloc, head, first, second, end)?),
-    }
+    Ok(again!(four_chunks(alloc, head, first, second, end))?)
 }
 
 #[test]
@@ -477,9 +474,9 @@ fn two_chunks(alloc: Global, long: &[u8]) -> Result<Vec<u8>, AllocError> {
 #[test]
 fn chunks_of_one_digit_and_three(rt: HostRuntime) -> Result<(), Fail> {
     let alloc = rt.alloc();
-    let long = again(|| vec![in alloc; b'x'; 300])?;
-    let sent = again(|| chunked(alloc, &[b"abc", long.as_slice()]))?;
-    let expected = again(|| two_chunks(alloc, long.as_slice()))?;
+    let long = again!(vec![in alloc; b'x'; 300])?;
+    let sent = again!(chunked(alloc, &[b"abc", long.as_slice()]))?;
+    let expected = again!(two_chunks(alloc, long.as_slice()))?;
     assert_eq!(rt; sent.as_slice(), expected.as_slice());
     Ok(())
 }
@@ -489,7 +486,7 @@ fn a_row_with_an_odd_id_and_two_revisions(rt: HostRuntime) -> Result<(), Fail> {
     let alloc = rt.alloc();
     let text = r#"{"_id":"a\"\\\u0001\n\u00e9/","_rev":"1-Z9z"}"#;
     let more = RevId::read("65535-0");
-    let odd = again(|| row(alloc, 18446744073709551615, text, more, true))?;
+    let odd = again!(row(alloc, 18446744073709551615, text, more, true))?;
     let expected = concat!(
         r#"{"seq":"18446744073709551615-1","id":"a\"\\\u0001\n"#,
         "\u{e9}",
@@ -516,12 +513,12 @@ fn two_texts(
 fn the_greatest_sequence_of_the_greatest_life(rt: HostRuntime) -> Result<(), Fail> {
     let alloc = rt.alloc();
     let most = 18446744073709551615;
-    let greatest = again(|| row(alloc, most, r#"{"_id":"a","_rev":"1-a"}"#, None, false))?;
+    let greatest = again!(row(alloc, most, r#"{"_id":"a","_rev":"1-a"}"#, None, false))?;
     let end: Item<ChangeRow> = Item::End {
         last_seq: most,
         pending: 0,
     };
-    let out = again(|| two_texts(alloc, most, &greatest, &end))?;
+    let out = again!(two_texts(alloc, most, &greatest, &end))?;
     let expected = concat!(
         r#"{"seq":"18446744073709551615-18446744073709551615","id":"a","changes":[{"rev":"1-a"}]}"#,
         "\n",
@@ -574,9 +571,9 @@ fn is_row_with_doc(
     deleted: bool,
     expected: &str,
 ) -> Result<(), Fail> {
-    let item = again(|| row_with_doc(alloc, doc, deleted))?;
+    let item = again!(row_with_doc(alloc, doc, deleted))?;
     is_shown(rt, alloc, Mode::Normal, 0, &item, expected)?;
-    let line = again(|| format!(in alloc; "{expected}\n"))?;
+    let line = again!(format!(in alloc; "{expected}\n"))?;
     is_shown(rt, alloc, Mode::Continuous, 4, &item, line.as_str())
 }
 

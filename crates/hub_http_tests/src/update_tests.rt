@@ -1,6 +1,6 @@
 use crate::made_again::again;
-use crate::{RowText, item_text};
 use hub_document::UpdateRow;
+use hub_http::{RowText, item_text};
 use hub_model::{Item, Mode, UpdateKind};
 use std::alloc::{AllocError, Global};
 use std::process::Abort;
@@ -72,8 +72,8 @@ fn is_shown(
     item: &Item<UpdateRow>,
     expected: &str,
 ) -> Result<(), Fail> {
-    let text = again(|| text_behind(alloc, b"held", mode, rows_before, item))?;
-    let expected = again(|| format!(in alloc; "held{expected}"))?;
+    let text = again!(text_behind(alloc, b"held", mode, rows_before, item))?;
+    let expected = again!(format!(in alloc; "held{expected}"))?;
     assert_eq!(rt; text.as_slice(), expected.as_bytes());
     Ok(())
 }
@@ -83,13 +83,13 @@ fn rows_of_updates_by_mode(rt: HostRuntime) -> Result<(), Fail> {
     let alloc = rt.alloc();
     for (name, kind, seq, object) in ROWS {
         let row = Item::Row(UpdateRow {
-            db_name: again(|| name.to_string(alloc))?,
+            db_name: again!(name.to_string(alloc))?,
             kind: *kind,
             seq: *seq,
             seen: 0,
         });
         for (mode, rows_before, before, behind) in PLACES {
-            let expected = again(|| format!(in alloc; "{before}{object}{behind}"))?;
+            let expected = again!(format!(in alloc; "{before}{object}{behind}"))?;
             is_shown(&rt, alloc, *mode, *rows_before, &row, expected.as_str())?;
         }
     }

@@ -3,17 +3,18 @@
 //! Any one growth of a test may be refused. The call that met it says so, and made again it has the answer
 //! that it has with ample memory.
 
-use crate::{HttpFault, Input, Request, Requests};
+use hub_http::{HttpFault, Input, Request, Requests};
 
 /// What a call gives, made again where it fails.
-pub(crate) fn again<T: Drop, E: Drop, F: Fn() -> Result<T, E>>(call: F) -> Result<T, E>
-    requires { F.IsAlwaysCallable call }
-{
-    match call() {
-        Ok(found) => Ok(found),
-        Err(_) => call(),
-    }
+macro_rules! again {
+    ($call:expr) => {
+        match $call {
+            Ok(found) => Ok(found),
+            Err(_) => $call,
+        }
+    };
 }
+pub(crate) use again;
 
 /// The next request, asked for again where it finds no memory: no byte is lost.
 pub(crate) fn next_of<R: Input>(requests: &mut Requests<R>) -> Result<Option<Request>, HttpFault> {

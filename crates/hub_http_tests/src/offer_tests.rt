@@ -1,5 +1,5 @@
 use crate::made_again::again;
-use crate::{HttpFault, Inbox, Next};
+use hub_http::{HttpFault, Inbox, Next};
 use std::alloc::Global;
 use std::test::Fail;
 
@@ -54,7 +54,7 @@ fn taken(inbox: &mut Inbox, most: usize) -> Result<usize, HttpFault> {
 fn one_byte_an_offer(rt: HostRuntime) -> Result<(), Fail> {
     let alloc = rt.alloc();
     let mut inbox = Inbox::new(alloc);
-    let mut found = again(|| Vec::with_capacity(alloc, 2))?;
+    let mut found = again!(Vec::with_capacity(alloc, 2))?;
     let mut waits = 0usize;
     for byte in TEXT {
         offer(&mut inbox, &[*byte])?;
@@ -123,7 +123,7 @@ fn faults_of_heads(rt: HostRuntime) -> Result<(), Fail> {
         assert_eq!(rt; found, Some(*fault));
     }
     for (count, expected) in [(16_383, None), (16_384, Some(HttpFault::HeadTooLong))] {
-        let long = again(|| Vec::from_elem(alloc, b'a', count))?;
+        let long = again!(Vec::from_elem(alloc, b'a', count))?;
         assert_eq!(rt; fault_of(alloc, long.as_slice())?, expected);
     }
     Ok(())
@@ -133,7 +133,7 @@ fn faults_of_heads(rt: HostRuntime) -> Result<(), Fail> {
 #[test]
 fn a_long_body(rt: HostRuntime) -> Result<(), Fail> {
     let alloc = rt.alloc();
-    let body = again(|| Vec::from_elem(alloc, b'x', 70_000))?;
+    let body = again!(Vec::from_elem(alloc, b'x', 70_000))?;
     let mut inbox = offered(alloc, b"PUT /d HTTP/1.1\r\nContent-Length: 70000\r\n\r\n")?;
     for part in body.chunks(4_096) {
         assert!(rt; matches!(next_of(&mut inbox)?, Next::NotYet));
