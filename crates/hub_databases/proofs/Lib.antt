@@ -1,3 +1,2 @@
-mod FaultLemmas
 mod NameLemmas
 mod StoredLemmas

@@ -17,8 +17,7 @@ pub struct Limits {
     /// The feeds of a database that are not finished: 1,024. Read where one is opened
     /// (`DbState::open_feed`).
     pub feeds: u64,
-    /// The items that wait for a feed's subscriber: 64. Read where its lane is made (`Locked::begin`,
-    /// `World::apply`).
+    /// The items that wait for a feed's subscriber: 64. Read where its lane is made (`Locked::begin`).
     pub lane: u64,
     /// The items that a feed is handed in one holding of the lock: 64. Read where it is handed
     /// (`hub_shared`).

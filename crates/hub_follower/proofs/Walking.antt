@@ -1,5 +1,5 @@
 -- How a follower goes from call to call.
-use Rattle.std.proofs.Common.{◌≡◌, ◌∙◌, ◌+◌, ◌≤◌, ◌⊎◌, inl, inr, refl, sym, ap, subst}
+use Rattle.std.proofs.Common.{◌≡◌, ◌∙◌, ◌+◌, ◌≤◌, ◌⊎◌, inl, inr, refl, sym, subst}
 use Rattle.std.proofs.Common.{⊎_elim, arith, List, [], ◌∷◌, ◌++◌, length, map, Bool}
 use Rattle.std.proofs.Common.{true, false, Option, Some, None, Result, Ok, Err}
 use Rattle.std.specs.Prelude.{OnErr, IfErr}
@@ -13,14 +13,6 @@ use Rattle.hub_follow_model.specs.declared.seq.Seq.{Seq}
 use Rattle.hub_follower.specs.Peers.{Gives, Fails, Standing, Steps, FailsSo, Breaks, Walks}
 use Rattle.hub_follower.specs.Peers.{Reaches, HasCountedCalls, IsPastAsking, calls_left, Idles}
 use Rattle.hub_follower.specs.declared.fault.FollowFault.{FollowFault}
-
--- a failed follower owes nothing
-pub failed_free : (core : follow.Follower) → world.is_free (follow.after_failure core) ≡ true
-failed_free follow.Down = refl
-failed_free (follow.SourceStart name) = refl
-failed_free (follow.TargetStart name source) = refl
-failed_free (follow.Ready s) = refl
-failed_free (follow.Busy s work) = refl
 
 -- a round that fails leaves a follower that owes nothing as it was
 pub round_fails : (core : follow.Follower) → world.is_free core ≡ true
@@ -220,9 +212,6 @@ module _ {S T : Type 0} (gives_s : Gives S) (gives_t : Gives T) where
 
       pub reach_fails : new.follower ≡ follow.after_failure old.follower
       reach_fails = p.2 ∙ owing_left p.0 p.1
-
-      pub reach_rests : world.is_free new.follower ≡ true
-      reach_rests = ap world.is_free p.2 ∙ failed_free mid.follower
 
 -- what holds in every case holds where it failed
 pub on_err : {T E : Type 0} (r : Result T E) (P : Type 0) → P → OnErr r P

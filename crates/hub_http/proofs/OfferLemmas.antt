@@ -1,18 +1,15 @@
 -- What the bytes that came so far spell, and what more bytes behind them change.
-use Rattle.std.proofs.Common.{◌≡◌, ℕ, ◌+◌, ◌<◌, ◌≤◌, Bool, List, [], ◌∷◌, ◌++◌, length}
+use Rattle.std.proofs.Common.{◌≡◌, ℕ, ◌+◌, ◌<◌, ◌≤◌, List, [], ◌∷◌, ◌++◌, length}
 use Rattle.std.proofs.Common.{take, drop, Option, Some, None, Ok, is_some, unwrap_or}
 use Rattle.std.proofs.Common.{sym, ap, subst, ◌∙◌, append_assoc, append-nil, arith}
 use Rattle.std.proofs.lemmas.Grind.{common_steps}
 use Rattle.httparse.specs.Grammar.{RequestHead, print_request}
 use Rattle.httparse.proofs.GrammarLemmas.{ReadsRequest-append}
-use Rattle.hub_http.specs.declared.fault.HttpFault.{HttpFault}
-use Rattle.hub_http.specs.declared.fault.HttpFault.TheVariants.{NoMemory, BadHead, HeadTooLong, BodyTooLong}
-use Rattle.hub_http.specs.declared.fault.HttpFault.TheVariants.{Version, Coding, Ended, IoFault}
 use Rattle.hub_http.specs.declared.head.Head.{Head}
 use Rattle.hub_http.specs.declared.request.Request.{Request}
 use Rattle.hub_http.specs.Heads.{length_by}
-use Rattle.hub_http.specs.Looking.{IsHeadAt, LookFaults}
-use Rattle.hub_http.specs.Offers.{FaultsSoFar, SpellsAll}
+use Rattle.hub_http.specs.Looking.{IsHeadAt}
+use Rattle.hub_http.specs.Offers.{SpellsAll}
 use Rattle.hub_http.specs.Stream.{Asked, asked_by, Spells, IsCut}
 use Rattle.hub_http.proofs.RequestLemmas.{spelled}
 
@@ -46,18 +43,6 @@ pub all_more : (all : List Asked) (bytes rest more : List ℕ) → SpellsAll byt
 all_more [] bytes rest more s = ap (λ l. l ++ more) s
 all_more (asked ∷ all) bytes rest more s =
     (s.0 ++ more, spells_more bytes asked s.0 more s.1, all_more all s.0 rest more s.2)
-
--- a fault of looking for a head is one of the bytes that came
-pub look_faults_so_far : (over : Bool) (bytes : List ℕ) (fault : HttpFault) → LookFaults bytes fault
-    → FaultsSoFar over bytes fault
-look_faults_so_far over bytes NoMemory f = f
-look_faults_so_far over bytes BadHead f = f
-look_faults_so_far over bytes HeadTooLong f = f
-look_faults_so_far over bytes BodyTooLong f = f
-look_faults_so_far over bytes Version f = f
-look_faults_so_far over bytes Coding f = f
-look_faults_so_far over bytes Ended f = absurd f
-look_faults_so_far over bytes IoFault f = absurd f
 
 -- a head has its bytes
 head_within : (bytes : List ℕ) (head : Head) (other : RequestHead) → IsHeadAt bytes head other

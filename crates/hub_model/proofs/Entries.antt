@@ -242,18 +242,6 @@ pub without_absent : {A : Type 0} (number : ℕ) (entries : List (ℕ × A)) →
     → without number entries ≡ entries
 without_absent number entries none = others_kept number entries (none_of number entries none)
 
--- an entry that stays changes nothing
-pub changed_same : {A : Type 0} (number : ℕ) (entries : List (ℕ × A))
-    → changed number (λ a. a) entries ≡ entries
-changed_same number [] = refl
-changed_same {A = A} number (p ∷ entries) = from (is_of number p) (changed_same number entries)
-  where
-    from : (b : Bool) → changed number (λ a. a) entries ≡ entries
-        → ◌≡◌ {A = List (ℕ × A)}
-        ((if b then (p.0, p.1) else p) ∷ changed number (λ a. a) entries) (p ∷ entries)
-    from true e = ap (λ (ps : List (ℕ × A)). p ∷ ps) e
-    from false e = ap (λ (ps : List (ℕ × A)). p ∷ ps) e
-
 -- that of this number, and those of others, once it is changed, goes or comes
 module _ {A : Type 0} (id : ℕ) where
   pub own_changed : (change : A → A) (entries : List (ℕ × A))

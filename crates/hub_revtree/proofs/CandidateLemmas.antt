@@ -183,17 +183,6 @@ below_bound candidate (other ∷ candidates) u y c = elim (contains_cases other 
 
 -- ---- they stay candidates
 
--- of no branch
-pub none_looked_at : (branches : List Branch) (candidates : Candidates)
-    → IsHeap candidate_cmp (items candidates) → items candidates ≡ []
-    → candidates.count ≡ 0 → AreCandidates branches candidates
-none_looked_at branches candidates ordered empty none = record {
-  ordered = ordered;
-  within = omega (arith, none);
-  heads = λ x i. absurd (contains_none x (subst (λ z. Contains z x) empty i));
-  whole = λ k w low h leads. absurd (omega (arith, none, low));
-}
-
 -- one branch more, which was not looked at
 pub branch_more : (branches : List Branch) (branch : Branch) (candidates : Candidates)
     → AreCandidates branches candidates → AreCandidates (branches ++ branch ∷ []) candidates

@@ -186,11 +186,6 @@ looked_found {A} gives found needs r (inr is) finds fails =
 
 -- ---- writing
 
--- an edit that some database stored
-pub edited_by : {counts : Bool} {all_parts : ℕ} {h : HandleState} (doc : Doc) (edited : Edited)
-    → IsEditedBy counts all_parts h doc (Ok edited.rev) → IsEdited doc (Ok edited)
-edited_by doc edited is = record { db = is.db; legal = is.found.legal; held = is.answered }
-
 -- and one that it did not
 pub unedited_by : {counts : Bool} {all_parts : ℕ} {h : HandleState} (doc : Doc) (e : DbFault)
     → (e ≡ db_fault.NoMemory) ⊎ IsEditedBy counts all_parts h doc (Err e)

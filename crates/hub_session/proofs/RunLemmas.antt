@@ -34,7 +34,7 @@ use Rattle.hub_session.specs.Feeds.{sent_text, is_broken as stream_breaks, rows_
 use Rattle.hub_session.specs.Items.{rows_after}
 use Rattle.hub_session.specs.Replies.{fault_text}
 use Rattle.hub_session.specs.Rules.{Rules, moment}
-use Rattle.hub_session.specs.Runs.{Run, new_run, with_gone, with_offered, Seen, Steps, IsOfEnd}
+use Rattle.hub_session.specs.Runs.{Run, new_run, with_offered, Seen, Steps, IsOfEnd}
 use Rattle.hub_session.specs.Runs.{GivesUpAt, IsStepped, place_behind, IsBetween, IsWithin, HasDone, HasRun}
 use Rattle.hub_session.specs.Sessions.{Answers, Closes, Ending, Exchange, Goes, HasServed, IsServed}
 use Rattle.hub_session.specs.Sessions.{Session, Standing, after_answer, after_stream, breaks}
@@ -485,29 +485,6 @@ module _ {S : Type 0} (rules : Rules S) (run : Run S) where
       subst (HasRun rules (with_offered run behind)) (sym e)
       (done_offered rules run.start run.offered old.bytes old.over old.service
       (run.gone ++ old.pending) behind old.place awaited d)
-
-  done_over : (bytes : List ℕ) (over : Bool) (service : S) (text : List ℕ) (place : Place)
-      → HasDone rules run.start run.offered bytes over service text place
-      → HasDone rules run.start run.offered bytes true service text place
-  done_over bytes over service text Between d = d
-  done_over bytes over service text (Within sending close) d = d
-  done_over bytes over service text (Closed closing) d = (d.0, λ e. refl)
-
-  pub over_run : (old new : Seen S) → new ≡ record old { over = true } → HasRun rules run old
-      → HasRun rules run new
-  over_run old new e d =
-      subst (HasRun rules run) (sym e)
-      (done_over old.bytes old.over old.service (run.gone ++ old.pending) old.place d)
-
-  -- a front of what was to go went
-  pub gone_run : (old new : Seen S) (front : List ℕ) → new ≡ record old { pending = new.pending }
-      → old.pending ≡ front ++ new.pending → HasRun rules run old
-      → HasRun rules (with_gone run front) new
-  gone_run old new front e parts d =
-      let same : run.gone ++ old.pending ≡ (run.gone ++ front) ++ new.pending =
-      ap (λ l. run.gone ++ l) parts ∙ sym (append_assoc run.gone front new.pending) in
-      subst (HasRun rules (with_gone run front)) (sym e)
-      (subst (λ l. HasDone rules run.start run.offered old.bytes old.over old.service l old.place) same d)
 
   -- more bytes were offered, and more may come
   pub offered_so : (old : Seen S) (bytes : List ℕ) (over : Bool) (behind : List ℕ)

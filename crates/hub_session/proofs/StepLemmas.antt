@@ -1,6 +1,6 @@
 -- What one step of a session did.
 use Rattle.std.proofs.Common.{◌≡◌, ◌<◌, ◌≤◌, ◌⊎◌, ℕ, List, [], ◌++◌, Bool, true, false, length}
-use Rattle.std.proofs.Common.{Option, Some, None, Ok, Err, refl, sym, ap, subst, ◌∙◌, append-nil}
+use Rattle.std.proofs.Common.{Option, Some, None, Err, refl, sym, ap, subst, ◌∙◌, append-nil}
 use Rattle.std.proofs.Common.{inl, inr, arith}
 use Rattle.std.proofs.lemmas.Grind.{common_steps}
 use Rattle.std.specs.Io.KnownBytes.{Appends}
@@ -148,16 +148,6 @@ module _ {S : Type 0} (rules : Rules S) where
         same = service;
         written = sent;
       }))))
-
-  -- a row or a beat of a stream is to go
-  pub stepped_item : (sending : Sending) (rows : ℕ) (close : Bool) (old new : Seen S)
-      → old.place ≡ Within sending close
-      → new.place ≡ Within (record sending { rows = rows }) close → new.over ≡ old.over
-      → new.bytes ≡ old.bytes
-      → IsStreamed rules sending.mode sending.life 0 sending.rows (Ok rows) (moment_of old) (moment_of new)
-      → IsStepped rules old step.Served new
-  stepped_item sending rows close old new place later kept bytes h =
-      Steps.sends sending rows close place later refl kept bytes h
 
   -- the stream ended
   pub stepped_ends : (sending : Sending) (close : Bool) (end : StreamEnd) (next : Option Closing)

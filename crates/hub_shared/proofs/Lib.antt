@@ -5,7 +5,6 @@ pub mod Booking
 pub mod Storing
 pub mod Writing
 pub mod Auditing
-pub mod Finding
 pub mod Counting
 pub mod Outcomes
 pub mod Editing

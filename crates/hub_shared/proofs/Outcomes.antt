@@ -1,5 +1,5 @@
 -- What holds of what a call answers, by what is known of that.
-use Rattle.std.specs.Prelude.{Result, Ok, Err, IfOk, IfErr, OnErr, OnOk}
+use Rattle.std.specs.Prelude.{Result, Ok, Err, IfOk, IfErr, OnOk}
 
 module _ {T E : Type 0} where
   pub ok_by : {P Q : T → Type 0} (r : Result T E) → ((a : T) → P a → Q a) → IfOk r P → IfOk r Q
@@ -25,8 +25,3 @@ module _ {T E : Type 0} where
       → ((e : E) → W e → Z) → Z
   either_way (Ok a) x w f k = f x
   either_way (Err e) x w f k = k e w
-
-  -- the same of two facts
-  pub on_either : {X W Z : Type 0} (r : Result T E) → OnOk r X → OnErr r W → (X → Z) → (W → Z) → Z
-  on_either (Ok a) x w f k = f x
-  on_either (Err e) x w f k = k w

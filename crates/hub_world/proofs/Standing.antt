@@ -8,7 +8,6 @@ use Rattle.std.proofs.lemmas.List.Elements.{All-map, All-push, All-set}
 use Rattle.std.proofs.lemmas.Option.{none-some, same_Some, slice_get_within, get_or_from_slice_get}
 use Rattle.hub_database.proofs.ListLemmas.{set_back}
 use Rattle.hub_database.specs.Feeds.{deleted}
-use Rattle.hub_feed.specs.Feeds.{ended as ended_entry}
 use Rattle.hub_database.specs.Hosting.{hosted_of, with_hosted}
 use Rattle.hub_feed.specs.Host.{opened, is_full}
 use Rattle.hub_model.specs.Feed.{Feed, Params, Status, Open, Ending, Ended}
@@ -18,12 +17,13 @@ use Rattle.hub_model.specs.RightlyHanded.{ChangeItem}
 use Rattle.hub_world.specs.Core.{Core, Shows, IsEmptied}
 use Rattle.hub_model.specs.Entries.{entry_in, changed, without}
 use Rattle.hub_model.proofs.Entries.{without_absent}
-use Rattle.hub_world.specs.Lane.{Lanes, IsRising}
+use Rattle.hub_feed.specs.Feeds.{ended as ended_entry}
+use Rattle.hub_world.specs.Lane.{Lanes}
 use Rattle.hub_world.specs.World.{World, Subscription, is_finished, open_feeds, has_no_room, subscription}
 use Rattle.hub_world.specs.World.{with_subscription, lane_of, with_feed, expired, took, finished, ended}
 pub use Rattle.hub_model.proofs.Entries.{changed_same, changed_absent}
 use Rattle.hub_world.proofs.StandingLists.{shown, seen, looked, turned, left_out, added}
-use Rattle.hub_world.proofs.StandingLists.{counted, rising, ended_stands, all_ended}
+use Rattle.hub_world.proofs.StandingLists.{counted, ended_stands, all_ended}
 
 -- there is no feed, or it is finished
 abbrev pub IsGone : Option Subscription → Type 0
@@ -255,7 +255,3 @@ gone_takes core world f sh gone = from (subscription world f) refl gone
               ∙ ap (λ (subscriptions : List Subscription). record world { feeds = subscriptions })
               (set_back world.feeds f s q),
         )
-
--- numbers rise
-pub lanes_rise : (core : Core) (world : World) → Shows core world → IsRising core.lanes
-lanes_rise core world sh = subst IsRising sh.lanes (rising (λ s. s.lane) 0 world.feeds)

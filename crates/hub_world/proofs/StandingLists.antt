@@ -1,10 +1,9 @@
 -- Entries by number, and those of the feeds that are not finished.
 use Rattle.std.proofs.Common.{◌≡◌, ℕ, zero, suc, ◌+◌, ◌<◌, List, [], ◌∷◌, ◌++◌, length, map, Bool}
-use Rattle.std.proofs.Common.{true, false, not, ap, refl, sym, ◌∙◌, arith, inl, inr, AllPairs}
-use Rattle.std.specs.Prelude.{Option, Some, None, All, count_by, slice_get, slice_set, if◌then◌else◌}
+use Rattle.std.proofs.Common.{true, false, not, ap, refl, sym, ◌∙◌, arith, inl, inr}
+use Rattle.std.specs.Prelude.{Option, Some, None, count_by, slice_get, slice_set, if◌then◌else◌}
 use Rattle.std.proofs.lemmas.Bool.{cases_Bool, eq-eqb, ne_eqb}
 use Rattle.std.proofs.lemmas.Option.{none-some, same_Some}
-use Rattle.std.proofs.lemmas.List.Kept.{AllPairs-cons}
 use Rattle.std.proofs.lemmas.List.Sums.{sum_by-cons}
 use Rattle.hub_model.specs.Feed.{Status, Open, Ending, Ended, Finished, is_open}
 use Rattle.hub_world.specs.Core.{standing_from}
@@ -145,36 +144,6 @@ module _ {A : Type 0} (part : Subscription → A) where
           ≡ (if not b then 1 else 0) + count_by (λ t. not (is_finished t.feed.status)) subscriptions
       from true r = omega (arith, r)
       from false r = omega (arith, r)
-
-  -- every number is above what is below the first
-  all_above : (n m : ℕ) (subscriptions : List Subscription) → m < n
-      → All (λ (p : ℕ × A). m < p.0) (shown part n subscriptions)
-  all_above n m [] h = λ k d l. absurd (omega arith)
-  all_above n m (subscription ∷ subscriptions) h =
-      from (is_finished subscription.feed.status) (all_above (n + 1) m subscriptions (omega arith))
-    where
-      from : (b : Bool) → All (λ (p : ℕ × A). m < p.0) (shown part (n + 1) subscriptions)
-          → All (λ (p : ℕ × A). m < p.0) (entries b n subscription subscriptions)
-      from true r = r
-      from false r = cons
-        where
-          cons : All (λ (p : ℕ × A). m < p.0) ((n, part subscription) ∷ shown part (n + 1) subscriptions)
-          cons zero d l = h
-          cons (suc k) d l = r k d (omega arith)
-
-  -- and they rise
-  pub rising : (n : ℕ) (subscriptions : List Subscription)
-      → AllPairs (λ (a b : ℕ × A). a.0 < b.0) (shown part n subscriptions)
-  rising n [] = λ i j d a b. absurd (omega arith)
-  rising n (subscription ∷ subscriptions) =
-      from (is_finished subscription.feed.status) (rising (n + 1) subscriptions)
-    where
-      from : (b : Bool) → AllPairs (λ (a b : ℕ × A). a.0 < b.0) (shown part (n + 1) subscriptions)
-          → AllPairs (λ (a b : ℕ × A). a.0 < b.0) (entries b n subscription subscriptions)
-      from true r = r
-      from false r =
-          AllPairs-cons (λ (a b : ℕ × A). a.0 < b.0) (n, part subscription) (shown part (n + 1) subscriptions)
-          (all_above (n + 1) n subscriptions (omega arith)) r
 
 -- an open feed is not finished
 pub open_stands : (status : Status) → is_open status ≡ true → is_finished status ≡ false

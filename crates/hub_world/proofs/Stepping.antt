@@ -544,7 +544,3 @@ from_same old now new event reply e l = subst (λ c. Leads c event reply new) e 
 pub to_same : (old new now : Core) (event : Event) (reply : Reply) → new ≡ now → Leads old event reply new
     → Leads old event reply now
 to_same old new now event reply e l = subst (λ c. Leads old event reply c) e l
-
-pub still_shows : (old new : Core) (event : Event) (reply : Reply) → (other : World) × Shows old other
-    → Leads old event reply new → (other : World) × Shows new other
-still_shows old new event reply world l = let s = l world.0 world.1 in (s.0, s.2)
