@@ -23,6 +23,7 @@ use Rattle.std.proofs.lemmas.List.Elements.{All-contains, All-filter, All-weaker
 use Rattle.std.proofs.lemmas.List.Elements.{Contains-get_or, Contains-append_right, filter_passes}
 use Rattle.std.proofs.lemmas.List.Kept.{AllPairs-filter, AllPairs-cons}
 use Rattle.hub_model.proofs.Lists.{same_text}
+use Rattle.hub_model.proofs.Sorted.{gt_is}
 use Rattle.hub_model.proofs.Tests.{not_true}
 use Rattle.hub_index.specs.Order.{IsOrder, id_at, id_cmp, has_id, number_in, lies_below, with_number}
 use Rattle.hub_index.proofs.ListLemmas.{text_apart, text_same}
@@ -277,11 +278,6 @@ less_is Less h = refl
 less_is Equal h = absurd (cc)
 less_is Greater h = absurd (cc)
 
-greater_is : (ordering : Ordering) → is_gt ordering ≡ true → ordering ≡ Greater
-greater_is Less h = absurd (cc)
-greater_is Equal h = absurd (cc)
-greater_is Greater h = refl
-
 module _ (ids : List (List ℕ)) (numbers : List ℕ) (id : List ℕ) (n : ℕ) (order : IsOrder ids numbers)
     (next : n ≡ length ids) (new : number_in ids numbers id ≡ None) where
   same_at : (m : ℕ) → m < length ids → id_at (ids ++ id ∷ []) m ≡ id_at ids m
@@ -322,7 +318,7 @@ module _ (ids : List (List ℕ)) (numbers : List ℕ) (id : List ℕ) (n : ℕ) 
       All-filter q (λ m. has_id ids id m ≡ false) numbers (none_pass (has_id ids id) numbers new) k d l in (
         All-filter q (λ m. m < length ids) numbers order.known k d l,
         nat_list_cmp_total.antisymm id (id_at ids b)
-            ∙ ap ordering_reverse (greater_is (id_cmp ids id b) (above_else ids id b lies apart)),
+            ∙ ap ordering_reverse (gt_is (id_cmp ids id b) (above_else ids id b lies apart)),
       )
 
   before : (a : ℕ) → Low a → Rises (ids ++ id ∷ []) a n

@@ -10,7 +10,7 @@ use Rattle.std.proofs.lemmas.List.Elements.{Contains-append_left, Contains-push,
 use Rattle.std.proofs.lemmas.Option.{same_Some, slice_get_within}
 use Rattle.hex.specs.Hex.{encode_lower}
 use Rattle.hub_model.specs.Revision.{Revision}
-use Rattle.hub_model.specs.Path.{Falls, IsFirst, IsNext, IsPath}
+use Rattle.hub_model.specs.Path.{Falls, IsNext, IsPath}
 use Rattle.hub_model.specs.Journal.{Edit, IsAcceptable, IsBehind, IsKnown, IsLegal}
 use Rattle.hub_model.proofs.Legal.{legal_more}
 use Rattle.hub_model.proofs.Lists.{contains_none, contains_cases}
@@ -30,7 +30,8 @@ use Rattle.hub_revtree.proofs.MeetLemmas.{agree_front, dropped}
 use Rattle.hub_revtree.proofs.RunLemmas.{least}
 use Rattle.hub_revtree.proofs.StemLemmas.{IsNextStem, first_from, get_last, named_in}
 use Rattle.hub_revtree.proofs.StemLemmas.{one_stem_more, stems_more, take_more, within_rev}
-use Rattle.hub_revtree.proofs.TreeLemmas.{known_by}
+use Rattle.hub_revtree.proofs.StemLooks.{some_path}
+use Rattle.hub_revtree.proofs.TreeLemmas.{first_of, known_by}
 
 -- a front of a path falls
 pub take_falls : (n : ℕ) (revisions : List Revision) → n ≢ 0 → IsPath revisions → IsPath (take n revisions)
@@ -172,11 +173,6 @@ module _ (stems : List Stem) (a : AreStems stems) (legal : IsLegal (edits_in (br
   new_step revision other i =
       (nameless path deleted body, (Contains-push es (nameless path deleted body), refl), i)
 
-  first_of : (revisions : List Revision) (revision : Revision) → slice_get revisions 0 ≡ Some revision
-      → IsFirst revisions revision
-  first_of [] revision e = absurd (cc)
-  first_of (other ∷ revisions) revision e = same_Some other revision e
-
   -- what is left of the path is the front of the chain that it meets
   pub goes_on : (at : ℕ) (place : Place) → IsWithin stems place
       → slice_get path at ≡ rev_at stems (Some place)
@@ -205,10 +201,6 @@ module _ (stems : List Stem) (a : AreStems stems) (legal : IsLegal (edits_in (br
       let r = within_rev stems place w in
       ok.new r.0 (first_of path r.0 (subst (λ z. slice_get path z ≡ Some r.0) none (same ∙ r.1)))
       (known_is es [] r.0 (place_known stems a place r.0 r.1))
-
-  some_path : (revisions : List Revision) → IsPath revisions → 0 < length revisions
-  some_path [] f = absurd f
-  some_path (revision ∷ revisions) f = omega arith
 
   take_head : (n : ℕ) (revisions : List Revision) (revision : Revision)
       → slice_get (take n revisions) 0 ≡ Some revision → slice_get revisions 0 ≡ Some revision

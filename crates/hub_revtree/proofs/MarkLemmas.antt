@@ -30,7 +30,7 @@ use Rattle.hub_revtree.specs.Winner.{head_in}
 use Rattle.hub_revtree.proofs.HighestLemmas.{behind_is_lower}
 use Rattle.hub_revtree.proofs.RunLemmas.{dropped_one, get_some}
 use Rattle.hub_revtree.proofs.StemLemmas.{any_at, any_place, get_front, get_last, get_pushed}
-use Rattle.hub_revtree.proofs.StemLemmas.{get_taken, named_in, names_drop, within_stem}
+use Rattle.hub_revtree.proofs.StemLemmas.{get_taken, named_in, names_drop, or_assoc, within_stem}
 use Rattle.hub_revtree.proofs.StemLooks.{behind_in, first_named, first_there, head_at, some_path}
 
 -- ---- what is noted changes nothing else
@@ -266,10 +266,6 @@ indexed_same stems others (Some index) same i =
 either_or : (a b : Bool) → (a ≡ true → b ≡ true) → b ≡ (a || b)
 either_or true b h = h refl
 either_or false b h = refl
-
-or_assoc : (a b c : Bool) → ((a || b) || c) ≡ (a || (b || c))
-or_assoc true b c = refl
-or_assoc false b c = refl
 
 get_set : {A : Type 0} (xs : List A) (k : ℕ) (v : A) → k < length xs → slice_get (slice_set xs k v) k ≡ Some v
 get_set [] k v h = absurd (omega arith)

@@ -466,7 +466,7 @@ absorbed false true c h = refl
 absorbed false false true h = sym (h refl)
 absorbed false false false h = refl
 
-or_assoc : (a b c : Bool) → ((a || b) || c) ≡ (a || (b || c))
+pub or_assoc : (a b c : Bool) → ((a || b) || c) ≡ (a || (b || c))
 or_assoc true b c = refl
 or_assoc false b c = refl
 

@@ -5,8 +5,7 @@ use Rattle.std.proofs.Common.{ap, ap₂, ◌∙◌, subst, append-nil, append_as
 use Rattle.std.specs.Prelude.{Contains, Option, Some, None, slice_get, option_and_then, map}
 use Rattle.std.specs.List.{list_any}
 use Rattle.std.specs.Ordering.{is_gt}
-use Rattle.std.specs.declared.cmp.Ordering.{Ordering}
-use Rattle.std.specs.declared.cmp.Ordering.TheVariants.{Less, Equal, Greater}
+use Rattle.std.specs.declared.cmp.Ordering.TheVariants.{Less, Greater}
 use Rattle.std.proofs.Math.Seq.{take-append_seam}
 use Rattle.std.proofs.lemmas.Bool.{both_ways, cases_Bool}
 use Rattle.std.proofs.lemmas.List.{length-append, length-take, map-append}
@@ -20,7 +19,7 @@ use Rattle.hub_model.proofs.Drafts.{new_leaf, old_leaf}
 use Rattle.hub_model.proofs.Legal.{first_in, holds_more}
 use Rattle.hub_model.proofs.Lists.{contains_cases, contains_here, contains_none}
 use Rattle.hub_model.proofs.Order.{order_back, order_flip, order_total}
-use Rattle.hub_model.proofs.Sorted.{mark_is, winner_is}
+use Rattle.hub_model.proofs.Sorted.{gt_is, mark_is, winner_is}
 use Rattle.hub_model.proofs.Tests.{is_named}
 use Rattle.hub_revtree.specs.declared.leaf.Winner.{Winner}
 use Rattle.hub_revtree.specs.Branch.{Branch, earlier_branches, edit_of, edits_in}
@@ -28,7 +27,7 @@ use Rattle.hub_revtree.specs.Tree.{IsRevTree}
 use Rattle.hub_revtree.specs.Winner.{HasWinner, head_in, is_better_than, winner_of}
 use Rattle.hub_revtree.proofs.LeafLemmas.{head_there}
 use Rattle.hub_revtree.proofs.StemLemmas.{any_at, get_taken, split_at}
-use Rattle.hub_revtree.proofs.TreeLemmas.{none_wins, rev_tree, wins}
+use Rattle.hub_revtree.proofs.TreeLemmas.{first_of, none_wins, rev_tree, wins}
 
 abbrev leaf_as : Revision → Bool → Winner
 leaf_as revision d = record { rev = revision; deleted = d }
@@ -36,11 +35,6 @@ leaf_as revision d = record { rev = revision; deleted = d }
 -- a leaf as one of a list
 abbrev leaf_in : Revision → Bool → Leaf
 leaf_in revision d = record { rev = revision; edit = record { id = []; path = []; deleted = d; body = [] } }
-
-gt_is : (ordering : Ordering) → is_gt ordering ≡ true → ordering ≡ Greater
-gt_is Less e = absurd (cc)
-gt_is Equal e = absurd (cc)
-gt_is Greater e = refl
 
 not_below_itself : (d : Bool) (revision : Revision) → leaf_cmp d revision d revision ≢ Less
 not_below_itself d revision t =
@@ -194,11 +188,6 @@ module _ (other_journal : List Edit) (tree : IsRevTree other_journal) (edit : Ed
             let f : names revisions winner.rev ≡ false = subst
             (λ z. names (drop 1 z) winner.rev ≡ false) q front in cc)
       ]
-
-first_of : (revisions : List Revision) (revision : Revision) → slice_get revisions 0 ≡ Some revision
-    → IsFirst revisions revision
-first_of [] revision e = absurd (cc)
-first_of (other ∷ revisions) revision e = same_Some other revision e
 
 -- the branches with the newest, whose head this is, and the number of the winner's before it came
 module _ (branches : List Branch) (legal : IsLegal (edits_in branches)) (best : ℕ)
