@@ -83,7 +83,7 @@ module _ (other_journal : List Edit) (edit : Edit) (a : IsAcceptable other_journ
       record {
         before = other_journal;
         later = [];
-        edit = edit;
+        e = edit;
         h = first.0;
         split = refl;
         named = q;
@@ -107,7 +107,7 @@ module _ (other_journal : List Edit) (edit : Edit) (a : IsAcceptable other_journ
       on o not_in = record {
         before = o.before;
         later = o.later ++ edit ∷ [];
-        edit = o.e;
+        e = o.e;
         h = o.h;
         split =
             ap (λ (z : List Edit). z ++ edit ∷ []) o.split
