@@ -38,6 +38,7 @@ macro_rules! again {
         }
     };
 }
+
 pub(crate) use again;
 
 // A hub within these limits that has no databases yet.

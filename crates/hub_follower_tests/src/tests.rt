@@ -50,6 +50,7 @@ macro_rules! again {
         }
     };
 }
+
 pub(crate) use again;
 
 // A database without documents, within these limits and of the life of this number.

@@ -14,6 +14,7 @@ macro_rules! again {
         }
     };
 }
+
 pub(crate) use again;
 
 /// The next request, asked for again where it finds no memory: no byte is lost.

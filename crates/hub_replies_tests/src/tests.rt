@@ -120,9 +120,9 @@ fn databases_say_of_themselves(rt: HostRuntime) -> Result<(), Fail> {
         r#""doc_count":10,"doc_del_count":4294967295,"#,
         r#""update_seq":"18446744073709551615-18446744073709551615""#
     );
-    let expected = again!(
-        format!(in alloc; r#"{{"db_name":{ODD_TEXT},{counts},"instance_start_time":"0"}}"#)
-    )?;
+    let expected = again!(format!(in alloc;
+        r#"{{"db_name":{ODD_TEXT},{counts},"instance_start_time":"0"}}"#
+    ))?;
     is_line(&rt, body.as_slice(), expected.as_str());
     Ok(())
 }
@@ -140,9 +140,9 @@ fn edits_are_answered(rt: HostRuntime) -> Result<(), Fail> {
     is_line(&rt, body.as_slice(), r#"{"ok":true,"id":"a","rev":"1-a"}"#);
     let rev = RevId::read("65535-0Zz9").expect(&rt, "a revision");
     let body = again!(edited(alloc, ODD, &rev))?;
-    let expected = again!(
-        format!(in alloc; r#"{{"ok":true,"id":{ODD_TEXT},"rev":"65535-0Zz9"}}"#)
-    )?;
+    let expected = again!(format!(in alloc;
+        r#"{{"ok":true,"id":{ODD_TEXT},"rev":"65535-0Zz9"}}"#
+    ))?;
     is_line(&rt, body.as_slice(), expected.as_str());
     Ok(())
 }
@@ -162,9 +162,9 @@ fn local_edits_are_answered(rt: HostRuntime) -> Result<(), Fail> {
         r#"{"ok":true,"id":"_local/k","rev":"0-2"}"#,
     );
     let body = again!(locally_edited(alloc, ODD, 18446744073709551615))?;
-    let expected = again!(
-        format!(in alloc; r#"{{"ok":true,"id":{ODD_TEXT},"rev":"0-18446744073709551615"}}"#)
-    )?;
+    let expected = again!(format!(in alloc;
+        r#"{{"ok":true,"id":{ODD_TEXT},"rev":"0-18446744073709551615"}}"#
+    ))?;
     is_line(&rt, body.as_slice(), expected.as_str());
     Ok(())
 }
@@ -195,9 +195,7 @@ fn local_documents_are_shown(rt: HostRuntime) -> Result<(), Fail> {
         r#"{"_id":"_local/k","_rev":"0-12","k":[1,null]}"#,
     );
     let body = again!(local_doc_body(alloc, ODD, &local))?;
-    let expected = again!(
-        format!(in alloc; r#"{{"_id":{ODD_TEXT},"_rev":"0-12","k":[1,null]}}"#)
-    )?;
+    let expected = again!(format!(in alloc; r#"{{"_id":{ODD_TEXT},"_rev":"0-12","k":[1,null]}}"#))?;
     is_line(&rt, body.as_slice(), expected.as_str());
     Ok(())
 }
@@ -221,9 +219,9 @@ fn revisions_that_were_asked_for(rt: HostRuntime) -> Result<(), Fail> {
         OpenRev::Missing(missing),
     ];
     let body = again!(open_revs_body(alloc, &revs))?;
-    let expected = again!(
-        format!(in alloc; r#"[{{"missing":"9-z"}},{{"ok":{shown}}},{{"missing":"9-z"}}]"#)
-    )?;
+    let expected = again!(format!(in alloc;
+        r#"[{{"missing":"9-z"}},{{"ok":{shown}}},{{"missing":"9-z"}}]"#
+    ))?;
     is_line(&rt, body.as_slice(), expected.as_str());
     Ok(())
 }
@@ -246,9 +244,7 @@ fn revisions_that_are_missing(rt: HostRuntime) -> Result<(), Fail> {
     let body = again!(diffs_body(alloc, &diffs))?;
     let of_z = r#"{"missing":["1-q"]}"#;
     let of_odd = r#"{"missing":["4-w"],"possible_ancestors":["3-y","3-x"]}"#;
-    let expected = again!(
-        format!(in alloc; r#"{{"a":{of_a},"z":{of_z},{ODD_TEXT}:{of_odd}}}"#)
-    )?;
+    let expected = again!(format!(in alloc; r#"{{"a":{of_a},"z":{of_z},{ODD_TEXT}:{of_odd}}}"#))?;
     is_line(&rt, body.as_slice(), expected.as_str());
     Ok(())
 }

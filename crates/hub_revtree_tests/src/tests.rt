@@ -72,6 +72,7 @@ macro_rules! again {
         }
     };
 }
+
 pub(crate) use again;
 
 // What a tree shows in constant time, for which it takes no memory: how many edits it has, and its winner.
@@ -91,6 +92,7 @@ macro_rules! again_on {
         }
     }};
 }
+
 pub(crate) use again_on;
 
 // The revisions' texts, each with a blank behind it.

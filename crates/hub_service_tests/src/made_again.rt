@@ -39,6 +39,7 @@ macro_rules! again {
         }
     };
 }
+
 pub(crate) use again;
 
 /// Whether bytes begin with a refusal that tells out of memory, or are a front of one.

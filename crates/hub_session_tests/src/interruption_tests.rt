@@ -90,12 +90,7 @@ fn interrupted_calls_change_no_byte(rt: HostRuntime) -> Result<(), Fail> {
     let (input, expected) = (input.as_bytes(), expected.as_bytes());
     for interrupts in 0..4 {
         let end = Some(Closing::Finished);
-        let right = is_right!(
-            EXCHANGES,
-            expected,
-            end,
-            session(alloc, input, interrupts)
-        );
+        let right = is_right!(EXCHANGES, expected, end, session(alloc, input, interrupts));
         assert!(rt; right, "interrupted {interrupts} times");
     }
     Ok(())

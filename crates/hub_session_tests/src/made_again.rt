@@ -45,6 +45,7 @@ macro_rules! grown {
         }
     };
 }
+
 pub(crate) use grown;
 
 /// What stands behind an answer; None where the answer does not stand in front.
@@ -124,4 +125,5 @@ macro_rules! is_right {
         }
     };
 }
+
 pub(crate) use is_right;

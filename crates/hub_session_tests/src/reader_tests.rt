@@ -61,7 +61,11 @@ fn requests_of_one_read(rt: HostRuntime) -> Result<(), Fail> {
         EXCHANGES,
         expected,
         end,
-        served(alloc, CutReader::failing(input, usize::MAX, 1), two_rows(alloc))
+        served(
+            alloc,
+            CutReader::failing(input, usize::MAX, 1),
+            two_rows(alloc)
+        )
     );
     assert!(rt; right);
     Ok(())

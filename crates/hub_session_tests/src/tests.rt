@@ -196,12 +196,7 @@ fn one_step(rt: HostRuntime) -> Result<(), Fail> {
     let alloc = rt.alloc();
     let input = asks(alloc, ONE)?;
     let input = input.as_bytes();
-    let served = is_right!(
-        ONE,
-        CREATED.as_bytes(),
-        None,
-        first_served(alloc, input)
-    );
+    let served = is_right!(ONE, CREATED.as_bytes(), None, first_served(alloc, input));
     assert!(rt; served);
     let sent = is_right!(STREAM, NORMAL.as_bytes(), None, streamed(alloc));
     assert!(rt; sent);

@@ -41,12 +41,7 @@ fn a_writer_that_breaks(rt: HostRuntime) -> Result<(), Fail> {
     let (input, whole) = (input.as_bytes(), whole.as_bytes());
     for room in 0..whole.len() {
         let end = Some(Closing::Broken);
-        let right = is_right!(
-            exchanges,
-            &whole[..room],
-            end,
-            broken(alloc, input, room)
-        );
+        let right = is_right!(exchanges, &whole[..room], end, broken(alloc, input, room));
         assert!(rt; right, "behind {room}");
     }
     Ok(())

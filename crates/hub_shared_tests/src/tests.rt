@@ -78,6 +78,7 @@ macro_rules! again {
         }
     };
 }
+
 pub(crate) use again;
 
 // What a database shows of itself, for which it takes no memory.

@@ -129,9 +129,9 @@ fn with_depth(alloc: Global, depth: usize) -> Result<&'static str, AllocError> {
 // The fault of a history of one hash.
 fn with_hash(alloc: Global, length: usize) -> Result<&'static str, AllocError> {
     let hash = grown!("h".repeat(alloc, length))?;
-    let text = grown!(
-        format!(in alloc; r#"{{"_id":"a","_revisions":{{"start":1,"ids":["{hash}"]}}}}"#)
-    )?;
+    let text = grown!(format!(in alloc;
+        r#"{{"_id":"a","_revisions":{{"start":1,"ids":["{hash}"]}}}}"#
+    ))?;
     Ok(fault(alloc, text.as_str(), false))
 }
 

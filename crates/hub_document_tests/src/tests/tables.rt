@@ -14,6 +14,7 @@ macro_rules! again {
         }
     };
 }
+
 pub(crate) use again;
 
 /// What a call answers that memory alone refuses, made again where it does.
@@ -25,6 +26,7 @@ macro_rules! grown {
         }
     };
 }
+
 pub(crate) use grown;
 
 /// What stands before the first bar and what stands behind it.
