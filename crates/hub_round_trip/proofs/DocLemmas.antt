@@ -57,15 +57,15 @@ string_is (array ds) s e w = absurd (cc)
 string_is (object ms) s e w = absurd (cc)
 
 -- an id of any length, of UTF-8
-id_is : (members : Members) (id : List ℕ) → AreWritableMembers members → id_of (object members) ≡ Some id
+id_is : (ms : Members) (id : List ℕ) → AreWritableMembers ms → id_of (object ms) ≡ Some id
     → (is_id id ≡ true) × IsUtf8 id
-id_is members id w e =
+id_is ms id w e =
     option_and_then_some {P = (is_id id ≡ true) × IsUtf8 id} if_id
-    (option_and_then as_str (get (codes "_id") (object members))) id e (λ s text good. option_and_then_some
-    {P = (is_id id ≡ true) × IsUtf8 id} as_str (get (codes "_id") (object members)) s text (λ d there is.
+    (option_and_then as_str (get (codes "_id") (object ms))) id e (λ s text good. option_and_then_some
+    {P = (is_id id ≡ true) × IsUtf8 id} as_str (get (codes "_id") (object ms)) s text (λ d there is.
     let id_good = cond_some (is_id s) s id good in
     let utf8 : IsUtf8 s =
-    string_is d s is (subst (λ o. IfSome o IsWritable) there (member_writable (codes "_id") members w)) in
+    string_is d s is (subst (λ o. IfSome o IsWritable) there (member_writable (codes "_id") ms w)) in
     subst (λ i. (is_id i ≡ true) × IsUtf8 i) id_good.1 (id_good.0, utf8)))
 
 -- ---- the revision
@@ -100,30 +100,29 @@ hash_is n h revision some small e =
     } in
     subst IsRevision c.1 is
 
-revs_item : (n : ℕ) (content : Data) (items : Items) (revisions : List Revision) (t : Bool) → eqb n 0 ≡ t
-    → n < 2 ^ 16 → falling n (item content items) ≡ Some revisions
-    → ((rest : List Revision) → falling (n - 1) items ≡ Some rest → AllByRecursion IsRevision rest)
+revs_item : (n : ℕ) (content : Data) (ds : Items) (revisions : List Revision) (t : Bool) → eqb n 0 ≡ t
+    → n < 2 ^ 16 → falling n (item content ds) ≡ Some revisions
+    → ((rest : List Revision) → falling (n - 1) ds ≡ Some rest → AllByRecursion IsRevision rest)
     → AllByRecursion IsRevision revisions
-revs_item n content items revisions true z small h later =
+revs_item n content ds revisions true z small h later =
     let e : None ≡ Some revisions = rw z at h in absurd (cc)
-revs_item n content items revisions false z small h later =
+revs_item n content ds revisions false z small h later =
     let some : 0 < n = grind (arith, nat_tests) in
     option_and_then_some {P = AllByRecursion IsRevision revisions}
-    (λ r. option_map (λ rest. r ∷ rest) (falling (n - 1) items))
+    (λ r. option_map (λ rest. r ∷ rest) (falling (n - 1) ds))
     (option_and_then (with_hash n) (as_str content)) revisions
     (rw z at h) (λ r read more.
-    map_some {P = AllByRecursion IsRevision revisions} (λ rest. r ∷ rest)
-    (falling (n - 1) items) revisions more
+    map_some {P = AllByRecursion IsRevision revisions} (λ rest. r ∷ rest) (falling (n - 1) ds) revisions more
     (λ rest ends is. option_and_then_some {P = AllByRecursion IsRevision revisions} (with_hash n)
     (as_str content) r read
     (λ s text hash. subst (AllByRecursion IsRevision) is (hash_is n s r some small hash, later rest ends))))
 
-revs_of_falling : (n : ℕ) (items : Items) (revisions : List Revision) → n < 2 ^ 16
-    → falling n items ≡ Some revisions → AllByRecursion IsRevision revisions
+revs_of_falling : (n : ℕ) (ds : Items) (revisions : List Revision) → n < 2 ^ 16
+    → falling n ds ≡ Some revisions → AllByRecursion IsRevision revisions
 revs_of_falling n no_items revisions small h =
     let is : [] ≡ revisions = cc in subst (AllByRecursion IsRevision) is tt
-revs_of_falling n (item d items) revisions small h =
-    revs_item n d items revisions _ refl small h (λ rest. revs_of_falling (n - 1) items rest (omega arith))
+revs_of_falling n (item d ds) revisions small h =
+    revs_item n d ds revisions _ refl small h (λ rest. revs_of_falling (n - 1) ds rest (omega arith))
 
 revs_starting : (start : ℕ) (ids : Items) (revisions : List Revision) → starting start ids ≡ Some revisions
     → AllByRecursion IsRevision revisions
@@ -196,44 +195,43 @@ history_is false rev content p good e =
 
 -- ---- the body
 
-writable_plain : (members : Members) → AreWritableMembers members → AreWritableMembers (plain members)
+writable_plain : (ms : Members) → AreWritableMembers ms → AreWritableMembers (plain ms)
 writable_plain no_members h = tt
-writable_plain (member k d members) h = at (is_hidden k) (writable_plain members h.2)
+writable_plain (member k d ms) h = at (is_hidden k) (writable_plain ms h.2)
   where
-    at : (b : Bool) → AreWritableMembers (plain members)
-        → AreWritableMembers (cond b (plain members) (member k d (plain members)))
+    at : (b : Bool) → AreWritableMembers (plain ms)
+        → AreWritableMembers (cond b (plain ms) (member k d (plain ms)))
     at true rest = rest
     at false rest = (h.0, h.1, rest)
 
-ordered_plain : (members : Members) → AreOrderedMembers members → AreOrderedMembers (plain members)
+ordered_plain : (ms : Members) → AreOrderedMembers ms → AreOrderedMembers (plain ms)
 ordered_plain no_members h = tt
-ordered_plain (member k d members) h = at (is_hidden k) (ordered_plain members h.1)
+ordered_plain (member k d ms) h = at (is_hidden k) (ordered_plain ms h.1)
   where
-    at : (b : Bool) → AreOrderedMembers (plain members)
-        → AreOrderedMembers (cond b (plain members) (member k d (plain members)))
+    at : (b : Bool) → AreOrderedMembers (plain ms)
+        → AreOrderedMembers (cond b (plain ms) (member k d (plain ms)))
     at true rest = rest
     at false rest = (h.0, rest)
 
-plain_depth : (members : Members) → members_depth (plain members) ≤ members_depth members
+plain_depth : (ms : Members) → members_depth (plain ms) ≤ members_depth ms
 plain_depth no_members = omega arith
-plain_depth (member k d members) = at (is_hidden k) (plain_depth members)
+plain_depth (member k d ms) = at (is_hidden k) (plain_depth ms)
   where
-    at : (b : Bool) → members_depth (plain members) ≤ members_depth members
-        → members_depth (cond b (plain members) (member k d (plain members))) ≤ max (depth d)
-        (members_depth members)
+    at : (b : Bool) → members_depth (plain ms) ≤ members_depth ms
+        → members_depth (cond b (plain ms) (member k d (plain ms))) ≤ max (depth d) (members_depth ms)
     at true rest = omega arith
     at false rest = omega arith
 
-body_is : (members : Members) → AreWritableMembers members → IsOrdered (object members)
-    → depth (object members) ≤ max_depth → IsBody (body_text members)
-body_is members w o shallow =
+body_is : (ms : Members) → AreWritableMembers ms → IsOrdered (object ms) → depth (object ms) ≤ max_depth
+    → IsBody (body_text ms)
+body_is ms w o shallow =
     record {
-      members = plain members;
+      members = plain ms;
       text_is = refl;
-      own = own_plain members;
-      writable = writable_plain members w;
-      ordered = (rise_plain members o.0, ordered_plain members o.1);
-      shallow = omega (arith, plain_depth members);
+      own = own_plain ms;
+      writable = writable_plain ms w;
+      ordered = (rise_plain ms o.0, ordered_plain ms o.1);
+      shallow = omega (arith, plain_depth ms);
     }
 
 -- ---- the document
@@ -241,13 +239,13 @@ body_is members w o shallow =
 abbrev Reads : Bool → Doc → Type 0
 Reads new_edits doc = IsDoc doc × (is_some doc.path ≡ not new_edits)
 
-object_is : (content : Data) (members : Members) → as_object content ≡ Some members → content ≡ object members
-object_is null members e = absurd (cc)
-object_is (boolean b) members e = absurd (cc)
-object_is (number n) members e = absurd (cc)
-object_is (string s) members e = absurd (cc)
-object_is (array ds) members e = absurd (cc)
-object_is (object ns) members e = let is : ns ≡ members = cc in ap object is
+object_is : (content : Data) (ms : Members) → as_object content ≡ Some ms → content ≡ object ms
+object_is null ms e = absurd (cc)
+object_is (boolean b) ms e = absurd (cc)
+object_is (number n) ms e = absurd (cc)
+object_is (string s) ms e = absurd (cc)
+object_is (array ds) ms e = absurd (cc)
+object_is (object ns) ms e = let is : ns ≡ ms = cc in ap object is
 
 module _ (new_edits : Bool) (ms : Members) (d : Doc) (w : AreWritableMembers ms) (o : IsOrdered (object ms))
     (shallow : depth (object ms) ≤ max_depth) where
@@ -279,21 +277,20 @@ module _ (new_edits : Bool) (ms : Members) (d : Doc) (w : AreWritableMembers ms)
       (history_is new_edits rev (object ms) p (rev_is (get (codes "_rev") (object ms)) _ rev named) history)
       made))
 
-doc_is : (new_edits : Bool) (text : List ℕ) (content : Data) (members : Members) (doc : Doc)
+doc_is : (new_edits : Bool) (text : List ℕ) (content : Data) (ms : Members) (doc : Doc)
     → json_of text ≡ Some content
-    → content ≡ object members → document_of new_edits content members ≡ Ok doc → Reads new_edits doc
-doc_is new_edits text content members doc json is e =
-    let here : json_of text ≡ Some (object members) = json ∙ ap Some is in
-    let known = json_of_is text (object members) here in
-    let made : document_of new_edits (object members) members ≡ Ok doc =
-    subst (λ x. document_of new_edits x members ≡ Ok doc) is e in
-    or_fault_ok {P = Reads new_edits doc} (if_holds (not (members_have_float members))) BadNumber _ doc made
+    → content ≡ object ms → document_of new_edits content ms ≡ Ok doc → Reads new_edits doc
+doc_is new_edits text content ms doc json is e =
+    let here : json_of text ≡ Some (object ms) = json ∙ ap Some is in
+    let known = json_of_is text (object ms) here in
+    let made : document_of new_edits (object ms) ms ≡ Ok doc =
+    subst (λ x. document_of new_edits x ms ≡ Ok doc) is e in
+    or_fault_ok {P = Reads new_edits doc} (if_holds (not (members_have_float ms))) BadNumber _ doc made
     (λ u whole more.
-    let no_float : members_have_float members ≡ false =
-    negated (members_have_float members) (holds (not (members_have_float members)) u whole) in
-    or_fault_ok {P = Reads new_edits doc} (id_of (object members)) BadId _ doc more (λ id found rest.
-    id_known new_edits members doc (known.1 no_float) known.0
-    (depth-read text (object members) known.2) id found rest))
+    let no_float : members_have_float ms ≡ false =
+    negated (members_have_float ms) (holds (not (members_have_float ms)) u whole) in
+    or_fault_ok {P = Reads new_edits doc} (id_of (object ms)) BadId _ doc more (λ id found rest.
+    id_known new_edits ms doc (known.1 no_float) known.0 (depth-read text (object ms) known.2) id found rest))
   where
     negated : (b : Bool) → not b ≡ true → b ≡ false
     negated true h = absurd (cc)

@@ -96,9 +96,9 @@ module _ (rev : Option Revision) (path : List Revision) (h : IsPathOf rev path) 
 falls_down : (revision : Revision) (path : List Revision) → Falls revision path
     → FallsFrom revision.generation (revision ∷ path)
 falls_down revision [] h = (refl, omega (arith, h), tt)
-falls_down revision (other ∷ path) h =
-    let less : other.generation ≡ revision.generation - 1 = omega (arith, h.0) in
-    (refl, omega (arith, h.0), subst (λ n. FallsFrom n (other ∷ path)) less (falls_down other path h.1))
+falls_down revision (s ∷ path) h =
+    let less : s.generation ≡ revision.generation - 1 = omega (arith, h.0) in
+    (refl, omega (arith, h.0), subst (λ n. FallsFrom n (s ∷ path)) less (falls_down s path h.1))
 
 hash_read : (n : ℕ) (revision : Revision) → revision.generation ≡ n → IsRevision revision
     → with_hash n revision.hash ≡ Some revision
@@ -143,5 +143,4 @@ pub head_is_head : (rev : Option Revision) (path : List Revision) → slice_get 
     → is_head rev path ≡ true
 head_is_head None path h = refl
 head_is_head (Some revision) [] h = absurd (cc)
-head_is_head (Some revision) (other ∷ path) h =
-    let same : other ≡ revision = cc in rw same (same_self revision)
+head_is_head (Some revision) (x ∷ path) h = let same : x ≡ revision = cc in rw same (same_self revision)

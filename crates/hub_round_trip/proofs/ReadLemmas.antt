@@ -98,23 +98,23 @@ number_is_read s = search forms_are_read
 
 -- ---- values
 
-loose_put_at : (ordering : Ordering) (k l : List ℕ) (content other : Data) (members : Members) → IsUtf8 k
-    → IsLoose content → AreLooseMembers (member l other members) → AreLooseMembers (put k content members)
+loose_put_at : (ordering : Ordering) (k l : List ℕ) (content e : Data) (ms : Members) → IsUtf8 k
+    → IsLoose content → AreLooseMembers (member l e ms) → AreLooseMembers (put k content ms)
     → AreLooseMembers
-    (match_ordering ordering (member k content (member l other members)) (member l content members)
-    (member l other (put k content members)))
-loose_put_at Less k l content other members key value h later = (key, value, h)
-loose_put_at Equal k l content other members key value h later = (h.0, value, h.2)
-loose_put_at Greater k l content other members key value h later = (h.0, h.1, later)
+    (match_ordering ordering (member k content (member l e ms)) (member l content ms)
+    (member l e (put k content ms)))
+loose_put_at Less k l content e ms key value h later = (key, value, h)
+loose_put_at Equal k l content e ms key value h later = (h.0, value, h.2)
+loose_put_at Greater k l content e ms key value h later = (h.0, h.1, later)
 
-loose_put : (k : List ℕ) (content : Data) (members : Members) → IsUtf8 k → IsLoose content
-    → AreLooseMembers members → AreLooseMembers (put k content members)
+loose_put : (k : List ℕ) (content : Data) (ms : Members) → IsUtf8 k → IsLoose content → AreLooseMembers ms
+    → AreLooseMembers (put k content ms)
 loose_put k content no_members key value h = (key, value, tt)
-loose_put k content (member l e members) key value h =
-    loose_put_at _ k l content e members key value h (loose_put k content members key value h.2)
+loose_put k content (member l e ms) key value h =
+    loose_put_at _ k l content e ms key value h (loose_put k content ms key value h.2)
 
 abbrev AreObject : Members → Type 0
-AreObject members = DoKeysRise members × AreLooseMembers members
+AreObject ms = DoKeysRise ms × AreLooseMembers ms
 
 mutual
   loose-of_json : (j : json.Json) → IsJsonUtf8 j → IfSome (of_json j) IsLoose
@@ -190,10 +190,10 @@ mutual
 
 -- ---- the whole text
 
-loose_last : (j : json.Json) (tokens : List Token) (content : Data) → IsJsonUtf8 j
-    → option_and_then of_json (json.if_last j tokens) ≡ Some content → IsLoose content
+loose_last : (j : json.Json) (r : List Token) (content : Data) → IsJsonUtf8 j
+    → option_and_then of_json (json.if_last j r) ≡ Some content → IsLoose content
 loose_last j [] content h e = subst (λ o. IfSome o IsLoose) e (loose-of_json j h)
-loose_last j (token ∷ tokens) content h e = absurd (cc)
+loose_last j (t ∷ r) content h e = absurd (cc)
 
 loose_value : (text : List ℕ) (o : Option (json.Json × List Token)) (content : Data)
     → IsUtf8 text → json.value max_depth (tokens text) ≡ o
@@ -214,13 +214,13 @@ json_of_is text content e =
     let h = loose_text text _ content refl e in (ordered-loose content h.0, writable-loose content h.0, h.1)
 
 -- what stands at a key can be written
-pub member_writable : (k : List ℕ) (members : Members) → AreWritableMembers members
-    → IfSome (get_member k members) IsWritable
+pub member_writable : (k : List ℕ) (ms : Members) → AreWritableMembers ms
+    → IfSome (get_member k ms) IsWritable
 member_writable k no_members h = tt
-member_writable k (member l e members) h = at (slice_cmp nat_cmp k l) (member_writable k members h.2)
+member_writable k (member l e ms) h = at (slice_cmp nat_cmp k l) (member_writable k ms h.2)
   where
-    at : (ordering : Ordering) → IfSome (get_member k members) IsWritable
-        → IfSome (match_ordering ordering (get_member k members) (Some e) (get_member k members)) IsWritable
+    at : (ordering : Ordering) → IfSome (get_member k ms) IsWritable
+        → IfSome (match_ordering ordering (get_member k ms) (Some e) (get_member k ms)) IsWritable
     at Less rest = rest
     at Equal rest = h.1
     at Greater rest = rest

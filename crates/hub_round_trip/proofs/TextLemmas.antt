@@ -39,11 +39,11 @@ special id rev deleted path =
 
 -- what they hold
 record Holds (id : List ℕ) (rev : Option Revision) (deleted : Bool) (path : Option (List Revision))
-    (members : Members) : Type 0 where
-  id_is : get_member (codes "_id") members ≡ Some (string id)
-  rev_is : get_member (codes "_rev") members ≡ option_map (λ r. string (text_of r)) rev
-  deleted_is : get_member (codes "_deleted") members ≡ cond deleted (Some (boolean true)) None
-  history_is : get_member (codes "_revisions") members ≡ option_map history_read path
+    (ms : Members) : Type 0 where
+  id_is : get_member (codes "_id") ms ≡ Some (string id)
+  rev_is : get_member (codes "_rev") ms ≡ option_map (λ r. string (text_of r)) rev
+  deleted_is : get_member (codes "_deleted") ms ≡ cond deleted (Some (boolean true)) None
+  history_is : get_member (codes "_revisions") ms ≡ option_map history_read path
 
 special_holds : (id : List ℕ) (rev : Option Revision) (deleted : Bool) (path : Option (List Revision))
     → Holds id rev deleted path (special id rev deleted path)
@@ -74,38 +74,36 @@ special_hidden id (Some revision) false (Some path) = refl
 special_hidden id (Some revision) true None = refl
 special_hidden id (Some revision) true (Some path) = refl
 
-rev_rises : (rev : Option Revision) (members : Members) → DoKeysRise members
-    → DoKeysRise (rev_by put rev members)
-rev_rises None members h = h
-rev_rises (Some revision) members h = rise_put _ _ members h
+rev_rises : (rev : Option Revision) (ms : Members) → DoKeysRise ms → DoKeysRise (rev_by put rev ms)
+rev_rises None ms h = h
+rev_rises (Some revision) ms h = rise_put _ _ ms h
 
-deleted_rises : (deleted : Bool) (members : Members) → DoKeysRise members
-    → DoKeysRise (deleted_by put deleted members)
-deleted_rises false members h = h
-deleted_rises true members h = rise_put _ _ members h
+deleted_rises : (deleted : Bool) (ms : Members) → DoKeysRise ms → DoKeysRise (deleted_by put deleted ms)
+deleted_rises false ms h = h
+deleted_rises true ms h = rise_put _ _ ms h
 
-history_rises : (path : Option (List Revision)) (members : Members) → DoKeysRise members
-    → DoKeysRise (history_by put history_read path members)
-history_rises None members h = h
-history_rises (Some path) members h = rise_put _ _ members h
+history_rises : (path : Option (List Revision)) (ms : Members) → DoKeysRise ms
+    → DoKeysRise (history_by put history_read path ms)
+history_rises None ms h = h
+history_rises (Some path) ms h = rise_put _ _ ms h
 
 special_rises : (id : List ℕ) (rev : Option Revision) (deleted : Bool) (path : Option (List Revision))
     → DoKeysRise (special id rev deleted path)
 special_rises id rev deleted path = history_rises path _ (deleted_rises deleted _ (rev_rises rev _ (tt, tt)))
 
-rev_fits : (rev : Option Revision) (members : Members) → AllFit members → AllFit (rev_by put rev members)
-rev_fits None members h = h
-rev_fits (Some revision) members h = fit_put (codes "_rev") (string (text_of revision)) members refl refl h
+rev_fits : (rev : Option Revision) (ms : Members) → AllFit ms → AllFit (rev_by put rev ms)
+rev_fits None ms h = h
+rev_fits (Some revision) ms h = fit_put (codes "_rev") (string (text_of revision)) ms refl refl h
 
-deleted_fits : (deleted : Bool) (members : Members) → AllFit members → AllFit (deleted_by put deleted members)
-deleted_fits false members h = h
-deleted_fits true members h = fit_put (codes "_deleted") (boolean true) members refl refl h
+deleted_fits : (deleted : Bool) (ms : Members) → AllFit ms → AllFit (deleted_by put deleted ms)
+deleted_fits false ms h = h
+deleted_fits true ms h = fit_put (codes "_deleted") (boolean true) ms refl refl h
 
-history_fits : (path : Option (List Revision)) (members : Members) → AllFit members
-    → AllFit (history_by put history_read path members)
-history_fits None members h = h
-history_fits (Some path) members h =
-    fit_put (codes "_revisions") (history_read path) members refl (rw (hashes_whole path) refl) h
+history_fits : (path : Option (List Revision)) (ms : Members) → AllFit ms
+    → AllFit (history_by put history_read path ms)
+history_fits None ms h = h
+history_fits (Some path) ms h =
+    fit_put (codes "_revisions") (history_read path) ms refl (rw (hashes_whole path) refl) h
 
 special_fits : (id : List ℕ) (rev : Option Revision) (deleted : Bool) (path : Option (List Revision))
     → AllFit (special id rev deleted path)
@@ -114,59 +112,58 @@ special_fits id rev deleted path =
 
 -- ---- what is written can be read
 
-history_before_writable : (rev : Option Revision) (path : Option (List Revision)) (members : Members)
-    → IfSome path (IsPathOf rev) → AreWritableMembers members
-    → AreWritableMembers (history_by member history_written path members)
-history_before_writable rev None members h w = w
-history_before_writable rev (Some path) members h w =
-    (IsUtf8-are_ascii _ refl, history_writable rev path h, w)
+history_before_writable : (rev : Option Revision) (path : Option (List Revision)) (ms : Members)
+    → IfSome path (IsPathOf rev) → AreWritableMembers ms
+    → AreWritableMembers (history_by member history_written path ms)
+history_before_writable rev None ms h w = w
+history_before_writable rev (Some path) ms h w = (IsUtf8-are_ascii _ refl, history_writable rev path h, w)
 
-deleted_before_writable : (deleted : Bool) (members : Members) → AreWritableMembers members
-    → AreWritableMembers (deleted_by member deleted members)
-deleted_before_writable false members w = w
-deleted_before_writable true members w = (IsUtf8-are_ascii _ refl, tt, w)
+deleted_before_writable : (deleted : Bool) (ms : Members) → AreWritableMembers ms
+    → AreWritableMembers (deleted_by member deleted ms)
+deleted_before_writable false ms w = w
+deleted_before_writable true ms w = (IsUtf8-are_ascii _ refl, tt, w)
 
-rev_before_writable : (rev : Option Revision) (members : Members) → IfSome rev IsRevision
-    → AreWritableMembers members → AreWritableMembers (rev_by member rev members)
-rev_before_writable None members h w = w
-rev_before_writable (Some revision) members h w = (IsUtf8-are_ascii _ refl, utf8-text_of revision h, w)
+rev_before_writable : (rev : Option Revision) (ms : Members) → IfSome rev IsRevision → AreWritableMembers ms
+    → AreWritableMembers (rev_by member rev ms)
+rev_before_writable None ms h w = w
+rev_before_writable (Some revision) ms h w = (IsUtf8-are_ascii _ refl, utf8-text_of revision h, w)
 
-history_before_depth : (path : Option (List Revision)) (members : Members) → members_depth members < max_depth
-    → members_depth (history_by member history_written path members) < max_depth
-history_before_depth None members h = h
-history_before_depth (Some path) members h = omega (arith, hashes_flat path)
+history_before_depth : (path : Option (List Revision)) (ms : Members) → members_depth ms < max_depth
+    → members_depth (history_by member history_written path ms) < max_depth
+history_before_depth None ms h = h
+history_before_depth (Some path) ms h = omega (arith, hashes_flat path)
 
-deleted_before_depth : (deleted : Bool) (members : Members) → members_depth members < max_depth
-    → members_depth (deleted_by member deleted members) < max_depth
-deleted_before_depth false members h = h
-deleted_before_depth true members h = omega arith
+deleted_before_depth : (deleted : Bool) (ms : Members) → members_depth ms < max_depth
+    → members_depth (deleted_by member deleted ms) < max_depth
+deleted_before_depth false ms h = h
+deleted_before_depth true ms h = omega arith
 
-rev_before_depth : (rev : Option Revision) (members : Members) → members_depth members < max_depth
-    → members_depth (rev_by member rev members) < max_depth
-rev_before_depth None members h = h
-rev_before_depth (Some revision) members h = omega arith
+rev_before_depth : (rev : Option Revision) (ms : Members) → members_depth ms < max_depth
+    → members_depth (rev_by member rev ms) < max_depth
+rev_before_depth None ms h = h
+rev_before_depth (Some revision) ms h = omega arith
 
 -- and gives those members, and the document's own after them
-history_outline : (rev : Option Revision) (path : Option (List Revision)) (members found : Members)
-    → IfSome path (IsPathOf rev) → AreWritableMembers members → AreOrderedMembers members
-    → of_members (members_outline (history_by member history_written path members)) found
-    ≡ Some (puts members (history_by put history_read path found))
-history_outline rev None members found h w o = of_members-members_outline members found w o
-history_outline rev (Some path) members found h w o =
+history_outline : (rev : Option Revision) (path : Option (List Revision)) (ms found : Members)
+    → IfSome path (IsPathOf rev) → AreWritableMembers ms → AreOrderedMembers ms
+    → of_members (members_outline (history_by member history_written path ms)) found
+    ≡ Some (puts ms (history_by put history_read path found))
+history_outline rev None ms found h w o = of_members-members_outline ms found w o
+history_outline rev (Some path) ms found h w o =
     rw (of_json-history rev path h)
-    (of_members-members_outline members (put (codes "_revisions") (history_read path) found) w o)
+    (of_members-members_outline ms (put (codes "_revisions") (history_read path) found) w o)
 
-deleted_outline : (deleted : Bool) (members found : Members)
-    → of_members (members_outline (deleted_by member deleted members)) found
-    ≡ of_members (members_outline members) (deleted_by put deleted found)
-deleted_outline false members found = refl
-deleted_outline true members found = refl
+deleted_outline : (deleted : Bool) (ms found : Members)
+    → of_members (members_outline (deleted_by member deleted ms)) found
+    ≡ of_members (members_outline ms) (deleted_by put deleted found)
+deleted_outline false ms found = refl
+deleted_outline true ms found = refl
 
-rev_outline : (rev : Option Revision) (members found : Members)
-    → of_members (members_outline (rev_by member rev members)) found
-    ≡ of_members (members_outline members) (rev_by put rev found)
-rev_outline None members found = refl
-rev_outline (Some revision) members found = refl
+rev_outline : (rev : Option Revision) (ms found : Members)
+    → of_members (members_outline (rev_by member rev ms)) found
+    ≡ of_members (members_outline ms) (rev_by put rev found)
+rev_outline None ms found = refl
+rev_outline (Some revision) ms found = refl
 
 -- ---- the document that the members are
 

@@ -302,7 +302,7 @@ HasUtf8 spelled.bad = ⊤
 
 abbrev pub HaveUtf8 : List Token → Type 0
 HaveUtf8 [] = ⊤
-HaveUtf8 (token ∷ tokens) = HasUtf8 token × HaveUtf8 tokens
+HaveUtf8 (t ∷ ts) = HasUtf8 t × HaveUtf8 ts
 
 abbrev LexemeHasUtf8 : Lexeme → Type 0
 LexemeHasUtf8 (token t) = HasUtf8 t
@@ -311,27 +311,26 @@ LexemeHasUtf8 colon = ⊤
 
 abbrev LexemesHaveUtf8 : List Lexeme → Type 0
 LexemesHaveUtf8 [] = ⊤
-LexemesHaveUtf8 (lexeme ∷ lexemes) = LexemeHasUtf8 lexeme × LexemesHaveUtf8 lexemes
+LexemesHaveUtf8 (l ∷ ls) = LexemeHasUtf8 l × LexemesHaveUtf8 ls
 
 -- what holds of both holds of the one that is chosen
 pub either : {A : Type 0} (P : A → Type 0) (b : Bool) (x y : A) → P x → P y → P (cond b x y)
 either P true x y h k = h
 either P false x y h k = k
 
-literal_has : (name : List ℕ) (token : Token) (text : List ℕ) → HasUtf8 token
-    → HasUtf8 (literal name token text)
-literal_has name token text h = either HasUtf8 _ token spelled.bad h tt
+literal_has : (name : List ℕ) (t : Token) (text : List ℕ) → HasUtf8 t → HasUtf8 (literal name t text)
+literal_has name t text h = either HasUtf8 _ t spelled.bad h tt
 
 number_has : (text : List ℕ) (o : Option (List ℕ)) → HasUtf8 (number_before text o)
 number_has text None = tt
 number_has text (Some rest) = either HasUtf8 (ends_word rest) (spelled.number _) spelled.bad tt tt
 
-one_of : (a b c : Bool) (token other z w : Token) → HasUtf8 token → HasUtf8 other → HasUtf8 z → HasUtf8 w
-    → HasUtf8 (cond a token (cond b other (cond c z w)))
-one_of true b c token other z w h i j k = h
-one_of false true c token other z w h i j k = i
-one_of false false true token other z w h i j k = j
-one_of false false false token other z w h i j k = k
+one_of : (a b c : Bool) (x y z w : Token) → HasUtf8 x → HasUtf8 y → HasUtf8 z → HasUtf8 w
+    → HasUtf8 (cond a x (cond b y (cond c z w)))
+one_of true b c x y z w h i j k = h
+one_of false true c x y z w h i j k = i
+one_of false false true x y z w h i j k = j
+one_of false false false x y z w h i j k = k
 
 word_has : (text : List ℕ) → HasUtf8 (word text)
 unfolding word
@@ -404,13 +403,13 @@ lex_has (x ∷ xs) p u m =
     byte_has m (class x) x xs p (λ next. lex next xs) refl u
     (lex_has xs (p ++ x ∷ []) (subst IsUtf8 (sym (append_assoc p (x ∷ []) xs)) u))
 
-allowed_has : (b : Bool) (token : Token) (k : Place → List Token) (next : Place) → HasUtf8 token
-    → ((place : Place) → HaveUtf8 (k place)) → HaveUtf8 (if_allowed b token k next)
-allowed_has true token k next h more = (h, more next)
-allowed_has false token k next h more = (tt, tt)
+allowed_has : (b : Bool) (t : Token) (k : Place → List Token) (next : Place) → HasUtf8 t
+    → ((place : Place) → HaveUtf8 (k place)) → HaveUtf8 (if_allowed b t k next)
+allowed_has true t k next h more = (h, more next)
+allowed_has false t k next h more = (tt, tt)
 
-placed_has : (place : Place) (token : Token) (b : Bool) (k : Place → List Token) → HasUtf8 token
-    → ((next : Place) → HaveUtf8 (k next)) → HaveUtf8 (place_token place token b k)
+placed_has : (place : Place) (t : Token) (b : Bool) (k : Place → List Token) → HasUtf8 t
+    → ((next : Place) → HaveUtf8 (k next)) → HaveUtf8 (place_token place t b k)
 placed_has place spelled.begin_object b k h more =
     allowed_has (may_begin place) spelled.begin_object k fresh tt more
 placed_has place spelled.end_object b k h more =
@@ -431,8 +430,7 @@ placed_has place (spelled.boolean c) b k h more =
 placed_has place spelled.null b k h more = allowed_has (may_begin place) spelled.null k after_value tt more
 placed_has place spelled.bad b k h more = (tt, tt)
 
-punctuate_has : (lexemes : List Lexeme) → LexemesHaveUtf8 lexemes → (place : Place)
-    → HaveUtf8 (punctuate place lexemes)
+punctuate_has : (ls : List Lexeme) → LexemesHaveUtf8 ls → (place : Place) → HaveUtf8 (punctuate place ls)
 unfolding punctuate
 punctuate_has [] h fresh = tt
 punctuate_has [] h after_value = tt

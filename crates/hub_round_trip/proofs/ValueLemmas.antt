@@ -28,10 +28,10 @@ use Rattle.hub_round_trip.specs.RoundTrip.{DoKeysRise, IsOrdered, AreOrdered, Ar
 
 -- ---- what is written is JSON
 
-number_is : (number : Num) → IsWhole number → IsNumber (number_text number)
-number_is (unsigned number) h = IsNumber-decimal number h
-number_is (negative (pos number)) h = absurd h
-number_is (negative (negsuc number)) h = IsNumber-signed_decimal (negsuc number) h
+number_is : (n : Num) → IsWhole n → IsNumber (number_text n)
+number_is (unsigned n) h = IsNumber-decimal n h
+number_is (negative (pos n)) h = absurd h
+number_is (negative (negsuc n)) h = IsNumber-signed_decimal (negsuc n) h
 number_is (float x) h = absurd h
 
 mutual
@@ -85,10 +85,10 @@ read-compact_text content h shallow =
 
 -- ---- and UTF-8
 
-utf8-number : (number : Num) → IsWhole number → IsUtf8 (number_text number)
-utf8-number (unsigned number) h = IsUtf8-from_ascii _ (IsAscii-decimal number h)
-utf8-number (negative (pos number)) h = absurd h
-utf8-number (negative (negsuc number)) h = IsUtf8-from_ascii _ (IsAscii-signed (negsuc number) h)
+utf8-number : (n : Num) → IsWhole n → IsUtf8 (number_text n)
+utf8-number (unsigned n) h = IsUtf8-from_ascii _ (IsAscii-decimal n h)
+utf8-number (negative (pos n)) h = absurd h
+utf8-number (negative (negsuc n)) h = IsUtf8-from_ascii _ (IsAscii-signed (negsuc n) h)
 utf8-number (float x) h = absurd h
 
 pub utf8-comma_if : (b : Bool) (s : List ℕ) → IsUtf8 s → IsUtf8 (comma_if b ++ s)
@@ -133,9 +133,9 @@ abbrev append : Members → Members → Members
 append no_members rest = rest
 append (member k d ms) rest = member k d (append ms rest)
 
-append-no_members : (members : Members) → append members no_members ≡ members
+append-no_members : (ms : Members) → append ms no_members ≡ ms
 append-no_members no_members = refl
-append-no_members (member k d members) = ap (member k d) (append-no_members members)
+append-no_members (member k d ms) = ap (member k d) (append-no_members ms)
 
 one_more : (found : Members) (k : List ℕ) (content : Data) (rest : Members)
     → append (append found (member k content no_members)) rest ≡ append found (member k content rest)
@@ -157,24 +157,23 @@ put_last (member l e ms) k content rest h =
     nat_list_cmp_total.antisymm k l ∙ ap ordering_reverse (before_middle l ms k content rest h.0) in
     rw past (ap (member l e) (put_last ms k content rest h.1))
 
-puts_in_order : (members found : Members) → DoKeysRise (append found members)
-    → puts members found ≡ append found members
+puts_in_order : (ms found : Members) → DoKeysRise (append found ms) → puts ms found ≡ append found ms
 puts_in_order no_members found h = sym (append-no_members found)
-puts_in_order (member k d members) found h =
-    rw (put_last found k d members h)
-    (puts_in_order members (append found (member k d no_members))
-    (subst DoKeysRise (sym (one_more found k d members)) h)
-    ∙ one_more found k d members)
+puts_in_order (member k d ms) found h =
+    rw (put_last found k d ms h)
+    (puts_in_order ms (append found (member k d no_members))
+    (subst DoKeysRise (sym (one_more found k d ms)) h)
+    ∙ one_more found k d ms)
 
-pub puts-no_members : (members : Members) → DoKeysRise members → puts members no_members ≡ members
-puts-no_members members h = puts_in_order members no_members h
+pub puts-no_members : (ms : Members) → DoKeysRise ms → puts ms no_members ≡ ms
+puts-no_members ms h = puts_in_order ms no_members h
 
 -- ---- and it is the value
 
-number_back : (number : Num) → IsWhole number → number_of (number_text number) ≡ Some number
-number_back (unsigned number) h = number_of-decimal number h
-number_back (negative (pos number)) h = absurd h
-number_back (negative (negsuc number)) h = number_of-negative number h
+number_back : (n : Num) → IsWhole n → number_of (number_text n) ≡ Some n
+number_back (unsigned n) h = number_of-decimal n h
+number_back (negative (pos n)) h = absurd h
+number_back (negative (negsuc n)) h = number_of-negative n h
 number_back (float x) h = absurd h
 
 mutual

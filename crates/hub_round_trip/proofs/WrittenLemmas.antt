@@ -31,21 +31,21 @@ abbrev pub Adding : Type 0
 Adding = List ℕ → Data → Members → Members
 
 abbrev pub rev_by : Adding → Option Revision → Members → Members
-rev_by add None members = members
-rev_by add (Some revision) members = add (codes "_rev") (string (text_of revision)) members
+rev_by add None ms = ms
+rev_by add (Some revision) ms = add (codes "_rev") (string (text_of revision)) ms
 
 abbrev pub deleted_by : Adding → Bool → Members → Members
-deleted_by add false members = members
-deleted_by add true members = add (codes "_deleted") (boolean true) members
+deleted_by add false ms = ms
+deleted_by add true ms = add (codes "_deleted") (boolean true) ms
 
 abbrev pub history_by : Adding → (List Revision → Data) → Option (List Revision) → Members → Members
-history_by add value None members = members
-history_by add value (Some path) members = add (codes "_revisions") (value path) members
+history_by add value None ms = ms
+history_by add value (Some path) ms = add (codes "_revisions") (value path) ms
 
 abbrev pub written : List ℕ → Option Revision → Bool → Option (List Revision) → Members → Members
-written id rev deleted path members =
+written id rev deleted path ms =
     member (codes "_id") (string id)
-    (rev_by member rev (deleted_by member deleted (history_by member history_written path members)))
+    (rev_by member rev (deleted_by member deleted (history_by member history_written path ms)))
 
 -- ---- texts in a row
 
@@ -73,14 +73,14 @@ one_row q c rest end =
     ∙ sym (append_assoc q (58 ∷ (c ++ rest)) end)
     ∙ ap (λ s. s ++ end) (sym (append_assoc q (58 ∷ c) rest))
 
-members-later : (members : Members) → members_text true members ≡ later (rows members) ++ 125 ∷ []
+members-later : (ms : Members) → members_text true ms ≡ later (rows ms) ++ 125 ∷ []
 unfolding member_text
 members-later no_members = refl
 members-later (member k d ms) =
     ap (λ s. 44 ∷ (quoted k ++ 58 ∷ (compact_text d ++ s))) (members-later ms)
     ∙ ap (λ s. 44 ∷ s) (one_row (quoted k) (compact_text d) (later (rows ms)) (125 ∷ []))
 
-members-rows : (members : Members) → members_text false members ≡ join_with_byte 44 (rows members) ++ 125 ∷ []
+members-rows : (ms : Members) → members_text false ms ≡ join_with_byte 44 (rows ms) ++ 125 ∷ []
 unfolding member_text
 members-rows no_members = refl
 members-rows (member k d ms) =
@@ -96,14 +96,13 @@ inside_braces s =
     omega (arith, length-append s (125 ∷ [])) in
     ap (λ n. drop 1 (take n (123 ∷ (s ++ 125 ∷ [])))) len ∙ take-append_seam s (125 ∷ [])
 
-inside_body : (members : Members) → inside (compact_text (object members)) ≡ join_with_byte 44 (rows members)
-inside_body members =
-    ap (λ s. inside (123 ∷ s)) (members-rows members) ∙ inside_braces (join_with_byte 44 (rows members))
+inside_body : (ms : Members) → inside (compact_text (object ms)) ≡ join_with_byte 44 (rows ms)
+inside_body ms = ap (λ s. inside (123 ∷ s)) (members-rows ms) ∙ inside_braces (join_with_byte 44 (rows ms))
 
 later_some : (b : ℕ) (s : List ℕ) (rest : List ℕ) → later (if_some ((b ∷ s) ++ rest)) ≡ 44 ∷ ((b ∷ s) ++ rest)
 later_some b s rest = ap (λ t. 44 ∷ t) (append-nil (b ∷ (s ++ rest)))
 
-later_rows : (members : Members) → later (if_some (join_with_byte 44 (rows members))) ≡ later (rows members)
+later_rows : (ms : Members) → later (if_some (join_with_byte 44 (rows ms))) ≡ later (rows ms)
 unfolding member_text
 later_rows no_members = refl
 later_rows (member k d ms) =
@@ -143,36 +142,34 @@ compact-history path =
 abbrev front : Option Revision → Bool → Option (List Revision) → List (List ℕ)
 front rev deleted path = rev_member rev ++ (deleted_member deleted ++ history_member path)
 
-history_rows : (path : Option (List Revision)) (members : Members)
-    → rows (history_by member history_written path members) ≡ history_member path ++ rows members
-history_rows None members = refl
-history_rows (Some path) members =
-    ap (λ s. member_text (codes "_revisions") s ∷ rows members) (compact-history path)
+history_rows : (path : Option (List Revision)) (ms : Members)
+    → rows (history_by member history_written path ms) ≡ history_member path ++ rows ms
+history_rows None ms = refl
+history_rows (Some path) ms = ap (λ s. member_text (codes "_revisions") s ∷ rows ms) (compact-history path)
 
-deleted_rows : (deleted : Bool) (members : Members)
-    → rows (deleted_by member deleted members) ≡ deleted_member deleted ++ rows members
-deleted_rows false members = refl
-deleted_rows true members = refl
+deleted_rows : (deleted : Bool) (ms : Members)
+    → rows (deleted_by member deleted ms) ≡ deleted_member deleted ++ rows ms
+deleted_rows false ms = refl
+deleted_rows true ms = refl
 
-rev_rows : (rev : Option Revision) (members : Members) → rows (rev_by member rev members) ≡ rev_member rev
-    ++ rows members
-rev_rows None members = refl
-rev_rows (Some revision) members = refl
+rev_rows : (rev : Option Revision) (ms : Members) → rows (rev_by member rev ms) ≡ rev_member rev ++ rows ms
+rev_rows None ms = refl
+rev_rows (Some revision) ms = refl
 
 regroup : {A : Type 0} (a b c e : List A) → a ++ (b ++ (c ++ e)) ≡ (a ++ (b ++ c)) ++ e
 regroup a b c e = ap (λ s. a ++ s) (sym (append_assoc b c e)) ∙ sym (append_assoc a (b ++ c) e)
 
 rows-written : (id : List ℕ) (rev : Option Revision) (deleted : Bool)
-    (path : Option (List Revision)) (members : Members)
-    → rows (written id rev deleted path members)
-    ≡ member_text (codes "_id") (quoted id) ∷ (front rev deleted path ++ rows members)
-rows-written id rev deleted path members =
+    (path : Option (List Revision)) (ms : Members)
+    → rows (written id rev deleted path ms)
+    ≡ member_text (codes "_id") (quoted id) ∷ (front rev deleted path ++ rows ms)
+rows-written id rev deleted path ms =
     ap (λ s. member_text (codes "_id") (quoted id) ∷ s)
-    (rev_rows rev (deleted_by member deleted (history_by member history_written path members))
+    (rev_rows rev (deleted_by member deleted (history_by member history_written path ms))
     ∙ ap (λ s. rev_member rev ++ s)
-    (deleted_rows deleted (history_by member history_written path members)
-    ∙ ap (λ s. deleted_member deleted ++ s) (history_rows path members))
-    ∙ regroup (rev_member rev) (deleted_member deleted) (history_member path) (rows members))
+    (deleted_rows deleted (history_by member history_written path ms)
+    ∙ ap (λ s. deleted_member deleted ++ s) (history_rows path ms))
+    ∙ regroup (rev_member rev) (deleted_member deleted) (history_member path) (rows ms))
 
 same_later : (x : List ℕ) (xs ys zs : List (List ℕ)) → later ys ≡ later zs
     → join_with_byte 44 (x ∷ (xs ++ ys)) ≡ join_with_byte 44 (x ∷ (xs ++ zs))
@@ -181,8 +178,8 @@ same_later x xs ys zs e =
     ∙ ap (λ s. x ++ s) (later-append xs ys ∙ ap (λ s. later xs ++ s) e ∙ sym (later-append xs zs))
     ∙ sym (join-later x (xs ++ zs))
 
-pub doc_text-written : (doc : Doc) (members : Members) → doc.body ≡ compact_text (object members)
-    → doc_text doc ≡ compact_text (object (written doc.id doc.rev doc.deleted doc.path members))
+pub doc_text-written : (doc : Doc) (ms : Members) → doc.body ≡ compact_text (object ms)
+    → doc_text doc ≡ compact_text (object (written doc.id doc.rev doc.deleted doc.path ms))
 unfolding doc_text
 doc_text-written d ms body =
     let first = member_text (codes "_id") (quoted d.id) in

@@ -62,13 +62,13 @@ pub path_has_no_room : (asked : Asked) (r : Result Route RouteFault) → r ≡ E
 path_has_no_room asked r none room = rw none (kind room)
 
 -- a request whose name has no room
-pub name_has_no_room : (a : Asked) (kind : Kind) (r : Result Route RouteFault) → r ≡ Err NoMemory
-    → IsServed a kind → HasPercent (name_part (path_of a.target)) → GoesTo a r
-name_has_no_room a kind r none asked room = rw none (name kind asked room)
+pub name_has_no_room : (a : Asked) (k : Kind) (r : Result Route RouteFault) → r ≡ Err NoMemory → IsServed a k
+    → HasPercent (name_part (path_of a.target)) → GoesTo a r
+name_has_no_room a k r none asked room = rw none (name k asked room)
 
 -- a request whose id has no room, or is refused
-pub id_refuses : (a : Asked) (kind : Kind) (fault : RouteFault) → IsServed a kind → IsUtf8 (database_of a)
-    → ((fault ≡ NoMemory) × (has_document kind ≡ true) × HasPercent (id_part (path_of a.target)))
-    ⊎ ((fault ≡ BadId) × IsBadId kind (document_of a)) → GoesTo a (Err fault)
-id_refuses a kind fault asked d (inl (none, one, room)) = rw none (document kind asked one d room)
-id_refuses a kind fault asked d (inr (m, bad)) = rw m (kind, asked, d, bad)
+pub id_refuses : (a : Asked) (k : Kind) (fault : RouteFault) → IsServed a k → IsUtf8 (database_of a)
+    → ((fault ≡ NoMemory) × (has_document k ≡ true) × HasPercent (id_part (path_of a.target)))
+    ⊎ ((fault ≡ BadId) × IsBadId k (document_of a)) → GoesTo a (Err fault)
+id_refuses a k fault asked d (inl (none, one, room)) = rw none (document k asked one d room)
+id_refuses a k fault asked d (inr (m, bad)) = rw m (k, asked, d, bad)
