@@ -164,14 +164,14 @@ fn merge(alloc: Global, tree: &mut RevTree, text: &str) -> Option<Result<Merged,
 fn try_make(
     alloc: Global,
     tree: &mut RevTree,
-    parent: Option<RevId>,
+    parent: Option<&RevId>,
     deleted: bool,
 ) -> Result<Result<RevId, EditFault>, AllocError> {
     let Some(id) = DocId::read(alloc, "a")? else {
         return Err(AllocError);
     };
     let members = Members::empty(alloc)?;
-    match tree.extend(&id, parent, deleted, members) {
+    match tree.extend(&id, parent.copied(), deleted, members) {
         Err(EditFault::NoMemory) => Err(AllocError),
         made => Ok(made),
     }
@@ -184,7 +184,7 @@ fn make(
     parent: Option<RevId>,
     deleted: bool,
 ) -> Option<Result<RevId, EditFault>> {
-    again_on!(tree, try_make(alloc, tree, parent, deleted))
+    again_on!(tree, try_make(alloc, tree, parent.as_ref(), deleted))
 }
 
 // A document whose history has so many revisions.
@@ -228,7 +228,7 @@ fn is_made(
     if on.is_some() != parent.is_some() {
         return Ok(false);
     }
-    let made = try_make(alloc, tree, on, deleted)?;
+    let made = try_make(alloc, tree, on.as_ref(), deleted)?;
     Ok(match (made, answer) {
         (Ok(made), Ok(text)) => Some(made) == RevId::read(text),
         (Err(fault), Err(other)) => fault == other,

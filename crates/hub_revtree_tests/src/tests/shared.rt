@@ -121,13 +121,13 @@ fn two_lines_of_many_edits(rt: HostRuntime) -> Result<(), Fail> {
 fn take_the_second(
     alloc: Global,
     tree: &mut RevTree,
-    leaf: Option<RevId>,
+    leaf: Option<&RevId>,
 ) -> Result<(RevId, RevId), AllocError> {
     let Some(id) = DocId::read(alloc, "a")? else {
         return Err(AllocError);
     };
-    let first = tree.look_extend(&id, leaf, true, Body::empty(alloc)?);
-    let second = tree.look_extend(&id, leaf, false, Body::empty(alloc)?);
+    let first = tree.look_extend(&id, leaf.copied(), true, Body::empty(alloc)?);
+    let second = tree.look_extend(&id, leaf.copied(), false, Body::empty(alloc)?);
     let (Ok(first), Ok(second)) = (first, second) else {
         return Err(AllocError);
     };
@@ -139,7 +139,7 @@ fn take_the_second(
 // The same on the last of the line, behind which the second comes; false where it is not made.
 fn goes_on(alloc: Global, tree: &mut RevTree, line: &mut Vec<RevId>) -> bool {
     let last = line.last().copied();
-    match again_on!(tree, take_the_second(alloc, tree, last)) {
+    match again_on!(tree, take_the_second(alloc, tree, last.as_ref())) {
         Some((first, second)) => first != second && line.push(second).is_ok(),
         None => false,
     }
