@@ -1,7 +1,7 @@
 -- A core and the world that it shows: what is in the one by what is in the other, and what changes in both.
-use Rattle.std.proofs.Common.{◌≡◌, ℕ, List, [], ◌∷◌, ◌++◌, length, map, drop, true, false}
+use Rattle.std.proofs.Common.{◌≡◌, ℕ, List, [], ◌∷◌, ◌++◌, length, map, drop, Bool, true, false}
 use Rattle.std.proofs.Common.{ap, refl, sym, ◌∙◌, ap₂, subst, arith, inl, inr, map-id}
-use Rattle.std.specs.Prelude.{Option, Some, None, get_or, ⊤}
+use Rattle.std.specs.Prelude.{Option, Some, None, get_or, if◌then◌else◌, ⊤}
 use Rattle.std.proofs.lemmas.Bool.{cases_Bool, both_ways, and_left}
 use Rattle.std.proofs.lemmas.List.{length-set, length_push, length-map}
 use Rattle.std.proofs.lemmas.List.Elements.{All-map, All-push, All-set}
@@ -15,15 +15,27 @@ use Rattle.hub_model.specs.Feed.{Finished, begin, is_open, waits, finish}
 use Rattle.hub_model.specs.Journal.{Edit}
 use Rattle.hub_model.specs.RightlyHanded.{ChangeItem}
 use Rattle.hub_world.specs.Core.{Core, Shows, IsEmptied}
-use Rattle.hub_model.specs.Entries.{entry_in, changed, without}
+use Rattle.hub_model.specs.Entries.{entry_in, changed, is_of, without}
 use Rattle.hub_model.proofs.Entries.{without_absent}
 use Rattle.hub_feed.specs.Feeds.{ended as ended_entry}
 use Rattle.hub_world.specs.Lane.{Lanes}
 use Rattle.hub_world.specs.World.{World, Subscription, is_finished, open_feeds, has_no_room, subscription}
 use Rattle.hub_world.specs.World.{with_subscription, lane_of, with_feed, expired, took, finished, ended}
-pub use Rattle.hub_model.proofs.Entries.{changed_same, changed_absent}
+pub use Rattle.hub_model.proofs.Entries.{changed_absent}
 use Rattle.hub_world.proofs.StandingLists.{shown, seen, looked, turned, left_out, added}
 use Rattle.hub_world.proofs.StandingLists.{counted, ended_stands, all_ended}
+
+-- an entry that stays changes nothing
+pub changed_same : {A : Type 0} (number : ℕ) (entries : List (ℕ × A))
+    → changed number (λ a. a) entries ≡ entries
+changed_same number [] = refl
+changed_same {A = A} number (p ∷ entries) = from (is_of number p) (changed_same number entries)
+  where
+    from : (b : Bool) → changed number (λ a. a) entries ≡ entries
+        → ◌≡◌ {A = List (ℕ × A)}
+        ((if b then (p.0, p.1) else p) ∷ changed number (λ a. a) entries) (p ∷ entries)
+    from true e = ap (λ (ps : List (ℕ × A)). p ∷ ps) e
+    from false e = ap (λ (ps : List (ℕ × A)). p ∷ ps) e
 
 -- there is no feed, or it is finished
 abbrev pub IsGone : Option Subscription → Type 0
