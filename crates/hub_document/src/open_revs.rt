@@ -15,7 +15,7 @@ use serde_json::Value;
 use std::alloc::{AllocError, Global};
 
 /// Which revisions of a document are asked for (CouchDB API reference, documents, `open_revs`).
-#[derive(Debug, Drop)]
+#[derive(Drop)]
 pub enum OpenRevs {
     /// Every leaf.
     All,

@@ -8,7 +8,7 @@ use crate::{DocIds, by_filter};
 use std::alloc::{AllocError, Global};
 
 /// Which documents a feed shows.
-#[derive(Debug, Drop)]
+#[derive(Drop)]
 pub enum Filter {
     /// Every document.
     All,

@@ -16,7 +16,7 @@ use hub_follow_model::Seq;
 use std::alloc::Global;
 
 /// What a round did.
-#[derive(Clone, Copy, Debug, PartialEq, Eq)]
+#[derive(Clone, Copy, PartialEq, Eq)]
 pub enum Round {
     /// The place moved.
     Moved,
@@ -25,7 +25,6 @@ pub enum Round {
 }
 
 /// A follower that copies one peer into another, and has a session.
-#[derive(Debug)]
 pub struct Follower<S, T> {
     alloc: Global,
     source: S,
@@ -49,7 +48,7 @@ impl<S: Drop, T: Drop> Drop for Follower<S, T> {
 }
 
 /// A session that did not begin, with the two peers.
-#[derive(Debug, Drop)]
+#[derive(Drop)]
 pub struct FailedStart<S, T> {
     /// Why.
     pub fault: FollowFault,

@@ -23,7 +23,7 @@ use std::marker::Model;
 use std::mem;
 
 /// How far a follower is.
-#[derive(Debug, Drop)]
+#[derive(Drop)]
 pub(crate) enum State {
     /// It has no session.
     Down,
@@ -38,7 +38,6 @@ pub(crate) enum State {
 }
 
 /// A follower as a machine: it says which call it owes, and takes the answer.
-#[derive(Debug)]
 pub struct FollowCore {
     state: State,
 }

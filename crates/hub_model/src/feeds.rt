@@ -32,7 +32,7 @@ impl Mode {
 }
 
 /// Which revisions a row lists.
-#[derive(Clone, Copy, Debug, PartialEq, Eq)]
+#[derive(Clone, Copy, PartialEq, Eq)]
 pub enum Style {
     /// The winner alone.
     MainOnly,
@@ -67,7 +67,7 @@ impl Since {
 }
 
 /// What a feed of such rows hands to its subscriber.
-#[derive(Debug, Drop)]
+#[derive(Drop)]
 pub enum Item<R> {
     /// A row.
     Row(R),

@@ -39,7 +39,7 @@ pub use locked::{Locked, OpenedFeed};
 pub use outbox::{Outbox, Receives, Shelf};
 pub use pumping::{Turn, hold, pump};
 pub use question::{Answer, Question, answer_of, local_copy};
-pub use receipt::{AuditFault, Receipt, ReceiptRoom, audit_of};
+pub use receipt::{AuditFault, Receipt, audit_of};
 pub use subscriber::{FeedEnd, Subscriber, Through};
 pub use updates::{Updates, UpdatesFeed};
 pub use watch::{Bell, Watch, Watchable};

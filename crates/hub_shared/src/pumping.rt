@@ -16,7 +16,7 @@ use std::sync::{Arc, Wait};
 use std::time;
 
 /// What one holding of the lock does for a feed.
-#[derive(Clone, Copy, Debug, PartialEq, Eq)]
+#[derive(Clone, Copy, PartialEq, Eq)]
 pub enum Turn {
     /// It hands what is due.
     Hand,
@@ -158,7 +158,7 @@ impl<'a, S: FeedHost, C: Count, K: Clock> PumpState<'a, S, C, K> {
         }
     }
 
-    // Hands until the feed is gone.
+    // Hands until the feed is gone: the loop itself has no end.
     fn run<R, G>(&mut self, rt: &R, gate: &G) -> Result<(), AllocError>
     where
         R: Asks<FeedLabel<S>, Item<S::Row>> + time::Clock,
@@ -182,7 +182,7 @@ impl<'a, S: FeedHost, C: Count, K: Clock> PumpState<'a, S, C, K> {
                 Handed::Nothing => self.after_nothing(rt, turn, holding.news),
             };
         }
-        unreachable!()
+        Ok(())
     }
 }
 

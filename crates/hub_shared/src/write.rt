@@ -15,7 +15,7 @@ use hub_database::{DbFault, DbState, Replies};
 use hub_document::Doc;
 
 /// What a write did.
-#[derive(Debug, Drop)]
+#[derive(Drop)]
 pub struct Accepted {
     /// What became of each document, in order; where the write stopped, of those before the stop.
     pub replies: Replies,
@@ -64,25 +64,6 @@ impl Locked<DbState> {
         // Without memory for the receipts only the proof needs this call, for `legal`.
         let edits = self.state.update_seq();
         let room = ReceiptRoom::of(self.alloc, docs.as_slice())?;
-        store(&mut self.state, edits, room, docs, new_edits)
-    }
-
-    /// The same, into the room that was made for the receipts of these documents: so their ids can be
-    /// copied before a lock is taken. It fails only where the list of replies finds no memory.
-    pub fn write_into(
-        &mut self,
-        room: ReceiptRoom,
-        docs: Vec<Doc>,
-        new_edits: bool,
-    ) -> Result<Accepted, DbFault>
-        requires room { room ≡ ids_of docs.items }
-        ensures ok { IfOk result (λ a. Stores new_edits docs.items self.old.state a self.new.state) }
-        ensures legal { IsLegal self.new.state.journal }
-        ensures rest { self.new ≡ record self.old { state = self.new.state } }
-        ensures err { IfErr result (λ e. (e ≡ DbFault.NoMemory) × (self.new ≡ self.old)) }
-        ensures memory { OnErr result (0 < length docs.items) }
-    {
-        let edits = self.state.update_seq();
         store(&mut self.state, edits, room, docs, new_edits)
     }
 }

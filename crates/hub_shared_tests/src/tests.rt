@@ -14,7 +14,7 @@ use hub_lane::Receiver;
 use hub_model::{Fault, Item};
 use hub_params::FeedParams;
 use hub_shared::{
-    AuditFault, ChangeItem, ChangeLabel, Handed, Locked, NoCount, Receipt, ReceiptRoom, Through,
+    AuditFault, ChangeItem, ChangeLabel, Handed, Locked, NoCount, Receipt, Through,
     audit_of,
 };
 use std::alloc::{AllocError, Global};
@@ -110,23 +110,16 @@ fn docs(alloc: Global, texts: &[&str]) -> Result<Vec<Doc>, AllocError> {
     Ok(docs)
 }
 
-// Writes the documents that the texts are, which another database made, into room that was made before or
-// not, and adds their receipts: how many documents have their replies.
+// Writes the documents that the texts are, which another database made, and adds their receipts: how many
+// documents have their replies.
 fn write_some(
     alloc: Global,
     database: &mut Database,
     texts: &[&str],
-    is_in_room: bool,
     receipts: &mut Vec<Receipt>,
 ) -> Result<usize, AllocError> {
     let docs = docs(alloc, texts)?;
-    let accepted = if is_in_room {
-        let room = ReceiptRoom::of(alloc, docs.as_slice())?;
-        database.write_into(room, docs, false)
-    } else {
-        database.write(docs, false)
-    };
-    let Ok(accepted) = accepted else {
+    let Ok(accepted) = database.write(docs, false) else {
         return Err(AllocError);
     };
     for receipt in accepted.receipts {
@@ -137,12 +130,7 @@ fn write_some(
 
 // The receipts of all. Where a document finds no memory, those before it stand, and it is written again with
 // those behind it.
-fn write_all(
-    alloc: Global,
-    database: &mut Database,
-    texts: &[&str],
-    is_in_room: bool,
-) -> Result<Vec<Receipt>, Fail> {
+fn write(alloc: Global, database: &mut Database, texts: &[&str]) -> Result<Vec<Receipt>, Fail> {
     let mut receipts = again!(Vec::with_capacity(alloc, texts.len()))?;
     let mut from = 0usize;
     for _ in 0..TRIES {
@@ -150,7 +138,7 @@ fn write_all(
             break;
         }
         let before = shown(database);
-        match write_some(alloc, database, &texts[from..], is_in_room, &mut receipts) {
+        match write_some(alloc, database, &texts[from..], &mut receipts) {
             Ok(count) => from = from.saturating_add(count),
             Err(AllocError) if shown(database) == before => {}
             Err(AllocError) => break,
@@ -160,11 +148,6 @@ fn write_all(
         }
     }
     Err(Fail::new("not each document has its reply"))
-}
-
-// The same without room that was made before.
-fn write(alloc: Global, database: &mut Database, texts: &[&str]) -> Result<Vec<Receipt>, Fail> {
-    write_all(alloc, database, texts, false)
 }
 
 // What comes of opening a feed that the query asks for; an error where it finds no memory, and each time
@@ -315,20 +298,6 @@ fn receipts_are_of_what_was_stored(alloc: Global, database: &mut Database) -> Re
 #[test]
 fn receipts_go_on_from_the_journal(rt: HostRuntime) -> Result<(), Fail> {
     assert!(rt; holds(rt.alloc(), receipts_are_of_what_was_stored)?);
-    Ok(())
-}
-
-// Room that was made before takes the receipts that `write` gives.
-fn room_takes_the_same_receipts(alloc: Global, database: &mut Database) -> Result<bool, Fail> {
-    let one = write_all(alloc, database, &THREE[..1], true)?;
-    let rest = write_all(alloc, database, &THREE, true)?;
-    let none = write_all(alloc, database, &THREE, true)?;
-    Ok(one.len() == 1 && are_the_rest(rest.as_slice()) && none.is_empty())
-}
-
-#[test]
-fn a_write_into_room_gives_the_same_receipts(rt: HostRuntime) -> Result<(), Fail> {
-    assert!(rt; holds(rt.alloc(), room_takes_the_same_receipts)?);
     Ok(())
 }
 

@@ -36,7 +36,7 @@ impl ToldItem {
 }
 
 /// Items that were handed, the front first. Contracts see their list.
-#[derive(Debug, Drop)]
+#[derive(Drop)]
 pub struct Items {
     items: VecDeque<Item<ChangeRow>>,
 }
