@@ -15,6 +15,7 @@ use std::sync::Arc;
 
 /// A document's id, seen as its bytes: 1 to 512 bytes of UTF-8. One that begins with `_` is
 /// `_design/` and a name. Its copies share one text, so a copy takes no memory; the value takes 8 bytes.
+#[derive(Debug)]
 pub struct DocId {
     text: Arc<IdText, Global>,
 }

@@ -8,7 +8,7 @@ use std::alloc::{AllocError, Global};
 use std::marker::Model;
 
 // How a text is kept.
-#[derive(Drop)]
+#[derive(Debug, Drop)]
 enum Kept {
     // One of 32 bytes at most, as most ids are, in the value itself.
     Short(ArrayString<32>),
@@ -17,7 +17,7 @@ enum Kept {
 }
 
 /// The text of an id. One of 32 bytes at most takes no memory of its own.
-#[derive(Drop)]
+#[derive(Debug, Drop)]
 pub(crate) struct IdText {
     kept: Kept,
 }

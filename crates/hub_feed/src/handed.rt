@@ -6,7 +6,7 @@ ghost use Rattle.hub_feed.specs.Hand.{handed_as};
 use hub_model::Item;
 
 /// What a hand did.
-#[derive(Clone, Copy, PartialEq, Eq)]
+#[derive(Clone, Copy, Debug, PartialEq, Eq)]
 pub enum Handed {
     /// The sink took a row.
     Row,

@@ -5,7 +5,7 @@ ghost use Rattle.hub_follow_model.specs.Sequence.{beginning, lesser_seq, seq_in,
 
 /// A sequence of a source, with the number of its life where that is known: a replication log may have
 /// a number alone.
-#[derive(Clone, Copy, PartialEq, Eq)]
+#[derive(Clone, Copy, Debug, PartialEq, Eq)]
 pub struct Seq {
     /// The number of the edit.
     pub n: u64,

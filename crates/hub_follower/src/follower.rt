@@ -16,7 +16,7 @@ use hub_follow_model::Seq;
 use std::alloc::Global;
 
 /// What a round did.
-#[derive(Clone, Copy, PartialEq, Eq)]
+#[derive(Clone, Copy, Debug, PartialEq, Eq)]
 pub enum Round {
     /// The place moved.
     Moved,

@@ -8,7 +8,7 @@ use hub_model::Fault;
 use std::alloc::AllocError;
 
 /// Why a request was refused (CouchDB API reference, HTTP status codes).
-#[derive(Clone, Copy, PartialEq, Eq)]
+#[derive(Clone, Copy, Debug, PartialEq, Eq)]
 pub enum Refusal {
     /// No memory was found.
     NoMemory,

@@ -32,7 +32,7 @@ impl Mode {
 }
 
 /// Which revisions a row lists.
-#[derive(Clone, Copy, PartialEq, Eq)]
+#[derive(Clone, Copy, Debug, PartialEq, Eq)]
 pub enum Style {
     /// The winner alone.
     MainOnly,

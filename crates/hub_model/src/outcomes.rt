@@ -16,7 +16,7 @@ pub enum Fault {
 }
 
 /// What becomes of one document.
-#[derive(Clone, Copy, PartialEq, Eq)]
+#[derive(Clone, Copy, Debug, PartialEq, Eq)]
 pub enum Outcome<R> {
     /// It is the next edit of the journal, with this revision.
     Stored(R),

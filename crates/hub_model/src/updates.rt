@@ -2,7 +2,7 @@
 //! `_db_updates`).
 
 /// What happened to a database.
-#[derive(Clone, Copy, PartialEq, Eq)]
+#[derive(Clone, Copy, Debug, PartialEq, Eq)]
 pub enum UpdateKind {
     /// It was made.
     Created,
