@@ -15,7 +15,7 @@ use std::io::{ErrorKind, Write};
 const ROOM: usize = 256;
 
 /// What came of handing bytes to a writer.
-#[derive(Clone, Copy, PartialEq, Eq)]
+#[derive(Clone, Copy, Debug, PartialEq, Eq)]
 pub enum Handed {
     /// So many were taken.
     Took(usize),
