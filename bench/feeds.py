@@ -5,8 +5,8 @@
 
 starts the proved hub (./hub builds it; or another program of the same commands), opens 1,000 continuous
 feeds of each of 20 databases, and writes a document to each database, round for round. Each feed has to get
-each row once and in order within a minute. Then all clients close, the same feeds are opened again, and
-the rounds go on: a feed that was left would be one too many.
+each row once and in order within a minute. Then all clients close, the hub has to close their connections
+within a minute, the same feeds are opened again, and the rounds go on: a feed that was left would be one too many.
 
 It prints the times from the first write of a round until the last feed has its row, what the hub takes of
 memory and of the processors, and its threads. The status is 1 where a feed misses a row or gets another one,
@@ -85,6 +85,9 @@ class Hub:
         """Bytes of its own, without what it shares."""
         with open("/proc/%d/smaps_rollup" % self.process.pid) as file:
             return 1024 * int(re.search(r"^Pss:\s+(\d+)", file.read(), re.MULTILINE).group(1))
+
+    def descriptors(self):
+        return len(os.listdir("/proc/%d/fd" % self.process.pid))
 
     def threads(self):
         with open("/proc/%d/status" % self.process.pid) as file:
@@ -224,24 +227,30 @@ def run(hub, options, count, since):
     return since + options.rounds, full, (full - empty) / 1024 / feeds, threads
 
 
-def let_go(hub, options, seq):
-    """Writes until the hub has noticed that its clients closed; the sequence behind it."""
-    for at in (1, 2):
-        body = b'{"new_edits":false,"docs":[{"_id":"%d","_rev":"1-a"}]}' % (seq + at)
+def let_go(hub, options, seq, most):
+    """Writes until the hub has closed the feeds of clients that closed, and has at most so many descriptors; the
+    sequence behind it. The hub sees that a client closed where it sends it a row."""
+    limit = time.monotonic() + PATIENCE
+    while hub.descriptors() > most:
+        if time.monotonic() > limit:
+            raise Failed("%d descriptors, %d before the feeds" % (hub.descriptors(), most))
+        seq += 1
+        body = b'{"new_edits":false,"docs":[{"_id":"%d","_rev":"1-a"}]}' % seq
         for database in range(1, options.databases + 1):
             hub.ask("POST /d%d/_bulk_docs" % database, body, b"201")
         time.sleep(1)
-    return seq + 2
+    return seq
 
 
 def check(hub, options, count):
     """Two crowds, one behind the other."""
     for database in range(1, options.databases + 1):
         hub.ask("PUT /d%d" % database, b"", b"201")
+    begun = hub.descriptors()
     seq, first, each, threads = run(hub, options, count, 0)
     if each > options.memory:
         raise Failed("%.1f KiB a feed, more than %d" % (each, options.memory))
-    seq = let_go(hub, options, seq)
+    seq = let_go(hub, options, seq, begun)
     _, second, _, more = run(hub, options, count, seq)
     if max(threads, more) > options.threads:
         raise Failed("%d threads, more than %d" % (max(threads, more), options.threads))
