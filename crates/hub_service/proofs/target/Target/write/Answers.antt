@@ -13,4 +13,5 @@ returns-clause-ok g c =
 
 pub returns-clause-err : goal.returns-clause-err
 returns-clause-err g c =
-    subst (λ r. IfErr r (λ e. e ≡ NoMemory)) (sym c.refused.ensures) (unstored c.write.result c.write.ensures.err)
+    subst (λ r. IfErr r (λ e. e ≡ NoMemory)) (sym c.refused.ensures)
+    (unstored c.write.result c.write.ensures.err)
