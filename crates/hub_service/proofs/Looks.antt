@@ -156,6 +156,48 @@ unfound_read found says refusal (inr is) =
     ap (λ b. if b then Refusing Deleted else says is.1.db) is.1.held in
     inl (record { db = is.1.db; legal = is.1.legal; held = subst (Says (Err refusal)) (sym gone) is.0 })
 
+-- a look that gave this found it, as a closure gives it of each database that stands
+pub look_found : {A : Type 0} (gives : Bor Database → Result A DbFault → Type 0)
+    (found : Database → A → Type 0) (a : A)
+    → IsLooked (λ db given. (lent : Bor Database) × gives lent given × (lent.now ≡ db)) (Ok a)
+    → ((lent : Bor Database) (given : Result A DbFault) → gives lent given
+    → IfOk given (λ a. (lent.now.deleted ≡ false) × found lent.now a))
+    → IsFound found (Ok a)
+look_found gives found a (inl want) finds = absurd (cc)
+look_found {A} gives found a (inr is) finds =
+    by is.held.0 is.held.2
+    (subst (λ db. IfOk is.held.0 (λ a. (db.deleted ≡ false) × found db a)) is.held.1.2
+    (finds is.held.1.0 is.held.0 is.held.1.1))
+  where
+    by : (given : Result A DbFault) → Ok a ≡ with_refusal given
+        → IfOk given (λ a. (is.db.deleted ≡ false) × found is.db a) → IsFound found (Ok a)
+    by (Ok b) same stands =
+        subst (IsFound found) (sym same) (record { db = is.db; legal = is.legal; held = stands })
+    by (Err e) same stands = absurd (cc)
+
+-- and where it gave nothing, the database was deleted, or memory was missing
+pub look_unfound : {A : Type 0} (gives : Bor Database → Result A DbFault → Type 0)
+    (found : Database → A → Type 0) (needs : Database → Type 0) (refusal : Refusal)
+    → IsLooked (λ db given. (lent : Bor Database) × gives lent given × (lent.now ≡ db)) (Err refusal)
+    → ((lent : Bor Database) (given : Result A DbFault) → gives lent given
+    → IfErr given (λ e. GivesUp lent.now (needs lent.now) e))
+    → IsFound found (Err refusal)
+look_unfound gives found needs refusal (inl want) fails = subst (IsFound found) (sym want) (inl refl)
+look_unfound {A} gives found needs refusal (inr is) fails =
+    by is.held.0 is.held.2
+    (subst (λ db. IfErr is.held.0 (λ e. GivesUp db (needs db) e)) is.held.1.2
+    (fails is.held.1.0 is.held.0 is.held.1.1))
+  where
+    gone : (fault : DbFault) → GivesUp is.db (needs is.db) fault → IsFound found (Err (of_db_fault fault))
+    gone fault (inl deleted) =
+        inr (ap of_db_fault deleted.1, record { db = is.db; legal = is.legal; held = deleted.0 })
+    gone fault (inr want) = inl (ap of_db_fault want.1)
+
+    by : (given : Result A DbFault) → Err refusal ≡ with_refusal given
+        → IfErr given (λ e. GivesUp is.db (needs is.db) e) → IsFound found (Err refusal)
+    by (Ok b) same fault = absurd (cc)
+    by (Err e) same fault = subst (IsFound found) (sym same) (gone e fault)
+
 -- a look finds what a closure gives of each database that stands, and of one that was deleted it tells that
 pub looked_found : {A : Type 0} (gives : Bor Database → Result A DbFault → Type 0)
     (found : Database → A → Type 0) (needs : Database → Type 0) (r : Result A Refusal)
@@ -165,35 +207,37 @@ pub looked_found : {A : Type 0} (gives : Bor Database → Result A DbFault → T
     → ((lent : Bor Database) (given : Result A DbFault) → gives lent given
     → IfErr given (λ e. GivesUp lent.now (needs lent.now) e))
     → IsFound found r
-looked_found gives found needs r (inl want) finds fails = subst (IsFound found) (sym want) (inl refl)
-looked_found {A} gives found needs r (inr is) finds fails =
-    subst (IsFound found) (sym is.held.2)
-    (by is.held.0
-    (subst (λ db. IfOk is.held.0 (λ a. (db.deleted ≡ false) × found db a)) is.held.1.2
-    (finds is.held.1.0 is.held.0 is.held.1.1))
-    (subst (λ db. IfErr is.held.0 (λ e. GivesUp db (needs db) e)) is.held.1.2
-    (fails is.held.1.0 is.held.0 is.held.1.1)))
-  where
-    gone : (fault : DbFault) → GivesUp is.db (needs is.db) fault → IsFound found (Err (of_db_fault fault))
-    gone fault (inl deleted) =
-        inr (ap of_db_fault deleted.1, record { db = is.db; legal = is.legal; held = deleted.0 })
-    gone fault (inr want) = inl (ap of_db_fault want.1)
-
-    by : (given : Result A DbFault) → IfOk given (λ a. (is.db.deleted ≡ false) × found is.db a)
-        → IfErr given (λ e. GivesUp is.db (needs is.db) e) → IsFound found (with_refusal given)
-    by (Ok a) stands fault = record { db = is.db; legal = is.legal; held = stands }
-    by (Err e) stands fault = gone e fault
+looked_found gives found needs (Ok a) looked finds fails = look_found gives found a looked finds
+looked_found gives found needs (Err refusal) looked finds fails =
+    look_unfound gives found needs refusal looked fails
 
 -- ---- writing
 
--- and one that it did not
-pub unedited_by : {counts : Bool} {all_parts : ℕ} {h : HandleState} (doc : Doc) (e : DbFault)
-    → (e ≡ db_fault.NoMemory) ⊎ IsEditedBy counts all_parts h doc (Err e)
-    → IsEdited doc (Err (of_db_fault e))
-unedited_by doc e (inl want) = inl (ap of_db_fault want)
-unedited_by doc db_fault.NoMemory (inr is) = inl refl
-unedited_by doc (db_fault.Refused fault) (inr is) =
-    inr (record { db = is.db; legal = is.found.legal; held = (fault, refl, is.answered) })
+-- an edit was made, or some database refuses it, or memory was missing
+pub edited_or_not : (doc : Doc) (given : Result Edited DbFault)
+    → IfOk given (λ e. IsEditedBy false 0 (record { parts = 0; count = 0 }) doc (Ok e.rev))
+    → IfErr given (λ e. (e ≡ db_fault.NoMemory)
+    ⊎ IsEditedBy false 0 (record { parts = 0; count = 0 }) doc (Err e))
+    → IsEdited doc (with_refusal given)
+edited_or_not doc (Ok edited) is fault =
+    record { db = is.db; legal = is.found.legal; held = is.answered }
+edited_or_not doc (Err e) is (inl want) = inl (ap of_db_fault want)
+edited_or_not doc (Err db_fault.NoMemory) is (inr fault) = inl refl
+edited_or_not doc (Err (db_fault.Refused refused)) is (inr fault) =
+    inr (record { db = fault.db; legal = fault.found.legal; held = (refused, refl, fault.answered) })
+
+-- a batch was stored, or memory was missing
+pub stored_whole : (new_edits : Bool) (docs : List Doc) (given : Result Written DbFault)
+    → IfOk given (λ w. IsStoredBy false 0 (record { parts = 0; count = 0 }) new_edits docs w.batch)
+    → IfOk given (λ w. IsSome w.lapsed → HasStored w.batch.replies)
+    → IfOk (with_refusal given) (IsStored new_edits docs)
+stored_whole new_edits docs (Ok written) stored lapsed = record { stored = stored; lapsed = lapsed }
+stored_whole new_edits docs (Err e) stored lapsed = tt
+
+pub unstored : (given : Result Written DbFault) → IfErr given (λ e. e ≡ db_fault.NoMemory)
+    → IfErr (with_refusal given) (λ e. e ≡ NoMemory)
+unstored (Ok written) want = tt
+unstored (Err e) want = ap of_db_fault want
 
 -- an edit that was refused is answered as that
 pub edit_refused : (status : ℕ) (doc : Doc) (refusal : Refusal) → IsEdited doc (Err refusal)
@@ -265,12 +309,15 @@ kept_read doc count r (db, standing, is) says =
               (sym (ap (λ b. if b then Refusing Deleted else keeps (written db.locals doc)) standing)) said;
         })
 
--- and why nothing was kept
-pub unkept : (doc : LocalDoc) (fault : DbFault) → (db : Database) × IsLocalFault db doc fault
-    → IsKept doc (Err (of_db_fault fault))
-unkept doc fault (db, inl gone) = inr (inl (ap of_db_fault gone.1, (db, gone.0)))
-unkept doc fault (db, inr (standing, inl want)) = inl (ap of_db_fault want.0)
-unkept doc fault (db, inr (standing, inr full)) = inr (inr (ap of_db_fault full.0, (db, standing, full.1)))
+-- a local document was kept, or it is told why not
+pub kept_or_not : (doc : LocalDoc) (given : Result ℕ DbFault)
+    → IfOk given (λ count. (db : Database) × (db.deleted ≡ false) × (count ≡ (written db.locals doc).count))
+    → IfErr given (λ e. (db : Database) × IsLocalFault db doc e) → IsKept doc (with_refusal given)
+kept_or_not doc (Ok count) kept fault = kept
+kept_or_not doc (Err e) kept (db, inl gone) = inr (inl (ap of_db_fault gone.1, (db, gone.0)))
+kept_or_not doc (Err e) kept (db, inr (standing, inl want)) = inl (ap of_db_fault want.0)
+kept_or_not doc (Err e) kept (db, inr (standing, inr full)) =
+    inr (inr (ap of_db_fault full.0, (db, standing, full.1)))
 
 -- a count that was told is that of a document that is kept
 pub kept_said : (db : Database) (doc : LocalDoc) (count : ℕ) (r : Result Response Refusal) → count < 2 ^ 64

@@ -16,7 +16,7 @@ use std::sync::Wait;
 fn info<N: Wait>(target: &Target<'_, N>, name: &str) -> Result<Response, Refusal>
     ensures { IsRead (λ db. says_info name.now db) result }
 {
-    let info = target.info()?;
+    let info = target.look(|state| state.info())?;
     ok(info_body(target.alloc, name, &info))
 }
 

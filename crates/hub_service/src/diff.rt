@@ -1,7 +1,6 @@
 //! Missing revisions (CouchDB API reference, `POST /{db}/_revs_diff`).
 
 ghost use Rattle.std.specs.Prelude.{◌≡◌, ◌⊎◌, Err, IfErr, IfOk, Ok};
-ghost use Rattle.hub_model.specs.Missing.{diffs};
 ghost use Rattle.hub_service.specs.Calls.{asked_by, says_diffs};
 ghost use Rattle.hub_service.specs.Moments.{IsRead};
 
@@ -26,7 +25,7 @@ fn read_asked(alloc: Global, body: &[u8]) -> Result<Vec<Asked>, DocFault>
 fn diff<N: Wait>(target: &Target<'_, N>, asked: Vec<Asked>) -> Result<Response, Refusal>
     ensures { IsRead (λ db. says_diffs db.journal (Ok asked.items)) result }
 {
-    let found = target.missing(asked)?;
+    let found = target.look(move |state| state.revs_diff(asked))?;
     ok(diffs_body(target.alloc, found.as_slice()))
 }
 

@@ -4,7 +4,6 @@ ghost use Rattle.std.specs.Prelude.{◌≡◌, ◌⊎◌, Err, IfErr, IfOk, List
 ghost use Rattle.hub_document.specs.Ids.{short_id};
 ghost use Rattle.hub_document.specs.Put.{put_in};
 ghost use Rattle.hub_params.specs.DocParams.{doc_asked};
-ghost use Rattle.hub_database.specs.Reads.{lookup};
 ghost use Rattle.hub_model.specs.declared.outcomes.Outcome.TheVariants.{Stored};
 ghost use Rattle.hub_replies.specs.Bodies.{edit_front};
 ghost use Rattle.hub_service.specs.Calls.{edits, gets_doc, gets_revs, is_all, puts_doc, says_edit};
@@ -38,19 +37,12 @@ fn say_found(alloc: Global, found: &Lookup) -> Result<Response, Refusal>
     }
 }
 
-// Whether all leaves are asked for.
-fn is_all(which: &OpenRevs) -> bool
-    ensures { result ≡ is_all which.now }
-{
-    matches!(which, OpenRevs::All)
-}
-
 // The answer to revisions that were asked for, to all leaves or some.
-fn say_revs(alloc: Global, all: bool, revs: &[OpenRev]) -> Result<Response, Refusal>
-    ensures { IsSaid (says_revs all revs.now) result }
+fn say_revs(alloc: Global, which: &OpenRevs, revs: &[OpenRev]) -> Result<Response, Refusal>
+    ensures { IsSaid (says_revs (is_all which.now) revs.now) result }
 {
-    match (all, revs) {
-        (true, []) => Err(Refusal::Missing),
+    match (which, revs) {
+        (OpenRevs::All, []) => Err(Refusal::Missing),
         _ => ok(open_revs_body(alloc, revs)),
     }
 }
@@ -67,16 +59,8 @@ fn get_revs<N: Wait>(
     let Some(which) = asked else {
         return Err(Refusal::BadRev);
     };
-    let found = target.revisions(id, &which, revs)?;
-    say_revs(target.alloc, is_all(&which), found.as_slice())
-}
-
-// A document.
-fn get_found<N: Wait>(target: &Target<'_, N>, id: &str, revs: bool) -> Result<Response, Refusal>
-    ensures { IsRead (λ db. says_found (lookup db.journal id.now revs)) result }
-{
-    let found = target.found(id, revs)?;
-    say_found(target.alloc, &found)
+    let found = target.look(|state| state.open_revs(id, &which, revs))?;
+    say_revs(target.alloc, &which, found.as_slice())
 }
 
 /// A document, or those of its revisions that `open_revs` asks for. It costs the wait for the
@@ -101,7 +85,8 @@ pub(crate) fn get<N: Wait>(
     if rev.is_some() {
         return Err(Refusal::BadRev);
     }
-    get_found(target, id, revs)
+    let found = target.look(|state| state.get(id, revs))?;
+    say_found(target.alloc, &found)
 }
 
 // The answer to an edit that was stored, with this status, and this front of the answer.

@@ -20,7 +20,7 @@ fn begin_asked<N: Wait>(target: &Target<'_, N>, params: FeedParams) -> Result<Re
     ensures { BeginsChanges (params_asked params) result }
 {
     if params.descending {
-        let answer = target.descending(&params)?;
+        let answer = target.look(|state| state.changes_descending(&params))?;
         let sent = Sent::Listed(Listed::new(answer));
         return Ok(Response::Stream(Mode::Normal, sent));
     }

@@ -1,6 +1,6 @@
 //! Local documents by their ids (CouchDB API reference, `/{db}/_local/{docid}`).
 
-ghost use Rattle.std.specs.Prelude.{◌≡◌, option_map};
+ghost use Rattle.std.specs.Prelude.{option_map};
 ghost use Rattle.hub_database.specs.Locals.{local_of, written};
 ghost use Rattle.hub_document.specs.Local.{local_in};
 ghost use Rattle.hub_shared.specs.Answers.{local_named};
@@ -14,6 +14,7 @@ use hub_database::Local;
 use hub_document::LocalDoc;
 use hub_http::Refusal;
 use hub_replies::{edit_front, local_doc_body, local_edit_body};
+use hub_shared::local_copy;
 use std::alloc::Global;
 use std::sync::Wait;
 
@@ -32,8 +33,9 @@ fn say_local(alloc: Global, id: &str, found: &Option<Local>) -> Result<Response,
 pub(crate) fn get<N: Wait>(target: &Target<'_, N>, id: &str) -> Result<Response, Refusal>
     ensures { IsRead (λ db. says_local (local_of db.locals id.now)) result }
 {
-    let found = target.local(id)?;
-    say_local(target.alloc, id, &found)
+    let alloc = target.alloc;
+    let found = target.look(|state| local_copy(alloc, state, id))?;
+    say_local(alloc, id, &found)
 }
 
 // Keeps a local document. The answer is begun first, so that none is kept that is not answered.

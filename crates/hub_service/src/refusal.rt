@@ -1,7 +1,8 @@
 //! Why a call is refused.
 
 ghost use Rattle.std.specs.Prelude.{◌≡◌};
-ghost use Rattle.hub_service.specs.Refusals.{of_db_fault, of_hub_fault, of_note_fault};
+ghost use Rattle.hub_service.specs.Moments.{with_refusal};
+ghost use Rattle.hub_service.specs.Refusals.{of_hub_fault, of_note_fault};
 ghost use Rattle.hub_service.specs.Refusals.{of_open_fault, of_param_fault};
 
 use hub_database::DbFault;
@@ -11,13 +12,14 @@ use hub_http::Refusal;
 use hub_params::ParamFault;
 use hub_updates::NoteFault;
 
-/// The refusal of a call on a database that failed.
-pub(crate) fn refusal_of(fault: DbFault) -> Refusal
-    ensures { result ≡ of_db_fault fault }
+/// What a call on a database gave, with a fault as the refusal that it is.
+pub(crate) fn refused<T>(given: Result<T, DbFault>) -> Result<T, Refusal>
+    ensures { result ≡ with_refusal given }
 {
-    match fault {
-        DbFault::NoMemory => Refusal::NoMemory,
-        DbFault::Refused(fault) => Refusal::from(fault),
+    match given {
+        Ok(found) => Ok(found),
+        Err(DbFault::NoMemory) => Err(Refusal::NoMemory),
+        Err(DbFault::Refused(fault)) => Err(Refusal::from(fault)),
     }
 }
 

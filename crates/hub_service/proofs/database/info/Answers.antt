@@ -1,27 +1,34 @@
 use Rattle.std.proofs.Common.{◌≡◌, ℕ, Err, rules, sym, subst, ap}
 use Rattle.std.specs.Prelude.{Vec}
 use Rattle.std.specs.declared.alloc.Global.{Global}
+use Rattle.hub_database.specs.Database.{Database}
 use Rattle.hub_database.specs.Reads.{info_of}
+use Rattle.hub_database.specs.declared.answers.Info.{Info}
 use Rattle.hub_replies.specs.Bodies.{info_body}
 use Rattle.hub_service.specs.Calls.{says_info}
 use Rattle.hub_service.specs.Moments.{IsRead}
 use Rattle.hub_service.specs.Said.{Body}
-use Rattle.hub_service.proofs.Looks.{found_read, said_text, unfound_read}
+use Rattle.hub_service.proofs.Looks.{found_read, look_found, look_unfound, said_text, unfound_read}
 use Rattle.hub_service.proofs.database.info.Goals as goal
+
+-- what a look for what a database says of itself finds
+abbrev is_info : Database → Info → Type 0
+is_info db info = info ≡ info_of db.journal db.life
 
 pub returns-in_err-info : goal.returns-in_err-info
 returns-in_err-info g c =
     let same : c.from_residual.result ≡ Err c.in_err-info.field-0.0 = search rules in
     subst (IsRead (λ db. says_info c.args.name.now db)) (sym same)
-    (unfound_read (λ db info. info ≡ info_of db.journal db.life)
-    (λ db. says_info c.args.name.now db) c.in_err-info.field-0.0 c.in_err-info.ensures)
+    (unfound_read is_info (λ db. says_info c.args.name.now db) c.in_err-info.field-0.0
+    (look_unfound _ is_info (λ db. ⊥) c.in_err-info.field-0.0 c.in_err-info.ensures
+    (λ lent given is. search rules)))
 
 pub returns : goal.returns
 returns g c =
     let said =
     said_text (λ (b : Vec ℕ Global). b.items) 200 (info_body c.args.name.now c.in_ok-info.info)
     c.info_body.result c.ok.result c.info_body.ensures c.ok.ensures.said c.ok.ensures.memory in
-    found_read (λ db info. info ≡ info_of db.journal db.life)
-    (λ db. says_info c.args.name.now db) c.in_ok-info.info
-    (Body 200 (info_body c.args.name.now c.in_ok-info.info)) c.ok.result c.in_ok-info.ensures said
+    found_read is_info (λ db. says_info c.args.name.now db) c.in_ok-info.info
+    (Body 200 (info_body c.args.name.now c.in_ok-info.info)) c.ok.result
+    (look_found _ is_info c.in_ok-info.info c.in_ok-info.ensures (λ lent given is. search rules)) said
     (λ db is. ap (λ info. Body 200 (info_body c.args.name.now info)) is)

@@ -1,7 +1,9 @@
 use Rattle.std.proofs.Common.{◌≡◌, ℕ, List, Bool, true, false, Option, Some, None, Result}
-use Rattle.std.proofs.Common.{Err, option_map, string_bytes, refl, sym, subst, ap, ◌∙◌}
+use Rattle.std.proofs.Common.{Err, option_map, rules, string_bytes, refl, sym, subst, ap, ◌∙◌}
 use Rattle.std.specs.Prelude.{T, is_some}
-use Rattle.hub_database.specs.Reads.{lookup}
+use Rattle.hub_database.specs.Database.{Database}
+use Rattle.hub_database.specs.Reads.{HasDocument, lookup}
+use Rattle.hub_database.specs.declared.answers.Lookup.{Lookup}
 use Rattle.hub_document.specs.Asking.{open_revs_in}
 use Rattle.hub_document.specs.declared.open_revs.OpenRevs.{OpenRevs}
 use Rattle.hub_params.specs.DocParams.{DocAsked}
@@ -11,8 +13,12 @@ use Rattle.hub_service.specs.Calls.{gets_by, gets_doc, gets_revs, says_found}
 use Rattle.hub_service.specs.Moments.{IsRead}
 use Rattle.hub_service.specs.Said.{Refusing}
 use Rattle.hub_service.specs.declared.response.Response.{Response}
-use Rattle.hub_service.proofs.Looks.{read_anyway}
+use Rattle.hub_service.proofs.Looks.{found_read, look_found, look_unfound, read_anyway, unfound_read}
 use Rattle.hub_service.proofs.documents.get.Goals as goal
+
+-- what a look for a document of an id finds
+abbrev is_lookup : List ℕ → Bool → Database → Lookup → Type 0
+is_lookup id revs db found = found ≡ lookup db.journal id revs
 
 -- where revisions are asked for, they are what is read
 revs_asked : (id : List ℕ) (revs : Bool) (rev : Option (List ℕ)) (leaves : Option (List ℕ)) (text : List ℕ)
@@ -63,12 +69,35 @@ returns-then-is_some g c =
     (rev_asked id p.revs string_bytes p.rev (option_map string_bytes p.open_revs)
     (ap (option_map string_bytes) c.in_default.is) (sym c.is_some.ensures ∙ c.if-is_some.true))
 
+pub returns-in_err-found : goal.returns-in_err-found
+returns-in_err-found g c =
+    let id = c.args.id.now in
+    let p = c.rev.inside in
+    let same : c.from_residual-in_err-found.result ≡ Err c.in_err-found.field-0.0 = search rules in
+    let asks : DocAsked → Type 0 =
+    λ a. IsRead (λ db. gets_doc db.journal id a) c.from_residual-in_err-found.result in
+    subst asks (c.rev.view_is ∙ c.in_ok-rev.ensures.asked)
+    (none_asked id p.revs string_bytes p.rev (option_map string_bytes p.open_revs)
+    c.from_residual-in_err-found.result
+    (ap (option_map string_bytes) c.in_default.is)
+    (sym c.is_some.ensures ∙ c.if-is_some.false)
+    (subst (IsRead (λ db. says_found (lookup db.journal id p.revs))) (sym same)
+    (unfound_read (is_lookup id p.revs) (λ db. says_found (lookup db.journal id p.revs))
+    c.in_err-found.field-0.0
+    (look_unfound _ (is_lookup id p.revs) (λ db. HasDocument db.journal id p.revs)
+    c.in_err-found.field-0.0 c.in_err-found.ensures (λ lent given is. search rules)))))
+
 pub returns : goal.returns
 returns g c =
     let id = c.args.id.now in
-    let asks : DocAsked → Type 0 = λ a. IsRead (λ db. gets_doc db.journal id a) c.get_found.result in
+    let asks : DocAsked → Type 0 = λ a. IsRead (λ db. gets_doc db.journal id a) c.say_found.result in
     let p = c.rev.inside in
     subst asks (c.rev.view_is ∙ c.in_ok-rev.ensures.asked)
-    (none_asked id p.revs string_bytes p.rev (option_map string_bytes p.open_revs) c.get_found.result
+    (none_asked id p.revs string_bytes p.rev (option_map string_bytes p.open_revs) c.say_found.result
     (ap (option_map string_bytes) c.in_default.is)
-    (sym c.is_some.ensures ∙ c.if-is_some.false) c.get_found.ensures)
+    (sym c.is_some.ensures ∙ c.if-is_some.false)
+    (found_read (is_lookup id p.revs) (λ db. says_found (lookup db.journal id p.revs))
+    c.in_ok-found.found (says_found c.in_ok-found.found) c.say_found.result
+    (look_found _ (is_lookup id p.revs) c.in_ok-found.found c.in_ok-found.ensures
+    (λ lent given is. search rules))
+    c.say_found.ensures (λ db is. ap says_found is)))

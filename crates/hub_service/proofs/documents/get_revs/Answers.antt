@@ -1,4 +1,4 @@
-use Rattle.std.proofs.Common.{◌≡◌, ℕ, List, Bool, Err, rules, refl, sym, subst, ap, ◌∙◌}
+use Rattle.std.proofs.Common.{◌≡◌, ℕ, List, [], Bool, Err, rules, refl, sym, subst, ap, ◌∙◌}
 use Rattle.std.specs.Prelude.{Vec}
 use Rattle.std.specs.declared.alloc.Global.{Global}
 use Rattle.hub_database.specs.Database.{Database}
@@ -9,7 +9,7 @@ use Rattle.hub_http.specs.declared.refusal.Refusal.TheVariants.{BadRev}
 use Rattle.hub_service.specs.Calls.{gets_revs, is_all, says_revs}
 use Rattle.hub_service.specs.Moments.{IsRead}
 use Rattle.hub_service.specs.Said.{Refusing}
-use Rattle.hub_service.proofs.Looks.{found_read, read_anyway, unfound_read}
+use Rattle.hub_service.proofs.Looks.{found_read, look_found, look_unfound, read_anyway, unfound_read}
 use Rattle.hub_service.proofs.documents.get_revs.Goals as goal
 
 -- what a look for revisions of an id finds
@@ -28,7 +28,10 @@ returns-in_err-found g c =
     subst (IsRead (λ db. gets_revs db.journal c.args.id.now c.args.revs c.args.asked)) (sym same)
     (unfound_read (are_revs c.args.id.now c.in-Some.which c.args.revs)
     (λ db. gets_revs db.journal c.args.id.now c.args.revs c.args.asked)
-    c.in_err-found.field-0.0 c.in_err-found.ensures)
+    c.in_err-found.field-0.0
+    (look_unfound _ (are_revs c.args.id.now c.in-Some.which c.args.revs)
+    (λ db. ¬ (open_revs db.journal c.args.id.now c.in-Some.which c.args.revs ≡ []))
+    c.in_err-found.field-0.0 c.in_err-found.ensures (λ lent given is. search rules)))
 
 pub returns : goal.returns
 returns g c =
@@ -37,7 +40,9 @@ returns g c =
     let revs = c.as_slice.result.now in
     found_read (are_revs id which c.args.revs)
     (λ db. gets_revs db.journal id c.args.revs c.args.asked) c.in_ok-found.found
-    (says_revs c.is_all.result revs) c.say_revs.result c.in_ok-found.ensures c.say_revs.ensures
-    (λ db is. ap (λ all. says_revs all revs) c.is_all.ensures
-    ∙ (ap (says_revs (is_all which)) (c.as_slice.ensures.value ∙ is)
-    ∙ sym (ap (gets_revs db.journal id c.args.revs) c.in-Some.is)))
+    (says_revs (is_all which) revs) c.say_revs.result
+    (look_found _ (are_revs id which c.args.revs) c.in_ok-found.found c.in_ok-found.ensures
+    (λ lent given is. search rules))
+    c.say_revs.ensures
+    (λ db is. ap (says_revs (is_all which)) (c.as_slice.ensures.value ∙ is)
+    ∙ sym (ap (gets_revs db.journal id c.args.revs) c.in-Some.is))
