@@ -6,12 +6,13 @@
 starts the proved hub (./hub builds it; or another program of the same commands), opens 1,000 continuous
 feeds of each of 20 databases, and writes a document to each database, round for round. Each feed has to get
 each row once and in order within a minute. Then all clients close, the hub has to close their connections
-within a minute, and the same feeds are opened again, twice: a feed that was left would be one too many.
+within a minute, the same feeds are opened again, and the rounds go on: a feed that was left would be one too
+many.
 
 It prints the times from the first write of a round until the last feed has its row, what the hub takes of
 memory and of the processors, and its threads. The status is 1 where a feed misses a row or gets another one,
-where the hub has more threads than `--threads` or more memory a feed than `--memory`, where the third time
-takes a tenth more memory than the second, or where a feed is refused.
+where the hub has more threads than `--threads` or more memory a feed than `--memory`, where the second time
+takes a tenth more memory than the first, or where a feed is refused.
 
 Only Python's standard library is used. A feed takes a descriptor of the hub and one of this script: where the
 system allows fewer, there are fewer feeds, and the table says how many.
@@ -49,7 +50,9 @@ class Hub:
     """A hub that serves, in a process of its own."""
 
     def __init__(self, program):
-        self.process = subprocess.Popen([program, "serve", "127.0.0.1:0", "4294967295"], stdout=subprocess.PIPE)
+        # One arena of the C library: with one for each thread, pieces that another thread freed stay unused.
+        how = {"stdout": subprocess.PIPE, "env": {**os.environ, "MALLOC_ARENA_MAX": "1"}}
+        self.process = subprocess.Popen([program, "serve", "127.0.0.1:0", "4294967295"], **how)
         self.port = int(self.process.stdout.readline().decode().rsplit(":", 1)[1])
         self.writer = socket.create_connection(("127.0.0.1", self.port), timeout=PATIENCE)
         self.writer.setsockopt(socket.IPPROTO_TCP, socket.TCP_NODELAY, 1)
@@ -243,22 +246,19 @@ def let_go(hub, options, seq, most):
 
 
 def check(hub, options, count):
-    """Three crowds, one behind the other. The second one also takes what the allocator leaves between pieces."""
+    """Two crowds, one behind the other."""
     for database in range(1, options.databases + 1):
         hub.ask("PUT /d%d" % database, b"", b"201")
-    begun, seq, fulls, most = hub.descriptors(), 0, [], 0
-    for at in range(3):
-        if at:
-            seq = let_go(hub, options, seq, begun)
-        seq, full, each, threads = run(hub, options, count, seq)
-        if each > options.memory:
-            raise Failed("%.1f KiB a feed, more than %d" % (each, options.memory))
-        fulls.append(full)
-        most = max(most, threads)
-    if most > options.threads:
-        raise Failed("%d threads, more than %d" % (most, options.threads))
-    if fulls[2] > 1.1 * fulls[1]:
-        raise Failed("%.1f MB the third time, %.1f the second" % (fulls[2] / 1e6, fulls[1] / 1e6))
+    begun = hub.descriptors()
+    seq, first, each, threads = run(hub, options, count, 0)
+    if each > options.memory:
+        raise Failed("%.1f KiB a feed, more than %d" % (each, options.memory))
+    seq = let_go(hub, options, seq, begun)
+    _, second, _, more = run(hub, options, count, seq)
+    if max(threads, more) > options.threads:
+        raise Failed("%d threads, more than %d" % (max(threads, more), options.threads))
+    if second > 1.1 * first:
+        raise Failed("%.1f MB the second time, %.1f the first" % (second / 1e6, first / 1e6))
 
 
 def main():
