@@ -14,8 +14,7 @@ use hub_lane::Receiver;
 use hub_model::{Fault, Item};
 use hub_params::FeedParams;
 use hub_shared::{
-    AuditFault, ChangeItem, ChangeLabel, Handed, Locked, NoCount, Receipt, Through,
-    audit_of,
+    AuditFault, ChangeItem, ChangeLabel, Handed, Locked, NoCount, Receipt, Through, audit_of,
 };
 use std::alloc::{AllocError, Global};
 use std::sync::Wait;
