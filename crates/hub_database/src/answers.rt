@@ -4,7 +4,7 @@ use hub_document::{Doc, RevId, Revisions};
 use std::marker::Model;
 
 /// A revision that was asked for (CouchDB API reference, documents, `open_revs`).
-#[derive(Drop)]
+#[derive(Debug, Drop)]
 pub enum OpenRev {
     /// It, with its history where that was asked for.
     Found(Doc),
@@ -13,7 +13,7 @@ pub enum OpenRev {
 }
 
 /// A document that was asked for.
-#[derive(Drop)]
+#[derive(Debug, Drop)]
 pub enum Lookup {
     /// There is no document of this id.
     Unknown,
@@ -24,7 +24,7 @@ pub enum Lookup {
 }
 
 /// What a database says of itself (CouchDB API reference, `GET /{db}`).
-#[derive(Clone, Copy, PartialEq, Eq)]
+#[derive(Clone, Copy, Debug, PartialEq, Eq)]
 pub struct Info {
     /// How many documents have a winner that is not deleted. Design documents count too.
     pub doc_count: u64,
@@ -38,7 +38,7 @@ pub struct Info {
 
 /// What a document misses of the revisions that were asked for (CouchDB API reference,
 /// `_revs_diff`).
-#[derive(Drop)]
+#[derive(Debug, Drop)]
 pub struct Diff {
     /// The document's id.
     pub id: String,

@@ -28,7 +28,7 @@ impl From<AllocError> for DbFault {
 }
 
 /// What became of each document of a batch, in order.
-#[derive(Drop)]
+#[derive(Debug, Drop)]
 pub struct Replies {
     list: Vec<Outcome<RevId>>,
 }
@@ -60,7 +60,7 @@ impl Replies {
 }
 
 /// What a batch of writes did.
-#[derive(Drop)]
+#[derive(Debug, Drop)]
 pub struct Batch {
     /// What became of the documents, from the first on.
     pub replies: Replies,

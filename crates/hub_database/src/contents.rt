@@ -24,7 +24,7 @@ use std::marker::Model;
 /// What a database keeps: the journal of its accepted edits, the tree of each document, its local
 /// documents and the limits. `DbState::standing` lends it while the database stands, so that several
 /// calls ask once whether it was deleted. Its own calls don't ask.
-#[derive(Drop)]
+#[derive(Debug, Drop)]
 pub struct Contents {
     pub(crate) store: Store,
     /// The local documents by their ids.

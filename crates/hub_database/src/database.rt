@@ -35,6 +35,7 @@ use std::alloc::{AllocError, Global};
 use std::marker::Model;
 
 /// The state of one database: what it keeps, whether it was deleted, and its feeds.
+#[derive(Debug)]
 pub struct DbState {
     pub(crate) contents: Contents,
     /// Whether it was deleted: then it takes and shows nothing, and its feeds come to their ends.

@@ -17,7 +17,7 @@ use std::marker::Model;
 
 /// An answer to a feed that goes downwards (CouchDB API reference, `_changes` with
 /// `descending=true`).
-#[derive(Drop)]
+#[derive(Debug, Drop)]
 pub struct Descending {
     /// The greatest sequence first.
     pub rows: Vec<ChangeRow>,

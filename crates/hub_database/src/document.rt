@@ -22,7 +22,7 @@ use hub_revtree::{EditFault, MergeFault, Ready, RevTree};
 use std::alloc::{AllocError, Global};
 
 /// A document: the sequence of its latest edit, and its tree.
-#[derive(Drop)]
+#[derive(Debug, Drop)]
 pub(crate) struct Document {
     pub(crate) id: DocId,
     pub(crate) latest: u32,
@@ -30,7 +30,7 @@ pub(crate) struct Document {
 }
 
 /// Where an edit's revision is made.
-#[derive(Drop)]
+#[derive(Debug, Drop)]
 pub(crate) enum Origin {
     /// In another database: it comes with its history.
     Elsewhere(Path),
@@ -39,7 +39,7 @@ pub(crate) enum Origin {
 }
 
 /// A document's part of a write.
-#[derive(Drop)]
+#[derive(Debug, Drop)]
 pub(crate) struct Incoming {
     pub(crate) origin: Origin,
     pub(crate) deleted: bool,
@@ -47,7 +47,7 @@ pub(crate) struct Incoming {
 }
 
 /// What a look at a tree gives.
-#[derive(Drop)]
+#[derive(Debug, Drop)]
 pub(crate) enum Looked {
     /// The revision is known.
     Known,

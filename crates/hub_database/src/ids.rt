@@ -7,7 +7,7 @@ use crate::document::Document;
 use hub_index::Named;
 
 /// Documents, of which each has an id.
-#[derive(Drop)]
+#[derive(Debug, Drop)]
 pub(crate) struct Ids<'a> {
     pub(crate) documents: &'a [Document],
 }

@@ -13,7 +13,7 @@ use std::alloc::{AllocError, Global};
 
 /// The rows of one feed of listed documents: found by its ids once, they serve each of its steps
 /// until the next write.
-#[derive(Drop)]
+#[derive(Debug, Drop)]
 pub(crate) struct Listing {
     /// The number of the feed that was asked last, of those whose rows may be kept, if nothing was
     /// written since.

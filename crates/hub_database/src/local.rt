@@ -15,7 +15,7 @@ use std::collections::BTreeMap;
 
 /// A local document that is kept: no feed shows it, and no replication copies it (CouchDB API
 /// reference, local documents).
-#[derive(Drop)]
+#[derive(Debug, Drop)]
 pub struct Local {
     /// How often it was written, from 1: its revision is `0-count`.
     pub count: u64,

@@ -12,7 +12,7 @@ use std::alloc::AllocError;
 use std::marker::Model;
 
 /// The rows of a store, seen as its journal and the number of its life.
-#[derive(Drop)]
+#[derive(Debug, Drop)]
 pub(crate) struct Rows<'a> {
     pub(crate) store: &'a Store,
     pub(crate) life: u64,

@@ -22,7 +22,7 @@ use std::alloc::{AllocError, Global};
 
 /// The documents by number, the numbers in the order of the ids, the journal, the rows of feeds, and
 /// the limits.
-#[derive(Drop)]
+#[derive(Debug, Drop)]
 pub(crate) struct Store {
     pub(crate) documents: Vec<Document>,
     pub(crate) numbers: IdOrder,

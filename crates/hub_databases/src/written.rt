@@ -10,7 +10,7 @@ use hub_model::Outcome;
 use hub_updates::NoteFault;
 
 /// What storing a batch did.
-#[derive(Drop)]
+#[derive(Debug, Drop)]
 pub struct Written {
     /// What became of the documents.
     pub batch: Batch,
@@ -19,7 +19,7 @@ pub struct Written {
 }
 
 /// What an edit did that was stored.
-#[derive(Drop)]
+#[derive(Debug, Drop)]
 pub struct Edited {
     /// The revision that it gave the document.
     pub rev: RevId,

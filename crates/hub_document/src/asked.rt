@@ -15,7 +15,7 @@ use std::alloc::{AllocError, Global};
 use std::marker::Model;
 
 /// Some revisions of a document (CouchDB API reference, `_revs_diff`).
-#[derive(Drop)]
+#[derive(Debug, Drop)]
 pub struct Asked {
     /// The document's id, which need be none that a document can have.
     pub id: String,

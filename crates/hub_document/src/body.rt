@@ -17,7 +17,7 @@ const FIRST_ROOM: usize = 256;
 
 /// A document's members that don't begin with `_`, seen as their compact JSON text: an object
 /// whose keys stand in byte order.
-#[derive(Drop)]
+#[derive(Debug, Drop)]
 pub struct Body {
     text: Vec<u8>,
 }

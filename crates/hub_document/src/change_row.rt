@@ -12,7 +12,7 @@ use std::alloc::{AllocError, Global};
 use std::marker::Model;
 
 /// A row of a feed of changes (CouchDB API reference, `_changes`).
-#[derive(Drop)]
+#[derive(Debug, Drop)]
 pub struct ChangeRow {
     /// The sequence of the document's latest edit.
     pub seq: u64,

@@ -9,7 +9,7 @@ use std::alloc::{AllocError, Global};
 use std::marker::Model;
 
 // How they are kept.
-#[derive(Drop)]
+#[derive(Debug, Drop)]
 enum Kept {
     // One, which takes no memory.
     One(DigestRev),
@@ -19,6 +19,7 @@ enum Kept {
 
 /// The revisions that a row lists (CouchDB API reference, `_changes`). One alone whose hash is a digest's
 /// text, as most rows have it, takes no memory of its own.
+#[derive(Debug)]
 pub struct Changes {
     kept: Kept,
 }

@@ -13,7 +13,7 @@ use std::alloc::{AllocError, Global};
 use thiserror::Error;
 
 /// A document as a writer brings it.
-#[derive(Drop)]
+#[derive(Debug, Drop)]
 pub struct Doc {
     /// Its id.
     pub id: DocId,

@@ -3,7 +3,7 @@
 ghost use Rattle.hub_document.specs.Limited.{IsLimited};
 
 /// The limits of a hub. Tests lower them; none may be 0 or above its number in `Limits::full`.
-#[derive(Clone, Copy, PartialEq, Eq)]
+#[derive(Clone, Copy, Debug, PartialEq, Eq)]
 pub struct Limits {
     /// The bytes of a request's body: 8,388,608. Reading keeps this number itself (`hub_http`), so no
     /// code reads the member yet.

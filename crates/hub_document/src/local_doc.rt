@@ -19,7 +19,7 @@ use std::alloc::{AllocError, Global};
 use std::marker::Model;
 
 /// A local document's id, seen as its bytes: `_local/` and a name, 512 bytes at most.
-#[derive(Drop)]
+#[derive(Debug, Drop)]
 pub struct LocalId {
     text: String,
 }
@@ -81,7 +81,7 @@ fn is_local_id(text: &str) -> bool
 }
 
 /// A local document as a writer brings it: it has no revisions, and no feed shows it.
-#[derive(Drop)]
+#[derive(Debug, Drop)]
 pub struct LocalDoc {
     /// Its id.
     pub id: LocalId,

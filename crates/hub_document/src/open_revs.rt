@@ -15,7 +15,7 @@ use serde_json::Value;
 use std::alloc::{AllocError, Global};
 
 /// Which revisions of a document are asked for (CouchDB API reference, documents, `open_revs`).
-#[derive(Drop)]
+#[derive(Debug, Drop)]
 pub enum OpenRevs {
     /// Every leaf.
     All,

@@ -11,7 +11,7 @@ use std::marker::Model;
 /// A document's revision and those behind it, newest first: a history, whose generations fall by one.
 /// It may end above the first generation, as where a database gave up its oldest revisions. CouchDB
 /// writes it as `_revisions`.
-#[derive(Drop)]
+#[derive(Debug, Drop)]
 pub struct Path {
     revisions: Vec<RevId>,
 }

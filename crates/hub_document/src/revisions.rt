@@ -7,7 +7,7 @@ use std::alloc::{AllocError, Global};
 use std::marker::Model;
 
 /// A list of revisions, as a row of changes shows them.
-#[derive(Drop)]
+#[derive(Debug, Drop)]
 pub struct Revisions {
     list: Vec<RevId>,
 }

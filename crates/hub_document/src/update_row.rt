@@ -7,7 +7,7 @@ use std::alloc::{AllocError, Global};
 use std::marker::Model;
 
 /// A row of a feed of the log of updates (CouchDB API reference, `_db_updates`).
-#[derive(Drop)]
+#[derive(Debug, Drop)]
 pub struct UpdateRow {
     /// The database's name.
     pub db_name: String,

@@ -28,7 +28,7 @@ use std::alloc::AllocError;
 use std::marker::Model;
 
 /// How far a feed is in its life. A finished feed has no state.
-#[derive(Clone, Copy, PartialEq, Eq)]
+#[derive(Clone, Copy, Debug, PartialEq, Eq)]
 pub(crate) enum Status {
     /// It may hand rows.
     Open,
@@ -39,6 +39,7 @@ pub(crate) enum Status {
 }
 
 /// A feed that was opened, over whatever it follows (CouchDB API reference, `_changes`).
+#[derive(Debug)]
 pub struct FeedState {
     params: FeedParams,
     /// It shows what lies above this sequence.

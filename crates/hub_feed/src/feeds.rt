@@ -26,6 +26,7 @@ use std::alloc::{AllocError, Global};
 use std::marker::Model;
 
 /// The feeds of what keeps them that are not finished. A feed is found by its number, by binary search.
+#[derive(Debug)]
 pub struct Feeds {
     /// By their numbers, which rise.
     list: Vec<(u64, FeedState)>,

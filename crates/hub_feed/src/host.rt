@@ -25,7 +25,7 @@ use std::alloc::AllocError;
 
 /// The number of a feed of what keeps it, from 0 on. None is given twice, and a number that no feed
 /// has is that of a finished feed.
-#[derive(Clone, Copy, PartialEq, Eq)]
+#[derive(Clone, Copy, Debug, PartialEq, Eq)]
 pub struct FeedId {
     pub number: u64,
 }

@@ -7,7 +7,7 @@ use crate::source::Source;
 use hub_model::Item;
 
 /// What a feed needs to know of the item that it hands, to go on behind it once the item is away.
-#[derive(Clone, Copy, PartialEq, Eq)]
+#[derive(Clone, Copy, Debug, PartialEq, Eq)]
 pub enum Mark {
     /// A row of this sequence.
     Row(u64),

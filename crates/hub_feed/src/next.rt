@@ -3,7 +3,7 @@
 use hub_model::Item;
 
 /// What a feed has to hand.
-#[derive(Drop)]
+#[derive(Debug, Drop)]
 pub enum Next<R> {
     /// This item. The feed goes on once it is accepted.
     Give(Item<R>),

@@ -8,6 +8,7 @@ use std::marker::Model;
 
 /// The ids that a subscriber lists (`doc_ids` of `_changes`), seen as the list of their bytes, in
 /// byte order. An id may be there twice.
+#[derive(Debug)]
 pub struct DocIds {
     sorted: Vec<String>,
 }

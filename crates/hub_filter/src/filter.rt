@@ -8,7 +8,7 @@ use crate::{DocIds, by_filter};
 use std::alloc::{AllocError, Global};
 
 /// Which documents a feed shows.
-#[derive(Drop)]
+#[derive(Debug, Drop)]
 pub enum Filter {
     /// Every document.
     All,

@@ -28,7 +28,7 @@ pub enum Call<'a> {
 }
 
 /// What a peer answers.
-#[derive(Drop)]
+#[derive(Debug, Drop)]
 pub enum Answer {
     /// The replication log, if there is one.
     Log(Option<Log>),

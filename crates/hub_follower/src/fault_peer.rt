@@ -11,7 +11,7 @@ use hub_document::{Asked, Doc};
 use hub_follow_model::Seq;
 
 /// What is lost of a call that fails.
-#[derive(Clone, Copy, PartialEq, Eq)]
+#[derive(Clone, Copy, Debug, PartialEq, Eq)]
 pub enum Loss {
     /// The call: it has no effect.
     Before,
@@ -21,7 +21,7 @@ pub enum Loss {
 
 /// A peer over another one, some of whose calls fail. It goes on behind such a call as the other one does,
 /// and counts it as a fault.
-#[derive(Drop)]
+#[derive(Debug, Drop)]
 pub struct FaultPeer<P> {
     peer: P,
     /// How many calls are made up to the next one that fails; 0: none fails.

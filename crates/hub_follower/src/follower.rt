@@ -25,6 +25,7 @@ pub enum Round {
 }
 
 /// A follower that copies one peer into another, and has a session.
+#[derive(Debug)]
 pub struct Follower<S, T> {
     alloc: Global,
     source: S,
@@ -48,7 +49,7 @@ impl<S: Drop, T: Drop> Drop for Follower<S, T> {
 }
 
 /// A session that did not begin, with the two peers.
-#[derive(Drop)]
+#[derive(Debug, Drop)]
 pub struct FailedStart<S, T> {
     /// Why.
     pub fault: FollowFault,

@@ -8,7 +8,7 @@ use std::alloc::{AllocError, Global};
 use std::marker::Model;
 
 /// What a replication log's history says of one session.
-#[derive(Drop)]
+#[derive(Debug, Drop)]
 pub struct HistoryEntry {
     /// The session.
     pub session_id: String,
@@ -64,7 +64,7 @@ impl HistoryEntry {
 }
 
 /// A replication log (CouchDB Replication Protocol, retrieve replication logs).
-#[derive(Drop)]
+#[derive(Debug, Drop)]
 pub struct Log {
     /// The last session.
     pub session_id: String,

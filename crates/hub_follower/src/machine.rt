@@ -23,7 +23,7 @@ use std::marker::Model;
 use std::mem;
 
 /// How far a follower is.
-#[derive(Drop)]
+#[derive(Debug, Drop)]
 pub(crate) enum State {
     /// It has no session.
     Down,
@@ -38,6 +38,7 @@ pub(crate) enum State {
 }
 
 /// A follower as a machine: it says which call it owes, and takes the answer.
+#[derive(Debug)]
 pub struct FollowCore {
     state: State,
 }

@@ -24,7 +24,7 @@ use std::alloc::{AllocError, Global};
 use std::marker::Model;
 
 /// Two databases, of which one is copied into the other, and the replication log at each.
-#[derive(Drop)]
+#[derive(Debug, Drop)]
 pub(crate) struct Pair {
     alloc: Global,
     source: DbState,

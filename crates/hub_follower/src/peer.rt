@@ -51,7 +51,7 @@ impl From<DbFault> for CallFault {
 }
 
 /// Rows of changes, with their end.
-#[derive(Drop)]
+#[derive(Debug, Drop)]
 pub struct Changes {
     pub rows: Vec<ChangeRow>,
     /// The sequence up to which the rows show all.

@@ -18,7 +18,7 @@ use std::collections::VecDeque;
 
 /// What a round or a checkpoint is at, by the call that comes next. Each sequence is the one that the
 /// round's changes end at.
-#[derive(Drop)]
+#[derive(Debug, Drop)]
 pub(crate) enum Phase {
     Listing,
     /// The documents that the target is asked about.
@@ -32,7 +32,7 @@ pub(crate) enum Phase {
 }
 
 /// How a session goes on.
-#[derive(Drop)]
+#[derive(Debug, Drop)]
 pub(crate) enum Next {
     /// Its checkpoint is done.
     Ready,

@@ -10,7 +10,7 @@ use std::alloc::{AllocError, Global};
 use std::marker::Model;
 
 /// A replication session.
-#[derive(Drop)]
+#[derive(Debug, Drop)]
 pub struct Session {
     session_id: String,
     /// The source's sequence that it began after.

@@ -21,7 +21,7 @@ use std::alloc::{AllocError, Global};
 use std::marker::Model;
 
 /// What may happen next. An event that has no place there changes nothing.
-#[derive(Drop)]
+#[derive(Debug, Drop)]
 pub enum FollowEvent {
     /// Documents are stored at the source, with their histories.
     Write(Vec<Doc>),
@@ -45,6 +45,7 @@ pub enum FollowEvent {
 }
 
 /// Two databases, the replication log at each, and a follower that copies one into the other.
+#[derive(Debug)]
 pub struct FollowWorld {
     alloc: Global,
     pair: Pair,

@@ -81,7 +81,7 @@ fn close_chunk(buffer: &mut Vec<u8>) -> Result<usize, AllocError>
 
 /// Writes texts as chunks (RFC 9112, section 7.1), each by one call of the writer where that takes
 /// all of it. A text is made where its chunk is written from, and is not copied.
-#[derive(Drop)]
+#[derive(Debug, Drop)]
 pub struct ChunkWriter {
     /// Room for the head of a chunk, and behind it the text and the end of the chunk.
     buffer: Vec<u8>,

@@ -13,7 +13,7 @@ use httparse::{Error, Status};
 use std::alloc::Global;
 
 /// What a head asks for.
-#[derive(Drop)]
+#[derive(Debug, Drop)]
 pub(crate) struct Head {
     pub method: Vec<u8>,
     pub target: Vec<u8>,

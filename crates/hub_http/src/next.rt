@@ -2,7 +2,7 @@
 use crate::request::Request;
 
 /// What comes next of the bytes that came so far.
-#[derive(Drop)]
+#[derive(Debug, Drop)]
 pub enum Next {
     /// A request, all of whose bytes came.
     Whole(Request),

@@ -11,7 +11,7 @@ use itoa::Buffer;
 use std::alloc::{AllocError, Global};
 
 /// A whole answer.
-#[derive(Drop)]
+#[derive(Debug, Drop)]
 pub enum Reply {
     /// A status, and a body: JSON text and a line feed.
     Done {

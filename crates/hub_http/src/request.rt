@@ -1,7 +1,7 @@
 //! Requests.
 
 /// A whole request (RFC 9112). Its fields but `Content-Length` and `Connection` are not kept.
-#[derive(Drop)]
+#[derive(Debug, Drop)]
 pub struct Request {
     /// The method, as `GET`.
     pub method: Vec<u8>,

@@ -18,6 +18,7 @@ const FIRST_MASK: u32 = 15;
 /// Numbers in slots by a hash of their ids (FNV-1a). Nothing rests on what stands there: a number is
 /// given only after a look at its id, and one that is missing has to be found in another way, such
 /// as by `IdOrder`. So ids that are made to collide cost that other way, and the hash has no secret.
+#[derive(Debug)]
 pub struct IdHints {
     alloc: Global,
     /// Zeros, and numbers plus one. The bits above the mask are those of the id's hash there: so few

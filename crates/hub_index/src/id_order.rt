@@ -19,6 +19,7 @@ pub trait Named {
 
 /// Numbers in the byte order of their ids, seen as the list of them. The ids stand elsewhere: each
 /// call is given them. A number takes four bytes, and pages that are not full some two more.
+#[derive(Debug)]
 pub struct IdOrder {
     alloc: Global,
     /// Pages of numbers, none of them empty.

@@ -12,7 +12,7 @@ use std::marker::Model;
 pub(crate) const PAGE_SIZE: u64 = 256;
 
 /// The slots of a page, each with the document whose row is there.
-#[derive(Drop)]
+#[derive(Debug, Drop)]
 pub(crate) struct Page {
     /// How many slots have a document.
     live: usize,

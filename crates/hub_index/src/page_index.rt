@@ -19,6 +19,7 @@ use std::marker::Model;
 /// sequence, and is given back once it has no row left: then the pages behind it move up, of which
 /// some forty bytes each stand in one list. A search for a page takes constant time where no number
 /// from its own to the last lacks a page, and else time that is logarithmic in the number of pages.
+#[derive(Debug)]
 pub struct PageIndex {
     alloc: Global,
     /// With their numbers, which rise.

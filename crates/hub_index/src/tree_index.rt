@@ -9,6 +9,7 @@ use std::marker::Model;
 use std::ops::Bound;
 
 /// Rows in a tree by sequence, seen as the list of them.
+#[derive(Debug)]
 pub struct TreeIndex {
     documents: BTreeMap<u64, u32>,
 }

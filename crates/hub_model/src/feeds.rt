@@ -67,7 +67,7 @@ impl Since {
 }
 
 /// What a feed of such rows hands to its subscriber.
-#[derive(Drop)]
+#[derive(Debug, Drop)]
 pub enum Item<R> {
     /// A row.
     Row(R),

@@ -14,7 +14,7 @@ use std::borrow::CowStr;
 use std::marker::Model;
 
 /// What the query of a document's route asks for (CouchDB API reference, documents).
-#[derive(Drop)]
+#[derive(Debug, Drop)]
 pub struct DocParams {
     /// The value of `rev`, as it was written.
     pub rev: Option<String>,

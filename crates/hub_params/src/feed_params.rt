@@ -14,6 +14,7 @@ use hub_model::{Mode, Since, Style};
 use std::alloc::{AllocError, Global};
 
 /// What the query and the body of a changes feed ask for (CouchDB API reference, `_changes`).
+#[derive(Debug)]
 pub struct FeedParams {
     /// How long the feed lasts (`feed`).
     pub mode: Mode,

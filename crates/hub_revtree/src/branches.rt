@@ -39,7 +39,7 @@ use std::marker::Model;
 
 /// The stored edits, in the order in which they came. An edit keeps the revisions that it brought, and
 /// shares those behind them with the edit that brought these. What a find costs stands at `RevTree`.
-#[derive(Drop)]
+#[derive(Debug, Drop)]
 pub(crate) struct Branches {
     stems: Vec<Stem>,
     /// The highest generation of their revisions; 0 where there is none.

@@ -23,7 +23,7 @@ use std::mem::size_of;
 
 // A revision that may be the best leaf, and the number of its edit. It takes 40 bytes, and 68 more where its
 // hash is the text of no digest.
-#[derive(Drop)]
+#[derive(Debug, Drop)]
 struct Candidate {
     // The revision alone.
     rev: Run,
@@ -115,7 +115,7 @@ impl Ord for Candidate {
 /// The revisions of a tree's first edits, so many as were looked at, that were leaves then, in the
 /// order of leaves. Those that are leaves no more stay among them until they come to the top. For
 /// each it takes 40 to 80 bytes, and 68 more where its hash is the text of no digest.
-#[derive(Drop)]
+#[derive(Debug, Drop)]
 pub(crate) struct Candidates {
     heap: BinaryHeap<Candidate>,
     /// How many edits were looked at.

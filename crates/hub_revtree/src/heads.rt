@@ -11,7 +11,7 @@ use hub_document::{Body, RevId};
 
 /// An edit that a tree has. `RevTree::path` gives what stands behind it by now: its path is the first of
 /// these, so many as `count` says.
-#[derive(Clone, Copy)]
+#[derive(Clone, Copy, Debug)]
 pub struct StoredEdit<'a> {
     /// Its revision.
     pub rev: RevId,

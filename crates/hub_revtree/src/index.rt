@@ -30,7 +30,7 @@ const TURN: usize = 256;
 /// What a tree of many edits has so that looks need not pass over all of them. A look costs constant time
 /// where the revision's hash is a digest's text and no earlier stem has another one with the same first eight
 /// bytes; else at most log n comparisons of revisions, where n counts those of which this does not hold.
-#[derive(Drop)]
+#[derive(Debug, Drop)]
 pub(crate) struct Index {
     /// From the key of a digest to the number of the first stem that has a revision with that key. It takes
     /// some 30 to 60 bytes for each of them.

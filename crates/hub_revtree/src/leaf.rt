@@ -16,7 +16,7 @@ use std::alloc::{AllocError, Global};
 use std::cmp::Ordering;
 
 /// A document's winner.
-#[derive(Clone, Copy, PartialEq, Eq)]
+#[derive(Clone, Copy, Debug, PartialEq, Eq)]
 pub struct Winner {
     /// Its revision.
     pub rev: RevId,

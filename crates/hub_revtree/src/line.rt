@@ -7,7 +7,7 @@ use std::marker::Model;
 use std::sync::Arc;
 
 /// The digests of a path's revisions, newest first, which several edits may share.
-#[derive(Drop)]
+#[derive(Debug, Drop)]
 pub(crate) struct Line {
     /// Oldest first, so that a newer one comes behind them.
     digests: Arc<Vec<[u8; 16]>>,

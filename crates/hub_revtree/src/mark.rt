@@ -5,7 +5,7 @@ ghost use Rattle.hub_revtree.specs.Mark.{deletes, is_passed};
 
 /// Whether an edit deletes the document, and whether its revision is inner: it stands behind that of another
 /// edit by now.
-#[derive(Clone, Copy)]
+#[derive(Clone, Copy, Debug)]
 pub(crate) enum Mark {
     Leaf,
     DeletedLeaf,

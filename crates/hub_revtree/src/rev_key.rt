@@ -11,7 +11,7 @@ use std::cmp::Ordering;
 use std::marker::Model;
 
 /// A revision as a key: in the order of the generations, and then of the hashes.
-#[derive(Drop)]
+#[derive(Debug, Drop)]
 pub(crate) struct RevKey {
     rev: RevId,
 }

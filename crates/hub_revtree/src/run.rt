@@ -20,7 +20,7 @@ use std::alloc::{AllocError, Global};
 use std::marker::Model;
 
 // How revisions are kept, newest first. A digest stands for the hash that is its hexadecimal text.
-#[derive(Drop)]
+#[derive(Debug, Drop)]
 enum Kept {
     // One revision: its generation, and its digest.
     One(u16, [u8; 16]),
@@ -37,7 +37,7 @@ enum Kept {
 /// hexadecimal digits takes 16 bytes, and where it stands alone no memory of its own; where a hash is
 /// another, each takes 68 bytes. A path may share the digests behind its newest one with others. The value
 /// itself takes 32 bytes.
-#[derive(Drop)]
+#[derive(Debug, Drop)]
 pub(crate) struct Run {
     kept: Kept,
 }

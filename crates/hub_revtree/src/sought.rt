@@ -13,7 +13,7 @@ use std::marker::Model;
 const MANY: usize = 16;
 
 // What is made of a hash.
-#[derive(Drop)]
+#[derive(Debug, Drop)]
 enum Form {
     // The digest whose text it is.
     Digest([u8; 16]),
@@ -25,7 +25,7 @@ enum Form {
 
 /// A revision that is looked for. For many looks its digest is made once, and each compares 16 bytes; for a
 /// few each compares the digits.
-#[derive(Drop)]
+#[derive(Debug, Drop)]
 pub(crate) struct Sought<'a> {
     rev: &'a RevId,
     form: Form,

@@ -20,7 +20,7 @@ use std::mem::size_of;
 
 /// Where a revision stands: among the revisions of the stem of this number, at this place from the
 /// newest.
-#[derive(Clone, Copy)]
+#[derive(Clone, Copy, Debug)]
 pub(crate) struct Place {
     pub(crate) stem: usize,
     pub(crate) at: u16,
@@ -30,7 +30,7 @@ pub(crate) struct Place {
 /// behind which no other edit had the next one; where the revision behind them stands, whose chain has the
 /// rest of the edit's path; how many revisions the path has; whether it deletes the document, and whether
 /// its revision is inner; and the members. It takes 72 bytes, and what the revisions and the members take.
-#[derive(Drop)]
+#[derive(Debug, Drop)]
 pub(crate) struct Stem {
     run: Run,
     body: Body,
@@ -47,7 +47,7 @@ pub(crate) struct Stem {
 }
 
 /// How an edit's path goes on behind the revisions that its stem keeps.
-#[derive(Clone, Copy)]
+#[derive(Clone, Copy, Debug)]
 pub(crate) struct Standing {
     /// Where the next revision stands, if there is one that an edit brought.
     pub(crate) parent: Option<Place>,

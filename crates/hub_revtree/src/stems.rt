@@ -490,7 +490,7 @@ pub(crate) fn agreeing(
 }
 
 /// How a path that may be stored meets the stored ones.
-#[derive(Clone, Copy)]
+#[derive(Clone, Copy, Debug)]
 pub(crate) struct Meeting {
     /// How many of its revisions its edit's stem keeps.
     pub(crate) at: usize,

@@ -32,6 +32,7 @@ use std::marker::Model;
 ///
 /// Of each edit the tree notes in one bit whether its revision stands behind another by now, so that a look
 /// whether it is a leaf takes constant time.
+#[derive(Debug)]
 pub struct RevTree {
     branches: Branches,
     /// The number of the winner's edit; 0 where there is none.
@@ -60,7 +61,7 @@ impl Model for RevTree {
 }
 
 /// An edit that a tree can take, and has memory for.
-#[derive(Drop)]
+#[derive(Debug, Drop)]
 pub struct Ready {
     path: Run,
     /// Those of the path's revisions that were new at the look, in the form in which the tree keeps them.

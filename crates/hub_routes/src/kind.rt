@@ -9,7 +9,7 @@ use matchit::Router;
 use std::alloc::{AllocError, Global};
 
 /// What a path names.
-#[derive(Clone, Copy, PartialEq, Eq)]
+#[derive(Clone, Copy, Debug, PartialEq, Eq)]
 pub enum Kind {
     /// The hub.
     Welcome,

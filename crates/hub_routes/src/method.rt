@@ -8,7 +8,7 @@ use crate::path::is_id;
 use crate::route::{Call, Parts, Route};
 
 /// A request's method.
-#[derive(Clone, Copy, PartialEq, Eq)]
+#[derive(Clone, Copy, Debug, PartialEq, Eq)]
 pub enum Method {
     /// `GET`
     Get,

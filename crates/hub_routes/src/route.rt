@@ -10,7 +10,7 @@ use std::borrow::CowStr;
 /// have any length), and are still to be looked up. A query is what stands behind the first `?`
 /// of the target, as it was sent; empty where there is none. All of them are lent by the request:
 /// a name or an id is a text of its own only where an escape was read in it.
-#[derive(Drop)]
+#[derive(Debug, Drop)]
 pub enum Route<'r> {
     /// `GET /`
     Welcome,
@@ -41,7 +41,7 @@ pub enum Route<'r> {
 }
 
 /// What a request asks of a database, with ids and queries that the request lends.
-#[derive(Drop)]
+#[derive(Debug, Drop)]
 pub enum Call<'r> {
     /// `GET /{db}`, `HEAD /{db}`
     Info,

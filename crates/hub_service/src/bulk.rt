@@ -49,7 +49,7 @@ fn batch_of(request: &Value) -> Result<(&Vec<Value>, bool), Refusal>
 }
 
 /// What the elements of a batch are.
-#[derive(Drop)]
+#[derive(Debug, Drop)]
 struct Readings {
     /// Those that are documents, in order.
     docs: Vec<Doc>,

@@ -130,7 +130,7 @@ fn give_back<S: Service>(service: &mut S, item: &StreamItem)
 }
 
 /// A stream that is being sent.
-#[derive(Clone, Copy)]
+#[derive(Clone, Copy, Debug)]
 pub(crate) struct Sending {
     pub(crate) mode: Mode,
     /// The number of the life that its sequences are of.

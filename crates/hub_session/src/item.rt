@@ -9,7 +9,7 @@ use std::alloc::AllocError;
 
 /// What a stream hands to its subscriber. Of which kind the items of a stream are is up to its
 /// service.
-#[derive(Drop)]
+#[derive(Debug, Drop)]
 pub enum StreamItem {
     /// An item of a feed of changes of a database (CouchDB API reference, `_changes`).
     Change(Item<ChangeRow>),
@@ -41,7 +41,7 @@ impl StreamItem {
 
 /// An item as a stream of this mode sends it, of the life of this number, before which the stream
 /// wrote so many rows.
-#[derive(Drop)]
+#[derive(Debug, Drop)]
 pub(crate) struct ItemText<'a> {
     pub(crate) item: &'a StreamItem,
     pub(crate) mode: Mode,

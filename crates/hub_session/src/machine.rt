@@ -21,7 +21,7 @@ use std::io::Write;
 const FULL: usize = 65_536;
 
 /// What came of a step.
-#[derive(Clone, Copy, PartialEq, Eq)]
+#[derive(Clone, Copy, Debug, PartialEq, Eq)]
 pub enum Step {
     /// An answer, the head of a stream, or an item of it is to go: step again.
     Served,
@@ -36,7 +36,7 @@ pub enum Step {
 }
 
 /// Where a session is.
-#[derive(Clone, Copy)]
+#[derive(Clone, Copy, Debug)]
 pub(crate) enum Place {
     /// Between two requests.
     Between,

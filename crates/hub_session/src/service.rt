@@ -7,7 +7,7 @@ use hub_http::{Reply, Request};
 use hub_model::Mode;
 
 /// What a service answers to a request.
-#[derive(Drop)]
+#[derive(Debug, Drop)]
 pub enum Answer {
     /// One text.
     Whole(Reply),
@@ -17,7 +17,7 @@ pub enum Answer {
 }
 
 /// What there is of a stream that is asked not to wait.
-#[derive(Drop)]
+#[derive(Debug, Drop)]
 pub enum Polled {
     /// Its next item, `None` where the stream stops.
     Given(Option<StreamItem>),

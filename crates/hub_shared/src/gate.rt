@@ -1,7 +1,7 @@
 //! What threads pass and read: gates, by which a test holds them, and a clock.
 
 /// Where a gate is passed.
-#[derive(Clone, Copy, PartialEq, Eq)]
+#[derive(Clone, Copy, Debug, PartialEq, Eq)]
 pub enum Point {
     /// By a pump, before each holding of the lock.
     PumpFree,

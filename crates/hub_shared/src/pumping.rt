@@ -16,7 +16,7 @@ use std::sync::{Arc, Wait};
 use std::time;
 
 /// What one holding of the lock does for a feed.
-#[derive(Clone, Copy, PartialEq, Eq)]
+#[derive(Clone, Copy, Debug, PartialEq, Eq)]
 pub enum Turn {
     /// It hands what is due.
     Hand,

@@ -12,7 +12,7 @@ use hub_revtree::Winner;
 use std::alloc::{AllocError, Global};
 
 /// What may be asked of a database.
-#[derive(Drop)]
+#[derive(Debug, Drop)]
 pub enum Question {
     /// How many documents there are, and how many edits.
     Info,
@@ -42,7 +42,7 @@ pub enum Question {
 }
 
 /// What it answers.
-#[derive(Drop)]
+#[derive(Debug, Drop)]
 pub enum Answer {
     Info(Info),
     Get(Lookup),

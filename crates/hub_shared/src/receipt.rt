@@ -13,7 +13,7 @@ use std::marker::Model;
 use thiserror::Error;
 
 /// What tells of an accepted edit: its sequence, its document, and its revision.
-#[derive(Drop)]
+#[derive(Debug, Drop)]
 pub struct Receipt {
     /// How many edits there were with it: the first edit has 1.
     pub seq: u64,
@@ -24,7 +24,7 @@ pub struct Receipt {
 }
 
 /// The room for the receipts of a write, with the ids of its documents. Contracts see the ids.
-#[derive(Drop)]
+#[derive(Debug, Drop)]
 pub struct ReceiptRoom {
     ids: Vec<DocId>,
     /// Empty, with room for as many receipts as there are ids.

@@ -7,7 +7,7 @@ use hub_params::FeedParams;
 
 /// How long a feed may be without an item, in milliseconds (CouchDB API reference, `_changes`,
 /// `heartbeat` and `timeout`).
-#[derive(Clone, Copy, PartialEq, Eq)]
+#[derive(Clone, Copy, Debug, PartialEq, Eq)]
 pub struct Times {
     /// After this a heartbeat is due; a feed with one has no timeout.
     pub(crate) heartbeat: Option<u64>,
@@ -16,7 +16,7 @@ pub struct Times {
 }
 
 /// What is to be done for a feed that had nothing to hand.
-#[derive(Clone, Copy, PartialEq, Eq)]
+#[derive(Clone, Copy, Debug, PartialEq, Eq)]
 pub(crate) enum Due {
     /// A heartbeat.
     Beat,

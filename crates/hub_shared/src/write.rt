@@ -15,7 +15,7 @@ use hub_database::{DbFault, DbState, Replies};
 use hub_document::Doc;
 
 /// What a write did.
-#[derive(Drop)]
+#[derive(Debug, Drop)]
 pub struct Accepted {
     /// What became of each document, in order; where the write stopped, of those before the stop.
     pub replies: Replies,

@@ -18,7 +18,7 @@ use std::collections::BTreeMap;
 use std::marker::Model;
 
 /// A pair of a kind and a name that was noted.
-#[derive(Drop)]
+#[derive(Debug, Drop)]
 pub(crate) struct Pair {
     /// The letter of the kind, and then the name.
     pub(crate) id: String,
@@ -27,7 +27,7 @@ pub(crate) struct Pair {
 }
 
 /// The notes, and the rows of the log.
-#[derive(Drop)]
+#[derive(Debug, Drop)]
 pub(crate) struct Log {
     /// Of each note, first to last, the number of its pair.
     pub(crate) notes: Vec<u32>,

@@ -8,6 +8,7 @@ use std::marker::Model;
 
 /// Something that happened to a database and does not stand in the log yet. Whoever has one spends it,
 /// by `UpdatesState::note` or by `lapse`: it can't be dropped.
+#[derive(Debug)]
 pub struct Notice {
     kind: UpdateKind,
     name: String,

@@ -20,6 +20,7 @@ pub enum NoteFault {
 }
 
 /// The log of updates, and the feeds that show it.
+#[derive(Debug)]
 pub struct UpdatesState {
     pub(crate) log: Log,
     pub(crate) feeds: Feeds,

@@ -25,7 +25,7 @@ pub(crate) struct Monitor {
 }
 
 /// The looks for runners that are held.
-#[derive(Clone, Copy)]
+#[derive(Clone, Copy, Debug)]
 pub(crate) struct Looks {
     /// How many are left before a sleep.
     left: u32,

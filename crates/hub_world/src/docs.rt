@@ -6,7 +6,7 @@ use hub_document::Doc;
 use std::marker::Model;
 
 /// The documents of one event, in order. Contracts see their list.
-#[derive(Drop)]
+#[derive(Debug, Drop)]
 pub struct Docs {
     list: Vec<Doc>,
 }

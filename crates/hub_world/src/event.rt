@@ -5,7 +5,7 @@ use hub_feed::FeedId;
 use hub_params::FeedParams;
 
 /// An event. Each comes at once: its parts are not seen apart.
-#[derive(Drop)]
+#[derive(Debug, Drop)]
 pub enum Event {
     /// Documents come with their histories, as a replicator sends them (CouchDB API reference,
     /// `_bulk_docs` with `new_edits=false`).

@@ -36,7 +36,7 @@ impl ToldItem {
 }
 
 /// Items that were handed, the front first. Contracts see their list.
-#[derive(Drop)]
+#[derive(Debug, Drop)]
 pub struct Items {
     items: VecDeque<Item<ChangeRow>>,
 }

@@ -13,7 +13,7 @@ use std::marker::Model;
 
 /// A revision whose hash is the hexadecimal text of a digest of 16 bytes in lower-case digits, as each is
 /// that is made here. It takes 18 bytes.
-#[derive(Drop)]
+#[derive(Debug, Drop)]
 pub struct DigestRev {
     generation: u16,
     digest: [u8; 16],
