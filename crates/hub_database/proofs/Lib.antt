@@ -16,3 +16,4 @@ pub mod FeedLemmas
 pub mod FallingLemmas
 pub mod ListingLemmas
 pub mod ReadyLemmas
+pub mod Auditing

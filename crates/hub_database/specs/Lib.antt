@@ -1,3 +1,4 @@
+pub mod Answers
 pub mod Database
 pub mod Edits
 pub mod Falling
@@ -14,3 +15,4 @@ pub mod Locals
 pub mod Looked
 pub mod Reads
 pub mod Store
+pub mod Receipts

@@ -10,7 +10,7 @@ use crate::batch::DbFault;
 use crate::contents::Contents;
 use hub_document::{Body, LocalDoc, LocalId};
 use hub_model::Fault;
-use std::alloc::AllocError;
+use std::alloc::{AllocError, Global};
 use std::collections::BTreeMap;
 
 /// A local document that is kept: no feed shows it, and no replication copies it (CouchDB API
@@ -21,6 +21,18 @@ pub struct Local {
     pub count: u64,
     /// Its members.
     pub body: Body,
+}
+
+impl Local {
+    /// The same once more. It costs a copy of its members.
+    pub fn copy(&self, alloc: Global) -> Result<Local, AllocError>
+        ensures { IfOk result (λ local. local ≡ self.now) }
+    {
+        Ok(Local {
+            count: self.count,
+            body: self.body.copy(alloc)?,
+        })
+    }
 }
 
 // The local document of this id.

@@ -17,7 +17,7 @@ use hub_filter::Filter;
 use hub_follow_model::Seq;
 use hub_model::{Item, Mode, Since, Style};
 use hub_params::FeedParams;
-use hub_shared::{Feed, Gate, Handle, Plain, Point, Turn, local_copy};
+use hub_shared::{Feed, Gate, Handle, Plain, Point, Turn};
 use std::alloc::{AllocError, Global};
 use std::sync::Wait;
 
@@ -186,7 +186,7 @@ fn log_of<R: Wait>(
     handle: &mut Handle<Plain>,
     log_id: &str,
 ) -> Result<Option<Log>, CallFault> {
-    let found = match handle.look(rt, |state| local_copy(alloc, state, log_id)) {
+    let found = match handle.look(rt, |state| state.local_copy(log_id)) {
         Ok(found) => found,
         Err(fault) => return Err(CallFault::from(fault)),
     };

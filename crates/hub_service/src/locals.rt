@@ -3,7 +3,7 @@
 ghost use Rattle.std.specs.Prelude.{option_map};
 ghost use Rattle.hub_database.specs.Locals.{local_of, written};
 ghost use Rattle.hub_document.specs.Local.{local_in};
-ghost use Rattle.hub_shared.specs.Answers.{local_named};
+ghost use Rattle.hub_database.specs.Answers.{local_named};
 ghost use Rattle.hub_service.specs.Calls.{keeps, puts_local, says_local};
 ghost use Rattle.hub_service.specs.Moments.{IsRead};
 ghost use Rattle.hub_service.specs.Said.{IsSaid};
@@ -14,7 +14,6 @@ use hub_database::Local;
 use hub_document::LocalDoc;
 use hub_http::Refusal;
 use hub_replies::{edit_front, local_doc_body, local_edit_body};
-use hub_shared::local_copy;
 use std::alloc::Global;
 use std::sync::Wait;
 
@@ -34,7 +33,7 @@ pub(crate) fn get<N: Wait>(target: &Target<'_, N>, id: &str) -> Result<Response,
     ensures { IsRead (λ db. says_local (local_of db.locals id.now)) result }
 {
     let alloc = target.alloc;
-    let found = target.look(|state| local_copy(alloc, state, id))?;
+    let found = target.look(|state| state.local_copy(id))?;
     say_local(alloc, id, &found)
 }
 

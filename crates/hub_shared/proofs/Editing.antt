@@ -24,7 +24,7 @@ use Rattle.hub_shared.specs.Edits.{IsEditAnswer}
 use Rattle.hub_shared.specs.Handles.{HandleState, IsEditedBy, IsFoundBy, IsStoredBy}
 use Rattle.hub_shared.specs.Label.{Label}
 use Rattle.hub_shared.specs.Locked.{AreSendersOf, IsBookOf}
-use Rattle.hub_shared.specs.Receipts.{ids_of, receipts_from, behind_reply}
+use Rattle.hub_database.specs.Receipts.{ids_of, receipts_from, behind_reply}
 use Rattle.hub_shared.specs.Stored.{Adds, StoresBatch, is_stored, stored_count}
 use Rattle.hub_shared.proofs.Booking.{book_grows}
 use Rattle.hub_shared.proofs.Storing.{StoredAs, as_many, make_stored, senders_stay, writes_added}

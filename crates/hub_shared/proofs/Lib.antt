@@ -4,7 +4,6 @@ pub mod Handing
 pub mod Booking
 pub mod Storing
 pub mod Writing
-pub mod Auditing
 pub mod Counting
 pub mod Outcomes
 pub mod Editing

@@ -12,11 +12,11 @@ use Rattle.hub_database.specs.declared.batch.Batch.{Batch}
 use Rattle.hub_database.specs.declared.batch.DbFault.{DbFault}
 use Rattle.hub_shared.specs.Edits.{IsEditAnswer}
 use Rattle.hub_shared.specs.Label.{Label}
-use Rattle.hub_shared.specs.Receipts.{ids_of, receipts_from}
+use Rattle.hub_database.specs.Receipts.{ids_of, receipts_from}
 use Rattle.hub_shared.specs.declared.write.Accepted.{Accepted}
-use Rattle.hub_shared.specs.Answers.{IsAnswer}
-use Rattle.hub_shared.specs.declared.question.Answer.{Answer}
-use Rattle.hub_shared.specs.declared.question.Question.{Question}
+use Rattle.hub_database.specs.Answers.{IsAnswer}
+use Rattle.hub_database.specs.declared.question.Answer.{Answer}
+use Rattle.hub_database.specs.declared.question.Question.{Question}
 
 -- what is seen of a handle
 pub record HandleState : Type 0 where

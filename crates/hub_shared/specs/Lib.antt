@@ -2,10 +2,8 @@ pub mod Label
 pub mod Feeds
 pub mod Locked
 pub mod Opening
-pub mod Receipts
 pub mod Senders
 pub mod Times
-pub mod Answers
 pub mod Handles
 pub mod Locals
 pub mod Edits

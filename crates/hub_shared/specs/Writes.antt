@@ -2,7 +2,7 @@
 use Rattle.std.specs.Prelude.{◌≡◌, ◌+◌, List, All, length, Bool}
 use Rattle.hub_document.specs.declared.doc.Doc.{Doc}
 use Rattle.hub_database.specs.Database.{Database}
-use Rattle.hub_shared.specs.Receipts.{AreAdded, AreRising, HasEdit, ids_of, receipts_from}
+use Rattle.hub_database.specs.Receipts.{AreAdded, AreRising, HasEdit, ids_of, receipts_from}
 use Rattle.hub_shared.specs.Stored.{StoresBatch}
 use Rattle.hub_shared.specs.declared.write.Accepted.{Accepted}
 

@@ -17,14 +17,13 @@ ghost use Rattle.hub_params.specs.FeedShown.{params_asked};
 ghost use Rattle.hub_shared.specs.Feeds.{IsOpened, feed_of};
 ghost use Rattle.hub_shared.specs.Handles.{IsBeginningFor, IsFoundBy};
 ghost use Rattle.hub_shared.specs.Locals.{IsLocalFault};
-ghost use Rattle.hub_shared.specs.Receipts.{IsAudit};
+ghost use Rattle.hub_database.specs.Receipts.{IsAudit};
 
 use crate::count::Count;
 use crate::locked::{Locked, OpenedFeed};
 use crate::outbox::Outbox;
-use crate::receipt::{AuditFault, Receipt, audit_of};
 use crate::subscriber::FeedEnd;
-use hub_database::{DbFault, DbState};
+use hub_database::{AuditFault, DbFault, DbState, Receipt, audit_of};
 use hub_document::LocalDoc;
 use hub_feed::{FeedHost, OpenFault};
 use hub_params::FeedParams;

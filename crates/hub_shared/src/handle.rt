@@ -10,8 +10,8 @@ ghost use Rattle.hub_database.specs.Hosting.{hosted_of};
 ghost use Rattle.hub_database.specs.Locals.{written};
 ghost use Rattle.hub_feed.specs.Host.{opening_fault};
 ghost use Rattle.hub_shared.specs.Feeds.{IsOpened};
-ghost use Rattle.hub_shared.specs.Receipts.{IsAudit};
-ghost use Rattle.hub_shared.specs.Answers.{TakesMemory};
+ghost use Rattle.hub_database.specs.Receipts.{IsAudit};
+ghost use Rattle.hub_database.specs.Answers.{TakesMemory};
 ghost use Rattle.hub_shared.specs.Handles.{IsBeginningFor, IsEditedBy, IsFoundBy, IsReadBy, IsStoredBy};
 ghost use Rattle.hub_shared.specs.Handles.{IsWrittenBy};
 ghost use Rattle.hub_shared.specs.Locals.{IsLocalFault};
@@ -21,10 +21,8 @@ use crate::count::Count;
 use crate::db::Db;
 use crate::feed::{Feed, HostFeed};
 use crate::locked::OpenedFeed;
-use crate::question::{Answer, Question, answer_of};
-use crate::receipt::{AuditFault, Receipt, ReceiptRoom};
 use crate::write::Accepted;
-use hub_database::{Batch, DbFault, DbState};
+use hub_database::{Answer, AuditFault, Batch, DbFault, DbState, Question, Receipt, ReceiptRoom};
 use hub_document::{Doc, LocalDoc, RevId};
 use hub_feed::OpenFault;
 use hub_params::FeedParams;
@@ -48,7 +46,7 @@ impl<C: Count> Drop for Handle<C> {
 
 impl<C: Count> Model for Handle<C> {
     ghost use Rattle.std.specs.Prelude.{◌≡◌, ◌<◌, true};
-    ghost use Rattle.hub_shared.specs.Answers.{TakesMemory};
+    ghost use Rattle.hub_database.specs.Answers.{TakesMemory};
     ghost use Rattle.hub_shared.specs.Handles.{HandleState};
 
     ghost Value = { HandleState };
@@ -170,7 +168,7 @@ impl<C: Count> Handle<C> {
         Ok(rev)
     }
 
-    /// Answers a question. It costs the wait for the lock, and what `answer_of` does.
+    /// Answers a question. It costs the wait for the lock, and what `DbState::answer` does.
     pub fn read<R: Wait>(&mut self, rt: &R, question: Question) -> Result<Answer, DbFault>
         ensures ok { IfOk result (λ answer.
             IsReadBy C.counts C.all_parts self.old question answer) }
@@ -178,8 +176,7 @@ impl<C: Count> Handle<C> {
             × GivesUp db (TakesMemory db question) e) }
         ensures same { self.new ≡ self.old }
     {
-        let alloc = self.db.alloc;
-        self.look(rt, move |state| answer_of(alloc, state, question))
+        self.look(rt, move |state| state.answer(question))
     }
 
     /// Stores a local document in place of the one of its id, and says how often it was written: once

@@ -3,15 +3,14 @@
 ghost use Rattle.std.specs.Prelude.{◌≡◌, ◌+◌, ◌<◌, ◌^◌, true, length, IfOk, IfErr, OnErr, OnOk};
 ghost use Rattle.hub_model.specs.Journal.{IsLegal};
 ghost use Rattle.hub_shared.specs.Handles.{IsWrittenBy};
-ghost use Rattle.hub_shared.specs.Receipts.{ids_of};
+ghost use Rattle.hub_database.specs.Receipts.{ids_of};
 ghost use Rattle.hub_shared.specs.Writes.{Stores};
 
 use crate::count::Count;
 use crate::locked::Locked;
 use crate::outbox::Outbox;
-use crate::receipt::{Receipt, ReceiptRoom};
 use crate::store::store_batch;
-use hub_database::{DbFault, DbState, Replies};
+use hub_database::{DbFault, DbState, Receipt, ReceiptRoom, Replies};
 use hub_document::Doc;
 
 /// What a write did.

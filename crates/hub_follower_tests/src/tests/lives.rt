@@ -10,7 +10,7 @@ use crate::tests::{
 use hub_databases::{Hub, HubDb, HubFault};
 use hub_document::{Limits, LocalDoc};
 use hub_follower::{CallFault, DbPeer, FollowFault, Follower, Peer, Round, Seq};
-use hub_shared::{Db, Plain, local_copy};
+use hub_shared::{Db, Plain};
 use std::alloc::{AllocError, Global};
 use std::sync::Wait;
 use std::test::Fail;
@@ -267,8 +267,8 @@ fn put_log<R: Wait>(rt: &R, alloc: Global, db: &Db<Plain>, seq: &str) -> Result<
 
 // Whether the log that a database keeps has this text; an error where it finds no memory, and each time where
 // there is none.
-fn keeps<R: Wait>(rt: &R, alloc: Global, db: &Db<Plain>, text: &str) -> Result<bool, AllocError> {
-    match db.handle()?.look(rt, |state| local_copy(alloc, state, LOG)) {
+fn keeps<R: Wait>(rt: &R, db: &Db<Plain>, text: &str) -> Result<bool, AllocError> {
+    match db.handle()?.look(rt, |state| state.local_copy(LOG)) {
         Ok(Some(local)) => Ok(local.body.as_bytes() == text.as_bytes()),
         _ => Err(AllocError),
     }
@@ -354,7 +354,7 @@ fn logs_of_whole_numbers_go_on_with_texts(rt: HostRuntime) -> Result<(), Fail> {
     let (source, target) = resumed(&rt, rt.alloc(), ("2", "2"))?;
     assert_session(&rt, rt.alloc(), (&source, &target), "S1", GOING_ON)?;
     for db in [&source, &target] {
-        assert!(rt; again!(keeps(&rt, rt.alloc(), db, GONE_ON))?);
+        assert!(rt; again!(keeps(&rt, db, GONE_ON))?);
     }
     Ok(())
 }

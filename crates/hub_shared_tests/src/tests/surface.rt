@@ -9,7 +9,7 @@ use hub_model::{Fault, Item, UpdateKind};
 use hub_params::FeedParams;
 use hub_shared::{
     Answer, Count, Db, Feed, FeedLabel, Gate, Handed, Host, HostFeed, Locked, NoCount, Plain,
-    Point, Question, Through, Turn, Updates, UpdatesFeed, answer_of, hold,
+    Point, Question, Through, Turn, Updates, UpdatesFeed, hold,
 };
 use hub_updates::{Notice, UpdatesState};
 use std::alloc::{AllocError, Global};
@@ -19,7 +19,7 @@ use std::test::Fail;
 // The winner of a document; an error where no memory is found, and each time where there is no answer.
 fn winner(alloc: Global, state: &DbState, id: &str) -> Result<Option<RevId>, AllocError> {
     let id = String::from_str(alloc, id)?;
-    match &answer_of(alloc, state, Question::Winner { id }) {
+    match &state.answer(Question::Winner { id }) {
         Ok(Answer::Winner(Some(winner))) => Ok(Some(winner.rev)),
         Ok(Answer::Winner(None)) => Ok(None),
         _ => Err(AllocError),
@@ -27,8 +27,8 @@ fn winner(alloc: Global, state: &DbState, id: &str) -> Result<Option<RevId>, All
 }
 
 // How many edits a database says that it has.
-fn edits(alloc: Global, state: &DbState) -> Result<Option<u64>, DbFault> {
-    match answer_of(alloc, state, Question::Info)? {
+fn edits(state: &DbState) -> Result<Option<u64>, DbFault> {
+    match state.answer(Question::Info)? {
         Answer::Info(info) => Ok(Some(info.update_seq)),
         _ => Ok(None),
     }
@@ -38,9 +38,9 @@ fn a_lent_database_answers(alloc: Global, database: &mut Database) -> Result<boo
     let _receipts = write(alloc, database, &THREE)?;
     let found = again!(winner(alloc, database.state(), "b"))? == RevId::read("1-b");
     let none = again!(winner(alloc, database.state(), "d"))?.is_none();
-    let counted = edits(alloc, database.state()) == Ok(Some(3));
+    let counted = edits(database.state()) == Ok(Some(3));
     database.delete()?;
-    let deleted = edits(alloc, database.state()) == Err(DbFault::Refused(Fault::Deleted));
+    let deleted = edits(database.state()) == Err(DbFault::Refused(Fault::Deleted));
     Ok(found && none && counted && deleted)
 }
 

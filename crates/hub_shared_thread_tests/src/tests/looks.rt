@@ -3,7 +3,7 @@
 use crate::tests::{database, store};
 use hub_database::DbFault;
 use hub_model::Fault;
-use hub_shared::{Handle, Plain, local_copy};
+use hub_shared::{Handle, Plain};
 use std::alloc::Global;
 use std::sync::Wait;
 use std::test::Fail;
@@ -21,13 +21,8 @@ fn has<R: Wait>(rt: &R, handle: &mut Handle<Plain>, id: &str) -> Result<bool, Db
 }
 
 // Whether there is a local document of this id.
-fn keeps<R: Wait>(
-    rt: &R,
-    alloc: Global,
-    handle: &mut Handle<Plain>,
-    id: &str,
-) -> Result<bool, DbFault> {
-    let found = handle.look(rt, |state| local_copy(alloc, state, id))?;
+fn keeps<R: Wait>(rt: &R, handle: &mut Handle<Plain>, id: &str) -> Result<bool, DbFault> {
+    let found = handle.look(rt, |state| state.local_copy(id))?;
     Ok(found.is_some())
 }
 
@@ -44,7 +39,7 @@ fn a_look_tells_of_the_database_as_it_is(rt: HostRuntime) -> Result<(), Fail> {
         (Ok(1), Ok(true))
     );
     assert_eq!(rt; has(&rt, &mut handle, "b"), Ok(false));
-    assert_eq!(rt; keeps(&rt, rt.alloc(), &mut handle, "_local/x"), Ok(false));
+    assert_eq!(rt; keeps(&rt, &mut handle, "_local/x"), Ok(false));
     Ok(())
 }
 

@@ -3,7 +3,7 @@ use Rattle.std.specs.Prelude.{IsSome}
 use Rattle.hub_database.specs.Database.{Database}
 use Rattle.hub_database.specs.Locals.{local_of}
 use Rattle.hub_database.specs.declared.local.Local as kept
-use Rattle.hub_shared.specs.Answers.{local_named}
+use Rattle.hub_database.specs.Answers.{local_named}
 use Rattle.hub_service.specs.Calls.{says_local}
 use Rattle.hub_service.specs.Moments.{IsRead}
 use Rattle.hub_service.proofs.Looks.{found_read, look_found, look_unfound, unfound_read}

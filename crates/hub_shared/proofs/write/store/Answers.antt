@@ -1,7 +1,7 @@
 use Rattle.std.proofs.Common.{◌∙◌}
 use Rattle.hub_database.specs.Database.{Database}
-use Rattle.hub_shared.specs.Receipts.{receipts_from}
-use Rattle.hub_shared.proofs.Auditing.{added_stand, added_rise}
+use Rattle.hub_database.specs.Receipts.{receipts_from}
+use Rattle.hub_database.proofs.Auditing.{added_stand, added_rise}
 use Rattle.hub_shared.proofs.Storing.{receipts_added, added_longer}
 use Rattle.hub_shared.proofs.write.store.Goals as goal
 

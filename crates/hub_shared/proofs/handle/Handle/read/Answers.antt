@@ -1,7 +1,7 @@
 use Rattle.std.proofs.Common.{◌≡◌, false, rules, subst}
 use Rattle.std.specs.Prelude.{IfOk, IfErr}
 use Rattle.hub_database.specs.Database.{Database, GivesUp}
-use Rattle.hub_shared.specs.Answers.{IsAnswer, TakesMemory}
+use Rattle.hub_database.specs.Answers.{IsAnswer, TakesMemory}
 use Rattle.hub_shared.proofs.Outcomes.{ok_by, err_by}
 use Rattle.hub_shared.proofs.handle.Handle.read.Goals as goal
 

@@ -2,10 +2,10 @@
 
 ghost use Rattle.std.specs.Prelude.{◌≡◌, ◌<◌, ◌≤◌, ◌+◌, ◌++◌, ◌^◌, [], length, vec_capacity, vec_len};
 ghost use Rattle.std.specs.Prelude.{IfOk, OnErr};
-ghost use Rattle.hub_shared.specs.Receipts.{IsAudit, behind_reply, has_edit, ids_of, receipt_if};
-ghost use Rattle.hub_shared.specs.Receipts.{receipts_from};
+ghost use Rattle.hub_database.specs.Receipts.{IsAudit, behind_reply, has_edit, ids_of, receipt_if};
+ghost use Rattle.hub_database.specs.Receipts.{receipts_from};
 
-use hub_database::DbState;
+use crate::database::DbState;
 use hub_document::{Doc, DocId, RevId};
 use hub_model::Outcome;
 use std::alloc::{AllocError, Global};
@@ -55,7 +55,7 @@ impl ReceiptRoom {
 
     /// The receipts of the documents, which were answered so behind so many edits. It takes no memory,
     /// and costs a step for each document.
-    pub(crate) fn fill(self, before: u64, replies: &[Outcome<RevId>]) -> Vec<Receipt>
+    pub fn fill(self, before: u64, replies: &[Outcome<RevId>]) -> Vec<Receipt>
         requires fits { before < 2 ^ 32 }
         ensures { result.items ≡ receipts_from before self replies.now }
     {

@@ -1,6 +1,6 @@
 use Rattle.std.proofs.Common.{take}
 use Rattle.std.specs.Prelude.{All}
-use Rattle.hub_shared.specs.Receipts.{HasEdit}
+use Rattle.hub_database.specs.Receipts.{HasEdit}
 use Rattle.hub_shared.proofs.receipt.audit_of.Given as goal
 
 -- the journal has the edits of the receipts so far

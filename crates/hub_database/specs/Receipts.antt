@@ -8,9 +8,9 @@ use Rattle.hub_model.specs.declared.outcomes.Outcome.{Outcome}
 use Rattle.hub_model.specs.declared.outcomes.Outcome.TheVariants.{Stored, Known, Refused}
 use Rattle.hub_document.specs.declared.doc.Doc.{Doc}
 use Rattle.hub_database.specs.Reads.{entry_of}
-use Rattle.hub_shared.specs.declared.receipt.Receipt.{Receipt}
-use Rattle.hub_shared.specs.declared.receipt.AuditFault.{AuditFault}
-use Rattle.hub_shared.specs.declared.receipt.AuditFault.TheVariants.{WrongReceipt}
+use Rattle.hub_database.specs.declared.receipt.Receipt.{Receipt}
+use Rattle.hub_database.specs.declared.receipt.AuditFault.{AuditFault}
+use Rattle.hub_database.specs.declared.receipt.AuditFault.TheVariants.{WrongReceipt}
 
 -- the ids of documents
 abbrev pub ids_of : List Doc → List (List ℕ)

@@ -16,8 +16,8 @@ use Rattle.hub_model.specs.Revision.{Revision, is_same}
 use Rattle.hub_model.proofs.Tests.{same_is, same_self}
 use Rattle.hub_database.specs.Reads.{entry_of}
 use Rattle.hub_database.proofs.EntryLemmas.{at_sequence}
-use Rattle.hub_shared.specs.Receipts.{AreAdded, AreReceipts, AreRising, HasEdit, has_edit, is_entry_of}
-use Rattle.hub_shared.specs.declared.receipt.Receipt.{Receipt}
+use Rattle.hub_database.specs.Receipts.{AreAdded, AreReceipts, AreRising, HasEdit, has_edit, is_entry_of}
+use Rattle.hub_database.specs.declared.receipt.Receipt.{Receipt}
 
 entry_told : (o : Option (List ℕ × Revision)) (receipt : Receipt)
     → Decides (is_entry_of o receipt) (o ≡ Some (receipt.id, receipt.rev))

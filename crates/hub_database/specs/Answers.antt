@@ -9,10 +9,10 @@ use Rattle.hub_database.specs.Database.{Database, Local}
 use Rattle.hub_database.specs.Locals.{local_of}
 use Rattle.hub_database.specs.Reads.{HasDocument, info_of, lookup, open_revs}
 use Rattle.hub_database.specs.declared.local.Local as kept
-use Rattle.hub_shared.specs.declared.question.Question.{Question}
-use Rattle.hub_shared.specs.declared.question.Question.TheVariants as asks
-use Rattle.hub_shared.specs.declared.question.Answer.{Answer}
-use Rattle.hub_shared.specs.declared.question.Answer.TheVariants as says
+use Rattle.hub_database.specs.declared.question.Question.{Question}
+use Rattle.hub_database.specs.declared.question.Question.TheVariants as asks
+use Rattle.hub_database.specs.declared.question.Answer.{Answer}
+use Rattle.hub_database.specs.declared.question.Answer.TheVariants as says
 
 -- a local document as the database keeps it, by its id
 abbrev pub local_named : List ℕ → kept.Local → Local

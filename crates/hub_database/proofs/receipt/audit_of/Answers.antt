@@ -1,8 +1,8 @@
 use Rattle.std.proofs.Common.{sym, ◌∙◌, subst}
 use Rattle.std.specs.Prelude.{All}
 use Rattle.std.proofs.lemmas.List.{take_all}
-use Rattle.hub_shared.specs.Receipts.{HasEdit}
-use Rattle.hub_shared.proofs.Auditing.{one_more_stands, one_is_wrong}
+use Rattle.hub_database.specs.Receipts.{HasEdit}
+use Rattle.hub_database.proofs.Auditing.{one_more_stands, one_is_wrong}
 use Rattle.hub_shared.proofs.receipt.audit_of.Goals as goal
 
 pub returns-then-not-has_edit : goal.returns-then-not-has_edit

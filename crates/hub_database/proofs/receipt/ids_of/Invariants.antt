@@ -1,5 +1,5 @@
 use Rattle.std.proofs.Common.{◌≡◌, take}
-use Rattle.hub_shared.specs.Receipts.{ids_of}
+use Rattle.hub_database.specs.Receipts.{ids_of}
 use Rattle.hub_shared.proofs.receipt.ids_of.Given as goal
 
 -- the ids of the documents so far

@@ -1,0 +1,95 @@
+//! Questions to a database, and their answers.
+
+ghost use Rattle.std.specs.Prelude.{◌≡◌, false, option_map, IfOk, IfErr, IsSome};
+ghost use Rattle.hub_database.specs.Database.{GivesUp};
+ghost use Rattle.hub_database.specs.Answers.{IsAnswer, TakesMemory, local_named};
+ghost use Rattle.hub_database.specs.Locals.{local_of};
+
+use crate::answers::{Diff, Info, Lookup, OpenRev};
+use crate::batch::DbFault;
+use crate::database::DbState;
+use crate::descending::Descending;
+use crate::local::Local;
+use hub_document::{Asked, OpenRevs};
+use hub_params::FeedParams;
+use hub_revtree::Winner;
+
+/// What may be asked of a database.
+#[derive(Debug, Drop)]
+pub enum Question {
+    /// How many documents there are, and how many edits.
+    Info,
+    /// A document, with its history where that is asked for.
+    Get {
+        id: String,
+        revs: bool,
+    },
+    /// The winner of a document, with its mark.
+    Winner {
+        id: String,
+    },
+    /// Revisions of a document.
+    OpenRevs {
+        id: String,
+        which: OpenRevs,
+        revs: bool,
+    },
+    /// Which revisions are missing.
+    RevsDiff(Vec<Asked>),
+    /// A feed that goes downwards.
+    Descending(FeedParams),
+    /// A local document.
+    Local {
+        id: String,
+    },
+}
+
+/// What it answers.
+#[derive(Debug, Drop)]
+pub enum Answer {
+    Info(Info),
+    Get(Lookup),
+    /// None where there is no such document.
+    Winner(Option<Winner>),
+    OpenRevs(Vec<OpenRev>),
+    RevsDiff(Vec<Diff>),
+    Descending(Descending),
+    Local(Option<Local>),
+}
+
+impl DbState {
+    /// A copy of the local document of this id. It costs a look in the map of local documents, and the
+    /// copy. Out of memory is told only where there is such a document.
+    pub fn local_copy(&self, id: &str) -> Result<Option<Local>, DbFault>
+        ensures ok { IfOk result (λ found. (self.now.deleted ≡ false)
+            × (option_map (local_named id.now) found ≡ local_of self.now.locals id.now)) }
+        ensures err { IfErr result (λ e. GivesUp self.now (IsSome (local_of self.now.locals id.now)) e) }
+    {
+        match self.local_get(id)? {
+            Some(local) => Ok(Some(local.copy(self.contents.alloc())?)),
+            None => Ok(None),
+        }
+    }
+
+    /// What the database answers to a question. It waits for nobody, and costs what the call of the
+    /// question's kind does, and for a local document a copy. Out of memory is told only where the answer
+    /// takes some.
+    pub fn answer(&self, question: Question) -> Result<Answer, DbFault>
+        ensures ok { IfOk result (λ a. (self.now.deleted ≡ false) × IsAnswer self.now question a) }
+        ensures err { IfErr result (λ e. GivesUp self.now (TakesMemory self.now question) e) }
+    {
+        match question {
+            Question::Info => Ok(Answer::Info(self.info()?)),
+            Question::Get { id, revs } => Ok(Answer::Get(self.get(id.as_str(), revs)?)),
+            Question::Winner { id } => Ok(Answer::Winner(self.standing()?.winner(id.as_str()))),
+            Question::OpenRevs { id, which, revs } => Ok(Answer::OpenRevs(self.open_revs(
+                id.as_str(),
+                &which,
+                revs,
+            )?)),
+            Question::RevsDiff(asked) => Ok(Answer::RevsDiff(self.revs_diff(asked)?)),
+            Question::Descending(params) => Ok(Answer::Descending(self.changes_descending(&params)?)),
+            Question::Local { id } => Ok(Answer::Local(self.local_copy(id.as_str())?)),
+        }
+    }
+}
