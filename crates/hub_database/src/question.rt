@@ -88,7 +88,9 @@ impl DbState {
                 revs,
             )?)),
             Question::RevsDiff(asked) => Ok(Answer::RevsDiff(self.revs_diff(asked)?)),
-            Question::Descending(params) => Ok(Answer::Descending(self.changes_descending(&params)?)),
+            Question::Descending(params) => Ok(Answer::Descending(self.changes_descending(
+                &params,
+            )?)),
             Question::Local { id } => Ok(Answer::Local(self.local_copy(id.as_str())?)),
         }
     }

@@ -13,7 +13,7 @@ use hub_params::ParamFault;
 use hub_updates::NoteFault;
 
 /// What a call on a database gave, with a fault as the refusal that it is.
-pub(crate) fn refused<T>(given: Result<T, DbFault>) -> Result<T, Refusal>
+pub(crate) fn with_refusal<T>(given: Result<T, DbFault>) -> Result<T, Refusal>
     ensures { result ≡ with_refusal given }
 {
     match given {

@@ -9,7 +9,7 @@ ghost use Rattle.hub_service.specs.Calls.{winner_in};
 ghost use Rattle.hub_service.specs.Feeds.{IsNew};
 ghost use Rattle.hub_service.specs.Moments.{HasDatabase, IsEdited, IsFound, IsKept, IsLooked, IsStored};
 
-use crate::refusal::refused;
+use crate::refusal::with_refusal;
 use hub_database::{DbFault, DbState};
 use hub_databases::{Edited, Hub, HubDb, Written};
 use hub_document::{Doc, LocalDoc};
@@ -44,7 +44,7 @@ impl<'a, N: Wait> Target<'a, N> {
         ensures { IsLooked (λ db r. FnOnceReturnsAt F.FnOnce ask db r) result }
     {
         let mut handle = self.db.handle()?;
-        refused(handle.look(self.rt, ask))
+        with_refusal(handle.look(self.rt, ask))
     }
 
     /// The winner of a document.
@@ -59,7 +59,7 @@ impl<'a, N: Wait> Target<'a, N> {
         ensures { IsKept doc result }
     {
         let mut handle = self.db.handle()?;
-        refused(handle.local_put(self.rt, doc))
+        with_refusal(handle.local_put(self.rt, doc))
     }
 
     /// Opens a feed.
@@ -78,7 +78,7 @@ impl<'a, N: Wait> Target<'a, N> {
     pub(crate) fn write_one(&self, doc: Doc) -> Result<Edited, Refusal>
         ensures { IsEdited doc result }
     {
-        refused(self.hub.write_one(self.rt, self.db, doc))
+        with_refusal(self.hub.write_one(self.rt, self.db, doc))
     }
 
     /// Stores documents, and notes that in the log of updates.
@@ -86,6 +86,6 @@ impl<'a, N: Wait> Target<'a, N> {
         ensures ok { IfOk result (λ w. IsStored new_edits docs.items w) }
         ensures err { IfErr result (λ e. e ≡ Refusal.NoMemory) }
     {
-        refused(self.hub.write(self.rt, self.db, docs, new_edits))
+        with_refusal(self.hub.write(self.rt, self.db, docs, new_edits))
     }
 }

@@ -1,5 +1,5 @@
 -- What one hand does to a host and the outboxes of its feeds.
-use Rattle.std.proofs.Common.{◌≡◌, ◌∙◌, ℕ, List, [], ◌∷◌, ◌++◌, refl, sym, subst, Option, Some, None}
+use Rattle.std.proofs.Common.{◌≡◌, ◌∙◌, ℕ, List, [], ◌∷◌, ◌++◌, refl, sym, subst, Option, Some, None, false}
 use Rattle.std.specs.Prelude.{IfSome, option_and_then, position, get_or, slice_set}
 use Rattle.std.proofs.lemmas.Option.{same_Some}
 use Rattle.hub_model.specs.Current.{Current}
@@ -10,7 +10,7 @@ use Rattle.hub_model.specs.declared.feeds.Item.{Item}
 use Rattle.hub_model.proofs.Entries.{changed_here, entry_here, stays_here}
 use Rattle.hub_feed.specs.Hand.{HandsTo}
 use Rattle.hub_feed.specs.Host.{Hosted, with_feeds, answer_of, answered, behind_answer, behind_due, handed}
-use Rattle.hub_feed.specs.Host.{item_due, item_for}
+use Rattle.hub_feed.specs.Host.{is_beat_due, item_due, item_for}
 use Rattle.hub_feed.specs.Next.{next_of}
 use Rattle.hub_feed.specs.declared.handed.Handed.{Handed}
 use Rattle.hub_feed.specs.declared.handed.Handed.TheVariants as did
@@ -80,6 +80,16 @@ module _ {S R K : Type 0} (label : K → Label) (sent : K → List (Item R)) (ho
     where
       from : (feed : Option Feed) → IsServed label sent (fits state) feed None → Gone ≡ answer_of
           (hosted state) feed
+      from None served = refl
+      from (Some feed) served = absurd served
+
+  -- and no heartbeat is due
+  pub no_beat : entry_in id senders ≡ None → is_beat_due (entry_in id (hosted state).feeds) ≡ false
+  no_beat none =
+      from (entry_in id (hosted state).feeds)
+      (subst (IsServed label sent (fits state) (entry_in id (hosted state).feeds)) none (serve.each id))
+    where
+      from : (feed : Option Feed) → IsServed label sent (fits state) feed None → is_beat_due feed ≡ false
       from None served = refl
       from (Some feed) served = absurd served
 

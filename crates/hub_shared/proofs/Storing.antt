@@ -29,7 +29,8 @@ use Rattle.hub_database.specs.Handing.{IsFitting}
 use Rattle.hub_database.specs.Hosting.{hosted_of}
 use Rattle.hub_shared.specs.Label.{Label}
 use Rattle.hub_shared.specs.Locked.{IsServed, AreSendersOf}
-use Rattle.hub_database.specs.Receipts.{receipt_if, behind_reply, receipts_from, AreReceipts, AreAdded, ids_of}
+use Rattle.hub_database.specs.Receipts.{receipt_if, behind_reply, receipts_from, AreReceipts, AreAdded}
+use Rattle.hub_database.specs.Receipts.{ids_of}
 use Rattle.hub_database.specs.declared.receipt.Receipt.{Receipt}
 use Rattle.hub_shared.proofs.Serving.{stays_served}
 

@@ -15,7 +15,7 @@ ghost use Rattle.hub_shared.specs.Opening.{Begins};
 use crate::count::{Count, Plain};
 use crate::label::FeedLabel;
 use crate::outbox::{Outbox, Receives, Shelf};
-use crate::outboxes::{outbox_of, remove, send, take};
+use crate::outboxes::{outbox_of, remove, take};
 use crate::signals::Signals;
 use crate::subscriber::{Subscriber, watch};
 use crate::watch::Watch;
@@ -252,23 +252,6 @@ impl<S: FeedHost, C: Count, K: Receives<S>> Locked<S, C, K> {
         self.state.hand(feed, handle, &mut entry.1)
     }
 
-    // Sends a heartbeat that is due.
-    fn send_beat<P: Pushes<K, Item<S::Row>>>(&mut self, handle: &P, feed: FeedId) -> Handed
-        requires due { is_beat_due (entry_in feed.number (S.hosted self.old.state).feeds) ≡ true }
-        ensures { Beats K.behind (P.refuses handle.now) true self.old feed.number result self.new }
-    {
-        match send(
-            handle,
-            &mut self.subscribers,
-            self.near,
-            feed.number,
-            Item::Beat,
-        ) {
-            Ok(()) => Handed::Nothing,
-            Err(_) => Handed::Full,
-        }
-    }
-
     /// Sends a heartbeat where one is due, and the feed stays where it is: `Nothing`, also where it
     /// was sent, or `Full`, only where the outbox gave it back. It takes no memory, and costs what
     /// `beat_due` does, a search among the outboxes, and a push.
@@ -277,10 +260,17 @@ impl<S: FeedHost, C: Count, K: Receives<S>> Locked<S, C, K> {
             (is_beat_due (entry_in feed.number (S.hosted self.old.state).feeds))
             self.old feed.number result self.new }
     {
+        let Some(at) = place_near(self.subscribers.as_slice(), self.near, feed.number) else {
+            return Handed::Nothing;
+        };
         if !self.state.beat_due(feed) {
             return Handed::Nothing;
         }
-        self.send_beat(handle, feed)
+        let entry = &mut self.subscribers[at];
+        match handle.push(&mut entry.1, Item::Beat) {
+            Ok(()) => Handed::Nothing,
+            Err(_) => Handed::Full,
+        }
     }
 }
 

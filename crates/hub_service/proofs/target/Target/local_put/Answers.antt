@@ -5,5 +5,5 @@ use Rattle.hub_service.proofs.target.Target.local_put.Goals as goal
 
 pub returns : goal.returns
 returns g c =
-    subst (IsKept c.args.doc) (sym c.refused.ensures)
+    subst (IsKept c.args.doc) (sym c.with_refusal.ensures)
     (kept_or_not c.args.doc c.local_put.result c.local_put.ensures.ok c.local_put.ensures.err)

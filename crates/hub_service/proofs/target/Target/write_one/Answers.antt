@@ -5,5 +5,5 @@ use Rattle.hub_service.proofs.target.Target.write_one.Goals as goal
 
 pub returns : goal.returns
 returns g c =
-    subst (IsEdited c.args.doc) (sym c.refused.ensures)
+    subst (IsEdited c.args.doc) (sym c.with_refusal.ensures)
     (edited_or_not c.args.doc c.write_one.result c.write_one.ensures.edited c.write_one.ensures.err)
