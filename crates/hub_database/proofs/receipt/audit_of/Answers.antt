@@ -3,7 +3,7 @@ use Rattle.std.specs.Prelude.{All}
 use Rattle.std.proofs.lemmas.List.{take_all}
 use Rattle.hub_database.specs.Receipts.{HasEdit}
 use Rattle.hub_database.proofs.Auditing.{one_more_stands, one_is_wrong}
-use Rattle.hub_shared.proofs.receipt.audit_of.Goals as goal
+use Rattle.hub_database.proofs.receipt.audit_of.Goals as goal
 
 pub returns-then-not-has_edit : goal.returns-then-not-has_edit
 returns-then-not-has_edit c = (

@@ -1,7 +1,7 @@
 use Rattle.std.proofs.Common.{◌≡◌, ◌+◌, ◌≤◌, ◌++◌, length, vec_capacity}
 use Rattle.std.specs.Prelude.{drop}
 use Rattle.hub_database.specs.Receipts.{receipts_from}
-use Rattle.hub_shared.proofs.receipt.receipts_of.Given as goal
+use Rattle.hub_database.proofs.receipt.receipts_of.Given as goal
 
 -- all receipts are those so far and those of what is left
 abbrev pub invariant-loop-id : goal.invariant-loop-id
