@@ -4,8 +4,6 @@
 at a time. This build therefore proves in lanes: copies of the sources, a lane a crate at work. A proved library
 is linked back into the repository, and from there into each lane that needs it. `rt` compares the library's
 stamp, a sum of all that the library was made from, so a library of other sources is never taken.
-
-The last libraries are proved with the program, in one check that `rattle` makes of their sources (LAST).
 """
 import contextlib
 import fcntl
@@ -19,21 +17,17 @@ import sys
 import time
 
 PARTS = ("src", "specs", "proofs")
-# The libraries that are proved in the program's own check, the lowest first. Only they and the program stand on
-# them. A check reads the statements of all crates below at its beginning and at its end, and these few functions
-# would pay for that three times.
-LAST = ("hub_service", "hub_server")
 # The most processors that one proof gains from.
 MOST_JOBS = 4
 # How much nicer a proof is for each crate with a longer chain above it.
-STEP = 5
+STEP = 10
 
 
 class Crate:
-    """A crate of crates.txt: its folder, the crates of the repository and of the kit that it uses, and its size."""
+    """A crate of crates.txt: its folder, the repository's crates that it uses, and its size."""
 
-    def __init__(self, top, name, uses, of_kit):
-        self.name, self.uses, self.of_kit, self.folder = name, uses, of_kit, f"{top}/crates/{name}"
+    def __init__(self, top, name, uses):
+        self.name, self.uses, self.folder = name, uses, f"{top}/crates/{name}"
         self.is_program = os.path.isfile(f"{self.folder}/src/main.rt")
 
     @functools.cached_property
@@ -75,7 +69,7 @@ def read_crates(top, name):
             uses = [it for it in listed[name] if it in listed]
             for it in uses:
                 add(it)
-            found[name] = Crate(top, name, uses, [it for it in listed[name] if it not in listed])
+            found[name] = Crate(top, name, uses)
 
     add(name)
     return found
@@ -122,45 +116,6 @@ def memory_of(crates, name, jobs):
     return (1e9 + 4e4 * under) * (1 + 0.5 * (jobs - 1))
 
 
-def library_words(jobs):
-    """The command that proves the library of the folder it runs in, and builds it."""
-    # With --statements a library keeps what is stated of it, so that the crates above it need not load its proofs.
-    return ["rt", "lib", "--statements", "--jobs", str(jobs)]
-
-
-def kit():
-    """The kit's folder."""
-    return os.path.dirname(os.path.dirname(os.path.realpath(shutil.which("rattle"))))
-
-
-def program_words(crates, name, jobs):
-    """The command that proves the program with the last libraries, and compiles it."""
-    program, last = crates[name], [crates[it] for it in LAST]
-    words = ["rattle", "build", "--crate-name", name, "--links", f"{name}=", "--jobs", str(jobs)]
-    for it in last:
-        words += ["--lib", f"{it.name}:{','.join(['std', *it.uses, *it.of_kit])}={it.folder}/src/lib.rt"]
-    built = [crates[it] for it in below(crates, name) if it not in LAST]
-    used = {it for crate in [*last, program] for it in crate.uses}
-    of_kit = {"std"} | {it for crate in [*last, program] for it in crate.of_kit}
-    for it in built:
-        place = f"{it.folder}/out/rlib"
-        words += ["--extern", f"{it.name}={place}/{it.name}.rlib"] * (it.name in used) + ["-L", f"dependency={place}"]
-    for it in sorted(of_kit):
-        words += ["--extern", f"{it}={kit()}/rlibs/{it}.rlib"]
-    words += ["-L", f"dependency={kit()}/rlibs", "--antt-project", f"{kit()}/rattle/logic/antt-project.json"]
-    words += ["--logic-built", f"{kit()}/logic_built", "--incremental", f"{program.folder}/out/incremental"]
-    words += ["--toolchain", f"{kit()}/toolchain", "--backend", "llvm", "-o", f"{program.folder}/out/{name}.o"]
-    return [*words, f"{program.folder}/src/main.rt"]
-
-
-def link(program):
-    """Links the compiled program, and says whether it was linked."""
-    words = ["rattle-link", "--target", "x86_64-unknown-linux-gnu", "--toolchain", f"{kit()}/toolchain"]
-    out = f"{program.folder}/out/{program.name}"
-    words += ["-o", out, f"{out}.o", f"{kit()}/c/libos_c.a", f"{kit()}/c/liblibc_c.a"]
-    return subprocess.run(words, executable=f"{kit()}/bin/rattle-link", stdin=subprocess.DEVNULL).returncode == 0
-
-
 class Screen:
     """Says how far the build is: one line that is rewritten on a terminal, a line for each crate elsewhere."""
 
@@ -176,10 +131,10 @@ class Screen:
         clear = "\r\x1b[K" if self.is_terminal else ""
         print(f"{clear}hub: {self.clock()}  {text}", file=sys.stderr, flush=True)
 
-    def end(self, names, functions):
-        self.proved += len(names)
-        how = f"proved, {functions} functions" if functions else "proved before"
-        self.say(f"{self.proved:2d} of {self.count} crates: {', '.join(names)} {how}")
+    def end(self, name, functions, is_kept):
+        self.proved += 1
+        how = "proved before" if is_kept else f"proved, {functions} functions"
+        self.say(f"{self.proved:2d} of {self.count} crates: {name} {how}")
 
     def show(self, running):
         if not self.is_terminal:
@@ -191,19 +146,21 @@ class Screen:
 
 
 class Proof:
-    """A running proof of a crate, a library in its lane, and what it has said of its functions so far."""
+    """A running proof of a crate in a lane, and what it has said of its functions so far."""
 
-    def __init__(self, crate, lane, words, jobs, niceness):
+    def __init__(self, crate, lane, jobs, niceness):
         self.name, self.lane, self.jobs = crate.name, lane, jobs
         self.done, self.functions, self.at = 0, 0, 0
         os.makedirs(f"{crate.folder}/out", exist_ok=True)
         self.log = f"{crate.folder}/out/build.log"
+        # With --statements a library keeps what is stated of it, so that the crates above it need not load its proofs.
+        words = ["nice", "-n", str(niceness), "rt", *(["run"] if crate.is_program else ["lib", "--statements"])]
+        words += ["--jobs", str(jobs), *(["--", "stdin"] if crate.is_program else [])]
         folder = crate.folder if crate.is_program else f"{lane}/crates/{crate.name}"
         with open(self.log, "wb") as out:
             how = {"stdin": subprocess.DEVNULL, "stdout": out, "stderr": subprocess.STDOUT}
             # A group of processes for each proof, in one session: Linux shares processors among sessions whatever
             # their niceness is (sched_autogroup).
-            words = ["nice", "-n", str(niceness), *words]
             self.process = subprocess.Popen(words, cwd=folder, preexec_fn=os.setpgrp, **how)
 
     def read(self):
@@ -255,7 +212,6 @@ class Build:
     def __init__(self, top, program):
         self.crates = read_crates(top, program)
         self.top, self.out = top, f"{top}/crates/{program}/out"
-        self.checks = [it for it in self.crates if it not in LAST]
         self.screen, self.running, self.done = Screen(len(self.crates)), [], set()
         self.lanes = [f"{self.out}/lanes/{it}" for it in range(processors())]
         self.chain, self.memory = self.chains(), free_memory()
@@ -299,9 +255,8 @@ class Build:
                     link_folder(f"{self.crates[it].folder}/out/rlib", f"{lane}/crates/{it}/out/rlib")
             for part in ("incremental", "rlib"):
                 move_folder(f"{crate.folder}/out/{part}", f"{lane}/crates/{name}/out/{part}")
-        left = sorted((it for it in self.checks if it not in self.done), key=lambda it: -self.chain[it])
-        words = program_words(self.crates, name, jobs) if crate.is_program else library_words(jobs)
-        self.running.append(Proof(crate, lane, words, jobs, min(STEP * left.index(name), 19)))
+        left = sorted((it for it in self.crates if it not in self.done), key=lambda it: -self.chain[it])
+        self.running.append(Proof(crate, lane, jobs, min(STEP * left.index(name), 19)))
 
     def linked(self, lane):
         """The libraries that the lane has of this build."""
@@ -310,12 +265,8 @@ class Build:
     def ready(self):
         """The crates that can begin, those with the longest chain above them first."""
         begun = self.done | {it.name for it in self.running}
-        found = [it for it in self.checks if it not in begun and self.done.issuperset(self.needs(it))]
+        found = [it for it in self.crates if it not in begun and self.done.issuperset(self.crates[it].uses)]
         return sorted(found, key=lambda it: -self.chain[it])
-
-    def needs(self, name):
-        """The crates that are proved before this one's check begins."""
-        return [it for it in below(self.crates, name) if it not in LAST]
 
     def start_ready(self):
         """Starts what lanes and memory allow, each crate with as many jobs as it gains from. Where processors are
@@ -337,15 +288,14 @@ class Build:
         """Takes in the end of a proof, and says whether the crate is proved."""
         proof.read()
         self.running.remove(proof)
-        crate, is_well = self.crates[proof.name], proof.process.returncode == 0
-        if not crate.is_program:
+        if not self.crates[proof.name].is_program:
             self.take_work(proof.name, proof.lane)
-        if not is_well or (crate.is_program and not link(crate)):
-            self.screen.say(f"{proof.name} is not {'linked' if is_well else 'proved'}; the whole log is {proof.log}")
+        if proof.process.returncode:
+            self.screen.say(f"{proof.name} is not proved; the whole log is {proof.log}")
             print(*proof.last_lines(), sep="\n", file=sys.stderr)
             return False
         self.done.add(proof.name)
-        self.screen.end([*LAST, crate.name] if crate.is_program else [crate.name], proof.functions)
+        self.screen.end(proof.name, proof.functions, not proof.functions)
         return True
 
     def stop(self):
@@ -362,7 +312,7 @@ class Build:
         """Proves all crates, and says whether all are proved. What was proved is kept, also where it stops."""
         try:
             self.make_lanes()
-            while len(self.done) < len(self.checks):
+            while len(self.done) < len(self.crates):
                 self.start_ready()
                 time.sleep(0.5)
                 for it in [*self.running]:
