@@ -2,14 +2,26 @@
 
 use crate::database::DbState;
 use hub_document::ChangeRow;
-use hub_feed::{FeedHost, FeedId, Handed, OpenFault, Pushes, Sink};
+use hub_feed::{FeedHost, FeedId, Handed, HostView, OpenFault, Pushes, Sink};
 use hub_model::Item;
 use hub_params::FeedParams;
 use std::alloc::AllocError;
 
-impl FeedHost for DbState {
+impl HostView for DbState {
     ghost use Rattle.hub_database.specs.Handing.{IsFitting, IsRightFor};
-    ghost use Rattle.hub_database.specs.Hosting.{hosted_of, with_hosted};
+    ghost use Rattle.hub_database.specs.Hosting.{hosted_of};
+
+    type Row = ChangeRow;
+
+    ghost hosted = { hosted_of };
+
+    ghost fits = { λ db f items. IsFitting db.journal f items };
+
+    ghost right = { IsRightFor };
+}
+
+impl FeedHost for DbState {
+    ghost use Rattle.hub_database.specs.Hosting.{with_hosted};
     ghost use Rattle.hub_database.specs.Laid.{rows_below};
     ghost use Rattle.hub_feed.proofs.Handing.{fitting_beat, fitting_expired, fitting_handed};
     ghost use Rattle.hub_feed.proofs.Handing.{fitting_nothing, fitting_right};
@@ -19,17 +31,9 @@ impl FeedHost for DbState {
     ghost use Rattle.hub_model.specs.Row.{ChangeRow as Shown};
     ghost use Rattle.std.proofs.Common.{refl};
 
-    type Row = ChangeRow;
-
-    ghost hosted = { hosted_of };
-
     ghost with_hosted = { with_hosted };
 
     ghost seq_of = { λ (r : Shown). r.seq };
-
-    ghost fits = { λ db f items. IsFitting db.journal f items };
-
-    ghost right = { IsRightFor };
 
     ghost rise = { λ db. rows_rise db.journal };
 

@@ -41,20 +41,14 @@ pub enum OpenFault {
     TooManyFeeds,
 }
 
-/// What keeps feeds that follow it, each from its opening until it is finished. Each step of a feed
-/// changes only the feeds and the number of the next one (`with_hosted`).
-pub trait FeedHost {
+/// How a host of feeds is seen. Types that have to do with a host ask no more of it: each function that
+/// names such a type is proved with all that the type asks for.
+pub trait HostView {
     /// A row as it is handed.
     type Row: Drop;
 
     /// What the feeds follow, and the feeds.
     ghost hosted: { Self → Hosted Self.Row };
-
-    /// The same with the feeds, and the number of the next one, of this picture.
-    ghost with_hosted: { Self → Hosted Self.Row → Self };
-
-    /// The sequence of a row that is handed.
-    ghost seq_of: { Self.Row → ℕ };
 
     /// The lists of items that fit a feed while the host is so: what the feed has handed is one.
     ghost fits: { Self → Feed → List (HandedItem Self.Row) → Type 0 };
@@ -62,31 +56,43 @@ pub trait FeedHost {
     /// The lists of items that a feed of these parameters, which shows what lies above this sequence,
     /// may have handed by some time.
     ghost right: { Params → ℕ → List (HandedItem Self.Row) → Type 0 };
+}
+
+/// What keeps feeds that follow it, each from its opening until it is finished. Each step of a feed
+/// changes only the feeds and the number of the next one (`with_hosted`).
+pub trait FeedHost: HostView {
+    /// The same with the feeds, and the number of the next one, of this picture.
+    ghost with_hosted: { Self → Hosted Self.Row → Self };
+
+    /// The sequence of a row that is handed.
+    ghost seq_of: { Self.Row → ℕ };
 
     /// How many edits there are. A feed that begins behind them has handed nothing, which fits it. It
     /// takes no memory.
     fn length(&self) -> u64
-        ensures length { result ≡ (hosted self.now).length }
+        ensures length { result ≡ (Self.hosted self.now).length }
         ensures begins { (params : Params)
-            → fits self.now (begin params (hosted self.now).length (hosted self.now).life) [] };
+            → Self.fits self.now
+            (begin params (Self.hosted self.now).length (Self.hosted self.now).life) [] };
 
     /// The number of the life that they are of. It takes no memory.
     fn life(&self) -> u64
-        ensures { result ≡ (hosted self.now).life };
+        ensures { result ≡ (Self.hosted self.now).life };
 
     /// Why no feed is opened now, where memory is not what is missing. It takes no memory.
     fn refusal(&self) -> Option<OpenFault>
-        ensures { result ≡ refuses (hosted self.now) };
+        ensures { result ≡ refuses (Self.hosted self.now) };
 
     /// Opens a feed, which stays until it is finished, under a number that no feed had before.
     /// `descending` is not looked at. A refusal takes no memory.
     fn open_feed(&mut self, params: FeedParams) -> Result<FeedId, OpenFault>
-        ensures free { OnOk result (refuses (hosted self.old) ≡ None) }
-        ensures new { IfOk result (λ id. entry_in id.number (hosted self.old).feeds ≡ None) }
-        ensures number { IfOk result (λ id. id.number ≡ (hosted self.old).next_feed) }
+        ensures free { OnOk result (refuses (Self.hosted self.old) ≡ None) }
+        ensures new { IfOk result (λ id. entry_in id.number (Self.hosted self.old).feeds ≡ None) }
+        ensures number { IfOk result (λ id. id.number ≡ (Self.hosted self.old).next_feed) }
         ensures ok { OnOk result
-            (self.new ≡ with_hosted self.old (opened (hosted self.old) (params_of params))) }
-        ensures err { IfErr result (λ e. (self.new ≡ self.old) × (e ≡ opening_fault (hosted self.old))) };
+            (self.new ≡ with_hosted self.old (opened (Self.hosted self.old) (params_of params))) }
+        ensures err { IfErr result (λ e. (self.new ≡ self.old)
+            × (e ≡ opening_fault (Self.hosted self.old))) };
 
     /// Hands what is due to a feed: the item is made, then `sink` takes it, and only then the feed goes
     /// on. Where `sink` gives it back nothing changes, and the next hand makes it again. A feed that has
@@ -98,68 +104,70 @@ pub trait FeedHost {
         handle: &H,
         sink: &mut K,
     ) -> Result<Handed, AllocError>
-        requires may { IfSome (item_due (hosted self.old) feed.number)
+        requires may { IfSome (item_due (Self.hosted self.old) feed.number)
             (MayTake K.allows K.sent sink.old) }
         ensures ok { IfOk result (λ did. HandsTo K.behind (H.refuses handle.now) self.old
-            (with_hosted self.old (handed (hosted self.old) feed.number))
-            (with_hosted self.old (behind_answer (hosted self.old) feed.number Nothing))
-            sink.old (answered (hosted self.old) feed.number) did self.new sink.new) }
+            (with_hosted self.old (handed (Self.hosted self.old) feed.number))
+            (with_hosted self.old (behind_answer (Self.hosted self.old) feed.number Nothing))
+            sink.old (answered (Self.hosted self.old) feed.number) did self.new sink.new) }
         ensures err { OnErr result ((self.new ≡ self.old) × (sink.new ≡ sink.old)
-            × IsRowDue (due_to (hosted self.old) feed.number)) };
+            × IsRowDue (due_to (Self.hosted self.old) feed.number)) };
 
     /// Whether a heartbeat may be handed to a feed now: one was asked for, and the feed is open and
     /// waits. It takes no memory.
     fn beat_due(&self, feed: FeedId) -> bool
-        ensures { result ≡ is_beat_due (entry_in feed.number (hosted self.now).feeds) };
+        ensures { result ≡ is_beat_due (entry_in feed.number (Self.hosted self.now).feeds) };
 
     /// A feed's time without an item is over: an open feed that waits is ending. It takes no memory.
     fn expire(&mut self, feed: FeedId)
-        ensures { self.new ≡ with_hosted self.old (expired (hosted self.old) feed.number) };
+        ensures { self.new ≡ with_hosted self.old (expired (Self.hosted self.old) feed.number) };
 
     /// Forgets a feed, if there is one of this number. It takes no memory.
     fn finish(&mut self, feed: FeedId)
-        ensures { self.new ≡ with_hosted self.old (finished (hosted self.old) feed.number) };
+        ensures { self.new ≡ with_hosted self.old (finished (Self.hosted self.old) feed.number) };
 
     /// The current rows rise.
-    ghost rise: { (s : Self) → AllPairs (λ (c d : Current). c.seq < d.seq) (hosted s).current };
+    ghost rise: { (s : Self) → AllPairs (λ (c d : Current). c.seq < d.seq) (Self.hosted s).current };
 
     /// Each is one of the edits.
-    ghost within: { (s : Self) (c : Current) → Contains (hosted s).current c → c.seq ≤ (hosted s).length };
+    ghost within: { (s : Self) (c : Current) → Contains (Self.hosted s).current c
+        → c.seq ≤ (Self.hosted s).length };
 
     /// A row that is handed has the sequence of its own.
     ghost keeps: { (s : Self) (style : Listing) (include_docs : Bool) (c : Current)
-        → seq_of ((hosted s).shown style include_docs c) ≡ c.seq };
+        → seq_of ((Self.hosted s).shown style include_docs c) ≡ c.seq };
 
     /// With its own feeds it is the same.
-    ghost same: { (s : Self) → with_hosted s (hosted s) ≡ s };
+    ghost same: { (s : Self) → with_hosted s (Self.hosted s) ≡ s };
 
     /// With other feeds it is seen with just those.
     ghost hosts: { (s : Self) (feeds : List (ℕ × Feed)) (next : ℕ)
-        → hosted (with_hosted s (with_feeds (hosted s) feeds next)) ≡ with_feeds (hosted s) feeds next };
+        → Self.hosted (with_hosted s (with_feeds (Self.hosted s) feeds next))
+        ≡ with_feeds (Self.hosted s) feeds next };
 
     /// A list that fits a feed is right for it.
-    ghost rightly: { (s : Self) (f : Feed) (items : List (HandedItem Self.Row)) → fits s f items
-        → right f.params f.since items };
+    ghost rightly: { (s : Self) (f : Feed) (items : List (HandedItem Self.Row)) → Self.fits s f items
+        → Self.right f.params f.since items };
 
     /// It fits whatever other feeds there are.
     ghost stays: { (s : Self) (h : Hosted Self.Row) (f : Feed) (items : List (HandedItem Self.Row))
-        → fits s f items → fits (with_hosted s h) f items };
+        → Self.fits s f items → Self.fits (with_hosted s h) f items };
 
     /// With the item that is due it fits the feed that handed that.
     ghost handed_fits: { (s : Self) (f : Feed) (items : List (HandedItem Self.Row))
-        → (item : HandedItem Self.Row) → item_for (hosted s) f ≡ Some item → fits s f items
-        → fits s (behind_due (hosted s) f) (items ++ item ∷ []) };
+        → (item : HandedItem Self.Row) → item_for (Self.hosted s) f ≡ Some item → Self.fits s f items
+        → Self.fits s (behind_due (Self.hosted s) f) (items ++ item ∷ []) };
 
     /// It fits the feed that was found to have nothing to hand.
     ghost waiting_fits: { (s : Self) (f : Feed) (items : List (HandedItem Self.Row))
-        → due (hosted s).current f ≡ DueNothing → fits s f items
-        → fits s (after_nothing f (hosted s).length) items };
+        → due (Self.hosted s).current f ≡ DueNothing → Self.fits s f items
+        → Self.fits s (after_nothing f (Self.hosted s).length) items };
 
     /// It fits with a heartbeat that may be handed.
     ghost beat_fits: { (s : Self) (f : Feed) (items : List (HandedItem Self.Row)) → beat_due f ≡ true
-        → fits s f items → fits s f (items ++ Beat ∷ []) };
+        → Self.fits s f items → Self.fits s f (items ++ Beat ∷ []) };
 
     /// It fits the feed whose time is over.
-    ghost expired_fits: { (s : Self) (f : Feed) (items : List (HandedItem Self.Row)) → fits s f items
-        → fits s (expire f) items };
+    ghost expired_fits: { (s : Self) (f : Feed) (items : List (HandedItem Self.Row)) → Self.fits s f items
+        → Self.fits s (expire f) items };
 }

@@ -14,7 +14,7 @@ mod source;
 pub use feed::FeedState;
 pub use feeds::Feeds;
 pub use handed::Handed;
-pub use host::{FeedHost, FeedId, OpenFault};
+pub use host::{FeedHost, FeedId, HostView, OpenFault};
 pub use hub_document::{ChangeRow, UpdateRow};
 pub use hub_model::{Item, UpdateKind};
 pub use mark::Mark;

@@ -14,7 +14,7 @@ use crate::signals::Signals;
 use crate::subscriber::FeedEnd;
 use hub_database::DbState;
 use hub_document::ChangeRow;
-use hub_feed::{FeedHost, FeedId, Handed};
+use hub_feed::{FeedHost, FeedId, Handed, HostView};
 use hub_lane::{Asks, Receiver};
 use hub_model::Item;
 use std::alloc::{AllocError, Global};
@@ -33,7 +33,7 @@ pub type Feed<C> = HostFeed<DbState, C>;
 /// A feed of what threads share, as the connection has it that shows it. It is finished by `finish`: one
 /// that is let go otherwise stays among the feeds of its host. Contracts see its number, its lane, its
 /// label, and all that was taken.
-pub struct HostFeed<S: FeedHost, C: Count = Plain> {
+pub struct HostFeed<S: HostView, C: Count = Plain> {
     pub(crate) host: Host<S, C>,
     pub(crate) id: FeedId,
     pub(crate) receiver: Receiver<FeedLabel<S>, Item<S::Row>>,
@@ -46,7 +46,7 @@ pub struct HostFeed<S: FeedHost, C: Count = Plain> {
     pub(crate) due: u64,
 }
 
-impl<S: FeedHost + Drop, C: Count> Drop for HostFeed<S, C> {
+impl<S: HostView + Drop, C: Count> Drop for HostFeed<S, C> {
     fn drop(self) {
         let Self {
             host,
@@ -60,7 +60,7 @@ impl<S: FeedHost + Drop, C: Count> Drop for HostFeed<S, C> {
     }
 }
 
-impl<S: FeedHost, C: Count> Model for HostFeed<S, C> {
+impl<S: HostView, C: Count> Model for HostFeed<S, C> {
     ghost use Rattle.hub_shared.specs.Feeds.{FeedState, feed_of};
 
     ghost Value = { FeedState S.Row };

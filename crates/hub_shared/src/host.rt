@@ -4,7 +4,7 @@ ghost use Rattle.std.specs.Prelude.{◌≡◌, ◌<◌, [], true};
 
 use crate::count::{Count, Plain};
 use crate::locked::Locked;
-use hub_feed::FeedHost;
+use hub_feed::{FeedHost, HostView};
 use std::alloc::{AllocError, Global};
 use std::sync::{Arc, Condvar, Mutex, Wait};
 use std::time::{self, Duration};
@@ -13,7 +13,7 @@ use std::time::{self, Duration};
 const MINUTE: u64 = 60_000;
 
 /// What the threads share of it.
-struct Shared<S: FeedHost, C: Count> {
+struct Shared<S: HostView, C: Count> {
     /// The only lock: it guards what keeps the feeds, and their subscribers. It is held for one call;
     /// nothing is waited for while it is held, and no other lock is taken under it.
     locked: Mutex<Locked<S, C>>,
@@ -22,19 +22,19 @@ struct Shared<S: FeedHost, C: Count> {
     news: Condvar,
 }
 
-impl<S: FeedHost + Drop, C: Count> Drop for Shared<S, C> {
+impl<S: HostView + Drop, C: Count> Drop for Shared<S, C> {
     fn drop(self) {
         let Self { locked, news } = self;
     }
 }
 
 /// What keeps feeds and is shared by threads. Each copy keeps it; it goes with the last of them.
-pub struct Host<S: FeedHost, C: Count = Plain> {
+pub struct Host<S: HostView, C: Count = Plain> {
     shared: Arc<Shared<S, C>, Global>,
     pub(crate) alloc: Global,
 }
 
-impl<S: FeedHost + Drop, C: Count> Drop for Host<S, C> {
+impl<S: HostView + Drop, C: Count> Drop for Host<S, C> {
     fn drop(self) {
         let Self { shared, alloc } = self;
     }
@@ -66,7 +66,7 @@ impl<S: FeedHost + Drop, C: Count> Host<S, C> {
     }
 }
 
-impl<S: FeedHost, C: Count> Host<S, C> {
+impl<S: HostView, C: Count> Host<S, C> {
     /// The lock. Nothing is known of what lies under it but what its type says.
     pub(crate) fn locked(&self) -> &Mutex<Locked<S, C>> {
         &self.shared.locked

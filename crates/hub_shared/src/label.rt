@@ -3,7 +3,7 @@
 ghost use Rattle.std.specs.Prelude.{◌≡◌};
 ghost use Rattle.hub_params.specs.FeedShown.{params_asked};
 
-use hub_feed::FeedHost;
+use hub_feed::HostView;
 use hub_lane::Kept;
 use hub_model::Item;
 use hub_params::FeedParams;
@@ -72,7 +72,7 @@ impl<S> FeedLabel<S> {
     }
 }
 
-impl<S: FeedHost> Kept<Item<S::Row>> for FeedLabel<S> {
+impl<S: HostView> Kept<Item<S::Row>> for FeedLabel<S> {
     ghost use Rattle.hub_params.specs.FeedModel.{params_in};
 
     ghost allows = { λ l items. S.right (params_in l.asked) l.since items };

@@ -35,7 +35,7 @@ pub use hub_database::{Answer, AuditFault, Question, Receipt, audit_of};
 pub use hub_feed::Handed;
 pub use label::FeedLabel;
 pub use locked::{Locked, OpenedFeed};
-pub use outbox::{Outbox, Receives, Shelf};
+pub use outbox::{Outbox, Receives, Shelf, TwoEnded};
 pub use pumping::{Turn, hold, pump};
 pub use subscriber::{FeedEnd, Subscriber, Through};
 pub use updates::{Updates, UpdatesFeed};

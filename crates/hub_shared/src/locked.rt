@@ -14,12 +14,12 @@ ghost use Rattle.hub_shared.specs.Opening.{Begins};
 
 use crate::count::{Count, Plain};
 use crate::label::FeedLabel;
-use crate::outbox::{Outbox, Receives, Shelf};
+use crate::outbox::{Outbox, Receives, Shelf, TwoEnded};
 use crate::outboxes::{outbox_of, remove, take};
 use crate::signals::Signals;
 use crate::subscriber::{Subscriber, watch};
 use crate::watch::Watch;
-use hub_feed::{FeedHost, FeedId, Handed, OpenFault, Pushes};
+use hub_feed::{FeedHost, FeedId, Handed, HostView, OpenFault, Pushes};
 use hub_model::{Item, place_near, place_of};
 use hub_params::FeedParams;
 use std::alloc::{AllocError, Global};
@@ -39,7 +39,7 @@ pub struct OpenedFeed<T> {
 /// Whenever it is got from a lock, what each outbox was sent fits its feed as the host is then (`state`),
 /// and where there is a count, the book's total is how many edits the host has. Contracts see the host, the
 /// outboxes and how many items a lane holds.
-pub struct Locked<S: FeedHost, C: Count = Plain, K: Outbox<S> = Subscriber<S>> {
+pub struct Locked<S: HostView, C: Count = Plain, K: Outbox<S> = Subscriber<S>> {
     pub(crate) state: S,
     /// The outboxes of the feeds that are not finished, by the numbers of the feeds, which rise.
     subscribers: Vec<(u64, K)>,
@@ -55,7 +55,7 @@ pub struct Locked<S: FeedHost, C: Count = Plain, K: Outbox<S> = Subscriber<S>> {
     pub(crate) alloc: Global,
 }
 
-impl<S: FeedHost + Drop, C: Count, K: Outbox<S>> Drop for Locked<S, C, K> {
+impl<S: HostView + Drop, C: Count, K: Outbox<S>> Drop for Locked<S, C, K> {
     fn drop(self) {
         let Self {
             state,
@@ -70,7 +70,7 @@ impl<S: FeedHost + Drop, C: Count, K: Outbox<S>> Drop for Locked<S, C, K> {
     }
 }
 
-impl<S: FeedHost, C: Count, K: Outbox<S>> Model for Locked<S, C, K> {
+impl<S: HostView, C: Count, K: Outbox<S>> Model for Locked<S, C, K> {
     ghost use Rattle.std.specs.Prelude.{◌<◌};
     ghost use Rattle.hub_shared.specs.Locked.{LockedState, AreSendersOf, IsBookOf};
 
@@ -84,7 +84,7 @@ impl<S: FeedHost, C: Count, K: Outbox<S>> Model for Locked<S, C, K> {
 }
 
 /// What only a subscriber has.
-impl<S: FeedHost, C: Count> Locked<S, C> {
+impl<S: HostView, C: Count> Locked<S, C> {
     /// The signals of a feed, if there is one of this number. A binary search.
     pub(crate) fn signals(&self, feed: FeedId) -> Result<Option<Arc<Signals, Global>>, AllocError> {
         let Some(at) = place_of(self.subscribers.as_slice(), feed.number) else {
@@ -100,6 +100,29 @@ impl<S: FeedHost, C: Count> Locked<S, C> {
         ensures { self.new ≡ self.old }
     {
         watch(&mut self.subscribers, feed.number, news);
+    }
+}
+
+/// What is read of it.
+impl<S: HostView, C: Count, K: Outbox<S>> Locked<S, C, K> {
+    /// The host. Each feed of it that is not finished has an outbox, whose label is the feed's
+    /// parameters and since, and what that was sent fits the feed as the host is now. Constant time.
+    pub fn state(&self) -> &S
+        ensures state { result.now ≡ self.now.state }
+        ensures senders { AreSendersOf K.label K.items (S.fits self.now.state) (S.hosted self.now.state)
+            self.now.senders }
+    {
+        &self.state
+    }
+
+    /// Another number after each change that a pump may wait for, and each end of a feed.
+    pub(crate) fn news(&self) -> u64 {
+        self.news
+    }
+
+    /// How many items a feed is handed in one holding at most.
+    pub(crate) fn most(&self) -> u64 {
+        self.hold
     }
 }
 
@@ -125,26 +148,6 @@ impl<S: FeedHost, C: Count, K: Outbox<S>> Locked<S, C, K> {
         }
     }
 
-    /// The host. Each feed of it that is not finished has an outbox, whose label is the feed's
-    /// parameters and since, and what that was sent fits the feed as the host is now. Constant time.
-    pub fn state(&self) -> &S
-        ensures state { result.now ≡ self.now.state }
-        ensures senders { AreSendersOf K.label K.items (S.fits self.now.state) (S.hosted self.now.state)
-            self.now.senders }
-    {
-        &self.state
-    }
-
-    /// Another number after each change that a pump may wait for, and each end of a feed.
-    pub(crate) fn news(&self) -> u64 {
-        self.news
-    }
-
-    /// How many items a feed is handed in one holding at most.
-    pub(crate) fn most(&self) -> u64 {
-        self.hold
-    }
-
     /// There is something that feeds may wait for: pumps find another number, and watches have news. It costs
     /// a look at each feed.
     pub(crate) fn tell(&mut self)
@@ -156,6 +159,35 @@ impl<S: FeedHost, C: Count, K: Outbox<S>> Locked<S, C, K> {
         }
     }
 
+    /// A feed's time without an item is over: an open feed that waits is ending. It takes no memory,
+    /// and costs what the host's `expire` does.
+    pub fn expire(&mut self, feed: FeedId)
+        ensures { self.new ≡ stepped S.hosted S.with_hosted self.old (λ h. expired h feed.number) }
+    {
+        self.state.expire(feed);
+    }
+
+    /// Forgets a feed with its outbox, if there is one of this number, and hands the outbox out: no later
+    /// hand sends for it. What it was sent fits the feed that was, as the host was. It takes no memory, and
+    /// costs what the host's `finish` does, a search among the outboxes, and a move of those behind it.
+    pub fn finish(&mut self, feed: FeedId) -> Option<K>
+        ensures sender { result ≡ entry_in feed.number self.old.senders }
+        ensures fits { IfSome result (λ s. (f : Feed)
+            × (entry_in feed.number (S.hosted self.old.state).feeds ≡ Some f)
+            × IsSenderOf K.label K.items (S.fits self.old.state) f s) }
+        ensures step { self.new
+            ≡ record (stepped S.hosted S.with_hosted self.old (λ h. finished h feed.number)) {
+              senders = without feed.number self.old.senders;
+            } }
+    {
+        self.state.finish(feed);
+        self.news = self.news.wrapping_add(1);
+        remove(&mut self.subscribers, feed.number)
+    }
+}
+
+/// How feeds are opened.
+impl<S: FeedHost, C: Count, K: TwoEnded<S>> Locked<S, C, K> {
     // An outbox for a feed of these parameters that begins now, and its other end.
     fn open_outbox(&self, params: &FeedParams) -> Result<(K, K::Taker), AllocError>
         ensures outbox { IfOk result (λ ends. ends.0 ≡ K.made ends.1
@@ -197,32 +229,6 @@ impl<S: FeedHost, C: Count, K: Outbox<S>> Locked<S, C, K> {
             }
             Err(fault) => Err(fault),
         }
-    }
-
-    /// A feed's time without an item is over: an open feed that waits is ending. It takes no memory,
-    /// and costs what the host's `expire` does.
-    pub fn expire(&mut self, feed: FeedId)
-        ensures { self.new ≡ stepped S.hosted S.with_hosted self.old (λ h. expired h feed.number) }
-    {
-        self.state.expire(feed);
-    }
-
-    /// Forgets a feed with its outbox, if there is one of this number, and hands the outbox out: no later
-    /// hand sends for it. What it was sent fits the feed that was, as the host was. It takes no memory, and
-    /// costs what the host's `finish` does, a search among the outboxes, and a move of those behind it.
-    pub fn finish(&mut self, feed: FeedId) -> Option<K>
-        ensures sender { result ≡ entry_in feed.number self.old.senders }
-        ensures fits { IfSome result (λ s. (f : Feed)
-            × (entry_in feed.number (S.hosted self.old.state).feeds ≡ Some f)
-            × IsSenderOf K.label K.items (S.fits self.old.state) f s) }
-        ensures step { self.new
-            ≡ record (stepped S.hosted S.with_hosted self.old (λ h. finished h feed.number)) {
-              senders = without feed.number self.old.senders;
-            } }
-    {
-        self.state.finish(feed);
-        self.news = self.news.wrapping_add(1);
-        remove(&mut self.subscribers, feed.number)
     }
 }
 

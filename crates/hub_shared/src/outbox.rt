@@ -6,22 +6,29 @@ ghost use Rattle.hub_params.specs.FeedModel.{params_in};
 ghost use Rattle.hub_shared.specs.Label.{Label};
 
 use crate::label::FeedLabel;
-use hub_feed::{FeedHost, Sink};
+use hub_feed::{HostView, Sink};
 use hub_model::Item;
 use hub_params::FeedParams;
 use std::alloc::{AllocError, Global};
 
 /// The end of a feed's lane into which a host's items go, as it lies under the lock: a lane's sender, or a
-/// plain list. The other end is handed out where the feed is opened.
-pub trait Outbox<S: FeedHost>: Drop {
-    /// The end that takes.
-    type Taker: Drop;
-
+/// plain list. Types ask no more of it: each function that names such a type is proved with all that the type
+/// asks for.
+pub trait Outbox<S: HostView>: Drop {
     /// What its feed was asked for, where that began, and in which life.
     ghost label: { Self → Label };
 
     /// All that it was sent, the first item first.
     ghost items: { Self → List (HandedItem S.Row) };
+
+    /// There is news for who watches the feed. It takes no memory.
+    fn tell(&self);
+}
+
+/// An outbox that is opened with its feed. The other end is handed out then.
+pub trait TwoEnded<S: HostView>: Outbox<S> {
+    /// The end that takes.
+    type Taker: Drop;
 
     /// The outbox, new, of this label and capacity, whose other end is this.
     ghost made: { Self.Taker → Label → ℕ → Self };
@@ -42,18 +49,15 @@ pub trait Outbox<S: FeedHost>: Drop {
         ensures outbox { IfOk result (λ ends. ends.0 ≡ made ends.1 feed capacity) }
         ensures taker { IfOk result (λ ends. takes ends.1 feed) };
 
-    /// There is news for who watches the feed. It takes no memory.
-    fn tell(&self);
-
     /// Its label is the one that it was made with.
-    ghost labelled: { (end : Self.Taker) (l : Label) (capacity : ℕ) → label (made end l capacity) ≡ l };
+    ghost labelled: { (end : Self.Taker) (l : Label) (capacity : ℕ) → Self.label (made end l capacity) ≡ l };
 
     /// As it is made it was sent nothing.
-    ghost begins: { (end : Self.Taker) (l : Label) (capacity : ℕ) → items (made end l capacity) ≡ [] };
+    ghost begins: { (end : Self.Taker) (l : Label) (capacity : ℕ) → Self.items (made end l capacity) ≡ [] };
 }
 
 /// An outbox into which a host hands: what it took is what it was sent.
-pub trait Receives<S: FeedHost>: Outbox<S> + Sink<Item<S::Row>> {
+pub trait Receives<S: HostView>: Outbox<S> + Sink<Item<S::Row>> {
     /// As a sink it took what it was sent.
     ghost same: { (k : Self) → Self.sent k ≡ Self.items k };
 
@@ -67,7 +71,7 @@ pub trait Receives<S: FeedHost>: Outbox<S> + Sink<Item<S::Row>> {
 }
 
 /// An outbox whose items lie with it until they are taken: both ends of its lane are under the lock.
-pub trait Shelf<S: FeedHost>: Outbox<S> {
+pub trait Shelf<S: HostView>: Outbox<S> {
     /// The item that is taken next.
     ghost front: { Self → Option (HandedItem S.Row) };
 

@@ -6,10 +6,10 @@ ghost use Rattle.hub_model.specs.Entries.{AreRising};
 ghost use Rattle.hub_params.specs.FeedModel.{params_in};
 
 use crate::label::FeedLabel;
-use crate::outbox::{Outbox, Receives};
+use crate::outbox::{Outbox, Receives, TwoEnded};
 use crate::signals::Signals;
 use crate::watch::Watch;
-use hub_feed::{FeedHost, Pushes, Sink};
+use hub_feed::{HostView, Pushes, Sink};
 use hub_lane::{Asks, Full, Lane, Receiver, Sender};
 use hub_model::{Item, place_of};
 use hub_params::FeedParams;
@@ -18,7 +18,7 @@ use std::marker::Model;
 use std::sync::Arc;
 
 /// The end of a feed's lane that sends, with whom to tell of the feed. Contracts see the sender.
-pub struct Subscriber<S: FeedHost> {
+pub struct Subscriber<S: HostView> {
     sender: Sender<FeedLabel<S>, Item<S::Row>>,
     /// What a pump of the feed and its connection share.
     signals: Arc<Signals, Global>,
@@ -26,7 +26,7 @@ pub struct Subscriber<S: FeedHost> {
     watch: Option<Arc<Watch, Global>>,
 }
 
-impl<S: FeedHost> Drop for Subscriber<S> {
+impl<S: HostView> Drop for Subscriber<S> {
     fn drop(self) {
         let Self {
             sender,
@@ -36,7 +36,7 @@ impl<S: FeedHost> Drop for Subscriber<S> {
     }
 }
 
-impl<S: FeedHost> Model for Subscriber<S> {
+impl<S: HostView> Model for Subscriber<S> {
     ghost use Rattle.hub_shared.specs.Locked.{FeedSender};
 
     ghost Value = { FeedSender S.Row };
@@ -45,7 +45,7 @@ impl<S: FeedHost> Model for Subscriber<S> {
 }
 
 /// It takes what the label of its lane allows.
-impl<S: FeedHost> Sink<Item<S::Row>> for Subscriber<S> {
+impl<S: HostView> Sink<Item<S::Row>> for Subscriber<S> {
     ghost use Rattle.hub_lane.specs.Ends.{behind_push};
     ghost use Rattle.hub_params.specs.FeedModel.{params_in};
 
@@ -58,22 +58,31 @@ impl<S: FeedHost> Sink<Item<S::Row>> for Subscriber<S> {
 
 /// What the connection of a feed gets as the feed is opened.
 #[derive(Drop)]
-pub struct FeedEnd<S: FeedHost> {
+pub struct FeedEnd<S: HostView> {
     /// The end of the feed's lane that takes.
     pub receiver: Receiver<FeedLabel<S>, Item<S::Row>>,
     /// What its connection shares with a pump of it.
     pub signals: Arc<Signals, Global>,
 }
 
-/// By a lane, and signals that both ends share.
-impl<S: FeedHost> Outbox<S> for Subscriber<S> {
-    type Taker = FeedEnd<S>;
-
-    ghost use Rattle.std.proofs.Common.{refl};
-
+/// By its sender.
+impl<S: HostView> Outbox<S> for Subscriber<S> {
     ghost label = { λ s. s.label };
 
     ghost items = { λ s. s.sent };
+
+    fn tell(&self) {
+        if let Some(watch) = &self.watch {
+            watch.tell();
+        }
+    }
+}
+
+/// By a lane, and signals that both ends share.
+impl<S: HostView> TwoEnded<S> for Subscriber<S> {
+    type Taker = FeedEnd<S>;
+
+    ghost use Rattle.std.proofs.Common.{refl};
 
     ghost made = { λ end label capacity. new_sender end.receiver.lane_id label capacity };
 
@@ -97,18 +106,12 @@ impl<S: FeedHost> Outbox<S> for Subscriber<S> {
         Ok((Subscriber::new(sender, own), FeedEnd { receiver, signals }))
     }
 
-    fn tell(&self) {
-        if let Some(watch) = &self.watch {
-            watch.tell();
-        }
-    }
-
     ghost labelled = { λ end l capacity. refl };
 
     ghost begins = { λ end l capacity. refl };
 }
 
-impl<S: FeedHost> Receives<S> for Subscriber<S> {
+impl<S: HostView> Receives<S> for Subscriber<S> {
     ghost use Rattle.std.proofs.Common.{refl};
 
     ghost same = { λ s. refl };
@@ -118,7 +121,7 @@ impl<S: FeedHost> Receives<S> for Subscriber<S> {
     ghost permits = { λ s list is. is };
 }
 
-impl<S: FeedHost> Subscriber<S> {
+impl<S: HostView> Subscriber<S> {
     // One that nothing watches.
     fn new(
         sender: Sender<FeedLabel<S>, Item<S::Row>>,
@@ -151,7 +154,7 @@ impl<S: FeedHost> Subscriber<S> {
 pub struct Through<'a, R>(pub &'a R);
 
 /// By a push, which is refused only where the lane was full at a moment of the call.
-impl<'a, S: FeedHost, R: Asks<FeedLabel<S>, Item<S::Row>>> Pushes<Subscriber<S>, Item<S::Row>>
+impl<'a, S: HostView, R: Asks<FeedLabel<S>, Item<S::Row>>> Pushes<Subscriber<S>, Item<S::Row>>
     for Through<'a, R> {
     ghost use Rattle.std.proofs.Common.{refl};
 
@@ -171,7 +174,7 @@ impl<'a, S: FeedHost, R: Asks<FeedLabel<S>, Item<S::Row>>> Pushes<Subscriber<S>,
 
 /// From here on this watch has the news of the feed of this number, if there is one. It costs a binary
 /// search.
-pub(crate) fn watch<S: FeedHost>(
+pub(crate) fn watch<S: HostView>(
     subscribers: &mut Vec<(u64, Subscriber<S>)>,
     feed: u64,
     watch: Arc<Watch, Global>,

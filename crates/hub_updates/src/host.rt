@@ -2,10 +2,22 @@
 
 use crate::state::UpdatesState;
 use hub_document::UpdateRow;
-use hub_feed::{FeedHost, FeedId, Handed, OpenFault, Pushes, Sink, Source};
+use hub_feed::{FeedHost, FeedId, Handed, HostView, OpenFault, Pushes, Sink, Source};
 use hub_model::Item;
 use hub_params::FeedParams;
 use std::alloc::AllocError;
+
+impl HostView for UpdatesState {
+    ghost use Rattle.hub_updates.specs.Log.{IsFitting, IsRightFor, hosted_of};
+
+    type Row = UpdateRow;
+
+    ghost hosted = { hosted_of };
+
+    ghost fits = { λ log f items. IsFitting log.notes f items };
+
+    ghost right = { IsRightFor };
+}
 
 impl FeedHost for UpdatesState {
     ghost use Rattle.hub_feed.proofs.Handing.{fitting_beat, fitting_expired, fitting_right};
@@ -14,20 +26,12 @@ impl FeedHost for UpdatesState {
     ghost use Rattle.hub_model.specs.Updates.{UpdateRow as Shown, edits_of_log};
     ghost use Rattle.hub_updates.specs.Fits.{fits_given, fits_waiting};
     ghost use Rattle.hub_updates.specs.Laid.{rows_below};
-    ghost use Rattle.hub_updates.specs.Log.{AreOfLog, IsFitting, IsRightFor, hosted_of, with_hosted};
+    ghost use Rattle.hub_updates.specs.Log.{AreOfLog, with_hosted};
     ghost use Rattle.std.proofs.Common.{refl};
-
-    type Row = UpdateRow;
-
-    ghost hosted = { hosted_of };
 
     ghost with_hosted = { with_hosted };
 
     ghost seq_of = { λ (r : Shown). r.seq };
-
-    ghost fits = { λ log f items. IsFitting log.notes f items };
-
-    ghost right = { IsRightFor };
 
     ghost rise = { λ log. rows_rise (edits_of_log log.notes) };
 

@@ -8,7 +8,7 @@ use hub_document::ChangeRow;
 use hub_feed::{Pushes, Sink};
 use hub_model::Item;
 use hub_params::FeedParams;
-use hub_shared::{FeedLabel, Outbox, Receives, Shelf};
+use hub_shared::{FeedLabel, Outbox, Receives, Shelf, TwoEnded};
 use std::alloc::{AllocError, Global};
 use std::collections::VecDeque;
 use std::marker::Model;
@@ -68,15 +68,20 @@ impl Sink<Item<ChangeRow>> for PlainList {
 
 /// Nobody watches it.
 impl Outbox<DbState> for PlainList {
+    ghost label = { λ k. k.label };
+
+    ghost items = { λ k. k.sent };
+
+    fn tell(&self) {}
+}
+
+/// It has no other end.
+impl TwoEnded<DbState> for PlainList {
     type Taker = ();
 
     ghost use Rattle.std.proofs.Common.{refl};
     ghost use Rattle.std.specs.Prelude.{⊤};
     ghost use Rattle.hub_world.specs.PlainList.{new_list};
-
-    ghost label = { λ k. k.label };
-
-    ghost items = { λ k. k.sent };
 
     ghost made = { λ end label capacity. new_list label capacity };
 
@@ -100,8 +105,6 @@ impl Outbox<DbState> for PlainList {
         };
         Ok((list, ()))
     }
-
-    fn tell(&self) {}
 
     ghost labelled = { λ end l capacity. refl };
 

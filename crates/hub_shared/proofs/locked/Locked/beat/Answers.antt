@@ -18,6 +18,7 @@ use Rattle.hub_shared.proofs.locked.Locked.beat.Goals.{in-Ok, in-Err}
 
 pub returns-in_default : goal.returns-in_default
 returns-in_default g c =
+    let v = g.S.HostView in
     let h = g.S.FeedHost in
     let laws = g.met.S.FeedHost in
     let s = c.self.inside.state in
@@ -28,15 +29,16 @@ returns-in_default g c =
     let none : position (is_of id) senders ≡ None =
     rw c.as_slice.ensures.value at (sym c.place_near.ensures ∙ c.in_default.is) in
     let no =
-    no_beat g.K.Outbox.label g.K.Outbox.items h.hosted h.with_hosted h.fits h.right laws.hosts laws.rightly
+    no_beat g.K.Outbox.label g.K.Outbox.items v.hosted h.with_hosted v.fits v.right laws.hosts laws.rightly
     laws.stays laws.handed_fits s id senders c.self.invariant.1 (no_entry id senders none) in
     subst (λ (l : LockedState _ _).
-    Beats g.K.Sink.behind refuses (is_beat_due (entry_in id (h.hosted l.state).feeds)) l id Nothing l)
+    Beats g.K.Sink.behind refuses (is_beat_due (entry_in id (v.hosted l.state).feeds)) l id Nothing l)
     c.self.view_is
     (subst (λ due. Beats g.K.Sink.behind refuses due whole id Nothing whole) (sym no) (refl, refl))
 
 pub push-requires : goal.push-requires
 push-requires g c =
+    let v = g.S.HostView in
     let h = g.S.FeedHost in
     let laws = g.met.S.FeedHost in
     let id = c.args.feed.number in
@@ -46,7 +48,7 @@ push-requires g c =
     let p = c.index_mut-entry.result.now in
     let due = sym c.beat_due.ensures ∙ c.if-not-beat_due.false in
     let may =
-    may_beat g.K.Outbox.label g.K.Outbox.items h.hosted h.with_hosted h.fits h.right laws.hosts laws.rightly
+    may_beat g.K.Outbox.label g.K.Outbox.items v.hosted h.with_hosted v.fits v.right laws.hosts laws.rightly
     laws.stays laws.beat_fits c.self.inside.state id senders c.self.invariant.1 due in
     let mine : may.0 ≡ p.1 =
     same_Some may.0 p.1 (sym may.1 ∙ entry_here id senders at placed p c.index_mut-entry.ensures.value) in
@@ -54,12 +56,13 @@ push-requires g c =
       may =
           subst (λ k. MayTake g.K.Sink.allows g.K.Sink.sent k Beat) mine
           (takes_item g.K.Sink.sent g.K.Outbox.items g.K.Sink.allows
-          (λ k list. h.right (params_in (g.K.Outbox.label k).asked) (g.K.Outbox.label k).since list)
+          (λ k list. v.right (params_in (g.K.Outbox.label k).asked) (g.K.Outbox.label k).since list)
           g.met.K.Receives.same g.met.K.Receives.permits may.0 Beat may.2);
     }
 
 pub invariant_of-self : goal.invariant_of-self
 invariant_of-self g c =
+    let v = g.S.HostView in
     let h = g.S.FeedHost in
     let laws = g.met.S.FeedHost in
     let s = c.self.inside.state in
@@ -73,22 +76,22 @@ invariant_of-self g c =
     let due = sym c.beat_due.ensures ∙ c.if-not-beat_due.false in (
       c.self.invariant.0,
       either_way c.push.result c.push.ensures.taken c.push.ensures.same
-          (λ taken. subst (λ xs. AreSendersOf g.K.Outbox.label g.K.Outbox.items (h.fits s) (h.hosted s) xs)
+          (λ taken. subst (λ xs. AreSendersOf g.K.Outbox.label g.K.Outbox.items (v.fits s) (v.hosted s) xs)
           (sym (changed_here id senders at placed p is (λ k. g.K.Sink.behind k Beat) sender
           c.self.invariant.1.rising taken))
-          (beats g.K.Outbox.label g.K.Outbox.items h.hosted h.with_hosted h.fits h.right laws.hosts
+          (beats g.K.Outbox.label g.K.Outbox.items v.hosted h.with_hosted v.fits v.right laws.hosts
           laws.rightly
           laws.stays laws.beat_fits s id senders c.self.invariant.1 due g.K.Sink.behind
           g.met.K.Receives.stays (adds_item g.K.Sink.sent g.K.Outbox.items g.K.Sink.behind
           g.met.K.Receives.same g.met.P.Pushes.sends)))
-          (λ e same. subst (λ xs. AreSendersOf g.K.Outbox.label g.K.Outbox.items (h.fits s) (h.hosted s) xs)
+          (λ e same. subst (λ xs. AreSendersOf g.K.Outbox.label g.K.Outbox.items (v.fits s) (v.hosted s) xs)
           (sym (stays_here id senders at placed p is sender same.1)) c.self.invariant.1),
       c.self.invariant.2,
     )
 
 pub returns : goal.returns
 returns g c =
-    let h = g.S.FeedHost in
+    let v = g.S.HostView in
     let s = c.self.inside.state in
     let id = c.args.feed.number in
     let senders = c.self.inside.subscribers.items in
@@ -124,6 +127,6 @@ returns g c =
           )
     ] in
     subst (λ (l : LockedState _ _).
-    Beats g.K.Sink.behind refuses (is_beat_due (entry_in id (h.hosted l.state).feeds)) l id
+    Beats g.K.Sink.behind refuses (is_beat_due (entry_in id (v.hosted l.state).feeds)) l id
     c.match-push.result new) c.self.view_is
     (subst (λ b. Beats g.K.Sink.behind refuses b whole id c.match-push.result new) (sym due) told)

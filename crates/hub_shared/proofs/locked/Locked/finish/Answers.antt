@@ -8,6 +8,7 @@ use Rattle.hub_shared.proofs.locked.Locked.finish.Goals as goal
 
 pub invariant_of-self : goal.invariant_of-self
 invariant_of-self g c =
+    let v = g.S.HostView in
     let h = g.S.FeedHost in
     let laws = g.met.S.FeedHost in
     let s = c.self.inside.state in
@@ -15,13 +16,13 @@ invariant_of-self g c =
     let senders = c.self.inside.subscribers.items in
     let id = c.args.feed.number in (
       c.self.invariant.0,
-      subst (λ xs. AreSendersOf g.K.Outbox.label g.K.Outbox.items (h.fits new) (h.hosted new) xs)
+      subst (λ xs. AreSendersOf g.K.Outbox.label g.K.Outbox.items (v.fits new) (v.hosted new) xs)
           (sym c.remove.ensures.others)
-          (subst (λ s. AreSendersOf g.K.Outbox.label g.K.Outbox.items (h.fits s) (h.hosted s)
+          (subst (λ s. AreSendersOf g.K.Outbox.label g.K.Outbox.items (v.fits s) (v.hosted s)
           (without id senders)) (sym c.finish.ensures)
-          (finishes g.K.Outbox.label g.K.Outbox.items h.hosted h.with_hosted h.fits h.right laws.hosts
+          (finishes g.K.Outbox.label g.K.Outbox.items v.hosted h.with_hosted v.fits v.right laws.hosts
           laws.rightly laws.stays
           s id senders c.self.invariant.1)),
-      book_kept h.hosted h.with_hosted laws.hosts g.C.Count.counts (g.C.Count.total c.self.inside.book)
-          s new (finished (h.hosted s) id) c.finish.ensures c.self.invariant.2,
+      book_kept v.hosted h.with_hosted laws.hosts g.C.Count.counts (g.C.Count.total c.self.inside.book)
+          s new (finished (v.hosted s) id) c.finish.ensures c.self.invariant.2,
     )

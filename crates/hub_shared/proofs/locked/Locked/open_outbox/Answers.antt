@@ -8,10 +8,11 @@ use Rattle.hub_shared.proofs.locked.Locked.open_outbox.Goals as goal
 
 pub open-requires-clause-allowed : goal.open-requires-clause-allowed
 open-requires-clause-allowed g c =
+    let v = g.S.HostView in
     let h = g.S.FeedHost in
     let laws = g.met.S.FeedHost in
     let s = c.self.inside.state in
-    let label : c.new-label.result ≡ label_of (params_asked c.args.params.now) (h.hosted s) =
+    let label : c.new-label.result ≡ label_of (params_asked c.args.params.now) (v.hosted s) =
     c.new-label.ensures
     ∙ (λ k. record {
       asked = c.in_ok-copy.ensures.ok k;
@@ -20,7 +21,7 @@ open-requires-clause-allowed g c =
           ∙ ap₂ (since_of c.args.params.now.since) c.length.ensures.length c.life-life.ensures) k;
       life = c.life-life.ensures k;
     }) in
-    subst (λ (l : Label). h.right (params_in l.asked) l.since []) (sym label)
-    (nothing_allowed g.K.Outbox.label g.K.Outbox.items h.hosted h.with_hosted h.fits h.right laws.hosts
+    subst (λ (l : Label). v.right (params_in l.asked) l.since []) (sym label)
+    (nothing_allowed g.K.Outbox.label g.K.Outbox.items v.hosted h.with_hosted v.fits v.right laws.hosts
     laws.rightly laws.stays
     s c.args.params.now c.length.ensures.begins)
