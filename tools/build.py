@@ -1,13 +1,13 @@
 """Proves a program's crates side by side, each as soon as the crates below it are proved, and builds the program.
 
-`rt` holds a lock on a crate and on all that stand below it, so in one copy of the sources it proves one crate
-at a time. This build therefore proves in lanes: copies of the sources, a lane a crate at work. A proved library
-is linked back into the repository, and from there into each lane that needs it. `rt` compares the library's
-stamp, a sum of all that the library was made from, so a library of other sources is never taken.
+It calls the kit's `rattle` itself. `rt` holds a lock on a crate and on all that stand below it, and so proves one crate
+at a time; and a library that `rt lib` builds keeps its proofs, which each crate above it would load. Here a library keeps
+its statements alone, as under `rt ci`.
 """
 import contextlib
 import fcntl
 import functools
+import hashlib
 import os
 import re
 import shutil
@@ -17,59 +17,70 @@ import sys
 import time
 
 PARTS = ("src", "specs", "proofs")
-# The most processors that one proof gains from.
-MOST_JOBS = 4
+# The most processors that one proof gains from, and those of a proof that another one goes before: each copy of the
+# prover reads for itself.
+MOST_JOBS, FEW_JOBS = 4, 2
 # How much nicer a proof is for each crate with a longer chain above it.
 STEP = 10
+TARGET = "x86_64-unknown-linux-gnu"
+
+
+def kit():
+    """The folder of the kit that the command rt belongs to."""
+    return os.path.dirname(os.path.dirname(os.path.realpath(shutil.which("rt"))))
 
 
 class Crate:
-    """A crate of crates.txt: its folder, the repository's crates that it uses, and its size."""
+    """A crate of crates.txt: its folder, its lines of code, and the libraries that it uses, of the repository and of the kit."""
 
-    def __init__(self, top, name, uses):
-        self.name, self.uses, self.folder = name, uses, f"{top}/crates/{name}"
+    def __init__(self, top, name, line, listed):
+        self.name, self.line, self.folder = name, line, f"{top}/crates/{name}"
+        words = line.partition(":")[2].split()
+        self.uses = [it for it in words if it in listed]
+        self.of_kit = ["std", *[it for it in words if it not in listed]]
         self.is_program = os.path.isfile(f"{self.folder}/src/main.rt")
-
-    @functools.cached_property
-    def code(self):
-        return self.lines(".rt")
-
-    @functools.cached_property
-    def proofs(self):
-        return self.lines(".antt")
+        self.root = "src/main.rt" if self.is_program else "src/lib.rt"
+        self.out = f"{self.folder}/out/proved"
+        self.rlib = f"{self.out}/{name}.rlib"
 
     def files(self):
         for part in PARTS:
             for at, _, names in os.walk(f"{self.folder}/{part}"):
                 yield from (f"{at}/{name}" for name in names)
 
-    def lines(self, ending):
+    @functools.cached_property
+    def code(self):
         total = 0
         for file in self.files():
-            if file.endswith(ending):
+            if file.endswith(".rt"):
                 with open(file, "rb") as it:
                     total += it.read().count(b"\n")
         return total
 
-
-def lines_of(top):
-    """The lines of crates.txt by the names of their crates."""
-    with open(f"{top}/crates.txt", encoding="utf-8") as it:
-        lines = [line.partition("#")[0].strip() for line in it]
-    return {line.partition(":")[0].split()[0]: line for line in lines if ":" in line}
+    def stamp(self, below):
+        """A sum of all that its proof reads, where this is a sum of the crates that it uses."""
+        total = hashlib.sha256(f"{self.line}\n{below}\n".encode())
+        for file in [f"{kit()}/WHAT", *sorted(self.files())]:
+            with open(file, "rb") as it:
+                data = it.read()
+            total.update(f"{os.path.relpath(file, self.folder)} {len(data)}\n".encode())
+            total.update(data)
+        return total.hexdigest()
 
 
 def read_crates(top, name):
     """The crate of this name and all that it stands on, by name, lowest first."""
-    listed = {name: line.partition(":")[2].split() for name, line in lines_of(top).items()}
+    with open(f"{top}/crates.txt", encoding="utf-8") as it:
+        lines = [line.partition("#")[0].strip() for line in it]
+    listed = {line.partition(":")[0].split()[0]: line for line in lines if ":" in line}
     found = {}
 
     def add(name):
-        if name not in found and name in listed:
-            uses = [it for it in listed[name] if it in listed]
-            for it in uses:
+        if name not in found:
+            crate = Crate(top, name, listed[name], listed)
+            for it in crate.uses:
                 add(it)
-            found[name] = Crate(top, name, uses)
+            found[name] = crate
 
     add(name)
     return found
@@ -110,17 +121,56 @@ def free_memory():
         return 1024 * int(re.search(r"MemAvailable:\s+(\d+)", it.read())[1])
 
 
+def code_below(crates, name):
+    """The lines of code that a crate stands on."""
+    return sum(crates[it].code for it in below(crates, name))
+
+
 def memory_of(crates, name, jobs):
     """The bytes that a proof of the crate takes at the most, as was seen: by the lines of code below it, and its jobs."""
-    under = sum(crates[it].code for it in below(crates, name))
-    return (1e9 + 4e4 * under) * (1 + 0.5 * (jobs - 1))
+    return (1e9 + 4e4 * code_below(crates, name)) * (1 + 0.5 * (jobs - 1))
+
+
+def work_of(crates, name):
+    """How long a proof of the crate takes beside others, as was seen: it reads what is stated below it, and begins and
+    ends with steps that use one processor."""
+    return 1500 + crates[name].code + code_below(crates, name) / 10
+
+
+def words_of(crates, name):
+    """How rattle is told of a crate and of the libraries below it."""
+    crate, libraries = crates[name], f"{kit()}/rlibs"
+    words = ["--crate-name", name, crate.root, "--links", f"{name}="]
+    words += ["--antt-project", f"{kit()}/rattle/logic/antt-project.json"]
+    for it in crate.of_kit:
+        words += ["--extern", f"{it}={libraries}/{it}.rlib"]
+    for it in crate.uses:
+        words += ["--extern", f"{it}={crates[it].rlib}"]
+    for at in [libraries, *[crates[it].out for it in below(crates, name)]]:
+        words += ["-L", f"dependency={at}"]
+    return words
+
+
+def steps_of(crates, name, jobs):
+    """The commands that prove a crate and build it, one after the other. A library is checked first, since a build does
+    not tell of its functions one by one. The program is built at once: it has few, and reads all libraries."""
+    crate, rattle, words = crates[name], f"{kit()}/bin/rattle", words_of(crates, name)
+    proves = ["--logic-built", f"{kit()}/logic_built", "--jobs", str(jobs)]
+    if not crate.is_program:
+        checked = f"{crate.out}/checked"
+        check = [rattle, "check", *words, *proves, "--statements", "--progress", "-o", checked]
+        return [check, [rattle, "build", *words, "--crate-checked", checked, "-o", crate.rlib]]
+    program, toolchain = f"{crate.folder}/out/{name}", ["--toolchain", f"{kit()}/toolchain"]
+    build = [rattle, "build", *words, *proves, *toolchain, "-o", f"{program}.o"]
+    link = [f"{kit()}/bin/rattle-link", "--target", TARGET, *toolchain, "-o", program, f"{program}.o"]
+    return [build, [*link, *[f"{kit()}/c/{it}" for it in ("libos_c.a", "liblibc_c.a")]]]
 
 
 class Screen:
     """Says how far the build is: one line that is rewritten on a terminal, a line for each crate elsewhere."""
 
     def __init__(self, count):
-        self.count, self.begun, self.proved, self.total = count, time.monotonic(), 0, {}
+        self.count, self.begun, self.proved = count, time.monotonic(), 0
         self.is_terminal = sys.stderr.isatty()
 
     def clock(self):
@@ -131,9 +181,8 @@ class Screen:
         clear = "\r\x1b[K" if self.is_terminal else ""
         print(f"{clear}hub: {self.clock()}  {text}", file=sys.stderr, flush=True)
 
-    def end(self, name, functions, is_kept):
+    def end(self, name, how):
         self.proved += 1
-        how = "proved before" if is_kept else f"proved, {functions} functions"
         self.say(f"{self.proved:2d} of {self.count} crates: {name} {how}")
 
     def show(self, running):
@@ -146,22 +195,34 @@ class Screen:
 
 
 class Proof:
-    """A running proof of a crate in a lane, and what it has said of its functions so far."""
+    """A running proof of a crate, and what it has said of its functions so far."""
 
-    def __init__(self, crate, lane, jobs, niceness):
-        self.name, self.lane, self.jobs = crate.name, lane, jobs
+    def __init__(self, crates, name, jobs, niceness):
+        crate = crates[name]
+        self.name, self.jobs, self.folder, self.niceness = name, jobs, crate.folder, niceness
         self.done, self.functions, self.at = 0, 0, 0
-        os.makedirs(f"{crate.folder}/out", exist_ok=True)
+        shutil.rmtree(crate.out, ignore_errors=True)
+        os.makedirs(crate.out)
         self.log = f"{crate.folder}/out/build.log"
-        # With --statements a library keeps what is stated of it, so that the crates above it need not load its proofs.
-        words = ["nice", "-n", str(niceness), "rt", *(["run"] if crate.is_program else ["lib", "--statements"])]
-        words += ["--jobs", str(jobs), *(["--", "stdin"] if crate.is_program else [])]
-        folder = crate.folder if crate.is_program else f"{lane}/crates/{crate.name}"
-        with open(self.log, "wb") as out:
+        open(self.log, "wb").close()
+        self.steps = steps_of(crates, name, jobs)
+        self.start_next()
+
+    def start_next(self):
+        words = ["nice", "-n", str(self.niceness), *self.steps.pop(0)]
+        with open(self.log, "ab") as out:
             how = {"stdin": subprocess.DEVNULL, "stdout": out, "stderr": subprocess.STDOUT}
             # A group of processes for each proof, in one session: Linux shares processors among sessions whatever
             # their niceness is (sched_autogroup).
-            self.process = subprocess.Popen(words, cwd=folder, preexec_fn=os.setpgrp, **how)
+            self.process = subprocess.Popen(words, cwd=self.folder, preexec_fn=os.setpgrp, **how)
+
+    def has_ended(self):
+        """Goes on with the next step where one has ended well; whether the last one has ended, or one has failed."""
+        status = self.process.poll()
+        if status == 0 and self.steps:
+            self.start_next()
+            return False
+        return status is not None
 
     def read(self):
         """Takes in what the proof has written since the last look."""
@@ -169,7 +230,7 @@ class Proof:
             it.seek(self.at)
             text = it.read()
         self.at += len(text)
-        for done, functions in re.findall(rb"so far: (\d+) of (\d+) functions", text):
+        for done, functions in re.findall(rb"^checked \S+, (\d+) of (\d+)$", text, re.M):
             self.done, self.functions = int(done), int(functions)
         for functions in re.findall(rb"^logic=proved functions=(\d+)", text, re.M):
             self.done = self.functions = int(functions)
@@ -184,83 +245,53 @@ class Proof:
             return it.read().splitlines()[-20:]
 
 
-def link_folder(one, other):
-    """Has the folder `other` hold the files of `one`, by links where the disk has them."""
-
-    def link(one, other):
-        try:
-            os.link(one, other)
-        except OSError:
-            shutil.copy2(one, other)
-
-    shutil.rmtree(other, ignore_errors=True)
-    os.makedirs(os.path.dirname(other), exist_ok=True)
-    shutil.copytree(one, f"{other}.part", copy_function=link)
-    os.rename(f"{other}.part", other)
-
-
-def move_folder(one, other):
-    if os.path.isdir(one):
-        shutil.rmtree(other, ignore_errors=True)
-        os.makedirs(os.path.dirname(other), exist_ok=True)
-        os.rename(one, other)
-
-
 class Build:
-    """The proofs of a program's crates: those that are done, those that run, and the lanes that are free."""
+    """The proofs of a program's crates: those that are done, and those that run."""
 
     def __init__(self, top, program):
         self.crates = read_crates(top, program)
-        self.top, self.out = top, f"{top}/crates/{program}/out"
         self.screen, self.running, self.done = Screen(len(self.crates)), [], set()
-        self.lanes = [f"{self.out}/lanes/{it}" for it in range(processors())]
-        self.chain, self.memory = self.chains(), free_memory()
+        self.stamps, self.chain, self.memory = self.all_stamps(), self.chains(), free_memory()
+
+    def all_stamps(self):
+        stamps = {}
+        for name, crate in self.crates.items():
+            stamps[name] = crate.stamp(" ".join(stamps[it] for it in crate.uses))
+        return stamps
 
     def chains(self):
-        """For each crate the lines that are proved one behind the other once it begins: the longest chain above it."""
+        """For each crate the work that is done one behind the other once it begins: the longest chain above it."""
         chain = {}
         for name in reversed([*self.crates]):
             above = [chain[it] for it in chain if name in self.crates[it].uses]
-            chain[name] = self.crates[name].code + self.crates[name].proofs + max(above, default=0)
+            chain[name] = work_of(self.crates, name) + max(above, default=0)
         return chain
 
-    def make_lanes(self):
-        """Copies the sources into each lane, once what an interrupted build left there is taken back."""
-        for at in [it for it in self.lanes if os.path.isdir(it)]:
-            for name in self.crates:
-                self.take_work(name, at)
-        shutil.rmtree(f"{self.out}/lanes", ignore_errors=True)
-        lines = lines_of(self.top)
-        for at in self.lanes:
-            os.makedirs(at)
-            with open(f"{at}/crates.txt", "w", encoding="utf-8") as out:
-                print(*[lines[it] for it in self.crates], sep="\n", file=out)
-            for crate in self.crates.values():
-                for part in PARTS:
-                    if os.path.isdir(f"{crate.folder}/{part}"):
-                        shutil.copytree(f"{crate.folder}/{part}", f"{at}/crates/{crate.name}/{part}")
+    def is_kept(self, name):
+        """Whether an earlier build proved the crate as it is now."""
+        try:
+            with open(f"{self.crates[name].out}/stamp", encoding="ascii") as it:
+                return it.read() == self.stamps[name]
+        except OSError:
+            return False
 
-    def take_work(self, name, lane):
-        """Moves a crate's proofs from a lane into the repository."""
-        for part in ("incremental", "rlib"):
-            move_folder(f"{lane}/crates/{name}/out/{part}", f"{self.crates[name].folder}/out/{part}")
+    def keep(self, name):
+        """Notes that the crate is proved as it is now."""
+        out = self.crates[name].out
+        shutil.rmtree(f"{out}/checked", ignore_errors=True)
+        with open(f"{out}/stamp", "w", encoding="ascii") as it:
+            it.write(self.stamps[name])
 
-    def start(self, name, jobs):
-        """Starts a crate's proof in a free lane, over the libraries that are proved and over its own earlier work."""
-        crate = self.crates[name]
-        lane = next(it for it in self.lanes if it not in [proof.lane for proof in self.running])
-        if not crate.is_program:
-            for it in below(self.crates, name):
-                if it not in self.linked(lane):
-                    link_folder(f"{self.crates[it].folder}/out/rlib", f"{lane}/crates/{it}/out/rlib")
-            for part in ("incremental", "rlib"):
-                move_folder(f"{crate.folder}/out/{part}", f"{lane}/crates/{name}/out/{part}")
-        left = sorted((it for it in self.crates if it not in self.done), key=lambda it: -self.chain[it])
-        self.running.append(Proof(crate, lane, jobs, min(STEP * left.index(name), 19)))
+    def take_kept(self):
+        """Takes over the libraries that an earlier build proved. Each of them stands on such alone."""
+        for name, crate in self.crates.items():
+            if not crate.is_program and self.is_kept(name):
+                self.done.add(name)
+                self.screen.end(name, "proved before")
 
-    def linked(self, lane):
-        """The libraries that the lane has of this build."""
-        return [it for it in self.done if os.path.isdir(f"{lane}/crates/{it}/out/rlib")]
+    def rank(self, name):
+        """How many crates with a longer chain above them are left."""
+        return sum(self.chain[it] > self.chain[name] for it in self.crates if it not in self.done)
 
     def ready(self):
         """The crates that can begin, those with the longest chain above them first."""
@@ -269,16 +300,16 @@ class Build:
         return sorted(found, key=lambda it: -self.chain[it])
 
     def start_ready(self):
-        """Starts what lanes and memory allow, each crate with as many jobs as it gains from. Where processors are
+        """Starts what processors and memory allow, each crate with as many jobs as it gains from. Where processors are
         short, the system serves the crate with the longest chain above it first."""
         for name in self.ready():
-            jobs = min(MOST_JOBS, processors())
+            jobs = min(FEW_JOBS if self.rank(name) else MOST_JOBS, processors())
             while jobs > 1 and memory_of(self.crates, name, jobs) > self.room():
                 jobs -= 1
-            is_short = memory_of(self.crates, name, jobs) > self.room() or len(self.running) == len(self.lanes)
+            is_short = memory_of(self.crates, name, jobs) > self.room() or len(self.running) == processors()
             if self.running and is_short:
                 return
-            self.start(name, jobs)
+            self.running.append(Proof(self.crates, name, jobs, min(STEP * self.rank(name), 19)))
 
     def room(self):
         """The bytes of memory that no running proof is likely to take."""
@@ -288,36 +319,25 @@ class Build:
         """Takes in the end of a proof, and says whether the crate is proved."""
         proof.read()
         self.running.remove(proof)
-        if not self.crates[proof.name].is_program:
-            self.take_work(proof.name, proof.lane)
         if proof.process.returncode:
             self.screen.say(f"{proof.name} is not proved; the whole log is {proof.log}")
             print(*proof.last_lines(), sep="\n", file=sys.stderr)
             return False
+        self.keep(proof.name)
         self.done.add(proof.name)
-        self.screen.end(proof.name, proof.functions, not proof.functions)
+        self.screen.end(proof.name, f"proved, {proof.functions} functions")
         return True
 
-    def stop(self):
-        for it in self.running:
-            it.stop()
-        # The processes that rt started end right behind it.
-        time.sleep(1)
-        for it in self.running:
-            if not self.crates[it.name].is_program:
-                self.take_work(it.name, it.lane)
-        self.running = []
-
     def run(self):
-        """Proves all crates, and says whether all are proved. What was proved is kept, also where it stops."""
+        """Proves all crates, and says whether all are proved. A crate that was proved is kept, also where the build stops."""
         try:
-            self.make_lanes()
+            self.take_kept()
             while len(self.done) < len(self.crates):
                 self.start_ready()
-                time.sleep(0.5)
+                time.sleep(0.2)
                 for it in [*self.running]:
                     it.read()
-                    if it.process.poll() is not None and not self.end(it):
+                    if it.has_ended() and not self.end(it):
                         return False
                 self.screen.show(self.running)
             return True
@@ -325,8 +345,8 @@ class Build:
             self.screen.say("stopped; the next start goes on from here")
             return False
         finally:
-            self.stop()
-            shutil.rmtree(f"{self.out}/lanes", ignore_errors=True)
+            for it in self.running:
+                it.stop()
 
 
 def interrupt(*_):

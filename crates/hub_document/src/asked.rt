@@ -49,29 +49,6 @@ impl Asked {
         let revs = self.revs.copy(alloc)?;
         Ok(Asked { id, revs })
     }
-
-    /// What an object of arrays of revisions asks for, in the byte order of its keys. A value of
-    /// another shape is `NotObject`, then a text that is no revision is `BadRev`. It costs the
-    /// value's size. A fault is found without memory, and nothing that is asked takes none.
-    #[tactic(auto, using(crate::proofs::AskedLemmas::asks_some))]
-    pub fn read_all(alloc: Global, value: &Value) -> Result<Vec<Asked>, DocFault>
-        ensures ok { IfOk result (λ v. asked_in (view value.now) ≡ Ok v.items) }
-        ensures err { IfErr result (λ e. (e ≡ DocFault.NoMemory) ⊎ (asked_in (view value.now) ≡ Err e)) }
-        ensures memory { IfErr result (λ e. e ≡ DocFault.NoMemory
-            → IsOkAnd (asked_in (view value.now)) (λ asked. 0 < length asked)) }
-    {
-        let Some(members) = value.as_object() else {
-            return Err(DocFault::NotObject);
-        };
-        if !are_lists(members) {
-            return Err(DocFault::NotObject);
-        }
-        match asked_of(alloc, members) {
-            Ok(Some(asked)) => Ok(asked),
-            Err(_) if list_revs(members) => Err(DocFault::NoMemory),
-            _ => Err(DocFault::BadRev),
-        }
-    }
 }
 
 fn are_texts(items: &Vec<Value>) -> bool
@@ -126,4 +103,28 @@ fn asked_of(alloc: Global, members: &Map<String, Value>) -> Result<Option<Vec<As
         asked.push(Asked::of_id(alloc, key.as_str(), revs)?)?;
     }
     Ok(Some(asked))
+}
+
+/// What an object of arrays of revisions asks for, in the byte order of its keys. A value of
+/// another shape is `NotObject`, then a text that is no revision is `BadRev`. It costs the
+/// value's size. A fault is found without memory, and nothing that is asked takes none. As `read_doc`
+/// it is no method.
+#[tactic(auto, using(crate::proofs::AskedLemmas::asks_some))]
+pub fn read_asked(alloc: Global, value: &Value) -> Result<Vec<Asked>, DocFault>
+    ensures ok { IfOk result (λ v. asked_in (view value.now) ≡ Ok v.items) }
+    ensures err { IfErr result (λ e. (e ≡ DocFault.NoMemory) ⊎ (asked_in (view value.now) ≡ Err e)) }
+    ensures memory { IfErr result (λ e. e ≡ DocFault.NoMemory
+        → IsOkAnd (asked_in (view value.now)) (λ asked. 0 < length asked)) }
+{
+    let Some(members) = value.as_object() else {
+        return Err(DocFault::NotObject);
+    };
+    if !are_lists(members) {
+        return Err(DocFault::NotObject);
+    }
+    match asked_of(alloc, members) {
+        Ok(Some(asked)) => Ok(asked),
+        Err(_) if list_revs(members) => Err(DocFault::NoMemory),
+        _ => Err(DocFault::BadRev),
+    }
 }

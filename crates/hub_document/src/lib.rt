@@ -26,7 +26,7 @@ mod text;
 mod update_row;
 mod write;
 
-pub use asked::Asked;
+pub use asked::{Asked, read_asked};
 pub use body::Body;
 pub use change_row::ChangeRow;
 pub use changes::{Changes, LentChanges};
@@ -39,7 +39,7 @@ pub use made::rev_of_edit;
 pub use open_revs::OpenRevs;
 pub use path::{Path, place_in};
 pub use plain::is_plain;
-pub use read::read_value;
+pub use read::{read_doc, read_value};
 pub use revision::{DigestRev, RevId, revision_texts};
 pub use revisions::Revisions;
 pub use sequence::put_sequence;

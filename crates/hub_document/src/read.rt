@@ -213,25 +213,25 @@ pub fn read_value(alloc: Global, bytes: &[u8]) -> Result<Value, DocFault>
     }
 }
 
-impl Doc {
-    /// The document that a JSON value is, or the first fault in it. With `new_edits` the edit is
-    /// made here: `_rev` names the leaf that it edits, if one, and `_revisions` is not looked at.
-    /// Without it `_rev` and `_revisions` are the edit's own. It costs the value's size. A fault is
-    /// found without memory.
-    pub fn of_value(alloc: Global, value: &Value, new_edits: bool) -> Result<Doc, DocFault>
-        ensures ok { IfOk result (λ d. doc_of new_edits (view value.now) ≡ Ok d) }
-        ensures err { IfErr result (λ e. (e ≡ DocFault.NoMemory)
-            ⊎ (doc_of new_edits (view value.now) ≡ Err e)) }
-        ensures memory { IfErr result
-            (λ e. e ≡ DocFault.NoMemory → IsOk (doc_of new_edits (view value.now))) }
-        ensures history { IfOk result (λ d. is_some d.path ≡ not new_edits) }
-    {
-        let Some(members) = value.as_object() else {
-            return Err(DocFault::NotObject);
-        };
-        document_from(alloc, new_edits, value, members)
-    }
+/// The document that a JSON value is, or the first fault in it. With `new_edits` the edit is made here: `_rev`
+/// names the leaf that it edits, if one, and `_revisions` is not looked at. Without it `_rev` and `_revisions`
+/// are the edit's own. It costs the value's size. A fault is found without memory. It is no method of `Doc`: each
+/// crate that names a type is proved over the contracts of all its methods, and so over those of `Value`.
+pub fn read_doc(alloc: Global, value: &Value, new_edits: bool) -> Result<Doc, DocFault>
+    ensures ok { IfOk result (λ d. doc_of new_edits (view value.now) ≡ Ok d) }
+    ensures err { IfErr result (λ e. (e ≡ DocFault.NoMemory)
+        ⊎ (doc_of new_edits (view value.now) ≡ Err e)) }
+    ensures memory { IfErr result
+        (λ e. e ≡ DocFault.NoMemory → IsOk (doc_of new_edits (view value.now))) }
+    ensures history { IfOk result (λ d. is_some d.path ≡ not new_edits) }
+{
+    let Some(members) = value.as_object() else {
+        return Err(DocFault::NotObject);
+    };
+    document_from(alloc, new_edits, value, members)
+}
 
+impl Doc {
     /// The document that a JSON text is. It costs the text's length, and takes room before it is
     /// known what it is.
     pub fn read(alloc: Global, bytes: &[u8], new_edits: bool) -> Result<Doc, DocFault>
@@ -241,6 +241,6 @@ impl Doc {
         ensures history { IfOk result (λ d. is_some d.path ≡ not new_edits) }
     {
         let value = read_value(alloc, bytes)?;
-        Doc::of_value(alloc, &value, new_edits)
+        read_doc(alloc, &value, new_edits)
     }
 }

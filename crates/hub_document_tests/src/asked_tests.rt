@@ -2,7 +2,7 @@
 
 use crate::tests::tables::{again, grown};
 use hub_document::DocFault::{BadRev, NotObject};
-use hub_document::{Asked, DocFault, OpenRevs, Revisions, read_value};
+use hub_document::{Asked, DocFault, OpenRevs, Revisions, read_asked, read_value};
 use std::alloc::{AllocError, Global};
 use std::test::Fail;
 
@@ -55,7 +55,7 @@ fn revisions_of_one_document(rt: HostRuntime) -> Result<(), Fail> {
 
 fn asked(alloc: Global, text: &str) -> Result<Vec<Asked>, DocFault> {
     let value = read_value(alloc, text.as_bytes())?;
-    Asked::read_all(alloc, &value)
+    read_asked(alloc, &value)
 }
 
 // What is asked for, of a copy: ids, each with its revisions in brackets.

@@ -7,6 +7,7 @@ pub mod Boxes
 pub mod Exclusions
 pub mod Words
 pub mod Refusals
+pub mod Statuses
 pub mod Texts
 pub mod Chunks
 pub mod ChangeTexts

@@ -1,17 +1,12 @@
 -- The texts of answers and chunks (RFC 9112, sections 4, 6 and 7.1; own for the choice of fields).
-use Rattle.std.specs.Prelude.{ℕ, List, [], ◌++◌, length, Bool, false, Option, Some, None, if◌then◌else◌}
+use Rattle.std.specs.Prelude.{ℕ, List, [], ◌++◌, length, Bool, false, if◌then◌else◌}
 use Rattle.std.specs.Prelude.{codes, decimal}
 use Rattle.std.specs.Fmt.{digits}
-use Rattle.http.specs.StatusCode.{reason_phrase}
 use Rattle.hub_http.specs.declared.refusal.Refusal.{Refusal}
 use Rattle.hub_http.specs.declared.reply.Reply.{Reply}
 use Rattle.hub_http.specs.declared.reply.Reply.TheVariants.{Done, Refused}
 use Rattle.hub_http.specs.Refusals.{status_of, error_of, reason_of}
-
--- the canonical phrase, empty where there is none
-abbrev pub phrase_or_empty : Option (List ℕ) → List ℕ
-phrase_or_empty None = []
-phrase_or_empty (Some phrase) = phrase
+use Rattle.hub_http.specs.Statuses.{reason_phrase}
 
 -- the first line of an answer
 unfoldable pub status_line : ℕ → List ℕ → List ℕ
@@ -36,7 +31,7 @@ type_line = codes "Content-Type: application/json\r\n"
 -- the head of an answer, with the line that says where its body ends
 unfoldable pub head_text : ℕ → List ℕ → Bool → List ℕ
 head_text status framing close =
-    status_line status (phrase_or_empty (reason_phrase status))
+    status_line status (reason_phrase status)
     ++ (type_line ++ (framing ++ (close_line close ++ codes "\r\n")))
 
 -- the body of a refusal

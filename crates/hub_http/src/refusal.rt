@@ -2,7 +2,7 @@
 ghost use Rattle.std.specs.Prelude.{◌≡◌};
 ghost use Rattle.hub_http.specs.Refusals.{status_of, error_of, reason_of};
 
-use http::StatusCode;
+use crate::status::StatusCode;
 use hub_document::DocFault;
 use hub_model::Fault;
 use std::alloc::AllocError;

@@ -1,12 +1,12 @@
 //! Answers and their bytes.
 
 ghost use Rattle.std.specs.Prelude.{◌≡◌, ◌++◌, IfOk, OnOk};
-ghost use Rattle.http.specs.StatusCode.{reason_phrase};
-ghost use Rattle.hub_http.specs.Texts.{phrase_or_empty, close_line, length_line, status_line};
+ghost use Rattle.hub_http.specs.Statuses.{reason_phrase};
+ghost use Rattle.hub_http.specs.Texts.{close_line, length_line, status_line};
 ghost use Rattle.hub_http.specs.Texts.{head_text, refusal_body, answer_text, reply_text};
 
 use crate::refusal::Refusal;
-use http::StatusCode;
+use crate::status::StatusCode;
 use itoa::Buffer;
 use std::alloc::{AllocError, Global};
 
@@ -27,15 +27,6 @@ pub enum Reply {
 // No head of an answer and no body of a refusal is longer.
 const ROOM: usize = 192;
 
-fn phrase(status: StatusCode) -> &'static str
-    ensures { result.now ≡ phrase_or_empty (reason_phrase status) }
-{
-    match status.canonical_reason() {
-        Some(phrase) => phrase,
-        None => "",
-    }
-}
-
 #[tactic(auto, unfolding(crate::specs::Texts::close_line))]
 fn close_line(close: bool) -> &'static str
     ensures { result.now ≡ close_line close }
@@ -46,13 +37,13 @@ fn close_line(close: bool) -> &'static str
 #[tactic(auto, unfolding(crate::specs::Texts::status_line))]
 fn put_status_line(out: &mut Vec<u8>, status: StatusCode) -> Result<(), AllocError>
     ensures { OnOk result (out.new.items
-        ≡ out.old.items ++ status_line status (phrase_or_empty (reason_phrase status))) }
+        ≡ out.old.items ++ status_line status (reason_phrase status)) }
 {
     let mut number = Buffer::new();
     out.extend_from_slice(b"HTTP/1.1 ")?;
     out.extend_from_slice(number.format(status.as_u16()).as_bytes())?;
     out.extend_from_slice(b" ")?;
-    out.extend_from_slice(phrase(status).as_bytes())?;
+    out.extend_from_slice(status.reason_phrase().as_bytes())?;
     out.extend_from_slice(b"\r\n")?;
     Ok(())
 }

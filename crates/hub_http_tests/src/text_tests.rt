@@ -1,9 +1,8 @@
 use crate::made_again::again;
-use http::StatusCode;
 use hub_document::{ChangeRow, Changes, Doc, DocFault, RevId, Revisions};
 use hub_http::{
-    ChunkFault, ChunkWriter, Refusal, Reply, Tally, feed_head, item_text, no_memory_text,
-    reply_bytes, stream_head_text,
+    ChunkFault, ChunkWriter, Refusal, Reply, StatusCode, Tally, feed_head, item_text,
+    no_memory_text, reply_bytes, stream_head_text,
 };
 use hub_model::{Fault, Item, Mode};
 use std::alloc::{AllocError, Global};

@@ -1,7 +1,7 @@
 -- What a stream shows is the front of a list that is rightly handed.
 use Rattle.std.proofs.Common.{◌≡◌, ℕ, List, [], ◌∷◌, ◌++◌, true, false, refl}
 use Rattle.std.proofs.Common.{sym, ap, ◌∙◌, subst, append_assoc, append-nil}
-use Rattle.std.specs.Prelude.{◌≢◌, Option, Some, None, map, if◌then◌else◌, option_map}
+use Rattle.std.specs.Prelude.{◌≢◌, Option, Some, None, map, if◌then◌else◌}
 use Rattle.hub_database.specs.Handing as changes
 use Rattle.hub_updates.specs.Log as updates
 use Rattle.hub_model.specs.Descending.{Descending}
@@ -21,7 +21,7 @@ use Rattle.hub_session.specs.declared.item.StreamItem.{StreamItem}
 use Rattle.hub_session.specs.declared.item.StreamItem.TheVariants.{Change, Update}
 use Rattle.hub_shared.specs.Feeds.{FeedState, behind_item, receiver_of}
 use Rattle.hub_shared.specs.Label.{Label}
-use Rattle.hub_service.specs.Feeds.{Gives, next_listed, sent_behind}
+use Rattle.hub_service.specs.Feeds.{Gives, behind_listed, next_listed}
 use Rattle.hub_service.specs.Laws.{connection_rules, StreamsOfChangesAreRight}
 use Rattle.hub_service.specs.Laws.{CompleteChangesAreRight, StreamsOfUpdatesAreRight}
 use Rattle.hub_service.specs.Laws.{CompleteUpdatesAreRight, CompleteListIsWhole, whole_list}
@@ -56,7 +56,7 @@ record IsStep {R : Type 0} (wrap : Item R → StreamItem) (sent : FeedState R �
   item : Item R
   wrapped : streamed ≡ wrap item
   ends : stream.is_end streamed ≡ is_end item
-  behind : mid ≡ sent_behind item (sent (behind_item feed item))
+  behind : mid ≡ if stream.is_end streamed then None else Some (sent (behind_item feed item))
   allowed : IsAllowedBeginning right (receiver_of (behind_item feed item))
 
 -- what a stream hands of a feed of one kind, by how it goes on
@@ -122,7 +122,7 @@ module _ {R : Type 0} (wrap : Item R → StreamItem) (sent : FeedState R → Sen
       (s : IsStep wrap sent right feed item mid)
       → stream.is_end item ≡ false → mid ≡ Some (sent (behind_item feed s.item))
   still_sent feed item mid s is =
-      s.behind ∙ ap (λ b. if b then None else Some (sent (behind_item feed s.item))) (sym s.ends ∙ is)
+      s.behind ∙ ap (λ b. if b then None else Some (sent (behind_item feed s.item))) is
 
   -- what is sent behind what was taken before
   sent_behind_itemn : {n : ℕ} {s t : Option Sent} {items : List StreamItem} {end : StreamEnd}
@@ -176,15 +176,25 @@ right_updates label items = updates.IsRightFor (params_in label.asked) label.sin
 
 step_of_changes : (feed : FeedState ChangeRow) (item : StreamItem) (mid : Option Sent)
     → Gives (Some (Changes feed)) (Some item) mid → IsStep Change Changes right_changes feed item mid
-step_of_changes feed (Change item) mid given =
-    record { item = item; wrapped = refl; ends = refl; behind = given.0; allowed = given.1 }
-step_of_changes feed (Update item) mid given = absurd given
+step_of_changes feed (Change item) mid given = record {
+  item = item;
+  wrapped = refl;
+  ends = refl;
+  behind = given.2 ∙ ap (λ left. if is_end item then None else Some left) given.1.0;
+  allowed = given.1.1;
+}
+step_of_changes feed (Update item) mid given = absurd given.1
 
 step_of_updates : (feed : FeedState UpdateRow) (item : StreamItem) (mid : Option Sent)
     → Gives (Some (Updates feed)) (Some item) mid → IsStep Update Updates right_updates feed item mid
-step_of_updates feed (Change item) mid given = absurd given
-step_of_updates feed (Update item) mid given =
-    record { item = item; wrapped = refl; ends = refl; behind = given.0; allowed = given.1 }
+step_of_updates feed (Change item) mid given = absurd given.1
+step_of_updates feed (Update item) mid given = record {
+  item = item;
+  wrapped = refl;
+  ends = refl;
+  behind = given.2 ∙ ap (λ left. if is_end item then None else Some left) given.1.0;
+  allowed = given.1.1;
+}
 
 sent_changes : (items : List StreamItem) (feed : FeedState ChangeRow) (end : StreamEnd)
     (maybe_sent : Option Sent)
@@ -259,13 +269,21 @@ left_of rows last_seq pending life =
 -- how it goes on
 listed_step : (answer : Descending) (maybe_sent : Option Sent) (item : StreamItem) (mid : Option Sent)
     → maybe_sent ≡ Some (Listed answer) → Gives maybe_sent (Some item) mid
-    → (item ≡ Change (next_listed answer).0) × (mid ≡ option_map Listed (next_listed answer).1)
+    → (item ≡ Change (next_listed answer))
+    × (mid ≡ if stream.is_end item then None else Some (Listed (behind_listed answer)))
 listed_step answer maybe_sent item mid at given = by_kind item (subst (λ o. Gives o (Some item) mid) at given)
   where
     by_kind : (item : StreamItem) → Gives (Some (Listed answer)) (Some item) mid
-        → (item ≡ Change (next_listed answer).0) × (mid ≡ option_map Listed (next_listed answer).1)
-    by_kind (Change i) g = (ap Change g.0, g.1)
-    by_kind (Update i) g = absurd g
+        → (item ≡ Change (next_listed answer))
+        × (mid ≡ if stream.is_end item then None else Some (Listed (behind_listed answer)))
+    by_kind (Change i) g =
+        (ap Change g.1.0, g.2 ∙ ap (λ left. if is_end i then None else Some left) g.1.1)
+    by_kind (Update i) g = absurd g.1
+
+-- behind an item that is no end
+listed_left : {mid : Option Sent} {left : Sent} (item : StreamItem) → stream.is_end item ≡ false
+    → mid ≡ (if stream.is_end item then None else Some left) → mid ≡ Some left
+listed_left {left = left} item is behind = behind ∙ ap (λ b. if b then None else Some left) is
 
 -- an end is no row
 no_end : (item : StreamItem) (last pending : ℕ) → item ≡ Change (End last pending)
@@ -285,7 +303,8 @@ list_whole (Streams.goes_on {s = s} {mid = mid} {item = item} given is more) c [
 list_whole (Streams.goes_on {s = s} {mid = mid} {item = item} {items = items} given is more) c
     (row ∷ rows) l pending life at =
     let x = listed_step (left_of (row ∷ rows) l pending life) s item mid at given in
-    ap (λ i. i ∷ items) x.0 ∙ ap (λ xs. Change (Row row) ∷ xs) (list_whole more c rows l pending life x.1)
+    ap (λ i. i ∷ items) x.0
+    ∙ ap (λ xs. Change (Row row) ∷ xs) (list_whole more c rows l pending life (listed_left item is x.1))
 list_whole (Streams.ends {s = s} {t = t} {item = item} given is) c [] l pending life at =
     ap (λ i. i ∷ []) (listed_step (left_of [] l pending life) s item t at given).0
 list_whole (Streams.ends {s = s} {t = t} {item = item} given is) c (row ∷ rows) l pending life at =

@@ -1,9 +1,8 @@
 -- What a connection shows of a feed (CouchDB API reference, _changes and _db_updates).
 use Rattle.std.specs.Prelude.{◌≡◌, ◌⊎◌, ℕ, List, [], ◌∷◌, true, false, if◌then◌else◌, Option, Some, None}
-use Rattle.std.specs.Prelude.{Result, Ok, Err, option_map}
+use Rattle.std.specs.Prelude.{Result, Ok, Err, drop}
 use Rattle.hub_model.specs.Row.{ChangeRow}
 use Rattle.hub_model.specs.Updates.{UpdateRow}
-use Rattle.hub_model.specs.RightlyHanded.{is_end}
 use Rattle.hub_model.specs.Descending.{Descending, descending}
 use Rattle.hub_model.specs.declared.feeds.Mode.{Mode}
 use Rattle.hub_model.specs.declared.feeds.Mode.TheVariants.{Normal}
@@ -22,6 +21,7 @@ use Rattle.hub_params.specs.Room.{FeedNeedsRoom}
 use Rattle.hub_params.specs.declared.feed_fault.ParamFault.{ParamFault}
 use Rattle.hub_http.specs.declared.refusal.Refusal.{Refusal}
 use Rattle.hub_http.specs.declared.refusal.Refusal.TheVariants as refusal
+use Rattle.hub_session.specs.Items as stream
 use Rattle.hub_session.specs.declared.item.StreamItem.{StreamItem}
 use Rattle.hub_session.specs.declared.item.StreamItem.TheVariants.{Change, Update}
 use Rattle.hub_shared.specs.Feeds.{FeedState, behind_item, receiver_of}
@@ -96,15 +96,18 @@ Begins begins query body r = BeginsRead begins (FeedNeedsRoom query body) (feed_
 
 -- ---- its items
 
--- the next item of an answer with these rows left, and what is left behind it
-abbrev pub next_of_rows : List ChangeRow → (last_seq pending life : ℕ) → Item ChangeRow × Option Descending
-next_of_rows [] last_seq pending life = (End last_seq pending, None)
-next_of_rows (row ∷ rows) last_seq pending life =
-    (Row row, Some (record { rows = rows; last_seq = last_seq; pending = pending; life = life }))
+-- the next item of an answer with these rows left: the first of them, or the end
+abbrev pub next_of_rows : List ChangeRow → (last_seq pending : ℕ) → Item ChangeRow
+next_of_rows [] last_seq pending = End last_seq pending
+next_of_rows (row ∷ rows) last_seq pending = Row row
 
--- the next item of an answer that was made at once, and what is left of it
-abbrev pub next_listed : Descending → Item ChangeRow × Option Descending
-next_listed answer = next_of_rows answer.rows answer.last_seq answer.pending answer.life
+-- the next item of an answer that was made at once
+abbrev pub next_listed : Descending → Item ChangeRow
+next_listed answer = next_of_rows answer.rows answer.last_seq answer.pending
+
+-- what is left of it behind that
+abbrev pub behind_listed : Descending → Descending
+behind_listed answer = record answer { rows = drop 1 answer.rows }
 
 -- what was taken of a feed of changes is a front of a list that is rightly handed for what was asked
 abbrev pub IsRightChanges : FeedState ChangeRow → Type 0
@@ -116,25 +119,27 @@ abbrev pub IsRightUpdates : FeedState UpdateRow → Type 0
 IsRightUpdates feed =
     IsAllowedBeginning (λ l items. updates.IsRightFor (params_in l.asked) l.since items) (receiver_of feed)
 
--- what is sent behind an item: nothing more behind an end
-abbrev pub sent_behind : {R : Type 0} → Item R → Sent → Option Sent
-sent_behind item sent = if is_end item then None else Some sent
+-- What is sent goes on with this item, and is then the other; or it has none, and stays. An answer that was made
+-- at once hands its rows in turn and then its end; what a feed hands was taken from it, behind what was taken
+-- before.
+abbrev pub GoesOn : Sent → Option StreamItem → Sent → Type 0
+GoesOn sent None left = left ≡ sent
+GoesOn (Listed answer) (Some (Change item)) left =
+    (item ≡ next_listed answer) × (left ≡ Listed (behind_listed answer))
+GoesOn (Listed answer) (Some (Update item)) left = ⊥
+GoesOn (Changes feed) (Some (Change item)) left =
+    (left ≡ Changes (behind_item feed item)) × IsRightChanges (behind_item feed item)
+GoesOn (Changes feed) (Some (Update item)) left = ⊥
+GoesOn (Updates feed) (Some (Change item)) left = ⊥
+GoesOn (Updates feed) (Some (Update item)) left =
+    (left ≡ Updates (behind_item feed item)) × IsRightUpdates (behind_item feed item)
 
--- What is sent goes on with this item, and is then the other; or it stops, and is what it was. An answer that
--- was made at once hands its rows in turn and then its end; what a feed hands was taken from it, behind what
--- was taken before.
+-- What is sent goes on with this item; behind an end nothing is sent any more. Or it stops, and is what it was.
 abbrev pub Gives : Option Sent → Option StreamItem → Option Sent → Type 0
 Gives maybe_sent None t = t ≡ maybe_sent
 Gives None (Some item) t = ⊥
-Gives (Some (Listed answer)) (Some (Change item)) t =
-    (item ≡ (next_listed answer).0) × (t ≡ option_map Listed (next_listed answer).1)
-Gives (Some (Listed answer)) (Some (Update item)) t = ⊥
-Gives (Some (Changes feed)) (Some (Change item)) t =
-    (t ≡ sent_behind item (Changes (behind_item feed item))) × IsRightChanges (behind_item feed item)
-Gives (Some (Changes feed)) (Some (Update item)) t = ⊥
-Gives (Some (Updates feed)) (Some (Change item)) t = ⊥
-Gives (Some (Updates feed)) (Some (Update item)) t =
-    (t ≡ sent_behind item (Updates (behind_item feed item))) × IsRightUpdates (behind_item feed item)
+Gives (Some sent) (Some item) t = (left : Sent) × GoesOn sent (Some item) left
+    × (t ≡ if stream.is_end item then None else Some left)
 
 -- what is sent is not sent on
 abbrev pub Drops : Option Sent → Option Sent → Type 0

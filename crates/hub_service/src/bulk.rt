@@ -14,7 +14,7 @@ use crate::refusal::unnoted;
 use crate::response::{Response, created};
 use crate::target::Target;
 use hub_databases::Written;
-use hub_document::{Doc, DocFault, RevId, read_value};
+use hub_document::{Doc, DocFault, RevId, read_doc, read_value};
 use hub_http::Refusal;
 use hub_model::Outcome;
 use hub_replies::{BatchReply, batch_body};
@@ -67,7 +67,7 @@ fn read_elements(alloc: Global, elements: &[Value], new_edits: bool) -> Result<R
     let mut docs = Vec::with_capacity(alloc, elements.len())?;
     let mut faults = Vec::with_capacity(alloc, elements.len())?;
     for element in elements {
-        match Doc::of_value(alloc, element, new_edits) {
+        match read_doc(alloc, element, new_edits) {
             Ok(doc) => {
                 docs.push(doc)?;
                 faults.push(None)?;

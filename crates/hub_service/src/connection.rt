@@ -11,15 +11,13 @@ ghost use Rattle.hub_service.specs.Requests.{IsRemoved, IsSent, Responds};
 
 use crate::database::answer;
 use crate::feeds::begin_updates;
-use crate::next::next;
 use crate::pumping::Pumping;
 use crate::refusal::unnamed;
 use crate::response::{Response, ok};
 use crate::sent::Sent;
 use crate::target::Target;
-use http::StatusCode;
 use hub_databases::{Hub, is_name};
-use hub_http::{Refusal, Reply, Request};
+use hub_http::{Refusal, Reply, Request, StatusCode};
 use hub_replies::{names_body, ok_body, welcome_body};
 use hub_routes::{Call, Route, Routes};
 use hub_session::{Answer, Polled, Service, StreamItem};
@@ -215,10 +213,14 @@ impl<'h, N: Wait, P: Pumping> Service for Connection<'h, N, P> {
     }
 
     fn item(&mut self) -> Option<StreamItem> {
-        let sent = self.sent.take()?;
-        let (item, left) = next(self.rt, &self.pumping, sent);
-        self.sent = left;
-        item
+        let item = match &mut self.sent {
+            Some(sent) => sent.next(&self.pumping)?,
+            None => return None,
+        };
+        if item.is_end() {
+            self.drop_stream();
+        }
+        Some(item)
     }
 
     fn poll_item(&mut self) -> Polled {

@@ -6,19 +6,19 @@ ghost use Rattle.hub_service.specs.Moments.{IsRead};
 
 use crate::response::{Response, ok};
 use crate::target::Target;
-use hub_document::{Asked, DocFault, read_value};
+use hub_document::{Asked, DocFault, read_asked, read_value};
 use hub_http::Refusal;
 use hub_replies::diffs_body;
 use std::alloc::Global;
 use std::sync::Wait;
 
 // The revisions that a body asks for.
-fn read_asked(alloc: Global, body: &[u8]) -> Result<Vec<Asked>, DocFault>
+fn read_body(alloc: Global, body: &[u8]) -> Result<Vec<Asked>, DocFault>
     ensures ok { IfOk result (λ v. asked_by body.now ≡ Ok v.items) }
     ensures err { IfErr result (λ e. (e ≡ DocFault.NoMemory) ⊎ (asked_by body.now ≡ Err e)) }
 {
     let value = read_value(alloc, body)?;
-    Asked::read_all(alloc, &value)
+    read_asked(alloc, &value)
 }
 
 // Which of these revisions are missing.
@@ -34,7 +34,7 @@ fn diff<N: Wait>(target: &Target<'_, N>, asked: Vec<Asked>) -> Result<Response, 
 pub(crate) fn revs_diff<N: Wait>(target: &Target<'_, N>, body: &[u8]) -> Result<Response, Refusal>
     ensures { IsRead (λ db. says_diffs db.journal (asked_by body.now)) result }
 {
-    match read_asked(target.alloc, body) {
+    match read_body(target.alloc, body) {
         Ok(asked) => diff(target, asked),
         Err(fault) => Err(Refusal::from(fault)),
     }

@@ -4,8 +4,7 @@ ghost use Rattle.std.specs.Prelude.{◌≡◌, Err, IfOk, OnErr};
 ghost use Rattle.hub_service.specs.Said.{Body, IsSaid};
 
 use crate::sent::Sent;
-use http::StatusCode;
-use hub_http::Refusal;
+use hub_http::{Refusal, StatusCode};
 use hub_model::Mode;
 use std::alloc::AllocError;
 

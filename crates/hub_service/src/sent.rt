@@ -1,7 +1,7 @@
 //! What a connection is sending.
 
 ghost use Rattle.std.specs.Prelude.{◌≡◌};
-ghost use Rattle.hub_service.specs.Feeds.{life_of, next_listed};
+ghost use Rattle.hub_service.specs.Feeds.{behind_listed, life_of, next_listed};
 
 use hub_database::Descending;
 use hub_document::ChangeRow;
@@ -55,20 +55,17 @@ impl Listed {
         }
     }
 
-    /// Its next item, and what is left behind it, which is nothing behind the end.
-    pub(crate) fn next(mut self) -> (Item<ChangeRow>, Option<Listed>)
-        ensures { result ≡ next_listed self }
+    /// Its next item: a row, and its end once no row is left.
+    pub(crate) fn next(&mut self) -> Item<ChangeRow>
+        ensures item { result ≡ next_listed self.old }
+        ensures rest { self.new ≡ behind_listed self.old }
     {
         match self.rows.next() {
-            Some(row) => (Item::Row(row), Some(self)),
-            None => {
-                let Listed {
-                    last_seq,
-                    pending,
-                    ..
-                } = self;
-                (Item::End { last_seq, pending }, None)
-            }
+            Some(row) => Item::Row(row),
+            None => Item::End {
+                last_seq: self.last_seq,
+                pending: self.pending,
+            },
         }
     }
 }

@@ -6,10 +6,10 @@ use Rattle.std.specs.Prelude.{Option, codes, decimal, if◌then◌else◌}
 use Rattle.std.specs.Borrow.{Bor}
 use Rattle.std.proofs.lemmas.Grind.{flat_map-append}
 use Rattle.std.specs.Io.KnownBytes.{Appends}
-use Rattle.http.specs.StatusCode.{reason_phrase}
 use Rattle.hub_http.specs.Counts.{AppendsFront, Sends}
 use Rattle.hub_http.specs.Refusals.{error_of, reason_of}
-use Rattle.hub_http.specs.Texts.{close_line, head_text, length_line, phrase_or_empty}
+use Rattle.hub_http.specs.Statuses.{reason_phrase}
+use Rattle.hub_http.specs.Texts.{close_line, head_text, length_line}
 use Rattle.hub_http.specs.Texts.{refusal_body, reply_text, status_line, type_line}
 use Rattle.hub_http.specs.declared.refusal.Refusal.{Refusal}
 use Rattle.hub_http.specs.declared.reply.Reply.{Reply}
@@ -75,7 +75,7 @@ refusal_length refusal =
 
 -- the parts of a head
 pub head_parts : (status len : ℕ) (close : Bool) (number phrase size line : List ℕ) → number ≡ decimal status
-    → phrase ≡ phrase_or_empty (reason_phrase status)
+    → phrase ≡ reason_phrase status
     → size ≡ decimal len → line ≡ close_line close
     → codes "HTTP/1.1 "
     ++ (number ++ (codes " " ++ (phrase ++ (codes "\r\n" ++ (codes "Content-Type: application/json\r\n"
@@ -100,9 +100,9 @@ head_parts status len close number phrase size line n p s l =
     ∙ ap (λ x. codes "HTTP/1.1 " ++ x) of_number
     ∙ ap (λ x. (codes "HTTP/1.1 " ++ (x ++ (codes " " ++ (phrase ++ codes "\r\n")))) ++ behind) n
     ∙ ap (λ x. (codes "HTTP/1.1 " ++ (decimal status ++ (codes " " ++ (x ++ codes "\r\n")))) ++ behind) p
-    ∙ ap (λ x. status_line status (phrase_or_empty (reason_phrase status))
+    ∙ ap (λ x. status_line status (reason_phrase status)
     ++ (type_line ++ ((codes "Content-Length: " ++ (x ++ codes "\r\n")) ++ ending))) s
-    ∙ ap (λ x. status_line status (phrase_or_empty (reason_phrase status))
+    ∙ ap (λ x. status_line status (reason_phrase status)
     ++ (type_line ++ (length_line len ++ (x ++ codes "\r\n")))) l
 
 -- a head and a body are the answer

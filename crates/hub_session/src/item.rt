@@ -18,8 +18,8 @@ pub enum StreamItem {
 }
 
 impl StreamItem {
-    /// Whether it is the end of its stream.
-    pub(crate) fn is_end(&self) -> bool
+    /// Whether it is the end of its stream. Constant time.
+    pub fn is_end(&self) -> bool
         ensures { result ≡ is_end self.now }
     {
         match self {

@@ -1,23 +1,12 @@
 //! Whole answers to a writer in parts, which take no memory.
 ghost use Rattle.std.specs.Prelude.{◌≡◌, ◌≤◌, is_err, length, OnErr};
-ghost use Rattle.http.specs.StatusCode.{reason_phrase};
 ghost use Rattle.hub_http.specs.Counts.{GaveUp, Rose, Sends};
 ghost use Rattle.hub_http.specs.Texts.{close_line, head_text, length_line};
-ghost use Rattle.hub_http.specs.Texts.{phrase_or_empty, refusal_body, reply_text};
+ghost use Rattle.hub_http.specs.Texts.{refusal_body, reply_text};
 ghost use Rattle.hub_session.specs.Replies.{body_in, parts_text, status_in};
 
-use http::StatusCode;
-use hub_http::{IoFault, Output, Refusal, Reply, send, write_all, write_vec};
+use hub_http::{IoFault, Output, Refusal, Reply, StatusCode, send, write_all, write_vec};
 use itoa::Buffer;
-
-fn phrase(status: StatusCode) -> &'static str
-    ensures { result.now ≡ phrase_or_empty (reason_phrase status) }
-{
-    match status.canonical_reason() {
-        Some(phrase) => phrase,
-        None => "",
-    }
-}
 
 fn close_line(close: bool) -> &'static str
     ensures { result.now ≡ close_line close }
@@ -64,7 +53,7 @@ fn write_head<W: Output>(
             b"HTTP/1.1 ",
             number.format(status.as_u16()).as_bytes(),
             b" ",
-            phrase(status).as_bytes(),
+            status.reason_phrase().as_bytes(),
             b"\r\n",
             b"Content-Type: application/json\r\n",
             b"Content-Length: ",

@@ -2,9 +2,8 @@
 
 use crate::cut::CutWriter;
 use crate::made_again::{Told, grown};
-use http::StatusCode;
 use hub_document::{ChangeRow, Changes, Doc, RevId, Revisions};
-use hub_http::{Output, Refusal, Reply, Request, Requests, Tally};
+use hub_http::{Output, Refusal, Reply, Request, Requests, StatusCode, Tally};
 use hub_model::{Item, Mode};
 use hub_session::{Answer, Closing, Service, StreamItem, serve};
 use std::alloc::{AllocError, Global};

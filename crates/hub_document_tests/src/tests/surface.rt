@@ -3,7 +3,7 @@
 use super::tables::{again, grown, is_shown};
 use hub_document::{
     Changes, DigestRev, Doc, DocFault, LentChanges, Path, RevId, Revisions, is_plain, place_in,
-    put_quoted, put_sequence, read_value,
+    put_quoted, put_sequence, read_doc, read_value,
 };
 use std::alloc::{AllocError, Global};
 use std::test::Fail;
@@ -13,7 +13,7 @@ const VALUE: &str = r#"{"v":7,"_rev":"2-c","_id":"a","_revisions":{"start":2,"id
 // The document that the value of a text is.
 fn of_value(alloc: Global, text: &str, new_edits: bool) -> Result<Doc, DocFault> {
     let value = read_value(alloc, text.as_bytes())?;
-    Doc::of_value(alloc, &value, new_edits)
+    read_doc(alloc, &value, new_edits)
 }
 
 #[test]
