@@ -17,9 +17,8 @@ import sys
 import time
 
 PARTS = ("src", "specs", "proofs")
-# The most processors that one proof gains from, and those of a proof that another one goes before: each copy of the
-# prover reads for itself.
-MOST_JOBS, FEW_JOBS = 4, 2
+# The most processors that one proof gains from.
+MOST_JOBS = 4
 # How much nicer a proof is for each crate with a longer chain above it.
 STEP = 10
 TARGET = "x86_64-unknown-linux-gnu"
@@ -303,7 +302,7 @@ class Build:
         """Starts what processors and memory allow, each crate with as many jobs as it gains from. Where processors are
         short, the system serves the crate with the longest chain above it first."""
         for name in self.ready():
-            jobs = min(FEW_JOBS if self.rank(name) else MOST_JOBS, processors())
+            jobs = min(MOST_JOBS, processors())
             while jobs > 1 and memory_of(self.crates, name, jobs) > self.room():
                 jobs -= 1
             is_short = memory_of(self.crates, name, jobs) > self.room() or len(self.running) == processors()
