@@ -213,10 +213,11 @@ pub fn read_value(alloc: Global, bytes: &[u8]) -> Result<Value, DocFault>
     }
 }
 
-/// The document that a JSON value is, or the first fault in it. With `new_edits` the edit is made here: `_rev`
-/// names the leaf that it edits, if one, and `_revisions` is not looked at. Without it `_rev` and `_revisions`
-/// are the edit's own. It costs the value's size. A fault is found without memory. It is no method of `Doc`: each
-/// crate that names a type is proved over the contracts of all its methods, and so over those of `Value`.
+/// The document that a JSON value is, or the first fault in it. With `new_edits` the edit is made here:
+/// `_rev` names the leaf that it edits, if one, and `_revisions` is not looked at. Without it `_rev` and
+/// `_revisions` are the edit's own. It costs the value's size. A fault is found without memory. It is no
+/// method of `Doc`: each crate that names a type is proved over the contracts of all its methods, and so over
+/// those of `Value`.
 pub fn read_doc(alloc: Global, value: &Value, new_edits: bool) -> Result<Doc, DocFault>
     ensures ok { IfOk result (λ d. doc_of new_edits (view value.now) ≡ Ok d) }
     ensures err { IfErr result (λ e. (e ≡ DocFault.NoMemory)

@@ -5,8 +5,8 @@ ghost use Rattle.hub_http.specs.Statuses.{reason_phrase};
 
 use std::marker::Model;
 
-/// The status of an answer (RFC 9110, section 15), one of those that the hub answers. A contract sees it as its
-/// number.
+/// The status of an answer (RFC 9110, section 15), one of those that the hub answers. A contract sees it as
+/// its number.
 #[derive(Clone, Copy, Debug, PartialEq, Eq)]
 pub struct StatusCode(u16);
 

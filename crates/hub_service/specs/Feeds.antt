@@ -119,9 +119,9 @@ abbrev pub IsRightUpdates : FeedState UpdateRow → Type 0
 IsRightUpdates feed =
     IsAllowedBeginning (λ l items. updates.IsRightFor (params_in l.asked) l.since items) (receiver_of feed)
 
--- What is sent goes on with this item, and is then the other; or it has none, and stays. An answer that was made
--- at once hands its rows in turn and then its end; what a feed hands was taken from it, behind what was taken
--- before.
+-- What is sent goes on with this item, and is then the other; or it has none, and stays. An answer that was
+-- made at once hands its rows in turn and then its end. What a feed hands was taken from it, behind the items
+-- that were taken before.
 abbrev pub GoesOn : Sent → Option StreamItem → Sent → Type 0
 GoesOn sent None left = left ≡ sent
 GoesOn (Listed answer) (Some (Change item)) left =
@@ -134,7 +134,7 @@ GoesOn (Updates feed) (Some (Change item)) left = ⊥
 GoesOn (Updates feed) (Some (Update item)) left =
     (left ≡ Updates (behind_item feed item)) × IsRightUpdates (behind_item feed item)
 
--- What is sent goes on with this item; behind an end nothing is sent any more. Or it stops, and is what it was.
+-- What is sent goes on with this item; behind an end nothing is sent any more. Or it stops, and is as it was.
 abbrev pub Gives : Option Sent → Option StreamItem → Option Sent → Type 0
 Gives maybe_sent None t = t ≡ maybe_sent
 Gives None (Some item) t = ⊥

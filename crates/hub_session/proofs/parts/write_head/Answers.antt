@@ -9,6 +9,7 @@ returns-clause-sent g c =
     subst (Sends _ _ _)
     (head_parts c.args.status c.args.len c.args.close _ _ _ _
     (c.as_bytes.ensures.value ∙ c.format.ensures.text ∙ ap decimal c.as_u16.ensures)
-    (c.as_bytes-2.ensures.value ∙ c.reason_phrase.ensures) (c.as_bytes-3.ensures.value ∙ c.format-2.ensures.text)
+    (c.as_bytes-2.ensures.value ∙ c.reason_phrase.ensures)
+    (c.as_bytes-3.ensures.value ∙ c.format-2.ensures.text)
     (c.as_bytes-4.ensures.value ∙ c.close_line.ensures))
     c.write_parts.ensures.sent
