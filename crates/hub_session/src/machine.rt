@@ -11,7 +11,6 @@ ghost use Rattle.hub_session.specs.Runs.{with_gone, with_offered};
 use crate::answering::{Begun, after_stream, answer_fault, begin_answer};
 use crate::closing::{Closing, StreamEnd};
 use crate::feed::{Sending, begin_items, send_given};
-use crate::item::StreamItem;
 use crate::service::{Polled, Service};
 use hub_http::{ChunkWriter, Handed, HttpFault, Inbox, Next, Outbox, Request};
 use std::alloc::{AllocError, Global};
@@ -136,15 +135,25 @@ impl<S: Service> Session<S> {
         }
     }
 
-    /// Sends what the service gave of its stream.
-    fn put_item(&mut self, sending: Sending, close: bool, given: Option<StreamItem>) -> Step
-        requires place { (seen self.old).place ≡ Place.Within sending close }
-        requires rows { sending.rows + 1 < 2 ^ 64 }
+    /// Sends the next item of a stream, where there is one.
+    fn send_item(&mut self, sending: Sending, close: bool) -> Step
+        requires { (seen self.old).place ≡ Place.Within sending close }
+        ensures told { IsStepped S.rules (seen self.old) result (seen self.new) }
         ensures broken { result ≡ Step.Ended Closing.Broken
             → Rose (faults_in self.old.outbox) (faults_in self.new.outbox) }
-        ensures told { (from : S) → S.rules.gives from given (seen self.old).service
-            → IsStepped S.rules (record (seen self.old) { service = from }) result (seen self.new) }
     {
+        if self.outbox.holds(FULL) {
+            return Step::WantsRoom;
+        }
+        if sending.rows == u64::MAX {
+            self.service.drop_stream();
+            return self.go_behind(after_stream(close, StreamEnd::Exhausted));
+        }
+        let polled = self.service.poll_item();
+        let Polled::Given(given) = &polled else {
+            self.chunks = ChunkWriter::new(self.alloc);
+            return Step::WantsNews;
+        };
         match send_given(
             &mut self.chunks,
             &mut self.outbox,
@@ -160,43 +169,6 @@ impl<S: Service> Session<S> {
         }
     }
 
-    /// Sends the next item of a stream, where there is one.
-    fn send_item(&mut self, sending: Sending, close: bool) -> Step
-        requires { (seen self.old).place ≡ Place.Within sending close }
-        ensures told { IsStepped S.rules (seen self.old) result (seen self.new) }
-        ensures broken { result ≡ Step.Ended Closing.Broken
-            → Rose (faults_in self.old.outbox) (faults_in self.new.outbox) }
-    {
-        if self.outbox.holds(FULL) {
-            return Step::WantsRoom;
-        }
-        if sending.rows == u64::MAX {
-            self.service.drop_stream();
-            return self.go_behind(after_stream(close, StreamEnd::Exhausted));
-        }
-        match self.service.poll_item() {
-            Polled::Given(given) => self.put_item(sending, close, given),
-            Polled::Waits => {
-                self.chunks = ChunkWriter::new(self.alloc);
-                Step::WantsNews
-            }
-        }
-    }
-
-    /// Goes on where the session is.
-    fn go_on(&mut self) -> Step
-        ensures told { IsStepped S.rules (seen self.old) result (seen self.new) }
-        ensures broken { result ≡ Step.Ended Closing.Broken
-            → ((seen self.old).place ≡ Place.Closed Closing.Broken)
-            ⊎ Rose (faults_in self.old.outbox) (faults_in self.new.outbox) }
-    {
-        match self.place {
-            Place::Between => self.take_request(),
-            Place::Within(sending, close) => self.send_item(sending, close),
-            Place::Closed(closing) => Step::Ended(closing),
-        }
-    }
-
     /// Goes on by one exchange, by the head of a stream, or by one item of it. A request is answered only
     /// where nothing is to go: then its answer needs no memory of the outbox but for the items of a stream.
     /// Where the outbox finds none all the same, the session closes as `Broken`, with a front of what was
@@ -209,7 +181,11 @@ impl<S: Service> Session<S> {
             → ((seen self.old).place ≡ Place.Closed Closing.Broken)
             ⊎ Rose (faults_in self.old.outbox) (faults_in self.new.outbox) }
     {
-        self.go_on()
+        match self.place {
+            Place::Between => self.take_request(),
+            Place::Within(sending, close) => self.send_item(sending, close),
+            Place::Closed(closing) => Step::Ended(closing),
+        }
     }
 
     /// Whether no more bytes come.
@@ -267,25 +243,6 @@ impl<S: Service> Session<S> {
             → HasRun S.rules run (seen self.new) }
     {
         self.inbox.end();
-    }
-
-    /// A front of what is to go, which is empty only where nothing is.
-    pub fn front(&self) -> &[u8]
-        ensures front { (behind : List ℕ) × ((seen self.now).pending ≡ result.now ++ behind) }
-        ensures some { 0 < length (seen self.now).pending → 0 < length result.now }
-    {
-        self.outbox.front()
-    }
-
-    /// So many bytes went, from the front of what was to go.
-    pub fn sent(&mut self, count: usize)
-        requires { count ≤ length (seen self.old).pending }
-        ensures shown { seen self.new
-            ≡ record (seen self.old) { pending = drop count (seen self.old).pending } }
-        ensures run { (run : Run S) → HasRun S.rules run (seen self.old)
-            → HasRun S.rules (with_gone run (take count (seen self.old).pending)) (seen self.new) }
-    {
-        self.outbox.sent(count);
     }
 
     /// Hands a front of what is to go to a writer, by one write, and keeps what it did not take.

@@ -1,6 +1,6 @@
 use Rattle.std.proofs.Common.{◌∙◌, refl, sym}
 use Rattle.hub_session.specs.declared.closing.StreamEnd.TheVariants.{Exhausted}
-use Rattle.hub_session.specs.Runs.{moment_of, seen}
+use Rattle.hub_session.specs.Runs.{Steps, moment_of, seen}
 use Rattle.hub_session.proofs.AnswerLemmas.{broken_stream}
 use Rattle.hub_session.proofs.StepLemmas.{step_broken, stepped_ends, streamed_out}
 use Rattle.hub_session.proofs.machine.Session.send_item.Goals as goal
