@@ -4,7 +4,8 @@ ghost use Rattle.std.specs.Prelude.{false, true, length, take, drop, IsSome, OnO
 ghost use Rattle.hub_http.specs.Boxes.{Hands, faults_in, handed_of, pending_in};
 ghost use Rattle.hub_http.specs.Counts.{Rose};
 ghost use Rattle.hub_http.specs.Stream.{asked_by};
-ghost use Rattle.hub_session.specs.Runs.{HasAnswered, HasRun, IsGivenUp, IsStepped, Run, Seen, TellsNoMemory};
+ghost use Rattle.hub_session.specs.Runs.{BreaksByFault, HasAnswered, HasRun, IsGivenUp, IsStepped};
+ghost use Rattle.hub_session.specs.Runs.{RunsOn, Seen, TellsNoMemory};
 ghost use Rattle.hub_session.specs.Runs.{closing_at, new_run, place_behind, seen, step_behind};
 ghost use Rattle.hub_session.specs.Runs.{with_gone, with_offered};
 
@@ -96,8 +97,7 @@ impl<S: Service> Session<S> {
     /// Answers a request, up to the items of a stream.
     fn answer(&mut self, request: &Request) -> Step
         ensures told { HasAnswered S.rules (asked_by request.now) (seen self.old) result (seen self.new) }
-        ensures broken { result ≡ Step.Ended Closing.Broken
-            → Rose (faults_in self.old.outbox) (faults_in self.new.outbox) }
+        ensures broken { BreaksByFault result self.old.outbox self.new.outbox }
     {
         match begin_answer(self.alloc, &mut self.outbox, &mut self.service, request) {
             Begun::Answered(next) => self.go_behind(next),
@@ -117,8 +117,7 @@ impl<S: Service> Session<S> {
     fn take_request(&mut self) -> Step
         requires { (seen self.old).place ≡ Place.Between }
         ensures told { IsStepped S.rules (seen self.old) result (seen self.new) }
-        ensures broken { result ≡ Step.Ended Closing.Broken
-            → Rose (faults_in self.old.outbox) (faults_in self.new.outbox) }
+        ensures broken { BreaksByFault result self.old.outbox self.new.outbox }
     {
         if !self.outbox.is_empty() {
             return Step::WantsRoom;
@@ -139,8 +138,7 @@ impl<S: Service> Session<S> {
     fn send_item(&mut self, sending: Sending, close: bool) -> Step
         requires { (seen self.old).place ≡ Place.Within sending close }
         ensures told { IsStepped S.rules (seen self.old) result (seen self.new) }
-        ensures broken { result ≡ Step.Ended Closing.Broken
-            → Rose (faults_in self.old.outbox) (faults_in self.new.outbox) }
+        ensures broken { BreaksByFault result self.old.outbox self.new.outbox }
     {
         if self.outbox.holds(FULL) {
             return Step::WantsRoom;
@@ -175,8 +173,7 @@ impl<S: Service> Session<S> {
     /// written last.
     pub fn step(&mut self) -> Step
         ensures told { IsStepped S.rules (seen self.old) result (seen self.new) }
-        ensures run { (run : Run S) → HasRun S.rules run (seen self.old)
-            → HasRun S.rules run (seen self.new) }
+        ensures run { RunsOn S.rules (λ run. run) (seen self.old) (seen self.new) }
         ensures broken { result ≡ Step.Ended Closing.Broken
             → ((seen self.old).place ≡ Place.Closed Closing.Broken)
             ⊎ Rose (faults_in self.old.outbox) (faults_in self.new.outbox) }
@@ -201,8 +198,8 @@ impl<S: Service> Session<S> {
         requires { (seen self.old).over ≡ false }
         ensures ok { OnOk result (seen self.new
             ≡ record (seen self.old) { bytes = (seen self.old).bytes ++ bytes.now }) }
-        ensures run { OnOk result ((run : Run S) → HasRun S.rules run (seen self.old)
-            → HasRun S.rules (with_offered run bytes.now) (seen self.new)) }
+        ensures run { OnOk result (RunsOn S.rules (λ run. with_offered run bytes.now)
+            (seen self.old) (seen self.new)) }
         ensures err { OnErr result (seen self.new ≡ seen self.old) }
     {
         self.inbox.offer(bytes)
@@ -221,8 +218,7 @@ impl<S: Service> Session<S> {
         ensures broken { (seen self.old).place ≡ Place.Between → 0 < length bytes.now
             → (seen self.new).place ≡ Place.Closed Closing.Broken
             → Rose (faults_in self.old.outbox) (faults_in self.new.outbox) }
-        ensures run { (run : Run S) → HasRun S.rules run (seen self.old)
-            → HasRun S.rules (with_offered run bytes.now) (seen self.new) }
+        ensures run { RunsOn S.rules (λ run. with_offered run bytes.now) (seen self.old) (seen self.new) }
     {
         if bytes.is_empty() {
             return self.give_up();
@@ -239,8 +235,7 @@ impl<S: Service> Session<S> {
     /// Says that no more bytes come.
     pub fn end(&mut self)
         ensures shown { seen self.new ≡ record (seen self.old) { over = true } }
-        ensures run { (run : Run S) → HasRun S.rules run (seen self.old)
-            → HasRun S.rules run (seen self.new) }
+        ensures run { RunsOn S.rules (λ run. run) (seen self.old) (seen self.new) }
     {
         self.inbox.end();
     }
@@ -251,8 +246,8 @@ impl<S: Service> Session<S> {
             (W.contents writer.old) (W.contents writer.new) }
         ensures shown { seen self.new
             ≡ record (seen self.old) { pending = (seen self.new).pending } }
-        ensures run { (run : Run S) → HasRun S.rules run (seen self.old)
-            → HasRun S.rules (with_gone run (handed_of result (seen self.old).pending)) (seen self.new) }
+        ensures run { RunsOn S.rules (λ run. with_gone run (handed_of result (seen self.old).pending))
+            (seen self.old) (seen self.new) }
     {
         self.outbox.send_to(writer)
     }
@@ -262,8 +257,7 @@ impl<S: Service> Session<S> {
     pub fn give_up(&mut self)
         ensures told { IsGivenUp S.rules (seen self.old) (seen self.new) }
         ensures closed { IsSome (closing_at (seen self.new).place) }
-        ensures run { (run : Run S) → HasRun S.rules run (seen self.old)
-            → HasRun S.rules run (seen self.new) }
+        ensures run { RunsOn S.rules (λ run. run) (seen self.old) (seen self.new) }
     {
         match self.place {
             Place::Between => self.place = Place::Closed(Closing::Broken),
