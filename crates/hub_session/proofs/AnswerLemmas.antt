@@ -1,6 +1,5 @@
 -- The answer to one request.
-use Rattle.std.proofs.Common.{◌≡◌, ℕ, List, [], Bool, true, false, Option, Some, Result, Ok, Err, OnErr}
-use Rattle.std.proofs.Common.{is_err}
+use Rattle.std.proofs.Common.{◌≡◌, ℕ, List, [], Bool, true, false, Option, Some}
 use Rattle.std.proofs.Common.{refl, sym, ap, subst, ◌∙◌, append_assoc, append-nil}
 use Rattle.std.specs.Io.KnownBytes.{Appends}
 use Rattle.hub_http.specs.Counts.{AppendsFront, Sends}
@@ -41,13 +40,6 @@ broken_stream close stream.Stopped e = cc
 broken_stream close stream.NoMemory e = cc
 broken_stream close stream.Broken e = refl
 broken_stream close stream.Exhausted e = cc
-
--- a session breaks behind an answer that did
-pub broken_whole : {T E : Type 0} (sent : Result T E) (close : Bool) (what : Type 0)
-    → after_whole (is_err sent) close ≡ Some Broken → OnErr sent what → what
-broken_whole (Err e) close what is so = so
-broken_whole (Ok x) false what is so = absurd (cc)
-broken_whole (Ok x) true what is so = absurd (cc)
 
 -- the service answered, and is at mid
 module _ {S : Type 0} (rules : Rules S) (asked : Asked) (before : Moment S) (mid : S) where

@@ -1,17 +1,15 @@
 //! Sessions that are stepped.
-ghost use Rattle.std.specs.Prelude.{◌≡◌, ◌<◌, ◌≤◌, ◌⊎◌, ◌+◌, ◌^◌, ◌++◌, ℕ, List, []};
-ghost use Rattle.std.specs.Prelude.{false, true, length, take, drop, IsSome, OnOk, OnErr};
+ghost use Rattle.std.specs.Prelude.{◌≡◌, ◌<◌, ◌⊎◌, ◌++◌, [], false, true, length, IsSome, OnOk, OnErr};
 ghost use Rattle.hub_http.specs.Boxes.{Hands, faults_in, handed_of, pending_in};
 ghost use Rattle.hub_http.specs.Counts.{Rose};
 ghost use Rattle.hub_http.specs.Stream.{asked_by};
 ghost use Rattle.hub_session.specs.Runs.{BreaksByFault, HasAnswered, HasRun, IsGivenUp, IsStepped};
-ghost use Rattle.hub_session.specs.Runs.{RunsOn, Seen, TellsNoMemory};
-ghost use Rattle.hub_session.specs.Runs.{closing_at, new_run, place_behind, seen, step_behind};
-ghost use Rattle.hub_session.specs.Runs.{with_gone, with_offered};
+ghost use Rattle.hub_session.specs.Runs.{RunsOn, TellsNoMemory, closing_at, new_run, place_behind, seen};
+ghost use Rattle.hub_session.specs.Runs.{step_behind, with_gone, with_offered};
 
 use crate::answering::{Begun, after_stream, answer_fault, begin_answer};
 use crate::closing::{Closing, StreamEnd};
-use crate::feed::{Sending, begin_items, send_given};
+use crate::feed::{Sending, send_given};
 use crate::service::{Polled, Service};
 use hub_http::{ChunkWriter, Handed, HttpFault, Inbox, Next, Outbox, Request};
 use std::alloc::{AllocError, Global};

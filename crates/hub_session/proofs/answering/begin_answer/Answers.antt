@@ -2,7 +2,7 @@ use Rattle.std.proofs.Common.{◌∙◌, sym, subst}
 use Rattle.std.specs.Prelude.{is_err}
 use Rattle.hub_http.specs.Counts.{Sends}
 use Rattle.hub_http.specs.Stream.{asked_by}
-use Rattle.hub_session.proofs.AnswerLemmas.{bare_sent, broken_whole, stream_broken, told_sent}
+use Rattle.hub_session.proofs.AnswerLemmas.{bare_sent, stream_broken, told_sent}
 use Rattle.hub_session.proofs.answering.begin_answer.Goals as goal
 
 pub returns-in-Whole-clause-told : goal.returns-in-Whole-clause-told

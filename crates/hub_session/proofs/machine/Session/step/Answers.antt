@@ -1,4 +1,3 @@
-use Rattle.std.proofs.Common.{refl, inr}
 use Rattle.hub_session.specs.Runs.{seen}
 use Rattle.hub_session.proofs.RunLemmas.{stepped_run}
 use Rattle.hub_session.proofs.machine.Session.step.Goals as goal
