@@ -17,7 +17,7 @@ use Rattle.hub_session.specs.declared.closing.Closing.{Closing}
 use Rattle.hub_session.specs.declared.closing.Closing.TheVariants.{Broken}
 use Rattle.hub_session.specs.Feeds.{IsFed, items_text, is_broken}
 use Rattle.hub_session.specs.Sessions.{Goes, HasAnswer, breaks, after_answer}
-use Rattle.hub_session.specs.Sessions.{after_stream, is_head, stream_head}
+use Rattle.hub_session.specs.Sessions.{after_stream, after_whole, is_head, stream_head}
 use Rattle.hub_session.specs.Rules.{Rules, Moment, moment}
 
 pub breaks-after_answer : (close : Bool) → breaks (after_answer close) ≡ false
@@ -69,6 +69,18 @@ module _ {S : Type 0} (rules : Rules S) (asked : Asked) (before : Moment S) (mid
     written = subst (λ b. AppendsFront before.written new (reply_text reply b asked.close)) h sent;
   }
 
+  -- a whole answer was sent, or that broke
+  pub told_sent : (broken : Bool) (reply : Reply) (head_only : Bool) (next : Option Closing)
+      (new : Option (List ℕ))
+      → rules.answers before.service asked (Whole reply) mid
+      → head_only ≡ is_head asked → next ≡ after_whole broken asked.close
+      → Sends broken before.written new (reply_text reply head_only asked.close)
+      → HasAnswer rules asked next before (moment mid new)
+  told_sent false reply head_only next new a h e sent = told_whole reply head_only next new a h e sent
+  told_sent true reply head_only next new a h e sent =
+      subst (λ n. HasAnswer rules asked n before (moment mid new)) (sym e)
+      (whole_broken reply head_only new a h sent)
+
   pub bare_broken : (mode : Mode) (life : ℕ) (after : Moment S)
       → rules.answers before.service asked (Stream mode life) mid → rules.drops mid after.service
       → AppendsFront before.written after.written (head_text 200 chunked_line asked.close)
@@ -109,6 +121,16 @@ module _ {S : Type 0} (rules : Rules S) (asked : Asked) (before : Moment S) (mid
         (subst (Appends before.written after.written)
         (sym (append-nil (head_text 200 chunked_line asked.close))) p);
   }
+
+  -- the head of a stream was sent alone, or that broke
+  pub bare_sent : (broken : Bool) (mode : Mode) (life : ℕ) (next : Option Closing) (after : Moment S)
+      → rules.answers before.service asked (Stream mode life) mid → rules.drops mid after.service
+      → is_head asked ≡ true → next ≡ after_whole broken asked.close
+      → Sends broken before.written after.written (head_text 200 chunked_line asked.close)
+      → HasAnswer rules asked next before after
+  bare_sent false mode life next after a d h e p = stream_bare mode life next after a d h e p
+  bare_sent true mode life next after a d h e p =
+      subst (λ n. HasAnswer rules asked n before after) (sym e) (bare_broken mode life after a d p)
 
   pub stream_fed : (mode : Mode) (life : ℕ) (next : Option Closing) (end : StreamEnd)
       (sent : Option (List ℕ)) (after : Moment S)

@@ -3,7 +3,9 @@ use Rattle.std.specs.Prelude.{◌≡◌, ⊤, ◌<◌, ◌≤◌, ◌⊎◌, ℕ
 use Rattle.std.specs.Prelude.{Bool, true, false, length, take, Option, Some}
 use Rattle.std.specs.Prelude.{None, Ok, Err}
 use Rattle.std.specs.List.{flat_map}
-use Rattle.hub_http.specs.Boxes.{came_to, is_over, pending_in}
+use Rattle.hub_http.specs.Boxes.{came_to, faults_in, is_over, pending_in}
+use Rattle.hub_http.specs.Counts.{Rose}
+use Rattle.hub_http.specs.declared.outbox.Outbox.{Outbox}
 use Rattle.hub_http.specs.Offers.{IsShort}
 use Rattle.hub_http.specs.Stream.{Asked, Spells}
 use Rattle.hub_http.specs.declared.fault.HttpFault.TheVariants as fault
@@ -225,6 +227,15 @@ HasDone rules start offered bytes over service text (Closed closing) =
 abbrev pub HasRun : {S : Type 0} → Rules S → Run S → Seen S → Type 0
 HasRun rules run x =
     HasDone rules run.start run.offered x.bytes x.over x.service (run.gone ++ x.pending) x.place
+
+-- A session that had a run has this next one behind a call. Where 3 bytes were offered, it is the run before
+-- with these 3 offered.
+abbrev pub RunsOn : {S : Type 0} → Rules S → (Run S → Run S) → Seen S → Seen S → Type 0
+RunsOn rules next old new = (run : Run _) → HasRun rules run old → HasRun rules (next run) new
+
+-- Where a step closed a session as Broken, its outbox found no memory meanwhile.
+abbrev pub BreaksByFault : Step → (old new : Outbox) → Type 0
+BreaksByFault step old new = step ≡ Ended Broken → Rose (faults_in old) (faults_in new)
 
 -- why a session at this place closed, if it did
 abbrev pub closing_at : Place → Option Closing

@@ -55,6 +55,11 @@ exchange_text exchange =
 abbrev pub after_answer : Bool → Option Closing
 after_answer close = if close then Some Requested else None
 
+-- Why a session closes behind an answer that was to be sent whole, if it does: where writing it broke, as
+-- Broken.
+abbrev pub after_whole : (broken : Bool) → (close : Bool) → Option Closing
+after_whole broken close = if broken then Some Broken else after_answer close
+
 -- Why a session closes behind a stream that ended so, if it does. Behind a Complete one it goes on, unless
 -- the request asked to close; behind one that Stopped it always closes, as Cut, for no last chunk was sent.
 abbrev pub after_stream : Bool → StreamEnd → Option Closing

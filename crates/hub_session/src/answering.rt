@@ -5,7 +5,7 @@ ghost use Rattle.hub_http.specs.Stream.{asked_by};
 ghost use Rattle.hub_session.specs.Replies.{fault_text};
 ghost use Rattle.hub_session.specs.Rules.{moment};
 ghost use Rattle.hub_session.specs.Sessions.{HasAnswer, HasBegun, after_answer};
-ghost use Rattle.hub_session.specs.Sessions.{after_stream, is_broken, is_head, stream_head};
+ghost use Rattle.hub_session.specs.Sessions.{after_stream, after_whole, is_broken, is_head, stream_head};
 
 use crate::closing::{Closing, StreamEnd};
 use crate::feed::{begin_items, send_items};
@@ -42,6 +42,16 @@ pub(crate) fn after_stream(close: bool, end: StreamEnd) -> Option<Closing>
         StreamEnd::Stopped | StreamEnd::NoMemory => Some(Closing::Cut),
         StreamEnd::Broken => Some(Closing::Broken),
         StreamEnd::Exhausted => Some(Closing::Exhausted),
+    }
+}
+
+/// Why a session closes behind an answer that was to be sent whole, if it does.
+fn after_whole(sent: Result<(), IoFault>, close: bool) -> Option<Closing>
+    ensures { result ≡ after_whole (is_err sent) close }
+{
+    match sent {
+        Ok(()) => after_answer(close),
+        Err(_) => Some(Closing::Broken),
     }
 }
 
@@ -89,17 +99,15 @@ pub(crate) fn begin_answer<W: Output, S: Service>(
     let head_only = is_head(request);
     let close = request.close;
     match service.answer(request) {
-        Answer::Whole(reply) => match send_reply(alloc, writer, reply, head_only, close) {
-            Ok(()) => Begun::Answered(after_answer(close)),
-            Err(_) => Begun::Answered(Some(Closing::Broken)),
-        },
+        Answer::Whole(reply) => {
+            let sent = send_reply(alloc, writer, reply, head_only, close);
+            Begun::Answered(after_whole(sent, close))
+        }
         Answer::Stream(mode, life) => {
             if head_only {
                 service.drop_stream();
-                return match send(writer, stream_head_text(close).as_bytes()) {
-                    Ok(()) => Begun::Answered(after_answer(close)),
-                    Err(_) => Begun::Answered(Some(Closing::Broken)),
-                };
+                let sent = send(writer, stream_head_text(close).as_bytes());
+                return Begun::Answered(after_whole(sent, close));
             }
             match write_head(writer, service, mode, close) {
                 Ok(()) => Begun::Streaming(mode, life),

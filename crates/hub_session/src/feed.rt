@@ -6,7 +6,7 @@ ghost use Rattle.hub_http.specs.Items.{feed_head};
 ghost use Rattle.hub_http.specs.Chunks.{Writes, text_chunks};
 ghost use Rattle.hub_session.specs.Items.{rows_after};
 ghost use Rattle.hub_session.specs.Feeds.{feed_text, items_text, sent_text, behind_item};
-ghost use Rattle.hub_session.specs.Feeds.{GivesBack, IsFed, IsStreamed, last_chunk};
+ghost use Rattle.hub_session.specs.Feeds.{GivesBack, IsFed, IsStreamed};
 ghost use Rattle.hub_session.specs.Rules.{moment};
 
 use crate::closing::StreamEnd;
@@ -27,10 +27,11 @@ fn head_chunk(mode: Mode) -> &'static str
     }
 }
 
-fn last_chunk() -> &'static str
-    ensures { result.now ≡ last_chunk }
+/// What stands behind the chunk of an item: the last chunk behind an End (RFC 9112, section 7.1).
+fn behind_item(item: &StreamItem) -> &'static str
+    ensures { result.now ≡ behind_item item.now }
 {
-    "0\r\n\r\n"
+    if item.is_end() { "0\r\n\r\n" } else { "" }
 }
 
 /// How many rows came before the next item.
@@ -42,49 +43,8 @@ fn rows_after(rows: u64, item: &StreamItem) -> u64
     if item.is_row() { rows + 1 } else { rows }
 }
 
-/// Writes bytes that stand before an item, and flushes them where that item is not ready yet.
-fn send_ahead<W: Output, S: Service>(
-    writer: &mut W,
-    service: &S,
-    bytes: &[u8],
-) -> Result<(), IoFault>
-    ensures sent { Sends (is_err result) (W.written writer.old) (W.written writer.new) bytes.now }
-    ensures monotone { W.fault_count writer.old ≤ W.fault_count writer.new }
-    ensures failures_monotone { W.failure_count writer.old ≤ W.failure_count writer.new }
-    ensures fault { OnErr result (Rose (W.fault_count writer.old) (W.fault_count writer.new)) }
-    ensures tried { OnErr result (GaveUp (W.failure_count writer.old) (W.failure_count writer.new)
-        (W.fault_count writer.old) (W.fault_count writer.new)) }
-{
-    if service.is_ready() {
-        write_all(writer, bytes)
-    } else {
-        send(writer, bytes)
-    }
-}
-
-/// Behind an End writes the last chunk and flushes; behind another item flushes where the next one
-/// is not ready.
-fn finish_item<W: Output, S: Service>(
-    writer: &mut W,
-    service: &S,
-    item: &StreamItem,
-) -> Result<(), IoFault>
-    ensures sent { Sends (is_err result) (W.written writer.old) (W.written writer.new)
-        (behind_item item.now) }
-    ensures monotone { W.fault_count writer.old ≤ W.fault_count writer.new }
-    ensures failures_monotone { W.failure_count writer.old ≤ W.failure_count writer.new }
-    ensures fault { OnErr result (Rose (W.fault_count writer.old) (W.fault_count writer.new)) }
-    ensures tried { OnErr result (GaveUp (W.failure_count writer.old) (W.failure_count writer.new)
-        (W.fault_count writer.old) (W.fault_count writer.new)) }
-{
-    if item.is_end() {
-        send(writer, last_chunk().as_bytes())
-    } else {
-        send_ahead(writer, service, b"")
-    }
-}
-
-/// Sends an item of the service's stream, and behind an End the last chunk.
+/// Sends an item of the service's stream, and behind an End the last chunk. It flushes them, unless the next
+/// item is ready.
 fn send_item<W: Output, S: Service>(
     chunks: &mut ChunkWriter,
     writer: &mut W,
@@ -104,7 +64,10 @@ fn send_item<W: Output, S: Service>(
         Ok(()) => {}
         Err(e) => return Err(e),
     }
-    match finish_item(writer, service, text.item) {
+    if !text.item.is_end() && service.is_ready() {
+        return Ok(());
+    }
+    match send(writer, behind_item(text.item).as_bytes()) {
         Ok(()) => Ok(()),
         Err(_) => Err(ChunkFault::IoFault),
     }
@@ -146,10 +109,10 @@ pub(crate) fn send_given<W: Output, S: Service>(
     writer: &mut W,
     service: &mut S,
     sending: Sending,
-    given: Option<StreamItem>,
+    given: &Option<StreamItem>,
 ) -> Result<u64, StreamEnd>
     requires { sending.rows + 1 < 2 ^ 64 }
-    ensures sent { (from : S) (count : ℕ) → S.rules.gives from given service.old
+    ensures sent { (from : S) (count : ℕ) → S.rules.gives from given.now service.old
         → IsStreamed S.rules sending.mode sending.life count sending.rows result
         (moment from (W.written writer.old)) (moment service.new (W.written writer.new)) }
     ensures bound { IfOk result (λ rows. rows ≤ sending.rows + 1) }
@@ -166,7 +129,7 @@ pub(crate) fn send_given<W: Output, S: Service>(
         return Err(StreamEnd::Stopped);
     };
     let text = ItemText {
-        item: &item,
+        item,
         mode: sending.mode,
         life: sending.life,
         rows: sending.rows,
@@ -175,18 +138,18 @@ pub(crate) fn send_given<W: Output, S: Service>(
         Ok(()) => {}
         Err(ChunkFault::NoMemory) => {
             flush_cut(writer);
-            give_back(service, &item);
+            give_back(service, item);
             return Err(StreamEnd::NoMemory);
         }
         Err(ChunkFault::IoFault) => {
-            give_back(service, &item);
+            give_back(service, item);
             return Err(StreamEnd::Broken);
         }
     }
     if item.is_end() {
         return Err(StreamEnd::Complete);
     }
-    Ok(rows_after(sending.rows, &item))
+    Ok(rows_after(sending.rows, item))
 }
 
 /// Sends the items of the stream that the service answered last.
@@ -210,7 +173,7 @@ pub(crate) fn send_items<W: Output, S: Service>(
     for _ in 0..u64::MAX {
         let given = service.item();
         let sending = Sending { mode, life, rows };
-        match send_given(&mut chunks, writer, service, sending, given) {
+        match send_given(&mut chunks, writer, service, sending, &given) {
             Ok(sent) => rows = sent,
             Err(end) => return end,
         }
@@ -219,7 +182,7 @@ pub(crate) fn send_items<W: Output, S: Service>(
     StreamEnd::Exhausted
 }
 
-/// Writes the chunk at the head of a stream.
+/// Writes the chunk at the head of a stream, and flushes it where the first item is not ready yet.
 pub(crate) fn begin_items<W: Output, S: Service>(
     writer: &mut W,
     service: &S,
@@ -233,7 +196,12 @@ pub(crate) fn begin_items<W: Output, S: Service>(
     ensures tried { OnErr result (GaveUp (W.failure_count writer.old) (W.failure_count writer.new)
         (W.fault_count writer.old) (W.fault_count writer.new)) }
 {
-    send_ahead(writer, service, head_chunk(mode).as_bytes())
+    let bytes = head_chunk(mode).as_bytes();
+    if service.is_ready() {
+        write_all(writer, bytes)
+    } else {
+        send(writer, bytes)
+    }
 }
 
 /// Sends the stream that the service answered last, of the life of this number, behind the head of

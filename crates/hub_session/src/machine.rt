@@ -1,17 +1,15 @@
 //! Sessions that are stepped.
-ghost use Rattle.std.specs.Prelude.{◌≡◌, ◌<◌, ◌≤◌, ◌⊎◌, ◌+◌, ◌^◌, ◌++◌, ℕ, List, []};
-ghost use Rattle.std.specs.Prelude.{false, true, length, take, drop, IsSome, OnOk, OnErr};
+ghost use Rattle.std.specs.Prelude.{◌≡◌, ◌<◌, ◌⊎◌, ◌++◌, [], false, true, length, IsSome, OnOk, OnErr};
 ghost use Rattle.hub_http.specs.Boxes.{Hands, faults_in, handed_of, pending_in};
 ghost use Rattle.hub_http.specs.Counts.{Rose};
 ghost use Rattle.hub_http.specs.Stream.{asked_by};
-ghost use Rattle.hub_session.specs.Runs.{HasAnswered, HasRun, IsGivenUp, IsStepped, Run, Seen, TellsNoMemory};
-ghost use Rattle.hub_session.specs.Runs.{closing_at, new_run, place_behind, seen, step_behind};
-ghost use Rattle.hub_session.specs.Runs.{with_gone, with_offered};
+ghost use Rattle.hub_session.specs.Runs.{BreaksByFault, HasAnswered, HasRun, IsGivenUp, IsStepped};
+ghost use Rattle.hub_session.specs.Runs.{RunsOn, TellsNoMemory, closing_at, new_run, place_behind, seen};
+ghost use Rattle.hub_session.specs.Runs.{step_behind, with_gone, with_offered};
 
 use crate::answering::{Begun, after_stream, answer_fault, begin_answer};
 use crate::closing::{Closing, StreamEnd};
-use crate::feed::{Sending, begin_items, send_given};
-use crate::item::StreamItem;
+use crate::feed::{Sending, send_given};
 use crate::service::{Polled, Service};
 use hub_http::{ChunkWriter, Handed, HttpFault, Inbox, Next, Outbox, Request};
 use std::alloc::{AllocError, Global};
@@ -97,8 +95,7 @@ impl<S: Service> Session<S> {
     /// Answers a request, up to the items of a stream.
     fn answer(&mut self, request: &Request) -> Step
         ensures told { HasAnswered S.rules (asked_by request.now) (seen self.old) result (seen self.new) }
-        ensures broken { result ≡ Step.Ended Closing.Broken
-            → Rose (faults_in self.old.outbox) (faults_in self.new.outbox) }
+        ensures broken { BreaksByFault result self.old.outbox self.new.outbox }
     {
         match begin_answer(self.alloc, &mut self.outbox, &mut self.service, request) {
             Begun::Answered(next) => self.go_behind(next),
@@ -118,8 +115,7 @@ impl<S: Service> Session<S> {
     fn take_request(&mut self) -> Step
         requires { (seen self.old).place ≡ Place.Between }
         ensures told { IsStepped S.rules (seen self.old) result (seen self.new) }
-        ensures broken { result ≡ Step.Ended Closing.Broken
-            → Rose (faults_in self.old.outbox) (faults_in self.new.outbox) }
+        ensures broken { BreaksByFault result self.old.outbox self.new.outbox }
     {
         if !self.outbox.is_empty() {
             return Step::WantsRoom;
@@ -136,15 +132,24 @@ impl<S: Service> Session<S> {
         }
     }
 
-    /// Sends what the service gave of its stream.
-    fn put_item(&mut self, sending: Sending, close: bool, given: Option<StreamItem>) -> Step
-        requires place { (seen self.old).place ≡ Place.Within sending close }
-        requires rows { sending.rows + 1 < 2 ^ 64 }
-        ensures broken { result ≡ Step.Ended Closing.Broken
-            → Rose (faults_in self.old.outbox) (faults_in self.new.outbox) }
-        ensures told { (from : S) → S.rules.gives from given (seen self.old).service
-            → IsStepped S.rules (record (seen self.old) { service = from }) result (seen self.new) }
+    /// Sends the next item of a stream, where there is one.
+    fn send_item(&mut self, sending: Sending, close: bool) -> Step
+        requires { (seen self.old).place ≡ Place.Within sending close }
+        ensures told { IsStepped S.rules (seen self.old) result (seen self.new) }
+        ensures broken { BreaksByFault result self.old.outbox self.new.outbox }
     {
+        if self.outbox.holds(FULL) {
+            return Step::WantsRoom;
+        }
+        if sending.rows == u64::MAX {
+            self.service.drop_stream();
+            return self.go_behind(after_stream(close, StreamEnd::Exhausted));
+        }
+        let polled = self.service.poll_item();
+        let Polled::Given(given) = &polled else {
+            self.chunks = ChunkWriter::new(self.alloc);
+            return Step::WantsNews;
+        };
         match send_given(
             &mut self.chunks,
             &mut self.outbox,
@@ -160,32 +165,13 @@ impl<S: Service> Session<S> {
         }
     }
 
-    /// Sends the next item of a stream, where there is one.
-    fn send_item(&mut self, sending: Sending, close: bool) -> Step
-        requires { (seen self.old).place ≡ Place.Within sending close }
+    /// Goes on by one exchange, by the head of a stream, or by one item of it. A request is answered only
+    /// where nothing is to go: then its answer needs no memory of the outbox but for the items of a stream.
+    /// Where the outbox finds none all the same, the session closes as `Broken`, with a front of what was
+    /// written last.
+    pub fn step(&mut self) -> Step
         ensures told { IsStepped S.rules (seen self.old) result (seen self.new) }
-        ensures broken { result ≡ Step.Ended Closing.Broken
-            → Rose (faults_in self.old.outbox) (faults_in self.new.outbox) }
-    {
-        if self.outbox.holds(FULL) {
-            return Step::WantsRoom;
-        }
-        if sending.rows == u64::MAX {
-            self.service.drop_stream();
-            return self.go_behind(after_stream(close, StreamEnd::Exhausted));
-        }
-        match self.service.poll_item() {
-            Polled::Given(given) => self.put_item(sending, close, given),
-            Polled::Waits => {
-                self.chunks = ChunkWriter::new(self.alloc);
-                Step::WantsNews
-            }
-        }
-    }
-
-    /// Goes on where the session is.
-    fn go_on(&mut self) -> Step
-        ensures told { IsStepped S.rules (seen self.old) result (seen self.new) }
+        ensures run { RunsOn S.rules (λ run. run) (seen self.old) (seen self.new) }
         ensures broken { result ≡ Step.Ended Closing.Broken
             → ((seen self.old).place ≡ Place.Closed Closing.Broken)
             ⊎ Rose (faults_in self.old.outbox) (faults_in self.new.outbox) }
@@ -195,21 +181,6 @@ impl<S: Service> Session<S> {
             Place::Within(sending, close) => self.send_item(sending, close),
             Place::Closed(closing) => Step::Ended(closing),
         }
-    }
-
-    /// Goes on by one exchange, by the head of a stream, or by one item of it. A request is answered only
-    /// where nothing is to go: then its answer needs no memory of the outbox but for the items of a stream.
-    /// Where the outbox finds none all the same, the session closes as `Broken`, with a front of what was
-    /// written last.
-    pub fn step(&mut self) -> Step
-        ensures told { IsStepped S.rules (seen self.old) result (seen self.new) }
-        ensures run { (run : Run S) → HasRun S.rules run (seen self.old)
-            → HasRun S.rules run (seen self.new) }
-        ensures broken { result ≡ Step.Ended Closing.Broken
-            → ((seen self.old).place ≡ Place.Closed Closing.Broken)
-            ⊎ Rose (faults_in self.old.outbox) (faults_in self.new.outbox) }
-    {
-        self.go_on()
     }
 
     /// Whether no more bytes come.
@@ -225,8 +196,8 @@ impl<S: Service> Session<S> {
         requires { (seen self.old).over ≡ false }
         ensures ok { OnOk result (seen self.new
             ≡ record (seen self.old) { bytes = (seen self.old).bytes ++ bytes.now }) }
-        ensures run { OnOk result ((run : Run S) → HasRun S.rules run (seen self.old)
-            → HasRun S.rules (with_offered run bytes.now) (seen self.new)) }
+        ensures run { OnOk result (RunsOn S.rules (λ run. with_offered run bytes.now)
+            (seen self.old) (seen self.new)) }
         ensures err { OnErr result (seen self.new ≡ seen self.old) }
     {
         self.inbox.offer(bytes)
@@ -245,8 +216,7 @@ impl<S: Service> Session<S> {
         ensures broken { (seen self.old).place ≡ Place.Between → 0 < length bytes.now
             → (seen self.new).place ≡ Place.Closed Closing.Broken
             → Rose (faults_in self.old.outbox) (faults_in self.new.outbox) }
-        ensures run { (run : Run S) → HasRun S.rules run (seen self.old)
-            → HasRun S.rules (with_offered run bytes.now) (seen self.new) }
+        ensures run { RunsOn S.rules (λ run. with_offered run bytes.now) (seen self.old) (seen self.new) }
     {
         if bytes.is_empty() {
             return self.give_up();
@@ -263,29 +233,9 @@ impl<S: Service> Session<S> {
     /// Says that no more bytes come.
     pub fn end(&mut self)
         ensures shown { seen self.new ≡ record (seen self.old) { over = true } }
-        ensures run { (run : Run S) → HasRun S.rules run (seen self.old)
-            → HasRun S.rules run (seen self.new) }
+        ensures run { RunsOn S.rules (λ run. run) (seen self.old) (seen self.new) }
     {
         self.inbox.end();
-    }
-
-    /// A front of what is to go, which is empty only where nothing is.
-    pub fn front(&self) -> &[u8]
-        ensures front { (behind : List ℕ) × ((seen self.now).pending ≡ result.now ++ behind) }
-        ensures some { 0 < length (seen self.now).pending → 0 < length result.now }
-    {
-        self.outbox.front()
-    }
-
-    /// So many bytes went, from the front of what was to go.
-    pub fn sent(&mut self, count: usize)
-        requires { count ≤ length (seen self.old).pending }
-        ensures shown { seen self.new
-            ≡ record (seen self.old) { pending = drop count (seen self.old).pending } }
-        ensures run { (run : Run S) → HasRun S.rules run (seen self.old)
-            → HasRun S.rules (with_gone run (take count (seen self.old).pending)) (seen self.new) }
-    {
-        self.outbox.sent(count);
     }
 
     /// Hands a front of what is to go to a writer, by one write, and keeps what it did not take.
@@ -294,8 +244,8 @@ impl<S: Service> Session<S> {
             (W.contents writer.old) (W.contents writer.new) }
         ensures shown { seen self.new
             ≡ record (seen self.old) { pending = (seen self.new).pending } }
-        ensures run { (run : Run S) → HasRun S.rules run (seen self.old)
-            → HasRun S.rules (with_gone run (handed_of result (seen self.old).pending)) (seen self.new) }
+        ensures run { RunsOn S.rules (λ run. with_gone run (handed_of result (seen self.old).pending))
+            (seen self.old) (seen self.new) }
     {
         self.outbox.send_to(writer)
     }
@@ -305,8 +255,7 @@ impl<S: Service> Session<S> {
     pub fn give_up(&mut self)
         ensures told { IsGivenUp S.rules (seen self.old) (seen self.new) }
         ensures closed { IsSome (closing_at (seen self.new).place) }
-        ensures run { (run : Run S) → HasRun S.rules run (seen self.old)
-            → HasRun S.rules run (seen self.new) }
+        ensures run { RunsOn S.rules (λ run. run) (seen self.old) (seen self.new) }
     {
         match self.place {
             Place::Between => self.place = Place::Closed(Closing::Broken),

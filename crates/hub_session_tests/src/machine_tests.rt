@@ -95,10 +95,9 @@ fn serve_want<S: Service>(
 /// Sends all that a session has to send.
 fn drain<S: Service>(session: &mut Session<S>, writer: &mut CutWriter) {
     for _ in 0..STEPS {
-        if session.front().is_empty() {
+        if session.send_to(writer) == Handed::Took(0) {
             return;
         }
-        session.send_to(writer);
     }
 }
 

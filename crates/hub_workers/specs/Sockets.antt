@@ -1,5 +1,7 @@
 -- What a socket's faults and its end ask of a server (RFC 9112, section 9.6; POSIX, accept).
-use Rattle.std.specs.Prelude.{◌≡◌, ◌⊎◌}
+use Rattle.std.specs.Prelude.{◌≡◌, ◌⊎◌, IfErr, Result}
+use Rattle.std.specs.IoError.{error_kind}
+use Rattle.std.specs.declared.io.Error.{Error}
 use Rattle.std.specs.declared.io.ErrorKind.{ErrorKind}
 use Rattle.std.specs.declared.io.ErrorKind.TheVariants.{Interrupted, ConnectionAborted}
 use Rattle.hub_http.specs.declared.fault.HttpFault.{HttpFault}
@@ -19,3 +21,8 @@ IsEndedHere closing =
 -- (EMFILE) it may not.
 abbrev pub IsPassing : ErrorKind → Type 0
 IsPassing kind = (kind ≡ Interrupted) ⊎ (kind ≡ ConnectionAborted)
+
+-- Where no connection was accepted, none may be in spite of the error. So a call that was interrupted is made
+-- again, and too many open files are an answer.
+abbrev pub HasNoPassingFault : {T : Type 0} → Result T Error → Type 0
+HasNoPassingFault result = IfErr result (λ e. ¬ IsPassing (error_kind e))

@@ -1,8 +1,8 @@
 //! How connections are accepted.
 
-ghost use Rattle.std.specs.Prelude.{◌↔◌, IfErr, IsTrue};
+ghost use Rattle.std.specs.Prelude.{◌↔◌, IsTrue};
 ghost use Rattle.std.specs.IoError.{error_kind};
-ghost use Rattle.hub_workers.specs.Sockets.{IsPassing};
+ghost use Rattle.hub_workers.specs.Sockets.{HasNoPassingFault, IsPassing};
 
 use crate::alive::Alive;
 use crate::conn::Conn;
@@ -28,7 +28,7 @@ fn is_passing(error: &io::Error) -> bool
 
 /// The next connection. An error is one in spite of which none may be accepted.
 fn accept(listener: &TcpListener) -> io::Result<TcpStream>
-    ensures { IfErr result (λ e. ¬ IsPassing (error_kind e)) }
+    ensures { HasNoPassingFault result }
 {
     for stream in listener.incoming() {
         match stream {
@@ -43,7 +43,7 @@ fn accept(listener: &TcpListener) -> io::Result<TcpStream>
 /// descriptor left, it sleeps until one of them has ended, and tries again. An error is told where none is
 /// open.
 fn accept_next<R: Wait>(rt: &R, alive: &Alive, listener: &TcpListener) -> io::Result<TcpStream>
-    ensures { IfErr result (λ e. ¬ IsPassing (error_kind e)) }
+    ensures { HasNoPassingFault result }
 {
     for _ in rt.forever() {
         let ended = alive.ended(rt);

@@ -23,7 +23,7 @@ const EVENTS: usize = 256;
 pub(crate) struct EventLoop<S: Service> {
     poll: Poll,
     events: Events,
-    table: Table<S>,
+    pub(crate) table: Table<S>,
     watches: Watches,
 }
 
@@ -108,11 +108,6 @@ impl<S: Service + Watchable + Drop> EventLoop<S> {
             Given::New(conn) => self.take_new(conn, now),
             Given::Back(turn) => self.put_back(turn, now),
         }
-    }
-
-    /// Takes out the connection whose turn is next. The turn has no number yet.
-    pub(crate) fn take_ready(&mut self) -> Option<Turn<S>> {
-        self.table.take_ready()
     }
 
     // Asks the poll, which waits at most so long for something to tell. It fails by a wrong descriptor or a

@@ -88,7 +88,7 @@ impl<S: Service + Watchable + Drop> Seat<S> {
         let mut guard = self.events.lock(rt);
         let events = &mut *guard;
         for _ in rt.forever() {
-            if let Some(mut turn) = events.take_ready() {
+            if let Some(mut turn) = events.table.take_ready() {
                 turn.number = self.turns.fetch_add(1, Ordering::SeqCst).wrapping_add(1);
                 return Some(turn);
             }

@@ -1,6 +1,6 @@
 use Rattle.std.proofs.Common.{◌∙◌, refl, sym}
 use Rattle.hub_session.specs.declared.closing.StreamEnd.TheVariants.{Exhausted}
-use Rattle.hub_session.specs.Runs.{moment_of, seen}
+use Rattle.hub_session.specs.Runs.{Steps, moment_of, seen}
 use Rattle.hub_session.proofs.AnswerLemmas.{broken_stream}
 use Rattle.hub_session.proofs.StepLemmas.{step_broken, stepped_ends, streamed_out}
 use Rattle.hub_session.proofs.machine.Session.send_item.Goals as goal
@@ -22,3 +22,31 @@ returns-then-sending-eq18446744073709551615-clause-broken g c = λ broken.
     let next = step_broken c.after_stream.result (sym c.go_behind.ensures.step ∙ broken) in
     let end = broken_stream c.args.close Exhausted (sym c.after_stream.ensures ∙ next) in
     absurd (cc)
+
+pub returns-in-Ok-clause-told : goal.returns-in-Ok-clause-told
+returns-in-Ok-clause-told g c =
+    let given = rw c.in-Given.is at c.poll_item-polled.ensures in
+    Steps.sends c.args.sending c.in-Ok.rows c.args.close c.requires refl refl refl refl
+    (c.in-Ok.ensures.sent c.args.self.now.service 0 given)
+
+pub returns-clause-told : goal.returns-clause-told
+returns-clause-told g c =
+    let given = rw c.in-Given.is at c.poll_item-polled.ensures in
+    let before = c.args.self.now in
+    let mid =
+    seen (record before {
+      outbox = c.send_given.new.writer;
+      chunks = c.send_given.new.chunks;
+      service = c.send_given.new.service;
+    }) in
+    stepped_ends g.S.Service.rules c.args.sending c.args.close c.in-Err.end c.after_stream-in-Err.result
+    (seen before) mid (seen c.go_behind-in-Err.new.self) c.go_behind-in-Err.result c.requires
+    c.after_stream-in-Err.ensures refl refl
+    (λ sent low. c.in-Err.ensures.sent before.service sent given) c.go_behind-in-Err.ensures.shown
+    c.go_behind-in-Err.ensures.step
+
+pub returns-clause-broken : goal.returns-clause-broken
+returns-clause-broken g c = λ broken.
+    let next = step_broken c.after_stream-in-Err.result (sym c.go_behind-in-Err.ensures.step ∙ broken) in
+    let end = broken_stream c.args.close c.in-Err.end (sym c.after_stream-in-Err.ensures ∙ next) in
+    rw c.go_behind-in-Err.ensures.outbox (c.send_given.ensures.fault (cc))

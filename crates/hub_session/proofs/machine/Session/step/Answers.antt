@@ -2,7 +2,12 @@ use Rattle.hub_session.specs.Runs.{seen}
 use Rattle.hub_session.proofs.RunLemmas.{stepped_run}
 use Rattle.hub_session.proofs.machine.Session.step.Goals as goal
 
-pub returns-clause-run : goal.returns-clause-run
-returns-clause-run g c = λ run d.
+pub returns-in-Between-clause-run : goal.returns-in-Between-clause-run
+returns-in-Between-clause-run g c = λ run d.
     stepped_run g.S.Service.rules run (seen c.args.self.now)
-    (seen c.go_on.new.self) c.go_on.result c.go_on.ensures.told d
+    (seen c.take_request.new.self) c.take_request.result c.take_request.ensures.told d
+
+pub returns-in-Within-clause-run : goal.returns-in-Within-clause-run
+returns-in-Within-clause-run g c = λ run d.
+    stepped_run g.S.Service.rules run (seen c.args.self.now)
+    (seen c.send_item.new.self) c.send_item.result c.send_item.ensures.told d
