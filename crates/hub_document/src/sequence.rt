@@ -1,10 +1,25 @@
 //! The texts of sequences.
 
-ghost use Rattle.std.specs.Prelude.{◌≡◌, ◌++◌, length, take, OnOk};
+ghost use Rattle.std.specs.Prelude.{◌≡◌, ◌∷◌, [], ◌++◌, length, take, decimal, OnOk};
 ghost use Rattle.hub_document.specs.SequenceText.{sequence_text};
 
 use itoa::Buffer;
 use std::alloc::AllocError;
+
+// What stands behind the number: a dash, the number of the life and the quote.
+fn put_life(out: &mut Vec<u8>, life: u64) -> Result<(), AllocError>
+    ensures ok { OnOk result (out.new.items ≡ out.old.items ++ 45 ∷ (decimal life ++ 34 ∷ [])) }
+    ensures front { take (length out.old.items) out.new.items ≡ out.old.items }
+{
+    if life < 10 {
+        return out.extend_from_slice([b'-', b'0' + life as u8, b'"'].as_slice());
+    }
+    let mut number = Buffer::new();
+    out.extend_from_slice(b"-")?;
+    out.extend_from_slice(number.format(life).as_bytes())?;
+    out.extend_from_slice(b"\"")?;
+    Ok(())
+}
 
 /// Writes a sequence of the life of this number as a JSON string behind what the vector holds, as
 /// `"12-3"`. After an error what was held still stands in front, and a part of the string may stand
@@ -17,8 +32,5 @@ pub fn put_sequence(out: &mut Vec<u8>, seq: u64, life: u64) -> Result<(), AllocE
     let mut number = Buffer::new();
     out.extend_from_slice(b"\"")?;
     out.extend_from_slice(number.format(seq).as_bytes())?;
-    out.extend_from_slice(b"-")?;
-    out.extend_from_slice(number.format(life).as_bytes())?;
-    out.extend_from_slice(b"\"")?;
-    Ok(())
+    put_life(out, life)
 }
