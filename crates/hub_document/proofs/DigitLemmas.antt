@@ -1,9 +1,9 @@
 -- The two digits of each byte, as a table of their texts has them.
-use Rattle.std.proofs.Common.{◌≡◌, ℕ, zero, suc, ◌+◌, ◌*◌, ◌/◌, ◌%◌, ◌<◌, Bool, true, List, slice_index, codes}
-use Rattle.std.proofs.Common.{inl, inr, refl, arith}
+use Rattle.std.proofs.Common.{◌≡◌, ℕ, zero, suc, ◌+◌, ◌*◌, ◌/◌, ◌%◌, ◌<◌, Bool, true, List, slice_index}
+use Rattle.std.proofs.Common.{inl, inr, arith}
 use Rattle.std.specs.Prelude.{◌&&◌, nat_eq}
 use Rattle.std.proofs.lemmas.Bool.{and_parts, cases_lt, eqb-true}
-use Rattle.hex.specs.Hex.{encode_with, lower_digits}
+use Rattle.hex.specs.Hex.{lower_digits}
 
 -- whether a table has the digits of the byte n at 2 * n and behind it
 abbrev has_pair : List ℕ → ℕ → Bool

@@ -1,4 +1,4 @@
-use Rattle.std.proofs.Common.{◌≡◌, ◌<◌, refl, rules, arith}
+use Rattle.std.proofs.Common.{◌<◌, refl, rules, arith}
 use Rattle.hub_document.specs.declared.revision.digest.TheConstants.{PAIRS}
 use Rattle.hub_document.proofs.DigitLemmas.{has_pairs, high_digit, low_digit}
 use Rattle.hub_document.proofs.revision.digest.digits_of.Goals as goal

@@ -1,4 +1,4 @@
-use Rattle.std.proofs.Common.{◌<◌, ◌^◌, ◌≡◌, ◌++◌, [], ◌∷◌, ap, arith, refl, sym, ◌∙◌}
+use Rattle.std.proofs.Common.{arith, refl}
 use Rattle.std.proofs.lemmas.Fmt.{decimal_digit}
 use Rattle.hub_document.proofs.DigestLemmas.{quoted_parts}
 use Rattle.hub_document.proofs.revision.digest_rev.short_text.Goals as goal
