@@ -10,10 +10,10 @@ changes_hub, so two states of the hub can be compared. Instructions repeat where
 reads has a setup, which is run alone too, and the difference is told. All programs are to answer with the
 same bytes; a case in which they do not says so.
 
-With --keep the instructions of the first program are written to FILE too, a case a line: the name, a tab, the
-number. bench/instructions.txt is such a file, of the last state that was landed. Without --keep each line has at
-its end what that file tells of the case, and the ratio to it. --few takes the cases of FEW alone, in about a
-minute.
+With --keep the instructions of the first program are written to FILE too, a case a line: the name, a tab,
+the number. bench/instructions.txt is such a file, of the last state that was landed. Without --keep each line
+has at its end what that file tells of the case, and the ratio to it. --few takes the cases of FEW alone, in
+about a minute.
 """
 
 import argparse
@@ -170,7 +170,7 @@ def write_table(file, table):
 
 
 def measure(programs, setup, asked, count, folder):
-    """The instructions of each program for one of the requests, and whether all answered with the same bytes."""
+    """The instructions of each program for one request, and whether all answered with the same bytes."""
     each, answers = [], set()
     for program in programs:
         before = 0 if setup is None else run(program, setup, folder)[0]
