@@ -2,12 +2,18 @@
 """How many instructions the hub takes for each kind of request, beside other builds of it.
 
     python3 bench/instructions.py [--only TEXT] PROGRAM [PROGRAM ..]
+    python3 bench/instructions.py --few [--keep FILE] PROGRAM
 
 runs each program over the same requests under valgrind's callgrind, and prints instructions case by case:
 those of the first program, and of each other one the ratio to the first. A program is any build of
 changes_hub, so two states of the hub can be compared. Instructions repeat where times do not. A case that
 reads has a setup, which is run alone too, and the difference is told. All programs are to answer with the
 same bytes; a case in which they do not says so.
+
+With --keep the instructions of the first program are written to FILE too, a case a line: the name, a tab,
+the number. bench/instructions.txt is such a file, of the last state that was landed. Without --keep each line
+has at its end what that file tells of the case, and the ratio to it. --few takes the cases of FEW alone, in
+about a minute.
 """
 
 import argparse
@@ -18,7 +24,21 @@ import subprocess
 import sys
 import tempfile
 
-from bench import MAKE, batches, compact, diffs, feed, gets, leaves, line, puts, request, revision
+from bench import MAKE, batches, compact, diffs, feed, gets, leaves, line, members, puts, request, revision
+
+
+KEPT = os.path.join(os.path.dirname(os.path.abspath(__file__)), "instructions.txt")
+# The cases that most clients meet.
+FEW = (
+    "a PUT of a new document, 10,000",
+    "a document in batches of 1,000",
+    "one that is made here, in batches of 1,000",
+    "a row",
+    "a row with its document",
+    "an empty feed",
+    "a feed of ten rows",
+    "a GET",
+)
 
 
 def digest(text):
@@ -27,6 +47,13 @@ def digest(text):
 
 def write(docs):
     return request("POST /d/_bulk_docs", compact({"docs": docs, "new_edits": False}))
+
+
+def made_here(count, size, together=1000):
+    """Documents whose revisions the hub makes, in batches of so many."""
+    docs = [{"_id": "doc%07d" % number, **members(number, size)} for number in range(count)]
+    texts = [compact({"docs": docs[at : at + together]}) for at in range(0, count, together)]
+    return MAKE + b"".join(request("POST /d/_bulk_docs", text) for text in texts)
 
 
 def growing(count):
@@ -81,6 +108,7 @@ def cases():
         ("a PUT of a new document, 10,000", None, puts(10000, 100), 10000),
         ("a document in batches of 100", None, batches(10000, 100, 100), 10000),
         ("a document in batches of 1,000", None, stored, 10000),
+        ("one that is made here, in batches of 1,000", None, made_here(10000, 100), 10000),
         ("one with 3 revisions", None, replicated(10000, 3), 10000),
         ("one with 20 revisions", None, replicated(10000, 20), 10000),
         ("a PUT in a line of 1,000", None, line(1000), 1000),
@@ -126,24 +154,58 @@ def run(program, data, folder):
     return int(told.group(1)), hashlib.md5(done.stdout).hexdigest()
 
 
+def kept_table(file):
+    """The instructions that a file of --keep tells, by case; none where there is no such file."""
+    try:
+        with open(file, encoding="utf-8") as source:
+            lines = [line.rstrip("\n").split("\t") for line in source]
+    except FileNotFoundError:
+        return {}
+    return {name: float(told) for name, told in lines}
+
+
+def write_table(file, table):
+    with open(file, "w", encoding="utf-8") as out:
+        out.writelines("%s\t%.0f\n" % it for it in table.items())
+
+
+def measure(programs, setup, asked, count, folder):
+    """The instructions of each program for one request, and whether all answered with the same bytes."""
+    each, answers = [], set()
+    for program in programs:
+        before = 0 if setup is None else run(program, setup, folder)[0]
+        whole, told = run(program, (setup or b"") + asked, folder)
+        each.append((whole - before) / count)
+        answers.add(told)
+    return each, len(answers) == 1
+
+
+def told_line(name, each, is_same, kept):
+    """The line that tells of a case; `kept` is what the file tells of it, or None."""
+    ratios = "".join("%9.3f" % (it / each[0]) for it in each[1:])
+    beside = "" if kept is None else "  landed %.0f, %.3f of it" % (kept, each[0] / kept)
+    note = "" if is_same else "  other answers"
+    return "%-43s %12.0f%s%s%s" % (name, each[0], ratios, beside, note)
+
+
 def main():
     parser = argparse.ArgumentParser(description=__doc__.split("\n\n")[0])
     parser.add_argument("--only", default="", help="cases whose name has this text")
+    parser.add_argument("--few", action="store_true", help="the cases that most clients meet")
+    parser.add_argument("--keep", metavar="FILE", help="write the first program's instructions to FILE")
     parser.add_argument("programs", nargs="+", metavar="PROGRAM")
     options = parser.parse_args()
+    landed = {} if options.keep else kept_table(KEPT)
+    table = {}
     with tempfile.TemporaryDirectory() as folder:
         for name, setup, asked, count in cases():
-            if options.only not in name:
+            if options.only not in name or (options.few and name not in FEW):
                 continue
-            each, answers = [], set()
-            for program in options.programs:
-                before = 0 if setup is None else run(program, setup, folder)[0]
-                whole, told = run(program, (setup or b"") + asked, folder)
-                each.append((whole - before) / count)
-                answers.add(told)
-            ratios = "".join("%9.3f" % (it / each[0]) for it in each[1:])
-            note = "" if len(answers) == 1 else "  other answers"
-            print("%-34s %12.0f%s%s" % (name, each[0], ratios, note), flush=True)
+            each, is_same = measure(options.programs, setup, asked, count, folder)
+            table[name] = each[0]
+            print(told_line(name, each, is_same, landed.get(name)), flush=True)
+    if options.keep:
+        write_table(options.keep, table)
 
 
 if __name__ == "__main__":

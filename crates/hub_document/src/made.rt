@@ -48,9 +48,9 @@ fn draft_front(
 {
     let mut front = Vec::from_slice(alloc, opening(deleted))?;
     put_parent(&mut front, parent)?;
-    front.extend_from_slice(b",")?;
+    front.push(b',')?;
     put_quoted(&mut front, id)?;
-    front.extend_from_slice(b",")?;
+    front.push(b',')?;
     Ok(front)
 }
 

@@ -171,9 +171,9 @@ impl RevId {
         ensures ok { OnOk result (out.new.items ≡ out.old.items ++ quoted (text_of self.now)) }
         ensures front { take (length out.old.items) out.new.items ≡ out.old.items }
     {
-        out.extend_from_slice(b"\"")?;
+        out.push(b'"')?;
         self.print(out)?;
-        out.extend_from_slice(b"\"")?;
+        out.push(b'"')?;
         Ok(())
     }
 
@@ -184,9 +184,9 @@ impl RevId {
         ensures front { take (length out.old.items) out.new.items ≡ out.old.items }
     {
         let hash = &self.bytes[..self.len as usize];
-        out.extend_from_slice(b"\"")?;
+        out.push(b'"')?;
         out.extend_from_slice(hash)?;
-        out.extend_from_slice(b"\"")?;
+        out.push(b'"')?;
         Ok(())
     }
 }

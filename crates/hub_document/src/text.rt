@@ -22,9 +22,9 @@ fn put_plain(out: &mut Vec<u8>, text: &str) -> Result<(), AllocError>
     ensures ok { OnOk result (out.new.items ≡ out.old.items ++ quoted text.now) }
     ensures front { take (length out.old.items) out.new.items ≡ out.old.items }
 {
-    out.extend_from_slice(b"\"")?;
+    out.push(b'"')?;
     out.extend_from_slice(text.as_bytes())?;
-    out.extend_from_slice(b"\"")?;
+    out.push(b'"')?;
     Ok(())
 }
 

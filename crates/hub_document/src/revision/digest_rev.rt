@@ -1,12 +1,12 @@
 //! Revisions whose hashes are digests, in little memory.
 
-ghost use Rattle.std.specs.Prelude.{◌≡◌, ◌≤◌, ◌++◌, length, take, OnOk};
+ghost use Rattle.std.specs.Prelude.{◌≡◌, ◌≤◌, ◌<◌, ◌∷◌, [], ◌++◌, length, take, OnOk};
 ghost use Rattle.hex.specs.Hex.{encode_lower};
 ghost use Rattle.json.specs.Print.{quoted};
 ghost use Rattle.hub_model.specs.Revision.{text_of};
 
 use crate::revision::RevId;
-use hex::encode_to_slice;
+use crate::revision::digest::write_digits;
 use itoa::Buffer;
 use std::alloc::AllocError;
 use std::marker::Model;
@@ -31,8 +31,34 @@ impl Model for DigestRev {
     ghost invariant = { λ a. 1 ≤ a.generation };
 }
 
+// The text of the revision of this digest and a generation of one digit, as a JSON string.
+fn short_text(generation: u16, digest: &[u8; 16]) -> [u8; 36]
+    requires positive { 1 ≤ generation }
+    requires one_digit { generation < 10 }
+    ensures { result ≡ quoted (text_of (record {
+      generation = generation;
+      hash = encode_lower digest.now;
+    })) }
+{
+    let mut text = [b'"'; 36];
+    text[1] = b'0' + generation as u8;
+    text[2] = b'-';
+    write_digits(&mut text[3..35], digest);
+    text
+}
+
+// What stands behind the generation: a dash, the text of the digest and the quote.
+fn ending(digest: &[u8; 16]) -> [u8; 34]
+    ensures { result ≡ 45 ∷ (encode_lower digest.now ++ 34 ∷ []) }
+{
+    let mut text = [b'"'; 34];
+    text[0] = b'-';
+    write_digits(&mut text[1..33], digest);
+    text
+}
+
 // Appends the text of the revision of this generation and digest, as a JSON string.
-fn put_revision(out: &mut Vec<u8>, generation: u16, digest: &[u8; 16]) -> Result<(), AllocError>
+fn put_long(out: &mut Vec<u8>, generation: u16, digest: &[u8; 16]) -> Result<(), AllocError>
     requires { 1 ≤ generation }
     ensures ok { OnOk result
         (out.new.items ≡ out.old.items ++ quoted (text_of (record {
@@ -42,13 +68,9 @@ fn put_revision(out: &mut Vec<u8>, generation: u16, digest: &[u8; 16]) -> Result
     ensures front { take (length out.old.items) out.new.items ≡ out.old.items }
 {
     let mut number = Buffer::new();
-    let mut hash = [0u8; 32];
-    encode_to_slice(digest.as_slice(), &mut hash).unwrap();
     out.extend_from_slice(b"\"")?;
     out.extend_from_slice(number.format(generation).as_bytes())?;
-    out.extend_from_slice(b"-")?;
-    out.extend_from_slice(hash.as_slice())?;
-    out.extend_from_slice(b"\"")?;
+    out.extend_from_slice(ending(digest).as_slice())?;
     Ok(())
 }
 
@@ -99,6 +121,9 @@ impl DigestRev {
         ensures ok { OnOk result (out.new.items ≡ out.old.items ++ quoted (text_of self.now)) }
         ensures front { take (length out.old.items) out.new.items ≡ out.old.items }
     {
-        put_revision(out, self.generation, &self.digest)
+        if self.generation < 10 {
+            return out.extend_from_slice(short_text(self.generation, &self.digest).as_slice());
+        }
+        put_long(out, self.generation, &self.digest)
     }
 }

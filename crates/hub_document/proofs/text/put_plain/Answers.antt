@@ -5,9 +5,9 @@ pub returns-clause-ok : goal.returns-clause-ok
 returns-clause-ok c =
     rw (
       quoted_plain c.args.text.now c.requires,
-      c.in_ok-extend_from_slice-3.ensures.items,
-      c.in_ok-extend_from_slice-2.ensures.items,
-      c.as_bytes.ensures.value,
+      c.in_ok-push-2.ensures.items,
       c.in_ok-extend_from_slice.ensures.items,
+      c.as_bytes.ensures.value,
+      c.in_ok-push.ensures.items,
     )
     (three_parts c.args.out.now.items _ _ _)

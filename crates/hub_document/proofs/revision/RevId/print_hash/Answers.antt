@@ -6,8 +6,8 @@ returns-clause-ok c =
     rw (
       ← c.self.view_is,
       quoted_hash _ c.self.invariant.good,
-      c.in_ok-extend_from_slice-3.ensures.items,
-      c.in_ok-extend_from_slice-2.ensures.items,
+      c.in_ok-push-2.ensures.items,
       c.in_ok-extend_from_slice.ensures.items,
+      c.in_ok-push.ensures.items,
     )
     (three_parts c.args.out.now.items _ _ _)

@@ -5,8 +5,8 @@ pub returns-clause-ok : goal.returns-clause-ok
 returns-clause-ok c =
     rw (
       quoted_text c.args.self.now c.print.ensures.good,
-      c.in_ok-extend_from_slice-2.ensures.items,
+      c.in_ok-push-2.ensures.items,
       c.in_ok-print.ensures.ok,
-      c.in_ok-extend_from_slice.ensures.items,
+      c.in_ok-push.ensures.items,
     )
     (three_parts c.args.out.now.items _ _ _)

@@ -1,0 +1,13 @@
+use Rattle.std.proofs.Common.{arith, refl}
+use Rattle.std.proofs.lemmas.Fmt.{decimal_digit}
+use Rattle.hub_document.proofs.DigestLemmas.{quoted_parts}
+use Rattle.hub_document.proofs.revision.digest_rev.short_text.Goals as goal
+
+pub returns : goal.returns
+returns c =
+    rw (
+      quoted_parts c.args.digest.now c.args.generation c.requires.positive
+          (omega (arith, c.requires.one_digit)) c.fits-digest c.told-digest,
+      decimal_digit c.args.generation c.requires.one_digit,
+      c.write_digits.ensures,
+    ) refl
