@@ -17,7 +17,8 @@ pub struct Limits {
     /// The feeds of a database that are not finished: 1,024. Read where one is opened
     /// (`DbState::open_feed`).
     pub feeds: u64,
-    /// The items that wait for a feed's subscriber: 64. Read where its lane is made (`Locked::begin`).
+    /// The items of a feed that wait for room in its lane: 64. Read where memory is reserved for them, as the
+    /// feed is opened and as it is handed (`hub_shared`).
     pub lane: u64,
     /// The items that a feed is handed in one holding of the lock: 64. Read where it is handed
     /// (`hub_shared`).
