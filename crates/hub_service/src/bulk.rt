@@ -10,9 +10,9 @@ ghost use Rattle.hub_service.specs.Calls.{says_batch, says_noted, stores};
 ghost use Rattle.hub_service.specs.Moments.{IsWritten};
 ghost use Rattle.hub_service.specs.Said.{IsSaid};
 
+use crate::context::Context;
 use crate::refusal::unnoted;
 use crate::response::{Response, created};
-use crate::context::Context;
 use hub_databases::{HubDb, Written};
 use hub_document::{Doc, DocFault, RevId, read_doc, read_value};
 use hub_http::Refusal;
@@ -161,7 +161,8 @@ fn say_batch(
 
 // Stores the batch of these elements.
 fn store_elements<N: Wait>(
-    context: &Context<'_, N>, db: &HubDb,
+    context: &Context<'_, N>,
+    db: &HubDb,
     elements: &[Value],
     new_edits: bool,
 ) -> Result<Response, Refusal>
@@ -180,7 +181,11 @@ fn store_elements<N: Wait>(
 }
 
 // Stores the batch that a value is.
-fn store_batch<N: Wait>(context: &Context<'_, N>, db: &HubDb, request: &Value) -> Result<Response, Refusal>
+fn store_batch<N: Wait>(
+    context: &Context<'_, N>,
+    db: &HubDb,
+    request: &Value,
+) -> Result<Response, Refusal>
     ensures { IsWritten (λ db. stores db (batch_of (view request.now))) result }
 {
     match batch_of(request) {
@@ -191,7 +196,11 @@ fn store_batch<N: Wait>(context: &Context<'_, N>, db: &HubDb, request: &Value) -
 
 /// Stores the batch of documents that a body is. It costs the body's length, and what `Hub::write`
 /// does. Where memory is missing documents from its front may stand.
-pub(crate) fn store<N: Wait>(context: &Context<'_, N>, db: &HubDb, body: &[u8]) -> Result<Response, Refusal>
+pub(crate) fn store<N: Wait>(
+    context: &Context<'_, N>,
+    db: &HubDb,
+    body: &[u8],
+) -> Result<Response, Refusal>
     ensures { IsWritten (λ db. stores db (batch_in body.now)) result }
 {
     match read_value(context.alloc, body) {

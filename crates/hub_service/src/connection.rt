@@ -121,9 +121,7 @@ impl<'h, N: Wait, P: Pumping> Connection<'h, N, P> {
             Route::PutDatabase { db } => self.create(db.as_str()),
             Route::DeleteDatabase { db } => self.remove(db.as_str()),
             Route::AllDbs => self.list(),
-            Route::DbUpdates { query } => {
-                begin_updates(&self.context, query, body)
-            }
+            Route::DbUpdates { query } => { begin_updates(&self.context, query, body) }
             Route::Database { db, call } => self.call(db.as_str(), call, body),
         }
     }

@@ -80,7 +80,12 @@ impl<'h, N: Wait> Context<'h, N> {
     }
 
     /// Stores documents, and notes that in the log of updates.
-    pub(crate) fn write(&self, db: &HubDb, docs: Vec<Doc>, new_edits: bool) -> Result<Written, Refusal>
+    pub(crate) fn write(
+        &self,
+        db: &HubDb,
+        docs: Vec<Doc>,
+        new_edits: bool,
+    ) -> Result<Written, Refusal>
         ensures ok { IfOk result (λ w. IsStored new_edits docs.items w) }
         ensures err { IfErr result (λ e. e ≡ Refusal.NoMemory) }
     {

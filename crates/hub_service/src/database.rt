@@ -4,8 +4,8 @@ ghost use Rattle.hub_service.specs.Calls.{says_info};
 ghost use Rattle.hub_service.specs.Moments.{IsRead};
 ghost use Rattle.hub_service.specs.Requests.{AnswersCall};
 
-use crate::response::{Response, created, ok};
 use crate::context::Context;
+use crate::response::{Response, created, ok};
 use crate::{bulk, diff, documents, feeds, locals};
 use hub_databases::HubDb;
 use hub_http::Refusal;
@@ -24,7 +24,8 @@ fn info<N: Wait>(context: &Context<'_, N>, db: &HubDb) -> Result<Response, Refus
 /// What a database answers to a call with this body. A commit has nothing to do: every
 /// edit that was answered is stored.
 pub(crate) fn answer<N: Wait>(
-    context: &Context<'_, N>, db: &HubDb,
+    context: &Context<'_, N>,
+    db: &HubDb,
     call: Call<'_>,
     body: &[u8],
 ) -> Result<Response, Refusal>

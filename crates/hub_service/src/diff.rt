@@ -4,8 +4,8 @@ ghost use Rattle.std.specs.Prelude.{◌≡◌, ◌⊎◌, Err, IfErr, IfOk, Ok};
 ghost use Rattle.hub_service.specs.Calls.{asked_by, says_diffs};
 ghost use Rattle.hub_service.specs.Moments.{IsRead};
 
-use crate::response::{Response, ok};
 use crate::context::Context;
+use crate::response::{Response, ok};
 use hub_databases::HubDb;
 use hub_document::{Asked, DocFault, read_asked, read_value};
 use hub_http::Refusal;
@@ -23,7 +23,11 @@ fn read_body(alloc: Global, body: &[u8]) -> Result<Vec<Asked>, DocFault>
 }
 
 // Which of these revisions are missing.
-fn diff<N: Wait>(context: &Context<'_, N>, db: &HubDb, asked: Vec<Asked>) -> Result<Response, Refusal>
+fn diff<N: Wait>(
+    context: &Context<'_, N>,
+    db: &HubDb,
+    asked: Vec<Asked>,
+) -> Result<Response, Refusal>
     ensures { IsRead (λ db. says_diffs db.journal (Ok asked.items)) result }
 {
     let found = context.look(db, move |state| state.revs_diff(asked))?;
@@ -32,7 +36,11 @@ fn diff<N: Wait>(context: &Context<'_, N>, db: &HubDb, asked: Vec<Asked>) -> Res
 
 /// Which of the revisions that a body asks for are missing. It costs the body's length, the wait for
 /// the database, and what `DbState::revs_diff` does.
-pub(crate) fn revs_diff<N: Wait>(context: &Context<'_, N>, db: &HubDb, body: &[u8]) -> Result<Response, Refusal>
+pub(crate) fn revs_diff<N: Wait>(
+    context: &Context<'_, N>,
+    db: &HubDb,
+    body: &[u8],
+) -> Result<Response, Refusal>
     ensures { IsRead (λ db. says_diffs db.journal (asked_by body.now)) result }
 {
     match read_body(context.alloc, body) {

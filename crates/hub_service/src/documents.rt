@@ -12,9 +12,9 @@ ghost use Rattle.hub_service.specs.Deletions.{DeletesLeaf, IsDeletion, refuses_u
 ghost use Rattle.hub_service.specs.Moments.{IsRead, IsWritten};
 ghost use Rattle.hub_service.specs.Said.{IsSaid, Refusing};
 
+use crate::context::Context;
 use crate::refusal::unnoted;
 use crate::response::{Response, ok};
-use crate::context::Context;
 use hub_database::{Lookup, OpenRev};
 use hub_databases::{Edited, HubDb};
 use hub_document::{Body, Doc, DocFault, DocId, OpenRevs, RevId};
@@ -48,7 +48,8 @@ fn say_revs(alloc: Global, which: &OpenRevs, revs: &[OpenRev]) -> Result<Respons
 
 // The revisions of a document that a value of `open_revs` asks for.
 fn get_revs<N: Wait>(
-    context: &Context<'_, N>, db: &HubDb,
+    context: &Context<'_, N>,
+    db: &HubDb,
     id: &str,
     revs: bool,
     asked: Option<OpenRevs>,
@@ -65,7 +66,8 @@ fn get_revs<N: Wait>(
 /// A document, or those of its revisions that `open_revs` asks for. It costs the wait for the
 /// database, what `DbState::get` or `DbState::open_revs` does, and the length of the answer.
 pub(crate) fn get<N: Wait>(
-    context: &Context<'_, N>, db: &HubDb,
+    context: &Context<'_, N>,
+    db: &HubDb,
     id: &str,
     query: &[u8],
 ) -> Result<Response, Refusal>
@@ -101,7 +103,12 @@ fn say_edited(status: StatusCode, front: Vec<u8>, edited: &Edited) -> Result<Res
 
 // Stores an edit whose revision is made here, and says so with this status. The answer is begun first, so
 // that no edit is stored that is not answered.
-fn edit<N: Wait>(context: &Context<'_, N>, db: &HubDb, status: StatusCode, doc: Doc) -> Result<Response, Refusal>
+fn edit<N: Wait>(
+    context: &Context<'_, N>,
+    db: &HubDb,
+    status: StatusCode,
+    doc: Doc,
+) -> Result<Response, Refusal>
     ensures { IsWritten (λ db. edits status db doc) result }
 {
     let front = edit_front(context.alloc, doc.id.as_str())?;
@@ -126,7 +133,8 @@ fn read_put(alloc: Global, id: &str, query: &[u8], body: &[u8]) -> Result<Doc, D
 /// keep of it, it takes memory twice: for the answer, and for the notice. Where memory is missing, no
 /// edit stands but one that could not be noted.
 pub(crate) fn put<N: Wait>(
-    context: &Context<'_, N>, db: &HubDb,
+    context: &Context<'_, N>,
+    db: &HubDb,
     id: &str,
     query: &[u8],
     body: &[u8],
@@ -157,7 +165,11 @@ fn refuse_unnamed(winner: Option<Winner>) -> Refusal
 }
 
 // Refuses to delete a document of which no leaf is named.
-fn delete_unnamed<N: Wait>(context: &Context<'_, N>, db: &HubDb, id: &str) -> Result<Response, Refusal>
+fn delete_unnamed<N: Wait>(
+    context: &Context<'_, N>,
+    db: &HubDb,
+    id: &str,
+) -> Result<Response, Refusal>
     ensures { IsRead (λ db. Refusing (refuses_unnamed (winner_in db id.now))) result }
 {
     let winner = context.winner(db, id)?;
@@ -165,7 +177,12 @@ fn delete_unnamed<N: Wait>(context: &Context<'_, N>, db: &HubDb, id: &str) -> Re
 }
 
 // Deletes the leaf of this revision.
-fn delete_leaf<N: Wait>(context: &Context<'_, N>, db: &HubDb, id: &str, rev: RevId) -> Result<Response, Refusal>
+fn delete_leaf<N: Wait>(
+    context: &Context<'_, N>,
+    db: &HubDb,
+    id: &str,
+    rev: RevId,
+) -> Result<Response, Refusal>
     ensures { DeletesLeaf id.now (short_id id.now) rev result }
 {
     let Some(known) = DocId::read(context.alloc, id)? else {
@@ -188,7 +205,8 @@ fn delete_leaf<N: Wait>(context: &Context<'_, N>, db: &HubDb, id: &str, rev: Rev
 /// Deletes a document: an edit of the leaf that the query names. It costs a look for the document, and
 /// what `Hub::write_one` does. Where memory is missing, no edit stands but one that could not be noted.
 pub(crate) fn delete<N: Wait>(
-    context: &Context<'_, N>, db: &HubDb,
+    context: &Context<'_, N>,
+    db: &HubDb,
     id: &str,
     query: &[u8],
 ) -> Result<Response, Refusal>

@@ -4,10 +4,10 @@
 ghost use Rattle.hub_params.specs.FeedShown.{params_asked};
 ghost use Rattle.hub_service.specs.Feeds.{Begins, BeginsChanges, BeginsUpdates};
 
+use crate::context::Context;
 use crate::refusal::{unopened, unread};
 use crate::response::Response;
 use crate::sent::{Listed, Sent};
-use crate::context::Context;
 use hub_databases::HubDb;
 use hub_http::Refusal;
 use hub_model::Mode;
@@ -15,7 +15,11 @@ use hub_params::FeedParams;
 use std::sync::Wait;
 
 // Begins what parameters ask of a database.
-fn begin_asked<N: Wait>(context: &Context<'_, N>, db: &HubDb, params: FeedParams) -> Result<Response, Refusal>
+fn begin_asked<N: Wait>(
+    context: &Context<'_, N>,
+    db: &HubDb,
+    params: FeedParams,
+) -> Result<Response, Refusal>
     ensures { BeginsChanges (params_asked params) result }
 {
     if params.descending {
@@ -33,7 +37,8 @@ fn begin_asked<N: Wait>(context: &Context<'_, N>, db: &HubDb, params: FeedParams
 /// Begins the feed of a database that a query and a body ask for. It costs the reading of both, and the
 /// wait for the database; an answer that goes downwards is made at once.
 pub(crate) fn begin<N: Wait>(
-    context: &Context<'_, N>, db: &HubDb,
+    context: &Context<'_, N>,
+    db: &HubDb,
     query: &[u8],
     body: &[u8],
 ) -> Result<Response, Refusal>
@@ -46,7 +51,10 @@ pub(crate) fn begin<N: Wait>(
 }
 
 // Begins what parameters ask of the log of updates.
-fn begin_asked_updates<N: Wait>(context: &Context<'_, N>, params: FeedParams) -> Result<Response, Refusal>
+fn begin_asked_updates<N: Wait>(
+    context: &Context<'_, N>,
+    params: FeedParams,
+) -> Result<Response, Refusal>
     ensures { BeginsUpdates (params_asked params) result }
 {
     let mode = params.mode;

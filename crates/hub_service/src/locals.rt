@@ -8,8 +8,8 @@ ghost use Rattle.hub_service.specs.Calls.{keeps, puts_local, says_local};
 ghost use Rattle.hub_service.specs.Moments.{IsRead};
 ghost use Rattle.hub_service.specs.Said.{IsSaid};
 
-use crate::response::{Response, created, ok};
 use crate::context::Context;
+use crate::response::{Response, created, ok};
 use hub_database::Local;
 use hub_databases::HubDb;
 use hub_document::LocalDoc;
@@ -30,7 +30,11 @@ fn say_local(alloc: Global, id: &str, found: &Option<Local>) -> Result<Response,
 
 /// A local document. It costs the wait for the database, a look in the map of local documents, and the
 /// length of the answer.
-pub(crate) fn get<N: Wait>(context: &Context<'_, N>, db: &HubDb, id: &str) -> Result<Response, Refusal>
+pub(crate) fn get<N: Wait>(
+    context: &Context<'_, N>,
+    db: &HubDb,
+    id: &str,
+) -> Result<Response, Refusal>
     ensures { IsRead (λ db. says_local (local_of db.locals id.now)) result }
 {
     let alloc = context.alloc;
@@ -50,7 +54,8 @@ fn keep<N: Wait>(context: &Context<'_, N>, db: &HubDb, doc: LocalDoc) -> Result<
 /// Keeps a local document in place of the one of its id. It costs the body's length, the wait for the
 /// database, and two looks in the map of local documents. Where memory is missing, nothing is kept.
 pub(crate) fn put<N: Wait>(
-    context: &Context<'_, N>, db: &HubDb,
+    context: &Context<'_, N>,
+    db: &HubDb,
     id: &str,
     body: &[u8],
 ) -> Result<Response, Refusal>
