@@ -10,10 +10,10 @@ ghost use Rattle.hub_service.specs.Calls.{says_batch, says_noted, stores};
 ghost use Rattle.hub_service.specs.Moments.{IsWritten};
 ghost use Rattle.hub_service.specs.Said.{IsSaid};
 
+use crate::context::Context;
 use crate::refusal::unnoted;
 use crate::response::{Response, created};
-use crate::target::Target;
-use hub_databases::Written;
+use hub_databases::{HubDb, Written};
 use hub_document::{Doc, DocFault, RevId, read_doc, read_value};
 use hub_http::Refusal;
 use hub_model::Outcome;
@@ -161,17 +161,18 @@ fn say_batch(
 
 // Stores the batch of these elements.
 fn store_elements<N: Wait>(
-    target: &Target<'_, N>,
+    context: &Context<'_, N>,
+    db: &HubDb,
     elements: &[Value],
     new_edits: bool,
 ) -> Result<Response, Refusal>
     ensures { IsWritten (λ db. stores db
         (Ok (record { docs = items_view elements.now; new_edits = new_edits }))) result }
 {
-    let Readings { docs, faults } = read_elements(target.alloc, elements, new_edits)?;
-    let written = target.write(docs, new_edits)?;
+    let Readings { docs, faults } = read_elements(context.alloc, elements, new_edits)?;
+    let written = context.write(db, docs, new_edits)?;
     say_batch(
-        target.alloc,
+        context.alloc,
         elements,
         new_edits,
         faults.as_slice(),
@@ -180,22 +181,30 @@ fn store_elements<N: Wait>(
 }
 
 // Stores the batch that a value is.
-fn store_batch<N: Wait>(target: &Target<'_, N>, request: &Value) -> Result<Response, Refusal>
+fn store_batch<N: Wait>(
+    context: &Context<'_, N>,
+    db: &HubDb,
+    request: &Value,
+) -> Result<Response, Refusal>
     ensures { IsWritten (λ db. stores db (batch_of (view request.now))) result }
 {
     match batch_of(request) {
-        Ok((docs, new_edits)) => store_elements(target, docs.as_slice(), new_edits),
+        Ok((docs, new_edits)) => store_elements(context, db, docs.as_slice(), new_edits),
         Err(refusal) => Err(refusal),
     }
 }
 
 /// Stores the batch of documents that a body is. It costs the body's length, and what `Hub::write`
 /// does. Where memory is missing documents from its front may stand.
-pub(crate) fn store<N: Wait>(target: &Target<'_, N>, body: &[u8]) -> Result<Response, Refusal>
+pub(crate) fn store<N: Wait>(
+    context: &Context<'_, N>,
+    db: &HubDb,
+    body: &[u8],
+) -> Result<Response, Refusal>
     ensures { IsWritten (λ db. stores db (batch_in body.now)) result }
 {
-    match read_value(target.alloc, body) {
-        Ok(request) => store_batch(target, &request),
+    match read_value(context.alloc, body) {
+        Ok(request) => store_batch(context, db, &request),
         Err(fault) => Err(Refusal::from(fault)),
     }
 }

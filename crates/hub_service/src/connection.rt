@@ -9,13 +9,13 @@ ghost use Rattle.hub_service.specs.Laws.{connection_rules};
 ghost use Rattle.hub_service.specs.Requests.{AtName, IsCalled, IsListed, IsMade};
 ghost use Rattle.hub_service.specs.Requests.{IsRemoved, IsSent, Responds};
 
+use crate::context::Context;
 use crate::database::answer;
 use crate::feeds::begin_updates;
 use crate::pumping::Pumping;
 use crate::refusal::unnamed;
 use crate::response::{Response, ok};
 use crate::sent::Sent;
-use crate::target::Target;
 use hub_databases::{Hub, is_name};
 use hub_http::{Refusal, Reply, Request, StatusCode};
 use hub_replies::{names_body, ok_body, welcome_body};
@@ -30,9 +30,7 @@ use std::sync::{Arc, Wait};
 /// most one feed.
 #[derive(Drop)]
 pub struct Connection<'h, N: Wait, P: Pumping> {
-    rt: &'h N,
-    alloc: Global,
-    hub: &'h Hub,
+    context: Context<'h, N>,
     routes: &'h Routes,
     /// What hands a feed its items.
     pumping: P,
@@ -61,9 +59,7 @@ impl<'h, N: Wait, P: Pumping> Connection<'h, N, P> {
         ensures { result ≡ None }
     {
         Connection {
-            rt,
-            alloc,
-            hub,
+            context: Context { rt, alloc, hub },
             routes,
             pumping,
             sent: None,
@@ -77,8 +73,8 @@ impl<'h, N: Wait, P: Pumping> Connection<'h, N, P> {
         if !is_name(name) {
             return Err(Refusal::BadName);
         }
-        let body = Vec::from_slice(self.alloc, ok_body())?;
-        match self.hub.create(self.rt, name) {
+        let body = Vec::from_slice(self.context.alloc, ok_body())?;
+        match self.context.hub.create(self.context.rt, name) {
             Ok(()) => Ok(Response::Body(StatusCode::CREATED, body)),
             Err(fault) => Err(unnamed(fault)),
         }
@@ -91,8 +87,8 @@ impl<'h, N: Wait, P: Pumping> Connection<'h, N, P> {
         if !is_name(name) {
             return Err(Refusal::BadName);
         }
-        let body = Vec::from_slice(self.alloc, ok_body())?;
-        match self.hub.remove(self.rt, name) {
+        let body = Vec::from_slice(self.context.alloc, ok_body())?;
+        match self.context.hub.remove(self.context.rt, name) {
             Ok(()) => Ok(Response::Body(StatusCode::OK, body)),
             Err(fault) => Err(unnamed(fault)),
         }
@@ -102,21 +98,16 @@ impl<'h, N: Wait, P: Pumping> Connection<'h, N, P> {
     fn list(&self) -> Result<Response, Refusal>
         ensures { IsListed result }
     {
-        let names = self.hub.list(self.rt)?;
-        ok(names_body(self.alloc, names.as_slice()))
+        let names = self.context.hub.list(self.context.rt)?;
+        ok(names_body(self.context.alloc, names.as_slice()))
     }
 
     // A call on the database of a name.
     fn call(&self, name: &str, call: Call<'_>, body: &[u8]) -> Result<Response, Refusal>
         ensures { AtName name.now (λ r. IsCalled call.entry name.now body.now r) result }
     {
-        match self.hub.find(self.rt, name) {
-            Ok(db) => answer(
-                &Target::new(self.rt, self.alloc, self.hub, &db),
-                name,
-                call,
-                body,
-            ),
+        match self.context.hub.find(self.context.rt, name) {
+            Ok(db) => answer(&self.context, &db, call, body),
             Err(fault) => Err(unnamed(fault)),
         }
     }
@@ -126,13 +117,11 @@ impl<'h, N: Wait, P: Pumping> Connection<'h, N, P> {
         ensures { Responds body.now (Ok route.entry) result }
     {
         match route {
-            Route::Welcome => ok(Vec::from_slice(self.alloc, welcome_body())),
+            Route::Welcome => ok(Vec::from_slice(self.context.alloc, welcome_body())),
             Route::PutDatabase { db } => self.create(db.as_str()),
             Route::DeleteDatabase { db } => self.remove(db.as_str()),
             Route::AllDbs => self.list(),
-            Route::DbUpdates { query } => {
-                begin_updates(self.rt, self.alloc, self.hub, query, body)
-            }
+            Route::DbUpdates { query } => { begin_updates(&self.context, query, body) }
             Route::Database { db, call } => self.call(db.as_str(), call, body),
         }
     }
@@ -142,7 +131,7 @@ impl<'h, N: Wait, P: Pumping> Connection<'h, N, P> {
         ensures { (route : Result Route RouteFault) × GoesTo (asked_by request.now) route
             × Responds (asked_by request.now).body route result }
     {
-        match self.routes.route(self.alloc, request) {
+        match self.routes.route(self.context.alloc, request) {
             Ok(route) => self.go(route, request.body.as_slice()),
             Err(fault) => Err(Refusal::from(fault)),
         }
@@ -190,8 +179,8 @@ impl<'h, N: Wait, P: Pumping> Watchable for Connection<'h, N, P> {
 
     fn watch(&self, watch: Arc<Watch, Global>) {
         match &self.sent {
-            Some(Sent::Changes(feed)) => feed.watch(self.rt, watch),
-            Some(Sent::Updates(feed)) => feed.watch(self.rt, watch),
+            Some(Sent::Changes(feed)) => feed.watch(self.context.rt, watch),
+            Some(Sent::Updates(feed)) => feed.watch(self.context.rt, watch),
             Some(Sent::Listed(_)) | None => {}
         }
     }
@@ -232,7 +221,7 @@ impl<'h, N: Wait, P: Pumping> Service for Connection<'h, N, P> {
 
     fn drop_stream(&mut self) {
         if let Some(sent) = self.sent.take() {
-            sent.finish(self.rt);
+            sent.finish(self.context.rt);
         }
     }
 }

@@ -4,8 +4,9 @@ ghost use Rattle.std.specs.Prelude.{◌≡◌, ◌⊎◌, Err, IfErr, IfOk, Ok};
 ghost use Rattle.hub_service.specs.Calls.{asked_by, says_diffs};
 ghost use Rattle.hub_service.specs.Moments.{IsRead};
 
+use crate::context::Context;
 use crate::response::{Response, ok};
-use crate::target::Target;
+use hub_databases::HubDb;
 use hub_document::{Asked, DocFault, read_asked, read_value};
 use hub_http::Refusal;
 use hub_replies::diffs_body;
@@ -22,20 +23,28 @@ fn read_body(alloc: Global, body: &[u8]) -> Result<Vec<Asked>, DocFault>
 }
 
 // Which of these revisions are missing.
-fn diff<N: Wait>(target: &Target<'_, N>, asked: Vec<Asked>) -> Result<Response, Refusal>
+fn diff<N: Wait>(
+    context: &Context<'_, N>,
+    db: &HubDb,
+    asked: Vec<Asked>,
+) -> Result<Response, Refusal>
     ensures { IsRead (λ db. says_diffs db.journal (Ok asked.items)) result }
 {
-    let found = target.look(move |state| state.revs_diff(asked))?;
-    ok(diffs_body(target.alloc, found.as_slice()))
+    let found = context.look(db, move |state| state.revs_diff(asked))?;
+    ok(diffs_body(context.alloc, found.as_slice()))
 }
 
 /// Which of the revisions that a body asks for are missing. It costs the body's length, the wait for
 /// the database, and what `DbState::revs_diff` does.
-pub(crate) fn revs_diff<N: Wait>(target: &Target<'_, N>, body: &[u8]) -> Result<Response, Refusal>
+pub(crate) fn revs_diff<N: Wait>(
+    context: &Context<'_, N>,
+    db: &HubDb,
+    body: &[u8],
+) -> Result<Response, Refusal>
     ensures { IsRead (λ db. says_diffs db.journal (asked_by body.now)) result }
 {
-    match read_body(target.alloc, body) {
-        Ok(asked) => diff(target, asked),
+    match read_body(context.alloc, body) {
+        Ok(asked) => diff(context, db, asked),
         Err(fault) => Err(Refusal::from(fault)),
     }
 }

@@ -12,11 +12,11 @@ ghost use Rattle.hub_service.specs.Deletions.{DeletesLeaf, IsDeletion, refuses_u
 ghost use Rattle.hub_service.specs.Moments.{IsRead, IsWritten};
 ghost use Rattle.hub_service.specs.Said.{IsSaid, Refusing};
 
+use crate::context::Context;
 use crate::refusal::unnoted;
 use crate::response::{Response, ok};
-use crate::target::Target;
 use hub_database::{Lookup, OpenRev};
-use hub_databases::Edited;
+use hub_databases::{Edited, HubDb};
 use hub_document::{Body, Doc, DocFault, DocId, OpenRevs, RevId};
 use hub_http::{Refusal, StatusCode};
 use hub_params::DocParams;
@@ -48,7 +48,8 @@ fn say_revs(alloc: Global, which: &OpenRevs, revs: &[OpenRev]) -> Result<Respons
 
 // The revisions of a document that a value of `open_revs` asks for.
 fn get_revs<N: Wait>(
-    target: &Target<'_, N>,
+    context: &Context<'_, N>,
+    db: &HubDb,
     id: &str,
     revs: bool,
     asked: Option<OpenRevs>,
@@ -58,14 +59,15 @@ fn get_revs<N: Wait>(
     let Some(which) = asked else {
         return Err(Refusal::BadRev);
     };
-    let found = target.look(|state| state.open_revs(id, &which, revs))?;
-    say_revs(target.alloc, &which, found.as_slice())
+    let found = context.look(db, |state| state.open_revs(id, &which, revs))?;
+    say_revs(context.alloc, &which, found.as_slice())
 }
 
 /// A document, or those of its revisions that `open_revs` asks for. It costs the wait for the
 /// database, what `DbState::get` or `DbState::open_revs` does, and the length of the answer.
 pub(crate) fn get<N: Wait>(
-    target: &Target<'_, N>,
+    context: &Context<'_, N>,
+    db: &HubDb,
     id: &str,
     query: &[u8],
 ) -> Result<Response, Refusal>
@@ -76,16 +78,16 @@ pub(crate) fn get<N: Wait>(
         open_revs,
         revs,
         ..
-    } = DocParams::read(target.alloc, query)?;
+    } = DocParams::read(context.alloc, query)?;
     if let Some(text) = open_revs {
-        let asked = OpenRevs::read(target.alloc, text.as_str())?;
-        return get_revs(target, id, revs, asked);
+        let asked = OpenRevs::read(context.alloc, text.as_str())?;
+        return get_revs(context, db, id, revs, asked);
     }
     if rev.is_some() {
         return Err(Refusal::BadRev);
     }
-    let found = target.look(|state| state.get(id, revs))?;
-    say_found(target.alloc, &found)
+    let found = context.look(db, |state| state.get(id, revs))?;
+    say_found(context.alloc, &found)
 }
 
 // The answer to an edit that was stored, with this status, and this front of the answer.
@@ -101,11 +103,16 @@ fn say_edited(status: StatusCode, front: Vec<u8>, edited: &Edited) -> Result<Res
 
 // Stores an edit whose revision is made here, and says so with this status. The answer is begun first, so
 // that no edit is stored that is not answered.
-fn edit<N: Wait>(target: &Target<'_, N>, status: StatusCode, doc: Doc) -> Result<Response, Refusal>
+fn edit<N: Wait>(
+    context: &Context<'_, N>,
+    db: &HubDb,
+    status: StatusCode,
+    doc: Doc,
+) -> Result<Response, Refusal>
     ensures { IsWritten (λ db. edits status db doc) result }
 {
-    let front = edit_front(target.alloc, doc.id.as_str())?;
-    let edited = target.write_one(doc)?;
+    let front = edit_front(context.alloc, doc.id.as_str())?;
+    let edited = context.write_one(db, doc)?;
     say_edited(status, front, &edited)
 }
 
@@ -126,7 +133,8 @@ fn read_put(alloc: Global, id: &str, query: &[u8], body: &[u8]) -> Result<Doc, D
 /// keep of it, it takes memory twice: for the answer, and for the notice. Where memory is missing, no
 /// edit stands but one that could not be noted.
 pub(crate) fn put<N: Wait>(
-    target: &Target<'_, N>,
+    context: &Context<'_, N>,
+    db: &HubDb,
     id: &str,
     query: &[u8],
     body: &[u8],
@@ -134,8 +142,8 @@ pub(crate) fn put<N: Wait>(
     ensures { IsWritten (λ db. puts_doc db
         (put_in id.now (doc_asked query.now).rev (doc_asked query.now).new_edits body.now)) result }
 {
-    match read_put(target.alloc, id, query, body) {
-        Ok(doc) => edit(target, StatusCode::CREATED, doc),
+    match read_put(context.alloc, id, query, body) {
+        Ok(doc) => edit(context, db, StatusCode::CREATED, doc),
         Err(fault) => Err(Refusal::from(fault)),
     }
 }
@@ -157,24 +165,33 @@ fn refuse_unnamed(winner: Option<Winner>) -> Refusal
 }
 
 // Refuses to delete a document of which no leaf is named.
-fn delete_unnamed<N: Wait>(target: &Target<'_, N>, id: &str) -> Result<Response, Refusal>
+fn delete_unnamed<N: Wait>(
+    context: &Context<'_, N>,
+    db: &HubDb,
+    id: &str,
+) -> Result<Response, Refusal>
     ensures { IsRead (λ db. Refusing (refuses_unnamed (winner_in db id.now))) result }
 {
-    let winner = target.winner(id)?;
+    let winner = context.winner(db, id)?;
     Err(refuse_unnamed(winner))
 }
 
 // Deletes the leaf of this revision.
-fn delete_leaf<N: Wait>(target: &Target<'_, N>, id: &str, rev: RevId) -> Result<Response, Refusal>
+fn delete_leaf<N: Wait>(
+    context: &Context<'_, N>,
+    db: &HubDb,
+    id: &str,
+    rev: RevId,
+) -> Result<Response, Refusal>
     ensures { DeletesLeaf id.now (short_id id.now) rev result }
 {
-    let Some(known) = DocId::read(target.alloc, id)? else {
+    let Some(known) = DocId::read(context.alloc, id)? else {
         return Err(Refusal::Missing);
     };
-    let Some(_) = target.winner(id)? else {
+    let Some(_) = context.winner(db, id)? else {
         return Err(Refusal::Missing);
     };
-    let body = Body::empty(target.alloc)?;
+    let body = Body::empty(context.alloc)?;
     let doc = Doc {
         id: known,
         rev: Some(rev),
@@ -182,24 +199,25 @@ fn delete_leaf<N: Wait>(target: &Target<'_, N>, id: &str, rev: RevId) -> Result<
         deleted: true,
         body,
     };
-    edit(target, StatusCode::OK, doc)
+    edit(context, db, StatusCode::OK, doc)
 }
 
 /// Deletes a document: an edit of the leaf that the query names. It costs a look for the document, and
 /// what `Hub::write_one` does. Where memory is missing, no edit stands but one that could not be noted.
 pub(crate) fn delete<N: Wait>(
-    target: &Target<'_, N>,
+    context: &Context<'_, N>,
+    db: &HubDb,
     id: &str,
     query: &[u8],
 ) -> Result<Response, Refusal>
     ensures { IsDeletion id.now query.now result }
 {
-    let DocParams { rev, .. } = DocParams::read(target.alloc, query)?;
+    let DocParams { rev, .. } = DocParams::read(context.alloc, query)?;
     let Some(text) = rev else {
-        return delete_unnamed(target, id);
+        return delete_unnamed(context, db, id);
     };
     match RevId::read(text.as_str()) {
-        Some(rev) => delete_leaf(target, id, rev),
+        Some(rev) => delete_leaf(context, db, id, rev),
         None => Err(Refusal::BadRev),
     }
 }

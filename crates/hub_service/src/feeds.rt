@@ -4,28 +4,31 @@
 ghost use Rattle.hub_params.specs.FeedShown.{params_asked};
 ghost use Rattle.hub_service.specs.Feeds.{Begins, BeginsChanges, BeginsUpdates};
 
+use crate::context::Context;
 use crate::refusal::{unopened, unread};
 use crate::response::Response;
 use crate::sent::{Listed, Sent};
-use crate::target::Target;
-use hub_databases::Hub;
+use hub_databases::HubDb;
 use hub_http::Refusal;
 use hub_model::Mode;
 use hub_params::FeedParams;
-use std::alloc::Global;
 use std::sync::Wait;
 
 // Begins what parameters ask of a database.
-fn begin_asked<N: Wait>(target: &Target<'_, N>, params: FeedParams) -> Result<Response, Refusal>
+fn begin_asked<N: Wait>(
+    context: &Context<'_, N>,
+    db: &HubDb,
+    params: FeedParams,
+) -> Result<Response, Refusal>
     ensures { BeginsChanges (params_asked params) result }
 {
     if params.descending {
-        let answer = target.look(|state| state.changes_descending(&params))?;
+        let answer = context.look(db, |state| state.changes_descending(&params))?;
         let sent = Sent::Listed(Listed::new(answer));
         return Ok(Response::Stream(Mode::Normal, sent));
     }
     let mode = params.mode;
-    match target.open_feed(params) {
+    match context.open_feed(db, params) {
         Ok(feed) => Ok(Response::Stream(mode, Sent::Changes(feed))),
         Err(fault) => Err(unopened(fault)),
     }
@@ -34,24 +37,28 @@ fn begin_asked<N: Wait>(target: &Target<'_, N>, params: FeedParams) -> Result<Re
 /// Begins the feed of a database that a query and a body ask for. It costs the reading of both, and the
 /// wait for the database; an answer that goes downwards is made at once.
 pub(crate) fn begin<N: Wait>(
-    target: &Target<'_, N>,
+    context: &Context<'_, N>,
+    db: &HubDb,
     query: &[u8],
     body: &[u8],
 ) -> Result<Response, Refusal>
     ensures { Begins BeginsChanges query.now body.now result }
 {
-    match FeedParams::read(target.alloc, query, body) {
-        Ok(params) => begin_asked(target, params),
+    match FeedParams::read(context.alloc, query, body) {
+        Ok(params) => begin_asked(context, db, params),
         Err(fault) => Err(unread(fault)),
     }
 }
 
 // Begins what parameters ask of the log of updates.
-fn begin_asked_updates<N: Wait>(rt: &N, hub: &Hub, params: FeedParams) -> Result<Response, Refusal>
+fn begin_asked_updates<N: Wait>(
+    context: &Context<'_, N>,
+    params: FeedParams,
+) -> Result<Response, Refusal>
     ensures { BeginsUpdates (params_asked params) result }
 {
     let mode = params.mode;
-    match hub.updates(rt, params) {
+    match context.hub.updates(context.rt, params) {
         Ok(feed) => Ok(Response::Stream(mode, Sent::Updates(feed))),
         Err(fault) => Err(unopened(fault)),
     }
@@ -60,16 +67,14 @@ fn begin_asked_updates<N: Wait>(rt: &N, hub: &Hub, params: FeedParams) -> Result
 /// Begins the feed of the log of updates that a query and a body ask for. It costs the reading of both,
 /// and the wait for the log.
 pub(crate) fn begin_updates<N: Wait>(
-    rt: &N,
-    alloc: Global,
-    hub: &Hub,
+    context: &Context<'_, N>,
     query: &[u8],
     body: &[u8],
 ) -> Result<Response, Refusal>
     ensures { Begins BeginsUpdates query.now body.now result }
 {
-    match FeedParams::read(alloc, query, body) {
-        Ok(params) => begin_asked_updates(rt, hub, params),
+    match FeedParams::read(context.alloc, query, body) {
+        Ok(params) => begin_asked_updates(context, params),
         Err(fault) => Err(unread(fault)),
     }
 }

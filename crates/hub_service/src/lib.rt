@@ -4,6 +4,7 @@
 
 mod bulk;
 mod connection;
+mod context;
 mod database;
 mod diff;
 mod documents;
@@ -16,7 +17,6 @@ mod refusal;
 mod response;
 mod sent;
 mod stream;
-mod target;
 
 pub use connection::Connection;
 pub use laws::streams_are_right;

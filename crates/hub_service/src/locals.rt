@@ -8,9 +8,10 @@ ghost use Rattle.hub_service.specs.Calls.{keeps, puts_local, says_local};
 ghost use Rattle.hub_service.specs.Moments.{IsRead};
 ghost use Rattle.hub_service.specs.Said.{IsSaid};
 
+use crate::context::Context;
 use crate::response::{Response, created, ok};
-use crate::target::Target;
 use hub_database::Local;
+use hub_databases::HubDb;
 use hub_document::LocalDoc;
 use hub_http::Refusal;
 use hub_replies::{edit_front, local_doc_body, local_edit_body};
@@ -29,34 +30,39 @@ fn say_local(alloc: Global, id: &str, found: &Option<Local>) -> Result<Response,
 
 /// A local document. It costs the wait for the database, a look in the map of local documents, and the
 /// length of the answer.
-pub(crate) fn get<N: Wait>(target: &Target<'_, N>, id: &str) -> Result<Response, Refusal>
+pub(crate) fn get<N: Wait>(
+    context: &Context<'_, N>,
+    db: &HubDb,
+    id: &str,
+) -> Result<Response, Refusal>
     ensures { IsRead (λ db. says_local (local_of db.locals id.now)) result }
 {
-    let alloc = target.alloc;
-    let found = target.look(|state| state.local_copy(id))?;
+    let alloc = context.alloc;
+    let found = context.look(db, |state| state.local_copy(id))?;
     say_local(alloc, id, &found)
 }
 
 // Keeps a local document. The answer is begun first, so that none is kept that is not answered.
-fn keep<N: Wait>(target: &Target<'_, N>, doc: LocalDoc) -> Result<Response, Refusal>
+fn keep<N: Wait>(context: &Context<'_, N>, db: &HubDb, doc: LocalDoc) -> Result<Response, Refusal>
     ensures { IsRead (λ db. keeps (written db.locals doc)) result }
 {
-    let front = edit_front(target.alloc, doc.id.as_str())?;
-    let count = target.local_put(doc)?;
+    let front = edit_front(context.alloc, doc.id.as_str())?;
+    let count = context.local_put(db, doc)?;
     created(local_edit_body(front, count))
 }
 
 /// Keeps a local document in place of the one of its id. It costs the body's length, the wait for the
 /// database, and two looks in the map of local documents. Where memory is missing, nothing is kept.
 pub(crate) fn put<N: Wait>(
-    target: &Target<'_, N>,
+    context: &Context<'_, N>,
+    db: &HubDb,
     id: &str,
     body: &[u8],
 ) -> Result<Response, Refusal>
     ensures { IsRead (λ db. puts_local db (local_in id.now body.now)) result }
 {
-    match LocalDoc::read(target.alloc, id, body) {
-        Ok(doc) => keep(target, doc),
+    match LocalDoc::read(context.alloc, id, body) {
+        Ok(doc) => keep(context, db, doc),
         Err(fault) => Err(Refusal::from(fault)),
     }
 }

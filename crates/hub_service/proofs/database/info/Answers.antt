@@ -1,4 +1,4 @@
-use Rattle.std.proofs.Common.{◌≡◌, ℕ, Err, rules, sym, subst, ap}
+use Rattle.std.proofs.Common.{◌≡◌, ℕ, List, Err, rules, sym, subst, ap}
 use Rattle.std.specs.Prelude.{Vec}
 use Rattle.std.specs.declared.alloc.Global.{Global}
 use Rattle.hub_database.specs.Database.{Database}
@@ -18,17 +18,19 @@ is_info db info = info ≡ info_of db.journal db.life
 pub returns-in_err-info : goal.returns-in_err-info
 returns-in_err-info g c =
     let same : c.from_residual.result ≡ Err c.in_err-info.field-0.0 = search rules in
-    subst (IsRead (λ db. says_info c.args.name.now db)) (sym same)
-    (unfound_read is_info (λ db. says_info c.args.name.now db) c.in_err-info.field-0.0
+    subst (IsRead (λ db. says_info c.args.db.now db)) (sym same)
+    (unfound_read is_info (λ db. says_info c.args.db.now db) c.in_err-info.field-0.0
     (look_unfound _ is_info (λ db. ⊥) c.in_err-info.field-0.0 c.in_err-info.ensures
     (λ lent given is. search rules)))
 
 pub returns : goal.returns
 returns g c =
+    let name = c.name.result.now in
     let said =
-    said_text (λ (b : Vec ℕ Global). b.items) 200 (info_body c.args.name.now c.in_ok-info.info)
+    said_text (λ (b : Vec ℕ Global). b.items) 200 (info_body name c.in_ok-info.info)
     c.info_body.result c.ok.result c.info_body.ensures c.ok.ensures.said c.ok.ensures.memory in
-    found_read is_info (λ db. says_info c.args.name.now db) c.in_ok-info.info
-    (Body 200 (info_body c.args.name.now c.in_ok-info.info)) c.ok.result
+    subst (λ (n : List ℕ). IsRead (λ db. says_info n db) c.ok.result) c.name.ensures
+    (found_read is_info (λ db. says_info name db) c.in_ok-info.info
+    (Body 200 (info_body name c.in_ok-info.info)) c.ok.result
     (look_found _ is_info c.in_ok-info.info c.in_ok-info.ensures (λ lent given is. search rules)) said
-    (λ db is. ap (λ info. Body 200 (info_body c.args.name.now info)) is)
+    (λ db is. ap (λ info. Body 200 (info_body name info)) is))

@@ -1,7 +1,7 @@
 use Rattle.std.proofs.Common.{sym, subst}
 use Rattle.hub_service.specs.Moments.{IsEdited}
 use Rattle.hub_service.proofs.Looks.{edited_or_not}
-use Rattle.hub_service.proofs.target.Target.write_one.Goals as goal
+use Rattle.hub_service.proofs.context.Context.write_one.Goals as goal
 
 pub returns : goal.returns
 returns g c =

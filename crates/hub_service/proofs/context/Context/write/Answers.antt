@@ -3,7 +3,7 @@ use Rattle.std.specs.Prelude.{IfErr, IfOk}
 use Rattle.hub_http.specs.declared.refusal.Refusal.TheVariants.{NoMemory}
 use Rattle.hub_service.specs.Moments.{IsStored}
 use Rattle.hub_service.proofs.Looks.{stored_whole, unstored}
-use Rattle.hub_service.proofs.target.Target.write.Goals as goal
+use Rattle.hub_service.proofs.context.Context.write.Goals as goal
 
 pub returns-clause-ok : goal.returns-clause-ok
 returns-clause-ok g c =

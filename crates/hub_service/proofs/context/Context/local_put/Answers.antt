@@ -1,7 +1,7 @@
 use Rattle.std.proofs.Common.{sym, subst}
 use Rattle.hub_service.specs.Moments.{IsKept}
 use Rattle.hub_service.proofs.Looks.{kept_or_not}
-use Rattle.hub_service.proofs.target.Target.local_put.Goals as goal
+use Rattle.hub_service.proofs.context.Context.local_put.Goals as goal
 
 pub returns : goal.returns
 returns g c =

@@ -2,7 +2,7 @@ use Rattle.std.proofs.Common.{◌≡◌, rules}
 use Rattle.hub_database.specs.Database.{Database}
 use Rattle.hub_service.specs.Calls.{winner_in}
 use Rattle.hub_service.proofs.Looks.{looked_found}
-use Rattle.hub_service.proofs.target.Target.winner.Goals as goal
+use Rattle.hub_service.proofs.context.Context.winner.Goals as goal
 
 pub returns : goal.returns
 returns g c =

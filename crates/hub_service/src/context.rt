@@ -1,4 +1,4 @@
-//! A database as a connection calls it.
+//! A connection's context, and the calls on a database that it makes.
 
 ghost use Rattle.std.specs.Prelude.{◌≡◌, ◌⊎◌, IfErr, IfOk};
 ghost use Rattle.std.specs.Fn.{FnOnceReturnsAt};
@@ -21,71 +21,74 @@ use hub_shared::{Feed, Plain};
 use std::alloc::Global;
 use std::sync::Wait;
 
-/// A database of a hub, as a connection calls it: each call takes its lock once.
+/// What each answer of a connection needs.
 #[derive(Drop)]
-pub(crate) struct Target<'a, N: Wait> {
-    rt: &'a N,
+pub(crate) struct Context<'h, N: Wait> {
+    /// The threads' runtime, by which a call waits for a lock.
+    pub(crate) rt: &'h N,
     pub(crate) alloc: Global,
-    hub: &'a Hub,
-    db: &'a HubDb,
+    /// The databases, and the log of what happens to them.
+    pub(crate) hub: &'h Hub,
 }
 
-impl<'a, N: Wait> Target<'a, N> {
-    pub(crate) fn new(rt: &'a N, alloc: Global, hub: &'a Hub, db: &'a HubDb) -> Target<'a, N> {
-        Target { rt, alloc, hub, db }
-    }
-
+impl<'h, N: Wait> Context<'h, N> {
     /// What one look at the database is told.
     pub(crate) fn look<T, F: FnOnce(&DbState) -> Result<T, DbFault>>(
         &self,
+        db: &HubDb,
         ask: F,
     ) -> Result<T, Refusal>
         requires { F.IsAlwaysCallable ask }
         ensures { IsLooked (λ db r. FnOnceReturnsAt F.FnOnce ask db r) result }
     {
-        let mut handle = self.db.handle()?;
+        let mut handle = db.handle()?;
         with_refusal(handle.look(self.rt, ask))
     }
 
     /// The winner of a document.
-    pub(crate) fn winner(&self, id: &str) -> Result<Option<Winner>, Refusal>
+    pub(crate) fn winner(&self, db: &HubDb, id: &str) -> Result<Option<Winner>, Refusal>
         ensures { IsFound (λ db found. found ≡ winner_in db id.now) result }
     {
-        self.look(|state| Ok(state.standing()?.winner(id)))
+        self.look(db, |state| Ok(state.standing()?.winner(id)))
     }
 
     /// Stores a local document in place of the one of its id, and says how often it was written.
-    pub(crate) fn local_put(&self, doc: LocalDoc) -> Result<u64, Refusal>
+    pub(crate) fn local_put(&self, db: &HubDb, doc: LocalDoc) -> Result<u64, Refusal>
         ensures { IsKept doc result }
     {
-        let mut handle = self.db.handle()?;
+        let mut handle = db.handle()?;
         with_refusal(handle.local_put(self.rt, doc))
     }
 
     /// Opens a feed.
-    pub(crate) fn open_feed(&self, params: FeedParams) -> Result<Feed<Plain>, OpenFault>
+    pub(crate) fn open_feed(&self, db: &HubDb, params: FeedParams) -> Result<Feed<Plain>, OpenFault>
         ensures new { IfOk result (λ feed. IsNew (params_asked params) feed) }
         ensures err { IfErr result (λ e. (e ≡ OpenFault.NoMemory)
             ⊎ HasDatabase (λ db. e ≡ opening_fault (hosted_of db))) }
     {
-        let Ok(mut handle) = self.db.handle() else {
+        let Ok(mut handle) = db.handle() else {
             return Err(OpenFault::NoMemory);
         };
         handle.open_feed(self.rt, params)
     }
 
     /// Stores one edit whose revision is made here, and notes that in the log of updates.
-    pub(crate) fn write_one(&self, doc: Doc) -> Result<Edited, Refusal>
+    pub(crate) fn write_one(&self, db: &HubDb, doc: Doc) -> Result<Edited, Refusal>
         ensures { IsEdited doc result }
     {
-        with_refusal(self.hub.write_one(self.rt, self.db, doc))
+        with_refusal(self.hub.write_one(self.rt, db, doc))
     }
 
     /// Stores documents, and notes that in the log of updates.
-    pub(crate) fn write(&self, docs: Vec<Doc>, new_edits: bool) -> Result<Written, Refusal>
+    pub(crate) fn write(
+        &self,
+        db: &HubDb,
+        docs: Vec<Doc>,
+        new_edits: bool,
+    ) -> Result<Written, Refusal>
         ensures ok { IfOk result (λ w. IsStored new_edits docs.items w) }
         ensures err { IfErr result (λ e. e ≡ Refusal.NoMemory) }
     {
-        with_refusal(self.hub.write(self.rt, self.db, docs, new_edits))
+        with_refusal(self.hub.write(self.rt, db, docs, new_edits))
     }
 }

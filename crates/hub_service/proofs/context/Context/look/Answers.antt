@@ -1,5 +1,5 @@
 use Rattle.std.proofs.Common.{inr}
-use Rattle.hub_service.proofs.target.Target.look.Goals as goal
+use Rattle.hub_service.proofs.context.Context.look.Goals as goal
 
 pub returns : goal.returns
 returns g c =
