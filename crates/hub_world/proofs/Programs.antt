@@ -1,9 +1,8 @@
 -- What each call of the program does to the core.
 use Rattle.std.proofs.Common.{◌≡◌, ◌∙◌, ℕ, ◌+◌, ◌≤◌, List, [], ◌∷◌, ◌++◌, map, length, true, false, Bool}
 use Rattle.std.proofs.Common.{refl, sym, ap, subst, arith, ◌⊎◌, inl, inr}
-use Rattle.std.specs.Prelude.{Option, Some, None, All, IsSome, option_and_then, unwrap_or, drop}
+use Rattle.std.specs.Prelude.{Option, Some, None, All, option_and_then, unwrap_or, drop}
 use Rattle.std.specs.Prelude.{if◌then◌else◌, ⊤}
-use Rattle.std.proofs.lemmas.Option.{same_Some}
 use Rattle.hub_model.specs.Entries.{entry_in, changed, without}
 use Rattle.hub_model.specs.Row.{ChangeRow}
 use Rattle.hub_model.specs.RightlyHanded.{ChangeItem}
@@ -169,7 +168,7 @@ module _ (program new : Program) (id : FeedId) (of : IsWorld program) where
     found = due_lane (core_of program) id.number item gives.0 of.shown.0 of.shown.1
 
     -- it is the last of the lane
-    pub given_back : back id.number (core_of new).lanes ≡ Some item
+    given_back : back id.number (core_of new).lanes ≡ Some item
     given_back = ap (back id.number) given_lanes ∙
         (pushed_back id.number item (core_of program).lanes found.0 found.1).0
 
@@ -298,7 +297,7 @@ module _ (program new : Program) (id : FeedId) (of : IsWorld program)
       beat_found : (items : List ChangeItem) × (entry_in id.number (core_of program).lanes ≡ Some items)
       beat_found = beat_lane (core_of program) id.number due of.shown.0 of.shown.1
 
-      pub beat_back : back id.number (core_of new).lanes ≡ Some Beat
+      beat_back : back id.number (core_of new).lanes ≡ Some Beat
       beat_back =
           ap (back id.number) beat_lanes
           ∙ (pushed_back id.number Beat (core_of program).lanes beat_found.0 beat_found.1).0

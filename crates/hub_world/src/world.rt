@@ -139,7 +139,8 @@ impl World {
     }
 
     // A heartbeat that may be handed goes into the feed's lane. `Locked::beat` tells one that went there as
-    // it tells that none was due, so it is asked before. A heartbeat that is due and not refused is in the lane.
+    // it tells that none was due, so it is asked before. A due heartbeat that the lane does not refuse is its
+    // last item.
     fn beat(&mut self, feed: FeedId) -> Reply
         ensures { Applies self.old (Event.Heartbeat feed) result self.new }
     {
