@@ -1,7 +1,8 @@
 use Rattle.std.proofs.Common.{◌≡◌, ◌∙◌, ap, sym, subst, map, true, rules}
 use Rattle.std.specs.Prelude.{All}
 use Rattle.hub_database.specs.Reads.{open_rev}
-use Rattle.hub_follower.specs.Views.{found_edit, FoundHasPath}
+use Rattle.hub_follower.specs.Views.{found_edit}
+use Rattle.hub_follower.specs.Fetched.{FoundHasPath}
 use Rattle.hub_follower.proofs.Served.{opened_shown, opened_paths}
 use Rattle.hub_follower.proofs.db_peer.documents_of.Goals as goal
 

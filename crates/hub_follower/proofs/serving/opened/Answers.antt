@@ -2,7 +2,8 @@ use Rattle.std.proofs.Common.{◌∙◌, ap, sym, subst, map}
 use Rattle.std.specs.Prelude.{All}
 use Rattle.hub_model.specs.Missing.{Asked}
 use Rattle.hub_model.specs.Walk.{shown}
-use Rattle.hub_follower.specs.Views.{found_edit, FoundHasPath}
+use Rattle.hub_follower.specs.Views.{found_edit}
+use Rattle.hub_follower.specs.Fetched.{FoundHasPath}
 use Rattle.hub_follower.proofs.Served.{opened_shown, opened_paths}
 use Rattle.hub_follower.proofs.serving.opened.Goals as goal
 

@@ -11,4 +11,4 @@ accept-requires-clause-fits c =
     let same = ap (λ (z : world.World). z.follower) c.self.view_is ∙ c.answered.ensures.follower in
     subst (λ z. follow.IsAnswerToNext (follow.next_call z) (answer_of c.in-Ok-Some.answer)) (sym same)
     (answered_fits c.args.self.now c.answered.new.self
-    (follow.next_call c.args.self.now.follower) c.in-Ok-Some.answer h).0
+    (follow.next_call c.args.self.now.follower) c.in-Ok-Some.answer h)
