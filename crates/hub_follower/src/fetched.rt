@@ -1,6 +1,6 @@
 //! What a round fetched: revisions and documents that have their histories.
 
-ghost use Rattle.std.specs.Prelude.{◌≡◌, ◌++◌, ◌∷◌, [], ◌<◌, length, All, OnOk, OnErr, is_empty};
+ghost use Rattle.std.specs.Prelude.{◌≡◌, ◌++◌, ◌∷◌, [], length, nat_eq, All, OnOk, OnErr};
 ghost use Rattle.hub_follower.specs.Fetched.{HasPath, FoundHasPath};
 
 use hub_database::OpenRev;
@@ -85,7 +85,7 @@ impl FetchedDocs {
 
     /// Whether there is none. Constant time.
     pub(crate) fn is_empty(&self) -> bool
-        ensures { result ≡ is_empty self.now }
+        ensures { result ≡ nat_eq (length self.now) 0 }
     {
         self.list.is_empty()
     }
