@@ -2,7 +2,7 @@ use Rattle.std.proofs.Common.{◌≡◌, ◌∙◌, ◌<◌, ◌++◌, ◌∷◌
 use Rattle.std.proofs.Common.{append_assoc, length, length-append, ◌+◌, drop, Err, get_or}
 use Rattle.std.specs.Prelude.{All, string_bytes}
 use Rattle.std.proofs.lemmas.List.{drop_more}
-use Rattle.std.proofs.lemmas.List.Elements.{All-tail, All-head, All-push}
+use Rattle.std.proofs.lemmas.List.Elements.{All-tail}
 use Rattle.hub_model.specs.Missing.{Asked}
 use Rattle.hub_model.specs.Revision.{Revision}
 use Rattle.hub_database.specs.declared.answers.OpenRev.TheVariants.{Found, Missing}
@@ -42,9 +42,6 @@ loop-opened-preserved c =
       left = ap (λ z. opens c.args.asked.id (drop (at + 1) revs) rest z) c.in-Ok.ensures.items
           ∙ (ap (λ z. opens c.args.asked.id z (Found doc ∷ rest) got) (sym (drop_more revs at first below))
           ∙ (ap (λ z. opens c.args.asked.id (drop at revs) z got) (sym here) ∙ i.left));
-      paths =
-          subst (λ z. All HasPath z) (sym c.in-Ok.ensures.items)
-          (All-push HasPath got doc i.paths (All-head FoundHasPath (Found doc) rest bring));
       bring = All-tail FoundHasPath (Found doc) rest bring;
     }
 
