@@ -9,6 +9,9 @@ pub accept-requires : goal.accept-requires
 accept-requires c =
     let h = rw c.in-Ok-Some.field-0-is at c.in-Ok-Some.ensures.answered in
     let same = ap (λ (z : world.World). z.follower) c.self.view_is ∙ c.answered.ensures.follower in
-    subst (λ z. follow.IsAnswerToNext (follow.next_call z) (answer_of c.in-Ok-Some.answer)) (sym same)
-    (answered_fits c.args.self.now c.answered.new.self
-    (follow.next_call c.args.self.now.follower) c.in-Ok-Some.answer h)
+    record {
+      fits =
+          subst (λ z. follow.IsAnswerToNext (follow.next_call z) (answer_of c.in-Ok-Some.answer)) (sym same)
+          (answered_fits c.args.self.now c.answered.new.self
+          (follow.next_call c.args.self.now.follower) c.in-Ok-Some.answer h);
+    }
