@@ -12,7 +12,7 @@ use Rattle.hub_follow_model.specs.World as world
 use Rattle.hub_follow_model.specs.declared.seq.Seq.{Seq}
 use Rattle.hub_follow_model.proofs.Fitting.{answers_fit}
 use Rattle.hub_follow_model.proofs.Theorem.{claimed_within}
-use Rattle.hub_follower.specs.Views.{answer_of, AnswerHasPaths}
+use Rattle.hub_follower.specs.Views.{answer_of}
 use Rattle.hub_follower.specs.Worlds.{IsWithinNext, HasPlace, HasAnswered}
 use Rattle.hub_follower.specs.declared.call.Answer.{Answer}
 
@@ -47,9 +47,8 @@ within_next (follow.Busy s follow.TargetCheckpoint) len h = tt
 -- an answer to the next call is one that the follower takes
 pub answered_fits : (w mid : world.World) (next : Option follow.Call) (answer : Answer)
     → HasAnswered w next (Some answer) mid → follow.IsAnswerToNext next (answer_of answer)
-    × AnswerHasPaths answer
 answered_fits w mid None answer h = absurd h
-answered_fits w mid (Some call) answer h = (answers_fit w mid call (answer_of answer) h.0, h.1)
+answered_fits w mid (Some call) answer h = answers_fit w mid call (answer_of answer) h
 
 -- ---- sessions
 

@@ -1,3 +1,4 @@
+pub mod Fetched
 pub mod Views
 pub mod Peers
 pub mod LogText

@@ -1,10 +1,9 @@
 -- What the follower's values stand for (own).
-use Rattle.std.specs.Prelude.{◌≡◌, map, true, All, Option, Some, None, Result, Err, string_bytes, is_some}
+use Rattle.std.specs.Prelude.{◌≡◌, map, Option, Some, None, Result, Err, string_bytes}
 use Rattle.hub_model.specs.Journal.{Edit, head_of}
 use Rattle.hub_database.specs.Edits.{edit_of}
 use Rattle.hub_database.specs.declared.answers.OpenRev.{OpenRev}
 use Rattle.hub_database.specs.declared.answers.OpenRev.TheVariants.{Found, Missing}
-use Rattle.hub_document.specs.declared.doc.Doc.{Doc}
 use Rattle.hub_follow_model.specs.Follower as follow
 use Rattle.hub_follower.specs.declared.fault.FollowFault.{FollowFault}
 use Rattle.hub_follower.specs.declared.fault.FollowFault.TheVariants as told
@@ -24,8 +23,8 @@ use Rattle.hub_follower.specs.declared.call.Answer.TheVariants as says
 abbrev pub phase_of : Phase → follow.Phase
 phase_of Listing = follow.Listing
 phase_of (Comparison asked last) = follow.Comparison asked.items last
-phase_of (Retrieval next later got last) = follow.Retrieval next later.items (map edit_of got.items) last
-phase_of (Storage got last) = follow.Storage (map edit_of got.items) last
+phase_of (Retrieval next later got last) = follow.Retrieval next later.items (map edit_of got) last
+phase_of (Storage got last) = follow.Storage (map edit_of got) last
 phase_of SourceCheckpoint = follow.SourceCheckpoint
 phase_of TargetCheckpoint = follow.TargetCheckpoint
 
@@ -53,7 +52,7 @@ abbrev pub answer_of : Answer → follow.Answer
 answer_of (says.Log log) = follow.LogAnswer log
 answer_of (says.Changes c) = follow.ChangesAnswer c.rows.items c.last_seq c.life
 answer_of (says.RevsDiff diffs) = follow.RevsDiffAnswer diffs.items
-answer_of (says.OpenRevs found) = follow.OpenRevsAnswer (map found_edit found.items)
+answer_of (says.OpenRevs found) = follow.OpenRevsAnswer (map found_edit found)
 answer_of (says.Merge replies) = follow.MergeAnswer replies
 answer_of says.Put = follow.PutAnswer
 
@@ -69,34 +68,6 @@ call_of (asks.PutSource s) =
     follow.LocalPut follow.Source (follow.checkpoint_log s.now s.now.source_history)
 call_of (asks.PutTarget s) =
     follow.LocalPut follow.Target (follow.checkpoint_log s.now s.now.target_history)
-
--- the document has its history
-abbrev pub HasPath : Doc → Type 0
-HasPath doc = is_some doc.path ≡ true
-
--- a revision that was found has its history
-abbrev pub FoundHasPath : OpenRev → Type 0
-FoundHasPath (Found doc) = HasPath doc
-FoundHasPath (Missing r) = Unit {0}
-
--- the revisions of such an answer have their histories
-abbrev pub AnswerHasPaths : Answer → Type 0
-AnswerHasPaths (says.OpenRevs found) = All FoundHasPath found.items
-AnswerHasPaths answer = Unit {0}
-
--- the documents in hand have their histories
-abbrev pub PhaseHasPaths : Phase → Type 0
-PhaseHasPaths (Retrieval next later got last) = All HasPath got.items
-PhaseHasPaths (Storage got last) = All HasPath got.items
-PhaseHasPaths phase = Unit {0}
-
-abbrev pub NextHasPaths : Next → Type 0
-NextHasPaths (goes.Busy phase) = PhaseHasPaths phase
-NextHasPaths next = Unit {0}
-
-abbrev pub StateHasPaths : State → Type 0
-StateHasPaths (Busy session phase) = PhaseHasPaths phase
-StateHasPaths state = Unit {0}
 
 -- the fault is the one of this outcome, the document by its id and head; memory may run out in any
 abbrev pub IsFaultOf : {A : Type 0} → FollowFault → Result A follow.Fault → Type 0

@@ -9,7 +9,7 @@ use Rattle.hub_follow_model.specs.Follower as follow
 use Rattle.hub_follow_model.specs.declared.seq.Seq.{Seq}
 use Rattle.hub_follow_model.specs.ReplicationLog.{ReplicationLog}
 use Rattle.hub_follow_model.specs.World as world
-use Rattle.hub_follower.specs.Views.{answer_of, AnswerHasPaths}
+use Rattle.hub_follower.specs.Views.{answer_of}
 use Rattle.hub_follower.specs.declared.call.Answer.{Answer}
 use Rattle.std.specs.Prelude.{string_bytes}
 use Rattle.hub_follower.specs.declared.world.FollowEvent.{FollowEvent}
@@ -58,7 +58,7 @@ HasAnswered w None None new = new ≡ w
 HasAnswered w None (Some answer) new = ⊥
 HasAnswered w (Some call) None new = ⊥
 HasAnswered w (Some call) (Some answer) new =
-    world.IsAnswered w call (answer_of answer) new × AnswerHasPaths answer
+    world.IsAnswered w call (answer_of answer) new
 
 -- the sequence above which changes are asked for next, where they are
 abbrev pub changes_asked : Option follow.Call → Option Seq

@@ -1,9 +1,10 @@
 //! What a follower asks of its peers, and what they answer.
 
+use crate::fetched::FetchedRevs;
 use crate::log::Log;
 use crate::peer::Changes;
 use crate::session::Session;
-use hub_database::{Diff, OpenRev, Replies};
+use hub_database::{Diff, Replies};
 use hub_document::{Asked, Doc};
 use hub_follow_model::Seq;
 
@@ -37,7 +38,7 @@ pub enum Answer {
     /// What is missing.
     RevsDiff(Vec<Diff>),
     /// The revisions, in the order asked.
-    OpenRevs(Vec<OpenRev>),
+    OpenRevs(FetchedRevs),
     /// What became of each document.
     Merge(Replies),
     /// The log is kept.

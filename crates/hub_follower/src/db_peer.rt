@@ -1,16 +1,17 @@
 //! Databases that threads share, as a follower's peers.
 
-ghost use Rattle.std.specs.Prelude.{◌≡◌, ◌≤◌, true, map, length, All, IfOk, IfErr, OnOk};
+ghost use Rattle.std.specs.Prelude.{◌≡◌, ◌≤◌, true, map, length, IfOk, IfErr, OnOk};
 ghost use Rattle.hub_follow_model.specs.Follower as follow;
 ghost use Rattle.hub_database.specs.Edits.{edit_of};
 ghost use Rattle.hub_follower.specs.Peers.{IsCountedFault};
 ghost use Rattle.hub_follower.specs.Shared.{IsShared};
-ghost use Rattle.hub_follower.specs.Views.{found_edit, FoundHasPath};
+ghost use Rattle.hub_follower.specs.Views.{found_edit};
 
 use crate::copies::{copy_asked, copy_docs};
+use crate::fetched::FetchedRevs;
 use crate::log::Log;
 use crate::peer::{CallFault, Changes, Peer};
-use hub_database::{Diff, OpenRev, Replies};
+use hub_database::{Diff, Replies};
 use hub_document::{Asked, ChangeRow, Doc, DocFault, LocalDoc, OpenRevs};
 use hub_feed::OpenFault;
 use hub_filter::Filter;
@@ -142,11 +143,10 @@ fn documents_of<R: Wait>(
     alloc: Global,
     handle: &mut Handle<Plain>,
     asked: &Asked,
-) -> Result<Vec<OpenRev>, CallFault>
+) -> Result<FetchedRevs, CallFault>
     ensures ok { IfOk result (λ found. IsShared (follow.OpenRevs asked.now.id asked.now.revs)
-        (follow.OpenRevsAnswer (map found_edit found.items))) }
-    ensures many { IfOk result (λ found. length found.items ≡ length asked.now.revs) }
-    ensures paths { IfOk result (λ found. All FoundHasPath found.items) }
+        (follow.OpenRevsAnswer (map found_edit found))) }
+    ensures many { IfOk result (λ found. length found ≡ length asked.now.revs) }
 {
     let Ok(revs) = asked.revs.copy(alloc) else {
         return Err(CallFault::NoMemory);
@@ -154,7 +154,7 @@ fn documents_of<R: Wait>(
     let id = asked.id.as_str();
     let which = OpenRevs::Listed(revs);
     match handle.look(rt, |state| state.open_revs(id, &which, true)) {
-        Ok(found) => Ok(found),
+        Ok(found) => Ok(FetchedRevs::new(found)),
         Err(fault) => Err(CallFault::from(fault)),
     }
 }
@@ -294,7 +294,7 @@ impl<'a, R: Wait> Peer for DbPeer<'a, R> {
         self.counted(diffs)
     }
 
-    fn open_revs(&mut self, asked: &Asked) -> Result<Vec<OpenRev>, CallFault> {
+    fn open_revs(&mut self, asked: &Asked) -> Result<FetchedRevs, CallFault> {
         let found = documents_of(self.rt, self.alloc, &mut self.handle, asked);
         self.counted(found)
     }

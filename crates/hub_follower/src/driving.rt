@@ -5,7 +5,7 @@ ghost use Rattle.hub_follow_model.specs.Follower as follow;
 ghost use Rattle.hub_follow_model.specs.World as world;
 ghost use Rattle.hub_follower.specs.Peers.{standing_of, Serves, Loses, Steps, FailsSo, Breaks, Reaches};
 ghost use Rattle.hub_follower.specs.Peers.{Idles, IsCountedOf, IsCountedOfBoth, IsFaultOfCall};
-ghost use Rattle.hub_follower.specs.Views.{answer_of, call_of, AnswerHasPaths};
+ghost use Rattle.hub_follower.specs.Views.{answer_of, call_of};
 
 use crate::call::{Answer, Call};
 use crate::fault::FollowFault;
@@ -77,7 +77,6 @@ fn made<S: Peer, T: Peer>(
     ensures ok { IfOk result (λ a. Serves S.gives T.gives (call_of call.entry) (answer_of a)
         source.old target.old source.new target.new) }
     ensures fits { IfOk result (λ a. follow.IsAnswerTo (call_of call.entry) (answer_of a)) }
-    ensures paths { IfOk result AnswerHasPaths }
     ensures err { IfErr result (λ _. Loses S.loses T.loses (call_of call.entry)
         source.old target.old source.new target.new) }
     ensures call { IfErr result IsFaultOfCall }

@@ -4,9 +4,10 @@ ghost use Rattle.std.specs.Prelude.{◌≡◌, ◌≢◌, ◌⊎◌, ◌≤◌, 
 ghost use Rattle.hub_follow_model.specs.Follower as follow;
 ghost use Rattle.hub_follower.specs.Faults.{IsCountedDown};
 
+use crate::fetched::FetchedRevs;
 use crate::log::Log;
 use crate::peer::{CallFault, Changes, Peer};
-use hub_database::{Diff, OpenRev, Replies};
+use hub_database::{Diff, Replies};
 use hub_document::{Asked, Doc};
 use hub_follow_model::Seq;
 
@@ -162,7 +163,7 @@ impl<P: Peer> Peer for FaultPeer<P> {
         }
     }
 
-    fn open_revs(&mut self, asked: &Asked) -> Result<Vec<OpenRev>, CallFault> {
+    fn open_revs(&mut self, asked: &Asked) -> Result<FetchedRevs, CallFault> {
         match self.next_loss() {
             None => self.peer.open_revs(asked),
             Some(Loss::Before) => Err(self.fault()),

@@ -1,21 +1,20 @@
 //! A follower as a machine that makes no call itself.
 
-ghost use Rattle.std.specs.Prelude.{◌≡◌, true, map, option_map, string_bytes, All, Ok, OnOk, IfOk, IfErr};
+ghost use Rattle.std.specs.Prelude.{◌≡◌, true, map, option_map, string_bytes, Ok, OnOk, IfOk, IfErr};
 ghost use Rattle.hub_follow_model.specs.Follower as follow;
 ghost use Rattle.hub_follow_model.specs.World as world;
 ghost use Rattle.hub_database.specs.Edits.{edit_of};
 ghost use Rattle.hub_follower.specs.Peers.{calls_left, IsOwnFault};
 ghost use Rattle.hub_follower.specs.Views.{answer_of, call_of, follower_of, phase_of, follower_behind};
-ghost use Rattle.hub_follower.specs.Views.{StateHasPaths, PhaseHasPaths};
-ghost use Rattle.hub_follower.specs.Views.{NextHasPaths, HasPath, AnswerHasPaths};
 ghost use Rattle.hub_follower.specs.Views.{IsFaultOf};
 
 use crate::call::{Answer, Call};
 use crate::fault::FollowFault;
+use crate::fetched::FetchedDocs;
 use crate::log::Log;
 use crate::phase::{self, Next, Phase};
 use crate::session::Session;
-use hub_document::{Asked, Doc};
+use hub_document::Asked;
 use hub_follow_model::Seq;
 use std::alloc::Global;
 use std::collections::VecDeque;
@@ -54,18 +53,15 @@ impl Model for FollowCore {
 
     ghost Value = { follow.Follower };
 
-    ghost use Rattle.hub_follower.specs.Views.{follower_of, StateHasPaths};
+    ghost use Rattle.hub_follower.specs.Views.{follower_of};
 
     ghost view = { λ c. follower_of c.state };
-
-    ghost invariant = { λ c. StateHasPaths c.state };
 }
 
 // The answer to `changes`.
 fn changed(alloc: Global, session: &Session, answer: Answer) -> Result<Next, FollowFault>
     ensures ok { IfOk result (λ goes. follow.phase_result session.now follow.Listing (answer_of answer)
         ≡ Ok (follower_behind session.now goes)) }
-    ensures paths { IfOk result NextHasPaths }
     ensures err { IfErr result (λ e.
         IsFaultOf e (follow.phase_result session.now follow.Listing (answer_of answer))) }
 {
@@ -93,7 +89,6 @@ fn missing(
     ensures ok { IfOk result (λ goes.
         follow.phase_result session.now (follow.Comparison asked.items last) (answer_of answer)
         ≡ Ok (follower_behind session.now goes)) }
-    ensures paths { IfOk result NextHasPaths }
     ensures err { IfErr result (λ e. IsFaultOf e
         (follow.phase_result session.now (follow.Comparison asked.items last) (answer_of answer))) }
 {
@@ -112,21 +107,18 @@ fn opened(
     session: &Session,
     wanted: Asked,
     later: VecDeque<Asked>,
-    got: Vec<Doc>,
+    got: FetchedDocs,
     last: Seq,
     answer: Answer,
 ) -> Result<Next, FollowFault>
     requires fits { follow.IsAnswerTo (follow.OpenRevs wanted.id wanted.revs) (answer_of answer) }
-    requires brings { AnswerHasPaths answer }
-    requires paths { All HasPath got.items }
     ensures ok { IfOk result (λ goes.
         follow.phase_result session.now
-        (follow.Retrieval wanted later.items (map edit_of got.items) last) (answer_of answer)
+        (follow.Retrieval wanted later.items (map edit_of got) last) (answer_of answer)
         ≡ Ok (follower_behind session.now goes)) }
-    ensures paths { IfOk result NextHasPaths }
     ensures err { IfErr result (λ e.
         IsFaultOf e (follow.phase_result session.now
-        (follow.Retrieval wanted later.items (map edit_of got.items) last) (answer_of answer))) }
+        (follow.Retrieval wanted later.items (map edit_of got) last) (answer_of answer))) }
 {
     match answer {
         Answer::OpenRevs(found) => match phase::documents_behind(wanted, found, got) {
@@ -142,16 +134,14 @@ fn opened(
 }
 
 // The answer to the merge.
-fn merged(session: &Session, got: Vec<Doc>, last: Seq, answer: Answer) -> Result<Next, FollowFault>
-    requires fits { follow.IsAnswerTo (follow.Merge (map edit_of got.items)) (answer_of answer) }
-    requires paths { All HasPath got.items }
+fn merged(session: &Session, got: FetchedDocs, last: Seq, answer: Answer) -> Result<Next, FollowFault>
+    requires fits { follow.IsAnswerTo (follow.Merge (map edit_of got)) (answer_of answer) }
     ensures ok { IfOk result (λ goes.
-        follow.phase_result session.now (follow.Storage (map edit_of got.items) last) (answer_of answer)
+        follow.phase_result session.now (follow.Storage (map edit_of got) last) (answer_of answer)
         ≡ Ok (follower_behind session.now goes)) }
-    ensures paths { IfOk result NextHasPaths }
     ensures err { IfErr result (λ e.
         IsFaultOf e (follow.phase_result session.now
-        (follow.Storage (map edit_of got.items) last) (answer_of answer))) }
+        (follow.Storage (map edit_of got) last) (answer_of answer))) }
 {
     match answer {
         Answer::Merge(replies) => match phase::first_refusal(got, replies.as_slice()) {
@@ -171,7 +161,6 @@ fn source_written(session: &Session, answer: Answer) -> Result<Next, FollowFault
     ensures ok { IfOk result (λ goes.
         follow.phase_result session.now follow.SourceCheckpoint (answer_of answer)
         ≡ Ok (follower_behind session.now goes)) }
-    ensures paths { IfOk result NextHasPaths }
     ensures err { IfErr result (λ e.
         IsFaultOf e (follow.phase_result session.now follow.SourceCheckpoint (answer_of answer))) }
 {
@@ -190,7 +179,6 @@ fn target_written(session: &Session, answer: Answer) -> Result<Next, FollowFault
     ensures ok { IfOk result (λ goes.
         follow.phase_result session.now follow.TargetCheckpoint (answer_of answer)
         ≡ Ok (follower_behind session.now goes)) }
-    ensures paths { IfOk result NextHasPaths }
     ensures err { IfErr result (λ e.
         IsFaultOf e (follow.phase_result session.now follow.TargetCheckpoint (answer_of answer))) }
 {
@@ -212,11 +200,8 @@ fn answered(
     answer: Answer,
 ) -> Result<Next, FollowFault>
     requires fits { follow.IsAnswerTo (follow.phase_call session.now (phase_of phase)) (answer_of answer) }
-    requires brings { AnswerHasPaths answer }
-    requires paths { PhaseHasPaths phase }
     ensures ok { IfOk result (λ goes. follow.phase_result session.now (phase_of phase) (answer_of answer)
         ≡ Ok (follower_behind session.now goes)) }
-    ensures paths { IfOk result NextHasPaths }
     ensures err { IfErr result (λ e.
         IsFaultOf e (follow.phase_result session.now (phase_of phase) (answer_of answer))) }
 {
@@ -234,9 +219,7 @@ fn answered(
 
 // The session that goes on so.
 fn gone_on(session: Session, next: Next) -> State
-    requires { NextHasPaths next }
     ensures value { follower_of result ≡ follower_behind session next }
-    ensures paths { StateHasPaths result }
 {
     match next {
         Next::Ready => State::Ready(session),
@@ -248,7 +231,6 @@ fn gone_on(session: Session, next: Next) -> State
 // What a state without its phase is.
 fn failed(state: State) -> State
     ensures value { follower_of result ≡ follow.after_failure (follower_of state) }
-    ensures paths { StateHasPaths result }
 {
     match state {
         State::Ready(session) => State::Ready(session),
@@ -262,13 +244,10 @@ fn failed(state: State) -> State
 // The state after an answer, with the fault of one that fails.
 fn after(alloc: Global, state: State, answer: Answer) -> (State, Result<(), FollowFault>)
     requires fits { follow.IsAnswerToNext (follow.next_call (follower_of state)) (answer_of answer) }
-    requires brings { AnswerHasPaths answer }
-    requires paths { StateHasPaths state }
     ensures ok { OnOk result.1 (follow.answer_result (follower_of state) (answer_of answer)
         ≡ Ok (follower_of result.0)) }
     ensures err { IfErr result.1 (λ e. (follower_of result.0 ≡ follow.after_failure (follower_of state))
         × IsFaultOf e (follow.answer_result (follower_of state) (answer_of answer))) }
-    ensures paths { StateHasPaths result.0 }
 {
     match state {
         State::SourceStart(session_id) => match answer {
@@ -391,7 +370,7 @@ impl FollowCore {
             State::Busy(_session, Phase::Retrieval(next, _later, _got, _last)) => Some(
                 Call::OpenRevs(next),
             ),
-            State::Busy(_session, Phase::Storage(docs, _last)) => Some(Call::Merge(docs)),
+            State::Busy(_session, Phase::Storage(docs, _last)) => Some(Call::Merge(docs.as_slice())),
             State::Busy(session, Phase::SourceCheckpoint) => Some(Call::PutSource(session)),
             State::Busy(session, Phase::TargetCheckpoint) => Some(Call::PutTarget(session)),
         }
@@ -402,8 +381,7 @@ impl FollowCore {
     /// `NoMemory`. After an error the phase is dropped, and the place stays.
     pub fn accept(&mut self, alloc: Global, answer: Answer) -> Result<(), FollowFault>
         requires fits { follow.IsAnswerToNext (follow.next_call self.old) (answer_of answer) }
-        requires brings { AnswerHasPaths answer }
-        ensures ok { OnOk result (follow.answer_result self.old (answer_of answer) ≡ Ok self.new) }
+            ensures ok { OnOk result (follow.answer_result self.old (answer_of answer) ≡ Ok self.new) }
         ensures err { IfErr result (λ e. (self.new ≡ follow.after_failure self.old)
             × IsFaultOf e (follow.answer_result self.old (answer_of answer))) }
         ensures own { IfErr result IsOwnFault }

@@ -8,7 +8,7 @@ ghost use Rattle.hub_follow_model.specs.World as world;
 ghost use Rattle.hub_model.specs.Outcome.{merges_all};
 ghost use Rattle.hub_model.specs.Row.{ChangeRow as Row};
 ghost use Rattle.hub_database.specs.Edits.{edit_of};
-ghost use Rattle.hub_follower.specs.Views.{answer_of, call_of, AnswerHasPaths};
+ghost use Rattle.hub_follower.specs.Views.{answer_of, call_of};
 ghost use Rattle.hub_follower.specs.Worlds.{world_of, IsWithin, IsAnswerOf};
 
 use crate::call::{Answer, Call};
@@ -102,7 +102,6 @@ impl Pair {
         ensures answered { IfOk result (λ answer. (sessions : List (List ℕ)) (follower : follow.Follower)
             → world.IsAnswered (world_of self.now sessions follower) (follow.Changes since) (answer_of answer)
             (world_of self.now sessions follower)) }
-        ensures paths { IfOk result AnswerHasPaths }
     {
         let since = since.counted_in(self.source.life());
         match serving::changes(&self.source, since) {
@@ -116,7 +115,6 @@ impl Pair {
         ensures answered { IfOk result (λ answer. (sessions : List (List ℕ)) (follower : follow.Follower)
             → world.IsAnswered (world_of self.now sessions follower) (follow.RevsDiff asked.now)
             (answer_of answer) (world_of self.now sessions follower)) }
-        ensures paths { IfOk result AnswerHasPaths }
     {
         match serving::missing(self.alloc, &self.target, asked) {
             Ok(diffs) => Ok(Answer::RevsDiff(diffs)),
@@ -130,7 +128,6 @@ impl Pair {
             → world.IsAnswered (world_of self.now sessions follower)
             (follow.OpenRevs asked.now.id asked.now.revs) (answer_of answer)
             (world_of self.now sessions follower)) }
-        ensures paths { IfOk result AnswerHasPaths }
     {
         match serving::opened(self.alloc, &self.source, asked) {
             Ok(found) => Ok(Answer::OpenRevs(found)),
@@ -143,7 +140,6 @@ impl Pair {
         ensures answered { IfOk result (λ answer. (sessions : List (List ℕ)) (follower : follow.Follower)
             → world.IsAnswered (world_of self.old sessions follower) (follow.Merge (map edit_of docs.now))
             (answer_of answer) (world_of self.new sessions follower)) }
-        ensures paths { IfOk result AnswerHasPaths }
     {
         match serving::merged(self.alloc, &mut self.target, docs) {
             Ok(replies) => Ok(Answer::Merge(replies)),
@@ -157,7 +153,6 @@ impl Pair {
             → world.IsAnswered (world_of self.old sessions follower)
             (follow.LocalPut follow.Source (follow.checkpoint_log session.now session.now.source_history))
             (answer_of answer) (world_of self.new sessions follower)) }
-        ensures paths { IfOk result AnswerHasPaths }
     {
         let log = session.source_log(self.alloc)?;
         self.source_log = Some(log);
@@ -170,7 +165,6 @@ impl Pair {
             → world.IsAnswered (world_of self.old sessions follower)
             (follow.LocalPut follow.Target (follow.checkpoint_log session.now session.now.target_history))
             (answer_of answer) (world_of self.new sessions follower)) }
-        ensures paths { IfOk result AnswerHasPaths }
     {
         let log = session.target_log(self.alloc)?;
         self.target_log = Some(log);
@@ -182,7 +176,6 @@ impl Pair {
         ensures answered { IfOk result (λ answer. (sessions : List (List ℕ)) (follower : follow.Follower)
             → world.IsAnswered (world_of self.now sessions follower) (follow.LocalGet follow.Source)
             (answer_of answer) (world_of self.now sessions follower)) }
-        ensures paths { IfOk result AnswerHasPaths }
     {
         let log = copied(self.alloc, &self.source_log)?;
         Ok(Answer::Log(log))
@@ -193,7 +186,6 @@ impl Pair {
         ensures answered { IfOk result (λ answer. (sessions : List (List ℕ)) (follower : follow.Follower)
             → world.IsAnswered (world_of self.now sessions follower) (follow.LocalGet follow.Target)
             (answer_of answer) (world_of self.now sessions follower)) }
-        ensures paths { IfOk result AnswerHasPaths }
     {
         let log = copied(self.alloc, &self.target_log)?;
         Ok(Answer::Log(log))
@@ -221,7 +213,6 @@ impl Pair {
         ensures answered { IfOk result (λ answer. (sessions : List (List ℕ)) (follower : follow.Follower)
             → world.IsAnswered (world_of self.old sessions follower) (call_of call.entry)
             (answer_of answer) (world_of self.new sessions follower)) }
-        ensures paths { IfOk result AnswerHasPaths }
     {
         match call {
             Call::GetSource => self.source_log(),

@@ -1,14 +1,15 @@
 //! What a follower's peers are.
 
-ghost use Rattle.std.specs.Prelude.{◌≡◌, ◌≤◌, ℕ, map, length, All, IfOk, IfErr, OnOk};
+ghost use Rattle.std.specs.Prelude.{◌≡◌, ◌≤◌, ℕ, map, length, IfOk, IfErr, OnOk};
 ghost use Rattle.hub_follow_model.specs.Follower as follow;
 ghost use Rattle.hub_database.specs.Edits.{edit_of};
 ghost use Rattle.hub_follower.specs.Peers.{IsCountedFault};
-ghost use Rattle.hub_follower.specs.Views.{found_edit, FoundHasPath};
+ghost use Rattle.hub_follower.specs.Views.{found_edit};
 
 use crate::fault::FollowFault;
+use crate::fetched::FetchedRevs;
 use crate::log::Log;
-use hub_database::{DbFault, Diff, OpenRev, Replies};
+use hub_database::{DbFault, Diff, Replies};
 use hub_document::{Asked, ChangeRow, Doc};
 use hub_follow_model::Seq;
 use thiserror::Error;
@@ -92,11 +93,10 @@ pub trait Peer {
         ensures counts { fault_count self.old ≤ fault_count self.new };
 
     /// These revisions of a document, in this order, with their histories.
-    fn open_revs(&mut self, asked: &Asked) -> Result<Vec<OpenRev>, CallFault>
+    fn open_revs(&mut self, asked: &Asked) -> Result<FetchedRevs, CallFault>
         ensures ok { IfOk result (λ found. gives self.old (follow.OpenRevs asked.now.id asked.now.revs)
-            (follow.OpenRevsAnswer (map found_edit found.items)) self.new) }
-        ensures many { IfOk result (λ found. length found.items ≡ length asked.now.revs) }
-        ensures paths { IfOk result (λ found. All FoundHasPath found.items) }
+            (follow.OpenRevsAnswer (map found_edit found)) self.new) }
+        ensures many { IfOk result (λ found. length found ≡ length asked.now.revs) }
         ensures lost { IfErr result (λ _.
             loses self.old (follow.OpenRevs asked.now.id asked.now.revs) self.new) }
         ensures fault { IfErr result (λ e. IsCountedFault e (fault_count self.old) (fault_count self.new)) }

@@ -1,14 +1,15 @@
 //! What a round or a checkpoint is at.
 
 ghost use Rattle.std.specs.Prelude.{◌≡◌, ◌++◌, ℕ, List, [], length, map, Ok, Err};
-ghost use Rattle.std.specs.Prelude.{IfOk, IfErr, IfSome, IfNone, Some, None, All};
+ghost use Rattle.std.specs.Prelude.{IfOk, IfErr, IfSome, IfNone, Some, None};
 ghost use Rattle.hub_follow_model.specs.Follower as follow;
 ghost use Rattle.hub_model.specs.Journal.{Edit};
 ghost use Rattle.hub_database.specs.Edits.{edit_of};
 ghost use Rattle.hub_follower.specs.Views.{follower_behind, found_edit, IsFaultOf};
-ghost use Rattle.hub_follower.specs.Views.{HasPath, FoundHasPath, NextHasPaths};
+ghost use Rattle.hub_follower.specs.Fetched.{HasPath};
 
 use crate::fault::FollowFault;
+use crate::fetched::{FetchedDocs, FetchedRevs};
 use hub_database::{Diff, OpenRev};
 use hub_document::{Asked, ChangeRow, Doc, RevId};
 use hub_follow_model::Seq;
@@ -24,9 +25,9 @@ pub(crate) enum Phase {
     /// The documents that the target is asked about.
     Comparison(Vec<Asked>, Seq),
     /// The document that is fetched, those that come later, and what was fetched.
-    Retrieval(Asked, VecDeque<Asked>, Vec<Doc>, Seq),
+    Retrieval(Asked, VecDeque<Asked>, FetchedDocs, Seq),
     /// What was fetched.
-    Storage(Vec<Doc>, Seq),
+    Storage(FetchedDocs, Seq),
     SourceCheckpoint,
     TargetCheckpoint,
 }
@@ -63,7 +64,6 @@ pub(crate) fn comparison_or_ready(
     rows: Vec<ChangeRow>,
     last: Seq,
 ) -> Result<Next, AllocError>
-    ensures paths { IfOk result NextHasPaths }
     ensures value { IfOk result (λ goes. (s : follow.Session)
         → follower_behind s goes
         ≡ follow.comparison_or_ready s (map follow.revisions_of_row rows.items) last) }
@@ -90,11 +90,9 @@ fn missing_revisions(alloc: Global, diffs: Vec<Diff>) -> Result<VecDeque<Asked>,
 }
 
 // Behind the last document that was fetched: all are stored, or the round is over where there are none.
-fn storage_or_ready(got: Vec<Doc>, last: Seq) -> Next
-    requires { All HasPath got.items }
-    ensures paths { NextHasPaths result }
+fn storage_or_ready(got: FetchedDocs, last: Seq) -> Next
     ensures value { (s : follow.Session)
-        → follower_behind s result ≡ follow.storage_or_ready s (map edit_of got.items) last }
+        → follower_behind s result ≡ follow.storage_or_ready s (map edit_of got) last }
 {
     if got.is_empty() {
         return Next::ReadyAt(last);
@@ -104,11 +102,9 @@ fn storage_or_ready(got: Vec<Doc>, last: Seq) -> Next
 
 /// The next document that the target misses is fetched, or all are stored where there is none. It takes no
 /// memory.
-pub(crate) fn retrieval_or_storage(later: VecDeque<Asked>, got: Vec<Doc>, last: Seq) -> Next
-    requires { All HasPath got.items }
-    ensures paths { NextHasPaths result }
+pub(crate) fn retrieval_or_storage(later: VecDeque<Asked>, got: FetchedDocs, last: Seq) -> Next
     ensures value { (s : follow.Session)
-        → follower_behind s result ≡ follow.retrieval_or_storage s later.items (map edit_of got.items) last }
+        → follower_behind s result ≡ follow.retrieval_or_storage s later.items (map edit_of got) last }
 {
     let mut later = later;
     match later.pop_front() {
@@ -123,33 +119,29 @@ pub(crate) fn first_retrieval(
     diffs: Vec<Diff>,
     last: Seq,
 ) -> Result<Next, AllocError>
-    ensures paths { IfOk result NextHasPaths }
     ensures value { IfOk result (λ goes. (s : follow.Session) → follower_behind s goes
         ≡ follow.retrieval_or_storage s (map follow.missing_revisions diffs.items) [] last) }
 {
     let later = missing_revisions(alloc, diffs)?;
-    Ok(retrieval_or_storage(later, Vec::new(alloc), last))
+    Ok(retrieval_or_storage(later, FetchedDocs::new(alloc), last))
 }
 
 /// The documents that an answer of `open_revs` brings, behind those that were fetched before.
 pub(crate) fn documents_behind(
     asked: Asked,
-    found: Vec<OpenRev>,
-    got: Vec<Doc>,
-) -> Result<Vec<Doc>, FollowFault>
-    requires many { length found.items ≡ length asked.revs }
-    requires paths { All HasPath got.items }
-    requires found { All FoundHasPath found.items }
+    found: FetchedRevs,
+    got: FetchedDocs,
+) -> Result<FetchedDocs, FollowFault>
+    requires many { length found ≡ length asked.revs }
     ensures ok { IfOk result (λ docs. (es : List Edit)
-        × (follow.all_documents asked.id asked.revs (map found_edit found.items) ≡ Ok es)
-        × (map edit_of docs.items ≡ map edit_of got.items ++ es)) }
-    ensures paths { IfOk result (λ docs. All HasPath docs.items) }
+        × (follow.all_documents asked.id asked.revs (map found_edit found) ≡ Ok es)
+        × (map edit_of docs ≡ map edit_of got ++ es)) }
     ensures err { IfErr result (λ e.
-        IsFaultOf e (follow.all_documents asked.id asked.revs (map found_edit found.items))) }
+        IsFaultOf e (follow.all_documents asked.id asked.revs (map found_edit found))) }
 {
     let mut got = got;
     let mut at = 0;
-    for opened in found {
+    for opened in found.into_vec() {
         match opened {
             OpenRev::Found(doc) => match got.push(doc) {
                 Ok(()) => {}
@@ -184,16 +176,15 @@ fn refusal(doc: Doc, fault: Fault) -> FollowFault
 }
 
 /// Why the first document was refused that the target refused; one that it knew is no refusal.
-pub(crate) fn first_refusal(docs: Vec<Doc>, outcomes: &[Outcome<RevId>]) -> Option<FollowFault>
-    requires many { length outcomes.now ≡ length docs.items }
-    requires paths { All HasPath docs.items }
+pub(crate) fn first_refusal(docs: FetchedDocs, outcomes: &[Outcome<RevId>]) -> Option<FollowFault>
+    requires many { length outcomes.now ≡ length docs }
     ensures some { IfSome result (λ e. (f : follow.Fault)
-        × (follow.first_refusal (map edit_of docs.items) outcomes.now ≡ Some f)
+        × (follow.first_refusal (map edit_of docs) outcomes.now ≡ Some f)
         × IsFaultOf {A = ℕ} e (Err f)) }
-    ensures none { IfNone result (follow.first_refusal (map edit_of docs.items) outcomes.now ≡ None) }
+    ensures none { IfNone result (follow.first_refusal (map edit_of docs) outcomes.now ≡ None) }
 {
     let mut at = 0;
-    for doc in docs {
+    for doc in docs.into_vec() {
         if let Outcome::Refused(fault) = outcomes[at] {
             return Some(refusal(doc, fault));
         }

@@ -1,9 +1,8 @@
 -- What each call of the program does to the core.
 use Rattle.std.proofs.Common.{◌≡◌, ◌∙◌, ℕ, ◌+◌, ◌≤◌, List, [], ◌∷◌, ◌++◌, map, length, true, false, Bool}
 use Rattle.std.proofs.Common.{refl, sym, ap, subst, arith, ◌⊎◌, inl, inr}
-use Rattle.std.specs.Prelude.{Option, Some, None, All, IsSome, option_and_then, unwrap_or, drop}
+use Rattle.std.specs.Prelude.{Option, Some, None, All, option_and_then, unwrap_or, drop}
 use Rattle.std.specs.Prelude.{if◌then◌else◌, ⊤}
-use Rattle.std.proofs.lemmas.Option.{same_Some}
 use Rattle.hub_model.specs.Entries.{entry_in, changed, without}
 use Rattle.hub_model.specs.Row.{ChangeRow}
 use Rattle.hub_model.specs.RightlyHanded.{ChangeItem}
@@ -25,6 +24,7 @@ use Rattle.hub_shared.specs.Label.{Label, label_of}
 use Rattle.hub_shared.specs.Opening.{Begins}
 use Rattle.hub_shared.specs.Locked.{Beats, Hands, LockedState, handed_on, stepped}
 use Rattle.hub_shared.proofs.Handing.{given_by}
+use Rattle.hub_world.specs.Applied.{last_reply, whole_reply}
 use Rattle.hub_world.specs.Core.{IsWorld, Shows, core_of, held_entry}
 use Rattle.hub_world.specs.Growth.{MayFail}
 use Rattle.hub_world.specs.Lane.{back, front, held, without_front}
@@ -77,6 +77,13 @@ module _ (program : Program) (number : ℕ) where
   pub no_list : entry_in number program.senders ≡ None → back number (core_of program).lanes ≡ None
   no_list none = back_held number program.senders ∙ rw none refl
 
+  pub no_list_within : entry_in number program.senders ≡ None
+      → length (held number (core_of program).lanes) ≤ program.state.limits.lane
+  no_list_within none =
+      let all : length (held number (map held_entry program.senders)) ≡ 0 =
+      ap length (all_held number program.senders ∙ ap held_of none) in
+      omega (arith, all)
+
   module _ (k : ListState) (is : entry_in number program.senders ≡ Some k) where
     pub list_back : back number (core_of program).lanes ≡ last k
     list_back = back_held number program.senders ∙ rw is refl
@@ -87,16 +94,6 @@ module _ (program : Program) (number : ℕ) where
         let all : length (held number (map held_entry program.senders)) ≡ length k.held =
         ap length (all_held number program.senders ∙ ap held_of is) in
         omega (arith, within, all, fits_entry program.lane number k program.senders of.room is, of.lane)
-
--- nothing is no item
-pub none_there : {A : Type 0} {o : Option A} → o ≡ None → IsSome o → ⊥
-none_there {A = A} none some = from (subst (λ (o : Option A). IsSome o) none some)
-  where
-    from : IsSome {T = A} None → ⊥
-    from is = cc
-
-pub some_there : {A : Type 0} {o : Option A} {x : A} → o ≡ Some x → IsSome o
-some_there {A = A} is = subst (λ (o : Option A). IsSome o) (sym is) refl
 
 -- ---- hands
 
@@ -171,7 +168,7 @@ module _ (program new : Program) (id : FeedId) (of : IsWorld program) where
     found = due_lane (core_of program) id.number item gives.0 of.shown.0 of.shown.1
 
     -- it is the last of the lane
-    pub given_back : back id.number (core_of new).lanes ≡ Some item
+    given_back : back id.number (core_of new).lanes ≡ Some item
     given_back = ap (back id.number) given_lanes ∙
         (pushed_back id.number item (core_of program).lanes found.0 found.1).0
 
@@ -201,9 +198,9 @@ module _ (program new : Program) (id : FeedId) (of : IsWorld program) where
         }
 
     -- where there is room for it this is a step
-    pub given_leads : (said : ChangeItem) → back id.number (core_of new).lanes ≡ Some said
+    pub given_leads : (said : Reply) → said ≡ last_reply (back id.number (core_of new).lanes)
         → length (held id.number (core_of new).lanes) ≤ new.state.limits.lane
-        → Leads (core_of program) (event.Hand id) (reply.Pushed said) (core_of new)
+        → Leads (core_of program) (event.Hand id) (whole_reply said) (core_of new)
     given_leads said last within =
         let lanes = pushed_back id.number item (core_of program).lanes found.0 found.1 in
         let grown : length (held id.number (core_of new).lanes)
@@ -211,8 +208,8 @@ module _ (program new : Program) (id : FeedId) (of : IsWorld program) where
         ap (λ ls. length (held id.number ls)) given_lanes ∙ lanes.1 in
         let limit : new.state.limits.lane ≡ program.state.limits.lane =
         ap (λ (q : Program). q.state.limits.lane) gives.1 in
-        subst (λ x. Leads (core_of program) (event.Hand id) (reply.Pushed x) (core_of new))
-        (same_Some item said (sym given_back ∙ last))
+        subst (λ x. Leads (core_of program) (event.Hand id) (whole_reply x) (core_of new))
+        (sym (last ∙ ap last_reply given_back))
         (subst (λ c. Leads (core_of program) (event.Hand id) (reply.Pushed item) c) given_core
         (hand_pushed (core_of program) id item gives.0 (omega (arith, within, grown, limit))))
 
@@ -278,6 +275,17 @@ module _ (program new : Program) (id : FeedId) (of : IsWorld program)
     beat_full (core_of program) id due (is_full program id.number beats.0.0 of beats.0.1 beats.0.2),
   )
 
+  -- a heartbeat that was not refused is in the lane
+  pub beat_sent : (told : Handed) → (told ≡ did.Full → ⊥) → Beating told
+      → new ≡ record program {
+        senders = changed id.number (λ (k : ListState). behind k Beat) program.senders;
+      }
+  beat_sent did.Full refused beats = absurd (refused refl)
+  beat_sent did.Nothing refused beats = beats
+  beat_sent did.Row refused beats = absurd beats
+  beat_sent did.End refused beats = absurd beats
+  beat_sent did.Gone refused beats = absurd beats
+
   module _ (sent : new ≡ record program {
     senders = changed id.number (λ (k : ListState). behind k Beat) program.senders;
   })
@@ -289,7 +297,7 @@ module _ (program new : Program) (id : FeedId) (of : IsWorld program)
       beat_found : (items : List ChangeItem) × (entry_in id.number (core_of program).lanes ≡ Some items)
       beat_found = beat_lane (core_of program) id.number due of.shown.0 of.shown.1
 
-      pub beat_back : back id.number (core_of new).lanes ≡ Some Beat
+      beat_back : back id.number (core_of new).lanes ≡ Some Beat
       beat_back =
           ap (back id.number) beat_lanes
           ∙ (pushed_back id.number Beat (core_of program).lanes beat_found.0 beat_found.1).0
@@ -315,9 +323,9 @@ module _ (program new : Program) (id : FeedId) (of : IsWorld program)
                 (_, beat_shows (core_of program) id due of.shown.0 of.shown.1);
           }
 
-      pub beat_leads : (said : ChangeItem) → back id.number (core_of new).lanes ≡ Some said
+      pub beat_leads : (said : Reply) → said ≡ last_reply (back id.number (core_of new).lanes)
           → length (held id.number (core_of new).lanes) ≤ new.state.limits.lane
-          → Leads (core_of program) (event.Heartbeat id) (reply.Pushed said) (core_of new)
+          → Leads (core_of program) (event.Heartbeat id) (whole_reply said) (core_of new)
       beat_leads said last within =
           let lanes = pushed_back id.number Beat (core_of program).lanes beat_found.0 beat_found.1 in
           let grown : length (held id.number (core_of new).lanes)
@@ -325,8 +333,8 @@ module _ (program new : Program) (id : FeedId) (of : IsWorld program)
           ap (λ ls. length (held id.number ls)) beat_lanes ∙ lanes.1 in
           let limit : new.state.limits.lane ≡ program.state.limits.lane =
           ap (λ (q : Program). q.state.limits.lane) sent in
-          subst (λ x. Leads (core_of program) (event.Heartbeat id) (reply.Pushed x) (core_of new))
-          (same_Some Beat said (sym beat_back ∙ last))
+          subst (λ x. Leads (core_of program) (event.Heartbeat id) (whole_reply x) (core_of new))
+          (sym (last ∙ ap last_reply beat_back))
           (subst (λ c. Leads (core_of program) (event.Heartbeat id) (reply.Pushed Beat) c) beat_core
           (beat_pushed (core_of program) id due (omega (arith, within, grown, limit))))
 

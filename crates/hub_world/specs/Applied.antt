@@ -1,21 +1,28 @@
 -- What one call of the program does: its event takes place, or, of a batch that stops for memory, a front of
 -- its documents comes (own).
 use Rattle.std.specs.Prelude.{◌≡◌, ◌<◌, List, length, take, Bool, true, false, IsTrue, ⊤}
+use Rattle.std.specs.Prelude.{Option, Some, None}
 use Rattle.hub_database.specs.Edits.{StopsAt}
 use Rattle.hub_document.specs.declared.doc.Doc.{Doc}
 use Rattle.hub_database.specs.declared.batch.Batch.{Batch}
+use Rattle.hub_model.specs.RightlyHanded.{ChangeItem}
 use Rattle.hub_world.specs.Core.{Core, Shows}
 use Rattle.hub_world.specs.Step.{Step, whole_batch}
 use Rattle.hub_world.specs.World.{World}
 use Rattle.hub_world.specs.declared.event.Event.{Event}
 use Rattle.hub_world.specs.declared.event.Event.TheVariants.{Write, Interactive}
 use Rattle.hub_world.specs.declared.reply.Reply.{Reply}
-use Rattle.hub_world.specs.declared.reply.Reply.TheVariants.{Outcomes}
+use Rattle.hub_world.specs.declared.reply.Reply.TheVariants.{Outcomes, Pushed, Nothing}
 
 -- whether the reply is that of a batch that stopped
 abbrev pub is_stopped : Reply → Bool
 is_stopped (Outcomes batch) = batch.stopped
 is_stopped reply = false
+
+-- the reply that tells the last item of a lane: `Pushed` row 6 of row 6, and `Nothing` of no item
+abbrev pub last_reply : Option ChangeItem → Reply
+last_reply (Some item) = Pushed item
+last_reply None = Nothing
 
 -- the event as it took place, given its reply: of a batch that stopped, the write of the documents before
 -- the stop. Of a write of five documents whose batch stopped after three replies it is the write of the

@@ -1,8 +1,8 @@
 //! A database with its feeds and their lanes, as one machine: what the program keeps under a lock, in one
 //! thread.
 
-ghost use Rattle.std.specs.Prelude.{◌≡◌, ◌<◌, ◌≤◌, Some, IsSome, length, IfOk, OnErr};
-ghost use Rattle.hub_world.specs.Applied.{Answers, Applies, CoreStep};
+ghost use Rattle.std.specs.Prelude.{◌≡◌, ◌<◌, ◌≤◌, length, IfOk, OnErr};
+ghost use Rattle.hub_world.specs.Applied.{Answers, Applies, CoreStep, last_reply};
 ghost use Rattle.hub_world.specs.Core.{Shows, limits_of};
 ghost use Rattle.hub_world.specs.Growth.{MayFail};
 ghost use Rattle.hub_world.specs.Headline.{AreFaithful, AreRight};
@@ -111,19 +111,18 @@ impl World {
         }
     }
 
-    // The item that is the last of a feed's lane.
-    fn last_item(&self, feed: FeedId) -> ToldItem
-        requires { IsSome (back feed.number self.now.lanes) }
-        ensures item { back feed.number self.now.lanes ≡ Some result }
+    // The reply that tells the last item of a feed's lane; `Nothing` where no item lies in it.
+    fn last_reply(&self, feed: FeedId) -> Reply
+        ensures reply { result ≡ last_reply (back feed.number self.now.lanes) }
         ensures within { length (held feed.number self.now.lanes) ≤ self.now.db.limits.lane }
     {
         let Some(list) = self.locked.outbox(feed) else {
-            unreachable!()
+            return Reply::Nothing;
         };
-        let Some(item) = list.last() else {
-            unreachable!()
-        };
-        ToldItem::of(item)
+        match list.last() {
+            Some(item) => Reply::Pushed(ToldItem::of(item)),
+            None => Reply::Nothing,
+        }
     }
 
     // What is due to a feed goes into its lane.
@@ -132,7 +131,7 @@ impl World {
         ensures err { OnErr result ((self.new ≡ self.old) × MayFail self.old (Event.Hand feed)) }
     {
         match self.locked.hand(&Directly, feed)? {
-            Handed::Row | Handed::End => Ok(Reply::Pushed(self.last_item(feed))),
+            Handed::Row | Handed::End => Ok(self.last_reply(feed)),
             Handed::Full => Ok(Reply::Full),
             Handed::Nothing => Ok(Reply::Nothing),
             Handed::Gone => Ok(Reply::Gone),
@@ -140,7 +139,8 @@ impl World {
     }
 
     // A heartbeat that may be handed goes into the feed's lane. `Locked::beat` tells one that went there as
-    // it tells that none was due, so it is asked before.
+    // it tells that none was due, so it is asked before. A due heartbeat that the lane does not refuse is its
+    // last item.
     fn beat(&mut self, feed: FeedId) -> Reply
         ensures { Applies self.old (Event.Heartbeat feed) result self.new }
     {
@@ -149,8 +149,7 @@ impl World {
         }
         match self.locked.beat(&Directly, feed) {
             Handed::Full => Reply::Full,
-            Handed::Nothing => Reply::Pushed(self.last_item(feed)),
-            Handed::Row | Handed::End | Handed::Gone => unreachable!(),
+            _ => self.last_reply(feed),
         }
     }
 

@@ -3,10 +3,10 @@
 ghost use Rattle.std.specs.Prelude.{◌≡◌, ◌≤◌, IfErr};
 ghost use Rattle.hub_follower.specs.Peers.{IsCountedFault};
 
-use hub_database::{Diff, OpenRev, Replies};
+use hub_database::{Diff, Replies};
 use hub_databases::Hub;
 use hub_document::{Asked, Doc};
-use hub_follower::{CallFault, Changes, DbPeer, Log, Peer, Seq};
+use hub_follower::{CallFault, Changes, DbPeer, FetchedRevs, Log, Peer, Seq};
 use std::alloc::Global;
 use std::sync::Wait;
 
@@ -101,7 +101,7 @@ impl<'a, R: Wait> Peer for NamedPeer<'a, R> {
         self.counted(diffs)
     }
 
-    fn open_revs(&mut self, asked: &Asked) -> Result<Vec<OpenRev>, CallFault> {
+    fn open_revs(&mut self, asked: &Asked) -> Result<FetchedRevs, CallFault> {
         let found = match self.found() {
             Ok(mut peer) => peer.open_revs(asked),
             Err(fault) => Err(fault),

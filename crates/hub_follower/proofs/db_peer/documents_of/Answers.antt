@@ -1,7 +1,8 @@
 use Rattle.std.proofs.Common.{◌≡◌, ◌∙◌, ap, sym, subst, map, true, rules}
 use Rattle.std.specs.Prelude.{All}
 use Rattle.hub_database.specs.Reads.{open_rev}
-use Rattle.hub_follower.specs.Views.{found_edit, FoundHasPath}
+use Rattle.hub_follower.specs.Views.{found_edit}
+use Rattle.hub_follower.specs.Fetched.{FoundHasPath}
 use Rattle.hub_follower.proofs.Served.{opened_shown, opened_paths}
 use Rattle.hub_follower.proofs.db_peer.documents_of.Goals as goal
 
@@ -13,11 +14,11 @@ returns-in-Ok-look-clause-ok g c =
     search rules in (
       db.journal,
       found.legal,
-      ap (λ z. map found_edit z) shown ∙ opened_shown db.journal asked.id asked.revs,
+      ap (λ z. map found_edit z) (c.new.ensures ∙ shown) ∙ opened_shown db.journal asked.id asked.revs,
     )
 
-pub returns-in-Ok-look-clause-paths : goal.returns-in-Ok-look-clause-paths
-returns-in-Ok-look-clause-paths g c =
+pub new-requires : goal.new-requires
+new-requires g c =
     let asked = c.args.asked.now in
     let (db, found, gave) = c.in-Ok-look.ensures.asked in
     let shown : c.in-Ok-look.found.items ≡ map (open_rev db.journal asked.id true) asked.revs =

@@ -2,12 +2,12 @@ use Rattle.std.proofs.Common.{◌≡◌, ◌∙◌, ◌<◌, ◌++◌, ◌∷◌
 use Rattle.std.proofs.Common.{append_assoc, length, length-append, ◌+◌, drop, Err, get_or}
 use Rattle.std.specs.Prelude.{All, string_bytes}
 use Rattle.std.proofs.lemmas.List.{drop_more}
-use Rattle.std.proofs.lemmas.List.Elements.{All-tail, All-head, All-push}
+use Rattle.std.proofs.lemmas.List.Elements.{All-tail}
 use Rattle.hub_model.specs.Missing.{Asked}
 use Rattle.hub_model.specs.Revision.{Revision}
 use Rattle.hub_database.specs.declared.answers.OpenRev.TheVariants.{Found, Missing}
 use Rattle.hub_follow_model.specs.Follower as follow
-use Rattle.hub_follower.specs.Views.{HasPath, FoundHasPath}
+use Rattle.hub_follower.specs.Fetched.{FoundHasPath}
 use Rattle.hub_follower.proofs.Opening.{opens, opens_ok, opens_err, opens_end, none_left}
 use Rattle.hub_follower.proofs.phase.documents_behind.Goals as goal
 
@@ -19,7 +19,7 @@ loop-opened-preserved c =
     let revs = c.args.asked.revs in
     let rest = c.next.new.self.rest.items in
     let doc = c.in-Found.doc in
-    let got = c.loop-opened.got.items in
+    let got = c.loop-opened.got in
     let n = ap length i.found in
     let m = ap length step.0 in
     let below : at < length revs = omega (
@@ -42,9 +42,6 @@ loop-opened-preserved c =
       left = ap (λ z. opens c.args.asked.id (drop (at + 1) revs) rest z) c.in-Ok.ensures.items
           ∙ (ap (λ z. opens c.args.asked.id z (Found doc ∷ rest) got) (sym (drop_more revs at first below))
           ∙ (ap (λ z. opens c.args.asked.id (drop at revs) z got) (sym here) ∙ i.left));
-      paths =
-          subst (λ z. All HasPath z) (sym c.in-Ok.ensures.items)
-          (All-push HasPath got doc i.paths (All-head FoundHasPath (Found doc) rest bring));
       bring = All-tail FoundHasPath (Found doc) rest bring;
     }
 
@@ -55,7 +52,7 @@ returns-in-Missing-clause-err c =
     let at = c.loop-opened.at in
     let revs = c.args.asked.revs in
     let rest = c.next.new.self.rest.items in
-    let got = c.loop-opened.got.items in
+    let got = c.loop-opened.got in
     let n = ap length i.found in
     let m = ap length step.0 in
     let below : at < length revs = omega (
@@ -75,23 +72,23 @@ returns-in-Missing-clause-err c =
     (λ (asked : Asked). asked.id) c.asked.view_is in
     let is : get_or revs at first ≡ first =
     ap (λ asked. get_or asked at first) (sym listed) ∙ sym c.index-as_slice-at.is in
-    let whole : opens c.args.asked.id revs c.args.found.items c.args.got.items
+    let whole : opens c.args.asked.id revs c.args.found c.args.got
     ≡ Err (follow.MissingRevision c.args.asked.id (get_or revs at first)) =
     sym i.left
     ∙ (ap (λ asked. opens c.args.asked.id (drop at revs) asked got) here
     ∙ ap (λ asked. opens c.args.asked.id asked (Missing c.in-Missing.field-0 ∷ rest) got)
     (drop_more revs at first below)) in
-    opens_err c.args.asked.id revs c.args.found.items c.args.got.items _ c.requires.many whole
+    opens_err c.args.asked.id revs c.args.found c.args.got _ c.requires.many whole
     ∙ (ap (λ asked. Err (follow.MissingRevision asked (get_or revs at first))) (sym named)
     ∙ ap (λ asked. Err (follow.MissingRevision (string_bytes c.asked.inside.id) asked)) is)
 
 pub returns-clause-ok : goal.returns-clause-ok
 returns-clause-ok c =
     let i = c.loop-opened.invariant in
-    opens_ok c.args.asked.id c.args.asked.revs c.args.found.items c.args.got.items
-    c.loop-opened.got.items c.requires.many
+    opens_ok c.args.asked.id c.args.asked.revs c.args.found c.args.got
+    c.loop-opened.got c.requires.many
     (sym i.left
     ∙ opens_end c.args.asked.id
-    (drop c.loop-opened.at c.args.asked.revs) c.loop-opened.opened-iterator.rest.items c.loop-opened.got.items
+    (drop c.loop-opened.at c.args.asked.revs) c.loop-opened.opened-iterator.rest.items c.loop-opened.got
     (none_left c.loop-opened.opened-iterator.rest.items
     (sym c.loop-opened.opened-iterator.rest.ok.0 ∙ c.in-None.ensures.steps.0)))

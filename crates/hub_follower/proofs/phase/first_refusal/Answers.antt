@@ -4,7 +4,7 @@ use Rattle.std.specs.Prelude.{All}
 use Rattle.std.proofs.lemmas.List.Elements.{All-tail}
 use Rattle.hub_database.specs.Edits.{edit_of}
 use Rattle.hub_follow_model.specs.Follower as follow
-use Rattle.hub_follower.specs.Views.{HasPath}
+use Rattle.hub_follower.specs.Fetched.{HasPath}
 use Rattle.hub_follower.proofs.Opening.{refused_later}
 use Rattle.hub_follower.proofs.phase.first_refusal.Goals as goal
 

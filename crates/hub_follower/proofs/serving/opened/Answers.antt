@@ -2,7 +2,8 @@ use Rattle.std.proofs.Common.{◌∙◌, ap, sym, subst, map}
 use Rattle.std.specs.Prelude.{All}
 use Rattle.hub_model.specs.Missing.{Asked}
 use Rattle.hub_model.specs.Walk.{shown}
-use Rattle.hub_follower.specs.Views.{found_edit, FoundHasPath}
+use Rattle.hub_follower.specs.Views.{found_edit}
+use Rattle.hub_follower.specs.Fetched.{FoundHasPath}
 use Rattle.hub_follower.proofs.Served.{opened_shown, opened_paths}
 use Rattle.hub_follower.proofs.serving.opened.Goals as goal
 
@@ -12,11 +13,11 @@ returns-in-Ok-open_revs-clause-ok c =
     let id = c.as_str.result.now in
     let named = c.as_str.ensures.value ∙ ap (λ (asked : Asked). asked.id) c.asked.view_is in
     let listed = c.in-Ok.ensures.value ∙ ap (λ (asked : Asked). asked.revs) c.asked.view_is in
-    ap (λ asked. map found_edit asked) c.in-Ok-open_revs.ensures.ok.1 ∙ (opened_shown J id c.in-Ok.revs
+    ap (λ found. map found_edit found) (c.new.ensures ∙ c.in-Ok-open_revs.ensures.ok.1) ∙ (opened_shown J id c.in-Ok.revs
     ∙ (ap (λ asked. map (shown J asked) c.in-Ok.revs) named
     ∙ ap (λ asked. map (shown J c.args.asked.now.id) asked) listed))
 
-pub returns-in-Ok-open_revs-clause-paths : goal.returns-in-Ok-open_revs-clause-paths
-returns-in-Ok-open_revs-clause-paths c =
+pub new-requires : goal.new-requires
+new-requires c =
     subst (λ z. All FoundHasPath z) (sym c.in-Ok-open_revs.ensures.ok.1)
     (opened_paths c.args.db.now.journal c.as_str.result.now c.in-Ok.revs)

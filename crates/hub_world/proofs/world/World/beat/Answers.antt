@@ -3,11 +3,11 @@ use Rattle.hub_database.specs.Database.{Database}
 use Rattle.hub_feed.specs.Host.{is_beat_due}
 use Rattle.hub_feed.specs.declared.handed.Handed.TheVariants as did
 use Rattle.hub_model.specs.Entries.{entry_in}
+use Rattle.hub_world.specs.Applied.{whole_reply}
 use Rattle.hub_world.specs.Core.{core_of}
 use Rattle.hub_world.specs.declared.event.Event.TheVariants as event
 use Rattle.hub_world.specs.declared.reply.Reply.TheVariants as reply
-use Rattle.hub_world.proofs.Programs.{Program, as_due, beat_back, beat_full_leads, beat_leads, beat_world}
-use Rattle.hub_world.proofs.Programs.{some_there}
+use Rattle.hub_world.proofs.Programs.{Program, as_due, beat_full_leads, beat_leads, beat_sent, beat_world}
 use Rattle.hub_world.proofs.Stepping.{Leads, beat_nothing, from_same, to_same}
 use Rattle.hub_world.proofs.world.World.beat.Goals as goal
 
@@ -26,25 +26,16 @@ returns-then-not-beat_due c =
     c.beat_due.result
     c.state.ensures.state c.beat_due.ensures ∙ c.if-not-beat_due.true)))
 
-pub invariant_of-self-in-Nothing : goal.invariant_of-self-in-Nothing
-invariant_of-self-in-Nothing c =
+pub invariant_of-self-in_default : goal.invariant_of-self-in_default
+invariant_of-self-in_default c =
     let due =
     due_is c.self.inside.locked.state c.state.result.now c.args.feed.number c.beat_due.result
     c.state.ensures.state c.beat_due.ensures
     ∙ c.if-not-beat_due.false in
     let old = c.self.inside.locked in
     beat_world old c.beat.new.self c.args.feed c.self.invariant due
-    (as_due old c.beat.new.self c.args.feed c.self.invariant due did.Nothing c.in-Nothing.ensures)
-
-pub last_item-requires : goal.last_item-requires
-last_item-requires c =
-    let due =
-    due_is c.self.inside.locked.state c.state.result.now c.args.feed.number c.beat_due.result
-    c.state.ensures.state c.beat_due.ensures
-    ∙ c.if-not-beat_due.false in
-    let old = c.self.inside.locked in
-    some_there (beat_back old c.beat.new.self c.args.feed c.self.invariant due
-    (as_due old c.beat.new.self c.args.feed c.self.invariant due did.Nothing c.in-Nothing.ensures))
+    (beat_sent old c.beat.new.self c.args.feed c.self.invariant due c.beat.result c.in_default.not-Full
+    (as_due old c.beat.new.self c.args.feed c.self.invariant due c.beat.result c.beat.ensures))
 
 pub returns-in-Full : goal.returns-in-Full
 returns-in-Full c =
@@ -62,15 +53,16 @@ returns-in-Full c =
     Leads (core_of old) (event.Heartbeat c.args.feed) reply.Full (core_of program))
     (sym full.0) full.1)
 
-pub returns-in-Nothing : goal.returns-in-Nothing
-returns-in-Nothing c =
+pub returns-in_default : goal.returns-in_default
+returns-in_default c =
     let due =
     due_is c.self.inside.locked.state c.state.result.now c.args.feed.number c.beat_due.result
     c.state.ensures.state c.beat_due.ensures
     ∙ c.if-not-beat_due.false in
     let old = c.self.inside.locked in
     from_same (core_of old) c.args.self.now (core_of c.beat.new.self)
-    (event.Heartbeat c.args.feed) (reply.Pushed c.last_item.result) c.self.view_is
+    (event.Heartbeat c.args.feed) (whole_reply c.last_reply.result) c.self.view_is
     (beat_leads old c.beat.new.self c.args.feed c.self.invariant due
-    (as_due old c.beat.new.self c.args.feed c.self.invariant due did.Nothing c.in-Nothing.ensures)
-    c.last_item.result c.last_item.ensures.item c.last_item.ensures.within)
+    (beat_sent old c.beat.new.self c.args.feed c.self.invariant due c.beat.result c.in_default.not-Full
+    (as_due old c.beat.new.self c.args.feed c.self.invariant due c.beat.result c.beat.ensures))
+    c.last_reply.result c.last_reply.ensures.reply c.last_reply.ensures.within)

@@ -1,13 +1,14 @@
 use Rattle.std.proofs.Common.{◌∙◌, sym, ap, subst}
 use Rattle.hub_database.proofs.StoreLemmas.{on_err}
 use Rattle.hub_model.specs.RightlyHanded.{ChangeItem}
+use Rattle.hub_world.specs.Applied.{whole_reply}
 use Rattle.hub_world.specs.Core.{core_of}
 use Rattle.hub_world.specs.declared.event.Event.TheVariants as event
 use Rattle.hub_world.specs.declared.reply.Reply.TheVariants as reply
 use Rattle.hub_world.proofs.Growing.{row_grows, fails_as}
-use Rattle.hub_world.proofs.Programs.{IsGiven, Program, full_leads, given, given_back, given_leads}
+use Rattle.hub_world.proofs.Programs.{IsGiven, Program, full_leads, given, given_leads}
 use Rattle.hub_world.proofs.Programs.{given_world}
-use Rattle.hub_world.proofs.Programs.{gone_leads, has_handed, leads_world, nothing_leads, some_there, told_as}
+use Rattle.hub_world.proofs.Programs.{gone_leads, has_handed, leads_world, nothing_leads, told_as}
 use Rattle.hub_world.proofs.Stepping.{Leads, from_same}
 use Rattle.hub_world.proofs.world.World.hand.Goals as goal
 
@@ -32,20 +33,15 @@ invariant_of-self-in-Row c =
     let gives = item c in
     given_world c.self.inside.locked c.hand.new.self c.args.feed c.self.invariant gives.0 gives.1
 
-pub last_item-requires : goal.last_item-requires
-last_item-requires c =
-    let gives = item c in
-    some_there (given_back c.self.inside.locked c.hand.new.self c.args.feed c.self.invariant gives.0 gives.1)
-
 pub returns-in-Row-clause-ok : goal.returns-in-Row-clause-ok
 returns-in-Row-clause-ok c =
     let gives =
     given c.self.inside.locked c.hand.new.self c.args.feed c.self.invariant c.in_ok-hand.field-0
     (has_handed c.in_ok-hand.field-0 c.in-Row.is) c.in_ok-hand.ensures.ok in
     from_same (core_of c.self.inside.locked) c.args.self.now (core_of c.hand.new.self)
-    (event.Hand c.args.feed) (reply.Pushed c.last_item.result) c.self.view_is
+    (event.Hand c.args.feed) (whole_reply c.last_reply.result) c.self.view_is
     (given_leads c.self.inside.locked c.hand.new.self c.args.feed c.self.invariant gives.0 gives.1
-    c.last_item.result c.last_item.ensures.item c.last_item.ensures.within)
+    c.last_reply.result c.last_reply.ensures.reply c.last_reply.ensures.within)
 
 pub returns-in-Full-clause-ok : goal.returns-in-Full-clause-ok
 returns-in-Full-clause-ok c =
