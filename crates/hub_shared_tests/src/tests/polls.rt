@@ -25,7 +25,7 @@ impl Clock for Still {
 // memory, or is at its end.
 fn polled<R, S, C>(rt: &R, feed: &mut HostFeed<S, C>) -> Result<Option<Item<S::Row>>, AllocError>
 where
-    R: Asks<FeedLabel<S>, Item<S::Row>>,
+    R: Asks<FeedLabel<S>, Block<S::Row>>,
     S: FeedHost,
     C: Count,
 {
@@ -38,7 +38,7 @@ where
 // Whether a feed of any host gets just one row, and waits then for a minute.
 fn gets_one_row<R, S, C>(rt: &R, feed: &mut HostFeed<S, C>) -> Result<bool, AllocError>
 where
-    R: Asks<FeedLabel<S>, Item<S::Row>>,
+    R: Asks<FeedLabel<S>, Block<S::Row>>,
     S: FeedHost,
     C: Count,
 {

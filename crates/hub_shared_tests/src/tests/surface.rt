@@ -159,7 +159,7 @@ fn hands<R, S, C>(
     rows: u64,
 ) -> Result<bool, AllocError>
 where
-    R: Asks<FeedLabel<S>, Item<S::Row>>,
+    R: Asks<FeedLabel<S>, Block<S::Row>>,
     S: FeedHost,
     C: Count,
 {
