@@ -6,7 +6,7 @@ use hub_document::Limits;
 use hub_feed::FeedHost;
 use hub_lane::Asks;
 use hub_model::Item;
-use hub_shared::{Bell, Clock, Count, Db, Feed, FeedLabel, HostFeed, Plain, Watch};
+use hub_shared::{Bell, Block, Clock, Count, Db, Feed, FeedLabel, HostFeed, Plain, Watch};
 use std::alloc::{AllocError, Global};
 use std::sync::{Arc, Wait};
 use std::test::Fail;
