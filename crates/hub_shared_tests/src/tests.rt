@@ -159,7 +159,7 @@ fn try_begin(
         return Err(AllocError);
     };
     match database.begin(params) {
-        Ok(opened) => Ok(Ok((opened.id, opened.taker.receiver))),
+        Ok(opened) => Ok(Ok((opened.id, opened.taker.end))),
         Err(OpenFault::NoMemory) => Err(AllocError),
         Err(fault) => Ok(Err(fault)),
     }
