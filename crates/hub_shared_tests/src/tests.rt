@@ -210,12 +210,14 @@ fn a_full_lane_waits<R: Wait>(
     let (feed, mut taker) = open(alloc, database, "feed=continuous")?;
     let rows = hands(rt, database, feed, Handed::Row)? && hands(rt, database, feed, Handed::Row)?;
     let full = hands(rt, database, feed, Handed::Full)? && hands(rt, database, feed, Handed::Full)?;
+    let over = database.hand_over(rt, feed) == Some(2);
+    again_on!(database, database.make_room(feed))?;
     let first = take(rt, &mut taker) == Some(Told::Row(1));
-    let third = hands(rt, database, feed, Handed::Row)?;
+    let third = hands(rt, database, feed, Handed::Row)? && database.hand_over(rt, feed) == Some(1);
     let second = take(rt, &mut taker) == Some(Told::Row(2));
     let last = take(rt, &mut taker) == Some(Told::Row(3)) && take(rt, &mut taker).is_none();
     let nothing = hands(rt, database, feed, Handed::Nothing)?;
-    Ok(rows && full && first && third && second && last && nothing)
+    Ok(rows && full && over && first && third && second && last && nothing)
 }
 
 #[test]
@@ -233,7 +235,8 @@ fn a_feed_ends<R: Wait>(rt: &R, alloc: Global, database: &mut Database) -> Resul
     let (feed, mut taker) = open(alloc, database, "feed=continuous")?;
     let nothing = hands(rt, database, feed, Handed::Nothing)?;
     database.expire(feed);
-    let end = hands(rt, database, feed, Handed::End)? && hands(rt, database, feed, Handed::Gone)?;
+    let end = hands(rt, database, feed, Handed::End)? && hands(rt, database, feed, Handed::Gone)?
+        && database.hand_over(rt, feed) == Some(1);
     let taken = take(rt, &mut taker) == Some(Told::End(0));
     let sender = database.finish(feed).is_some() && database.finish(feed).is_none();
     Ok(nothing && end && taken && sender && hands(rt, database, feed, Handed::Gone)?)
@@ -254,7 +257,8 @@ fn a_feed_beats<R: Wait>(rt: &R, alloc: Global, database: &mut Database) -> Resu
     let (feed, mut taker) = open(alloc, database, "feed=continuous&heartbeat=1000")?;
     let twice = database.beat(&Directly, feed) == Handed::Nothing
         && database.beat(&Directly, feed) == Handed::Nothing;
-    let full = database.beat(&Directly, feed) == Handed::Full;
+    let full = database.beat(&Directly, feed) == Handed::Full
+        && database.hand_over(rt, feed) == Some(2);
     let beat = take(rt, &mut taker) == Some(Told::Beat);
     let _sender = database.finish(feed);
     let gone = database.beat(&Directly, feed) == Handed::Nothing;
