@@ -1,4 +1,4 @@
-use Rattle.std.proofs.Common.{◌≡◌, ◌∙◌, ap, sym, subst, Some, None, length}
+use Rattle.std.proofs.Common.{◌≡◌, ◌∙◌, ap, refl, sym, Some, None, length}
 use Rattle.std.specs.Prelude.{position, IsSome, IfSome, IfNone}
 use Rattle.hub_model.specs.Entries.{entry_in, is_of}
 use Rattle.hub_model.proofs.Entries.{changed_absent, changed_here, entry_here, no_entry}
@@ -74,4 +74,4 @@ returns-clause-feed g c =
     let placed : Some at ≡ position (is_of c.args.feed) subscribers =
     rw c.as_slice.ensures.value at c.in-Some.ensures in
     let here = entry_here c.args.feed subscribers at placed p c.index_mut-entry.ensures.value in
-    none_then c.hand_over.result (λ is. rw here tt) c.hand_over.ensures.held_up
+    none_then c.hand_over.result (λ is. rw here refl) c.hand_over.ensures.held_up

@@ -22,5 +22,5 @@ returns-clause-ok g c =
     let placed : Some at ≡ position (is_of c.args.feed) subscribers =
     rw c.as_slice.ensures.value at c.in-Some.ensures in
     on_ok_weaker c.make_room.result
-    (λ _ is. changed_here c.args.feed subscribers at placed p c.index_mut-entry.ensures.value
+    (λ is. changed_here c.args.feed subscribers at placed p c.index_mut-entry.ensures.value
     (with_room c.args.room) c.make_room.new.self c.requires.rising is) c.make_room.ensures.ok
