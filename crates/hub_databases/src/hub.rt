@@ -23,7 +23,7 @@ use hub_lane::Asks;
 use hub_model::{Item, UpdateKind};
 use hub_params::FeedParams;
 use hub_shared::{
-    Clock, Db, FeedLabel, Gate, Handed, Handle, Plain, Turn, Updates, UpdatesFeed, hold, pump,
+    Block, Clock, Db, FeedLabel, Gate, Handed, Handle, Plain, Turn, Updates, UpdatesFeed, hold, pump,
 };
 use hub_updates::{NoteFault, Notice, UpdatesState};
 use std::alloc::{AllocError, Global};
@@ -316,7 +316,7 @@ impl Hub {
         gate: &G,
     ) -> Result<Handed, AllocError>
     where
-        R: Asks<FeedLabel<UpdatesState>, Item<UpdateRow>>,
+        R: Asks<FeedLabel<UpdatesState>, Block<UpdateRow>>,
         G: Gate,
     {
         hold(rt, &self.updates, feed, turn, gate)
@@ -332,7 +332,7 @@ impl Hub {
         clock: &K,
     ) -> Result<(), AllocError>
     where
-        R: Asks<FeedLabel<UpdatesState>, Item<UpdateRow>> + time::Clock,
+        R: Asks<FeedLabel<UpdatesState>, Block<UpdateRow>> + time::Clock,
         G: Gate,
         K: Clock,
     {

@@ -1,3 +1,4 @@
+pub mod Blocks
 pub mod Serving
 pub mod Sending
 pub mod Handing

@@ -1,4 +1,5 @@
 pub mod Label
+pub mod Blocks
 pub mod Feeds
 pub mod Locked
 pub mod Opening

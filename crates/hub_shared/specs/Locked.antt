@@ -12,19 +12,14 @@ use Rattle.hub_feed.specs.declared.handed.Handed.{Handed}
 use Rattle.hub_feed.specs.declared.handed.Handed.TheVariants as handed
 use Rattle.hub_feed.specs.declared.next.Next.{Next}
 use Rattle.hub_feed.specs.declared.next.Next.TheVariants as next
-use Rattle.hub_lane.specs.Ends.{SenderState}
 use Rattle.hub_shared.specs.Label.{Label}
 use Rattle.hub_shared.specs.Senders.{sends, IsRefused}
-
--- the sender of a feed of such rows, as it is seen
-abbrev pub FeedSender : Type 0 → Type 0
-FeedSender R = SenderState Label (Item R)
 
 -- a host, and the outboxes of its feeds that are not finished: where its items for them go
 pub record LockedState (S K : Type 0) : Type 0 where
   pub state : S
   pub senders : List (ℕ × K)  -- by the numbers of their feeds, which rise
-  pub lane : ℕ  -- how many items a feed's lane holds at most
+  pub lane : ℕ  -- how many items of a feed may wait at most
 
 -- where `label` is what an outbox was made for, and `sent` what it was sent
 module _ {R K : Type 0} (label : K → Label) (sent : K → List (Item R)) (fits : Feed → List (Item R) → Type 0)

@@ -22,7 +22,7 @@ ghost use Rattle.hub_database.specs.Receipts.{IsAudit};
 use crate::count::Count;
 use crate::locked::{Locked, OpenedFeed};
 use crate::outbox::Outbox;
-use crate::subscriber::FeedEnd;
+use crate::subscriber::FeedTaker;
 use hub_database::{AuditFault, DbFault, DbState, Receipt, audit_of};
 use hub_document::LocalDoc;
 use hub_feed::{FeedHost, OpenFault};
@@ -138,13 +138,13 @@ impl<C: Count> Locked<DbState, C> {
         &mut self,
         share: &mut C::Share,
         params: FeedParams,
-    ) -> Result<OpenedFeed<FeedEnd<DbState>>, OpenFault>
-        ensures asks { IfOk result (λ opened. opened.taker.receiver.label.asked ≡ params_asked params) }
+    ) -> Result<OpenedFeed<FeedTaker<DbState>>, OpenFault>
+        ensures asks { IfOk result (λ opened. opened.taker.end.label.asked ≡ params_asked params) }
         ensures begins { IfOk result (λ opened.
-            IsBeginningFor params.since (C.amount share.old) opened.taker.receiver.label) }
-        ensures none { IfOk result (λ opened. opened.taker.receiver.taken ≡ []) }
+            IsBeginningFor params.since (C.amount share.old) opened.taker.end.label) }
+        ensures none { IfOk result (λ opened. opened.taker.end.taken ≡ []) }
         ensures opened { IfOk result (λ opened. IsOpened (hosted_of self.old.state) (params_asked params)
-            (feed_of opened.id.number opened.taker.receiver)) }
+            (feed_of opened.id.number opened.taker.end)) }
         ensures err { IfErr result (λ e. e ≡ opening_fault (hosted_of self.old.state)) }
         ensures found { IsFoundBy C.counts C.all_parts
             (record { parts = C.parts share.old; count = C.amount share.old }) self.old.state }

@@ -3,19 +3,22 @@
 ghost use Rattle.std.specs.Prelude.{◌≡◌, IfSome, IfNone};
 ghost use Rattle.hub_lane.specs.Ends.{IsAllowedBeginning};
 ghost use Rattle.hub_params.specs.FeedModel.{params_in};
+ghost use Rattle.hub_shared.specs.Blocks.{IsDrained};
 ghost use Rattle.hub_shared.specs.Feeds.{behind_item, feed_of, receiver_of};
 
+use crate::block::Block;
 use crate::count::{Count, Plain};
+use crate::feed_end::FeedEnd;
 use crate::gate::Gate;
 use crate::host::Host;
 use crate::label::FeedLabel;
 use crate::pumping::{Turn, hold};
 use crate::signals::Signals;
-use crate::subscriber::FeedEnd;
+use crate::subscriber::FeedTaker;
 use hub_database::DbState;
 use hub_document::ChangeRow;
 use hub_feed::{FeedHost, FeedId, Handed, HostView};
-use hub_lane::{Asks, Receiver};
+use hub_lane::Asks;
 use hub_model::Item;
 use std::alloc::{AllocError, Global};
 use std::marker::Model;
@@ -36,7 +39,7 @@ pub type Feed<C> = HostFeed<DbState, C>;
 pub struct HostFeed<S: HostView, C: Count = Plain> {
     pub(crate) host: Host<S, C>,
     pub(crate) id: FeedId,
-    pub(crate) receiver: Receiver<FeedLabel<S>, Item<S::Row>>,
+    pub(crate) end: FeedEnd<S>,
     pub(crate) signals: Arc<Signals, Global>,
     /// Whether its host may have items for it, where it is polled.
     pub(crate) is_behind: bool,
@@ -51,7 +54,7 @@ impl<S: HostView + Drop, C: Count> Drop for HostFeed<S, C> {
         let Self {
             host,
             id,
-            receiver,
+            end,
             signals,
             is_behind,
             idle_since,
@@ -65,18 +68,18 @@ impl<S: HostView, C: Count> Model for HostFeed<S, C> {
 
     ghost Value = { FeedState S.Row };
 
-    ghost view = { λ a. feed_of a.id.number a.receiver };
+    ghost view = { λ a. feed_of a.id.number a.end };
 }
 
 impl<S: FeedHost, C: Count> HostFeed<S, C> {
-    pub(crate) fn new(host: Host<S, C>, id: FeedId, taker: FeedEnd<S>) -> HostFeed<S, C>
-        ensures { result ≡ feed_of id.number taker.receiver }
+    pub(crate) fn new(host: Host<S, C>, id: FeedId, taker: FeedTaker<S>) -> HostFeed<S, C>
+        ensures { result ≡ feed_of id.number taker.end }
     {
-        let FeedEnd { receiver, signals } = taker;
+        let FeedTaker { end, signals } = taker;
         HostFeed {
             host,
             id,
-            receiver,
+            end,
             signals,
             is_behind: true,
             idle_since: None,
@@ -95,21 +98,21 @@ impl<S: FeedHost, C: Count> HostFeed<S, C> {
     pub fn label(&self) -> &FeedLabel<S>
         ensures { result.now ≡ self.now.label }
     {
-        self.receiver.label()
+        self.end.label()
     }
 
     /// Takes the first item that was handed and not taken yet: what was taken is the beginning of a
-    /// list that is rightly handed, with the parameters and the since of the label. There is none where the
-    /// lane was empty at a moment of the call: then a pump that waits for room is woken. It waits for
-    /// nobody, and takes no memory.
-    pub fn take<R: Asks<FeedLabel<S>, Item<S::Row>>>(&mut self, rt: &R) -> Option<Item<S::Row>>
+    /// list that is rightly handed, with the parameters and the since of the label. There is none only where
+    /// the lane was empty at a moment of the call, and no item was left of its blocks: then a pump that waits
+    /// for room is woken. It waits for nobody, and takes no memory.
+    pub fn take<R: Asks<FeedLabel<S>, Block<S::Row>>>(&mut self, rt: &R) -> Option<Item<S::Row>>
         ensures taken { IfSome result (λ item. self.new ≡ behind_item self.old item) }
         ensures same { IfNone result (self.new ≡ self.old) }
-        ensures none { IfNone result (R.lacks rt.now (receiver_of self.old)) }
+        ensures none { IfNone result (IsDrained (R.lacks rt.now) (receiver_of self.old)) }
         ensures allowed { IsAllowedBeginning
             (λ l items. S.right (params_in l.asked) l.since items) (receiver_of self.new) }
     {
-        let item = self.receiver.take(rt);
+        let item = self.end.take(rt);
         if item.is_none() {
             self.signals.ring_room();
         }
@@ -131,7 +134,7 @@ impl<S: FeedHost, C: Count> HostFeed<S, C> {
     /// Takes the lock once for this feed, as the free function `hold`.
     pub fn hold<R, G>(&self, rt: &R, turn: Turn, gate: &G) -> Result<Handed, AllocError>
     where
-        R: Asks<FeedLabel<S>, Item<S::Row>>,
+        R: Asks<FeedLabel<S>, Block<S::Row>>,
         G: Gate,
     {
         hold(rt, &self.host, self.id, turn, gate)
@@ -139,15 +142,16 @@ impl<S: FeedHost, C: Count> HostFeed<S, C> {
 }
 
 impl<S: FeedHost + Drop, C: Count> HostFeed<S, C> {
-    /// Takes the feed out of the lock, drops its sender, and hands the receiver back, from which what
-    /// is left can be taken until None. A pump of the feed ends. It takes no memory.
-    pub fn finish<R: Wait>(self, rt: &R) -> Receiver<FeedLabel<S>, Item<S::Row>>
+    /// Takes the feed out of the lock, drops its subscriber, and hands back the end that takes, from which what
+    /// the lane got can be taken until None: items that still wait for room in the lane go with the
+    /// subscriber. A pump of the feed ends. It takes no memory.
+    pub fn finish<R: Wait>(self, rt: &R) -> FeedEnd<S>
         ensures { result ≡ receiver_of self }
     {
         let HostFeed {
             host,
             id,
-            receiver,
+            end,
             signals,
             is_behind: _,
             idle_since: _,
@@ -157,6 +161,6 @@ impl<S: FeedHost + Drop, C: Count> HostFeed<S, C> {
         drop(outbox);
         host.tell();
         signals.ring_room();
-        receiver
+        end
     }
 }

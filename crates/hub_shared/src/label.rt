@@ -3,9 +3,9 @@
 ghost use Rattle.std.specs.Prelude.{◌≡◌};
 ghost use Rattle.hub_params.specs.FeedShown.{params_asked};
 
+use crate::block::Block;
 use hub_feed::HostView;
 use hub_lane::Kept;
-use hub_model::Item;
 use hub_params::FeedParams;
 use std::marker::{Model, PhantomData};
 
@@ -72,8 +72,10 @@ impl<S> FeedLabel<S> {
     }
 }
 
-impl<S: HostView> Kept<Item<S::Row>> for FeedLabel<S> {
+/// Of blocks it allows those whose items are rightly handed, one block after the other.
+impl<S: HostView> Kept<Block<S::Row>> for FeedLabel<S> {
     ghost use Rattle.hub_params.specs.FeedModel.{params_in};
+    ghost use Rattle.hub_shared.specs.Blocks.{items_in};
 
-    ghost allows = { λ l items. S.right (params_in l.asked) l.since items };
+    ghost allows = { λ l blocks. S.right (params_in l.asked) l.since (items_in blocks) };
 }

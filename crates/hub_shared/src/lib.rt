@@ -4,10 +4,12 @@
 //! lanes.
 #![tactic(auto)]
 
+mod block;
 mod count;
 mod database;
 mod db;
 mod feed;
+mod feed_end;
 mod gate;
 mod handle;
 mod host;
@@ -25,9 +27,11 @@ mod updates;
 mod watch;
 mod write;
 
+pub use block::Block;
 pub use count::{Count, Counted, NoCount, Plain};
 pub use db::Db;
 pub use feed::{ChangeItem, ChangeLabel, Feed, HostFeed};
+pub use feed_end::FeedEnd;
 pub use gate::{Clock, Gate, Point};
 pub use handle::Handle;
 pub use host::Host;
@@ -37,7 +41,7 @@ pub use label::FeedLabel;
 pub use locked::{Locked, OpenedFeed};
 pub use outbox::{Outbox, Receives, Shelf, TwoEnded};
 pub use pumping::{Turn, hold, pump};
-pub use subscriber::{FeedEnd, Subscriber, Through};
+pub use subscriber::{Directly, FeedTaker, Subscriber};
 pub use updates::{Updates, UpdatesFeed};
 pub use watch::{Bell, Watch, Watchable};
 pub use write::Accepted;

@@ -1,25 +1,28 @@
 //! A host of feeds and the outboxes of its feeds, as they lie under a lock.
 
 ghost use Rattle.std.specs.Prelude.{◌≡◌, ◌<◌, [], true, Some, None, option_and_then};
-ghost use Rattle.std.specs.Prelude.{IfErr, IfNone, IfOk, IfSome, OnErr};
+ghost use Rattle.std.specs.Prelude.{IfErr, IfNone, IfOk, IfSome, IsSome, OnErr, OnOk, length};
 ghost use Rattle.hub_model.specs.Entries.{entry_in, changed, without};
 ghost use Rattle.hub_model.specs.Feed.{Feed, Params, begin};
 ghost use Rattle.hub_feed.specs.Host.{answered, due_to, expired, finished, is_beat_due};
 ghost use Rattle.hub_feed.specs.Host.{opening_fault};
 ghost use Rattle.hub_feed.specs.Next.{IsRowDue};
 ghost use Rattle.hub_params.specs.FeedShown.{params_asked};
+ghost use Rattle.hub_shared.specs.Blocks.{IsHeldUp, handed_over, waiting_of, with_room};
 ghost use Rattle.hub_shared.specs.Label.{label_of};
 ghost use Rattle.hub_shared.specs.Locked.{AreSendersOf, Beats, Hands, IsSenderOf, stepped};
 ghost use Rattle.hub_shared.specs.Opening.{Begins};
 
+use crate::block::Block;
 use crate::count::{Count, Plain};
 use crate::label::FeedLabel;
 use crate::outbox::{Outbox, Receives, Shelf, TwoEnded};
 use crate::outboxes::{outbox_of, remove, take};
 use crate::signals::Signals;
-use crate::subscriber::{Subscriber, watch};
+use crate::subscriber::{Subscriber, hand_over, make_room, watch};
 use crate::watch::Watch;
 use hub_feed::{FeedHost, FeedId, Handed, HostView, OpenFault, Pushes};
+use hub_lane::Asks;
 use hub_model::{Item, place_near, place_of};
 use hub_params::FeedParams;
 use std::alloc::{AllocError, Global};
@@ -38,14 +41,14 @@ pub struct OpenedFeed<T> {
 /// A host of feeds, with the outbox of each feed that is not finished, and a book that counts its edits.
 /// Whenever it is got from a lock, what each outbox was sent fits its feed as the host is then (`state`),
 /// and where there is a count, the book's total is how many edits the host has. Contracts see the host, the
-/// outboxes and how many items a lane holds.
+/// outboxes and how many items of a feed may wait.
 pub struct Locked<S: HostView, C: Count = Plain, K: Outbox<S> = Subscriber<S>> {
     pub(crate) state: S,
     /// The outboxes of the feeds that are not finished, by the numbers of the feeds, which rise.
     subscribers: Vec<(u64, K)>,
     /// Where the outbox stood that was handed to last. One is looked for there first.
     near: usize,
-    /// How many items a feed's lane holds at most.
+    /// How many items of a feed may wait at most.
     lane: usize,
     /// How many items a feed is handed in one holding at most.
     hold: u64,
@@ -101,6 +104,40 @@ impl<S: HostView, C: Count> Locked<S, C> {
     {
         watch(&mut self.subscribers, feed.number, news);
     }
+
+    /// Reserves memory for as many items of a feed as may wait, those that wait among them, if there is a feed
+    /// of this number. Without memory nothing changes. It costs a search among the outboxes, which is constant
+    /// time where the last hand was for the same feed.
+    pub fn make_room(&mut self, feed: FeedId) -> Result<(), AllocError>
+        ensures ok { OnOk result (self.new ≡ record self.old {
+          senders = changed feed.number (with_room self.old.lane) self.old.senders;
+        }) }
+        ensures err { OnErr result (self.new ≡ self.old) }
+    {
+        make_room(&mut self.subscribers, self.near, feed.number, self.lane)
+    }
+
+    /// Gives the lane of a feed all items of it that wait, as one block, and answers how many these were: none
+    /// also where there is no feed of this number. Where the lane was full at a moment of the call they go on
+    /// waiting, and the answer is `None`. No memory is kept for more that wait: `make_room` reserves it. It
+    /// costs a search as `make_room`, and takes no memory.
+    pub fn hand_over<R>(&mut self, rt: &R, feed: FeedId) -> Option<usize>
+    where
+        R: Asks<FeedLabel<S>, Block<S::Row>>,
+        ensures count { IfSome result (λ count. count
+            ≡ length (waiting_of (entry_in feed.number self.old.senders))) }
+        ensures over { IfSome result (λ _. self.new ≡ record self.old {
+          senders = changed feed.number handed_over self.old.senders;
+        }) }
+        ensures held_up { IfNone result (self.new ≡ record self.old {
+          senders = changed feed.number (with_room 0) self.old.senders;
+        }) }
+        ensures full { IfNone result (IfSome (entry_in feed.number self.old.senders)
+            (IsHeldUp (R.refuses rt.now))) }
+        ensures feed { IfNone result (IsSome (entry_in feed.number self.old.senders)) }
+    {
+        hand_over(rt, self.alloc, &mut self.subscribers, self.near, feed.number)
+    }
 }
 
 /// What is read of it.
@@ -127,7 +164,7 @@ impl<S: HostView, C: Count, K: Outbox<S>> Locked<S, C, K> {
 }
 
 impl<S: FeedHost, C: Count, K: Outbox<S>> Locked<S, C, K> {
-    /// A host that has no feed, lanes that are to hold `lane` items each, holdings of `hold` items at most,
+    /// A host that has no feed, feeds of which `lane` items each may wait, holdings of `hold` items at most,
     /// and a book that has counted nothing. It takes no memory.
     pub fn new(alloc: Global, state: S, lane: usize, hold: u64, book: C::Book) -> Locked<S, C, K>
         requires room { 0 < lane }
@@ -235,8 +272,8 @@ impl<S: FeedHost, C: Count, K: TwoEnded<S>> Locked<S, C, K> {
 /// What a host hands.
 impl<S: FeedHost, C: Count, K: Receives<S>> Locked<S, C, K> {
     /// Hands the feed's next item to its outbox: what is due is sent, and the feed goes on behind it.
-    /// `Full` is answered only where the outbox gave the item back, as the lane was full at a moment of the
-    /// call; then nothing changes, and the next hand makes the item again. A feed that has nothing to hand
+    /// `Full` is answered only where the outbox gave the item back, as it has no room for one more; then
+    /// nothing changes, and the next hand makes the item again. A feed that has nothing to hand
     /// goes to the length of what it follows. Only a row takes memory, and without it nothing changes. It
     /// costs what the host's `hand` does, and a push; the outbox is found in constant time where the last
     /// hand was for the same feed.

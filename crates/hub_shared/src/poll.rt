@@ -5,6 +5,7 @@ ghost use Rattle.hub_lane.specs.Ends.{IsAllowedBeginning};
 ghost use Rattle.hub_params.specs.FeedModel.{params_in};
 ghost use Rattle.hub_shared.specs.Feeds.{behind_item, receiver_of};
 
+use crate::block::Block;
 use crate::count::Count;
 use crate::feed::HostFeed;
 use crate::gate::{Clock, Gate};
@@ -22,7 +23,7 @@ impl<S: FeedHost, C: Count> HostFeed<S, C> {
     // One holding of the lock for this feed. It is over without memory for a row, and behind its end.
     fn hold_own<R, G>(&mut self, rt: &R, turn: Turn, gate: &G)
     where
-        R: Asks<FeedLabel<S>, Item<S::Row>>,
+        R: Asks<FeedLabel<S>, Block<S::Row>>,
         G: Gate,
         ensures { self.new ≡ self.old }
     {
@@ -40,26 +41,26 @@ impl<S: FeedHost, C: Count> HostFeed<S, C> {
     // Takes the next item. Where there is none, a feed that may be behind is handed on first.
     fn take_handed<R, G>(&mut self, rt: &R, gate: &G) -> Option<Item<S::Row>>
     where
-        R: Asks<FeedLabel<S>, Item<S::Row>>,
+        R: Asks<FeedLabel<S>, Block<S::Row>>,
         G: Gate,
         ensures taken { IfSome result (λ item. self.new ≡ behind_item self.old item) }
         ensures same { IfNone result (self.new ≡ self.old) }
         ensures allowed { IsAllowedBeginning
             (λ l items. S.right (params_in l.asked) l.since items) (receiver_of self.new) }
     {
-        let item = self.receiver.take(rt);
+        let item = self.end.take(rt);
         if item.is_some() || !self.is_behind || self.signals.is_over() {
             return item;
         }
         self.hold_own(rt, Turn::Hand, gate);
-        self.receiver.take(rt)
+        self.end.take(rt)
     }
 
     // Sends the heartbeat that is due, or ends the feed's time, where no item was there to take. Else the
     // feed waits from here on.
     fn pass_time<R, G, K>(&mut self, rt: &R, gate: &G, clock: &K) -> Option<Item<S::Row>>
     where
-        R: Asks<FeedLabel<S>, Item<S::Row>>,
+        R: Asks<FeedLabel<S>, Block<S::Row>>,
         G: Gate,
         K: Clock,
         ensures taken { IfSome result (λ item. self.new ≡ behind_item self.old item) }
@@ -86,7 +87,7 @@ impl<S: FeedHost, C: Count> HostFeed<S, C> {
                 self.is_behind = true;
             }
         }
-        self.receiver.take(rt)
+        self.end.take(rt)
     }
 
     /// The next item, for one who sends many feeds and waits for none. Where none lies in the lane, one
@@ -97,7 +98,7 @@ impl<S: FeedHost, C: Count> HostFeed<S, C> {
     /// the lane is empty, and none where the last one found nothing more to hand.
     pub fn poll<R, G, K>(&mut self, rt: &R, gate: &G, clock: &K) -> Option<Item<S::Row>>
     where
-        R: Asks<FeedLabel<S>, Item<S::Row>>,
+        R: Asks<FeedLabel<S>, Block<S::Row>>,
         G: Gate,
         K: Clock,
         ensures taken { IfSome result (λ item. self.new ≡ behind_item self.old item) }

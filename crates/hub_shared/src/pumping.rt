@@ -1,16 +1,16 @@
 //! The pumps of feeds.
 
+use crate::block::Block;
 use crate::count::Count;
 use crate::gate::{Clock, Gate, Point};
 use crate::host::Host;
 use crate::label::FeedLabel;
 use crate::locked::Locked;
 use crate::signals::Signals;
-use crate::subscriber::Through;
+use crate::subscriber::Directly;
 use crate::times::Due;
 use hub_feed::{FeedHost, FeedId, Handed};
 use hub_lane::Asks;
-use hub_model::Item;
 use std::alloc::{AllocError, Global};
 use std::sync::{Arc, Wait};
 use std::time;
@@ -29,35 +29,73 @@ pub enum Turn {
 /// What one holding did.
 #[derive(Clone, Copy)]
 pub(crate) struct Holding {
-    /// What the last step answered.
+    /// What the last step answered; `Full` also where items wait for room in the lane.
     pub(crate) last: Handed,
-    /// How many items were handed.
-    pub(crate) sent: u64,
+    /// Whether items were handed, or went into the lane.
+    pub(crate) has_sent: bool,
     /// The number of the news as the lock was let go.
     news: u64,
 }
 
-/// Hands until an answer is not a row, or so many items were sent: the last answer, and how many items
-/// were sent.
-pub(crate) fn hand_on<S, C, R>(
+// Hands until an answer is not a row, or so many items were sent: the last answer, and how many items
+// were sent.
+fn hand_on<S: FeedHost, C: Count>(
     locked: &mut Locked<S, C>,
-    rt: &R,
     feed: FeedId,
     most: u64,
-) -> Result<(Handed, u64), AllocError>
-where
-    S: FeedHost,
-    C: Count,
-    R: Asks<FeedLabel<S>, Item<S::Row>>,
-{
+) -> Result<(Handed, u64), AllocError> {
     for sent in 0..most {
-        match locked.hand(&Through(rt), feed)? {
+        match locked.hand(&Directly, feed)? {
             Handed::Row => {}
             Handed::End => return Ok((Handed::End, sent + 1)),
             last => return Ok((last, sent)),
         }
     }
     Ok((Handed::Row, most))
+}
+
+// The steps of one holding, between what waits before and what waits behind them: the last answer, and how
+// many items were sent.
+fn turned<S: FeedHost, C: Count>(
+    locked: &mut Locked<S, C>,
+    feed: FeedId,
+    turn: Turn,
+) -> Result<(Handed, u64), AllocError> {
+    if turn == Turn::Expire {
+        locked.expire(feed);
+        return Ok((Handed::Nothing, 0));
+    }
+    locked.make_room(feed)?;
+    if turn == Turn::Beat {
+        return Ok((locked.beat(&Directly, feed), 0));
+    }
+    let most = locked.most();
+    hand_on(locked, feed, most)
+}
+
+// One holding: what waits goes into the lane, then come the steps, and what they sent goes into the lane, also
+// where they found no memory. Items that wait behind a turn that hands are told as `Full`: once there is room
+// the feed is to be held again.
+fn held<S, C, R>(
+    locked: &mut Locked<S, C>,
+    rt: &R,
+    feed: FeedId,
+    turn: Turn,
+) -> Result<(Handed, bool), AllocError>
+where
+    S: FeedHost,
+    C: Count,
+    R: Asks<FeedLabel<S>, Block<S::Row>>,
+{
+    let before = locked.hand_over(rt, feed);
+    let done = turned(locked, feed, turn);
+    let behind = locked.hand_over(rt, feed);
+    let (last, sent) = done?;
+    let has_sent = sent > 0 || before.unwrap_or(0) > 0;
+    if turn == Turn::Hand && behind.is_none() {
+        return Ok((Handed::Full, has_sent));
+    }
+    Ok((last, has_sent))
 }
 
 impl<S: FeedHost, C: Count> Host<S, C> {
@@ -70,23 +108,15 @@ impl<S: FeedHost, C: Count> Host<S, C> {
         gate: &G,
     ) -> Result<Holding, AllocError>
     where
-        R: Asks<FeedLabel<S>, Item<S::Row>>,
+        R: Asks<FeedLabel<S>, Block<S::Row>>,
         G: Gate,
     {
         let mut locked = self.locked().lock(rt);
         gate.pass(Point::PumpHolding);
-        let most = locked.most();
-        let (last, sent) = match turn {
-            Turn::Hand => hand_on(&mut *locked, rt, feed, most)?,
-            Turn::Beat => (locked.beat(&Through(rt), feed), 0),
-            Turn::Expire => {
-                locked.expire(feed);
-                (Handed::Nothing, 0)
-            }
-        };
+        let (last, has_sent) = held(&mut *locked, rt, feed, turn)?;
         Ok(Holding {
             last,
-            sent,
+            has_sent,
             news: locked.news(),
         })
     }
@@ -102,8 +132,9 @@ impl<S: FeedHost, C: Count> Host<S, C> {
 
 /// Takes the lock once. `Turn::Hand` hands until an answer is not `Row`, or as many items were handed
 /// as one holding may, and answers the last; without memory for a row what was handed before it
-/// stays handed. The other turns make one step: both answer `Nothing`, also where there is nothing to
-/// do, and `Turn::Beat` answers `Full` where the lane was full.
+/// stays handed. What was handed goes into the feed's lane as one block; where the lane was full it waits, and
+/// the answer is `Full`, as it is where as many items wait as may. The other turns make one step: both answer
+/// `Nothing`, also where there is nothing to do, and `Turn::Beat` answers `Full` where as many wait as may.
 pub fn hold<S, C, R, G>(
     rt: &R,
     host: &Host<S, C>,
@@ -114,7 +145,7 @@ pub fn hold<S, C, R, G>(
 where
     S: FeedHost,
     C: Count,
-    R: Asks<FeedLabel<S>, Item<S::Row>>,
+    R: Asks<FeedLabel<S>, Block<S::Row>>,
     G: Gate,
 {
     let holding = host.hold_once(rt, feed, turn, gate)?;
@@ -161,14 +192,14 @@ impl<'a, S: FeedHost, C: Count, K: Clock> PumpState<'a, S, C, K> {
     // Hands until the feed is gone: the loop itself has no end.
     fn run<R, G>(&mut self, rt: &R, gate: &G) -> Result<(), AllocError>
     where
-        R: Asks<FeedLabel<S>, Item<S::Row>> + time::Clock,
+        R: Asks<FeedLabel<S>, Block<S::Row>> + time::Clock,
         G: Gate,
     {
         let mut turn = Turn::Hand;
         for _ in rt.forever() {
             gate.pass(Point::PumpFree);
             let holding = self.host.hold_once(rt, self.feed, turn, gate)?;
-            if holding.sent > 0 {
+            if holding.has_sent {
                 self.last_item = self.clock.now_ms();
                 self.signals.ring_items();
             }
@@ -201,7 +232,7 @@ pub fn pump<S, C, R, G, K>(
 where
     S: FeedHost,
     C: Count,
-    R: Asks<FeedLabel<S>, Item<S::Row>> + time::Clock,
+    R: Asks<FeedLabel<S>, Block<S::Row>> + time::Clock,
     G: Gate,
     K: Clock,
 {

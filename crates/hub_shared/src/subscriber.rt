@@ -1,25 +1,36 @@
-//! The program's outbox of a feed: the end of a lane that sends, and whom to tell of the feed.
+//! The program's outbox of a feed: the end of a lane that sends, what waits for room in the lane, and whom to
+//! tell of the feed.
 
-ghost use Rattle.std.specs.Prelude.{◌≡◌, ◌<◌, [], IfOk};
-ghost use Rattle.hub_lane.specs.Ends.{new_receiver, new_sender};
-ghost use Rattle.hub_model.specs.Entries.{AreRising};
+ghost use Rattle.std.specs.Prelude.{◌≡◌, ◌<◌, [], length, IfOk, IfSome, IfNone, IsSome, OnErr, OnOk};
+ghost use Rattle.hub_lane.specs.Ends.{new_receiver};
+ghost use Rattle.hub_model.specs.Entries.{AreRising, changed, entry_in};
 ghost use Rattle.hub_params.specs.FeedModel.{params_in};
+ghost use Rattle.hub_shared.specs.Blocks.{IsHeldUp, handed_over, new_subscriber, waiting_of, with_room};
 
+use crate::block::Block;
+use crate::feed_end::FeedEnd;
 use crate::label::FeedLabel;
 use crate::outbox::{Outbox, Receives, TwoEnded};
 use crate::signals::Signals;
 use crate::watch::Watch;
 use hub_feed::{HostView, Pushes, Sink};
-use hub_lane::{Asks, Full, Lane, Receiver, Sender};
-use hub_model::{Item, place_of};
+use hub_lane::{Asks, Full, Lane, Sender};
+use hub_model::{Item, place_near, place_of};
 use hub_params::FeedParams;
 use std::alloc::{AllocError, Global};
 use std::marker::Model;
+use std::mem;
 use std::sync::Arc;
 
-/// The end of a feed's lane that sends, with whom to tell of the feed. Contracts see the sender.
+/// The end of a feed's lane that sends, with the items that wait for room in the lane, and whom to tell of the
+/// feed. An item that is sent waits here; what waits goes into the lane as one block. Contracts see the lane,
+/// its label, all items that were sent, those of them that wait, and for how many that wait memory is reserved.
 pub struct Subscriber<S: HostView> {
-    sender: Sender<FeedLabel<S>, Item<S::Row>>,
+    sender: Sender<FeedLabel<S>, Block<S::Row>>,
+    /// The items that were sent, and that the lane has not got yet.
+    waiting: Vec<Item<S::Row>>,
+    /// How many items may wait, with no memory taken.
+    room: usize,
     /// What a pump of the feed and its connection share.
     signals: Arc<Signals, Global>,
     /// What has news where one sends the feed who waits for none.
@@ -30,6 +41,8 @@ impl<S: HostView> Drop for Subscriber<S> {
     fn drop(self) {
         let Self {
             sender,
+            waiting,
+            room,
             signals,
             watch,
         } = self;
@@ -37,35 +50,49 @@ impl<S: HostView> Drop for Subscriber<S> {
 }
 
 impl<S: HostView> Model for Subscriber<S> {
-    ghost use Rattle.hub_shared.specs.Locked.{FeedSender};
+    ghost use Rattle.std.specs.Prelude.{◌≡◌, ◌≤◌, ◌++◌};
+    ghost use Rattle.std.specs.Vec.{vec_capacity};
+    ghost use Rattle.hub_params.specs.FeedModel.{params_in};
+    ghost use Rattle.hub_shared.specs.Blocks.{SubscriberState, items_in};
 
-    ghost Value = { FeedSender S.Row };
+    ghost Value = { SubscriberState S.Row };
 
-    ghost view = { λ a. a.sender };
+    ghost view = { λ a. record {
+      lane_id = a.sender.lane_id;
+      label = a.sender.label;
+      sent = items_in a.sender.sent ++ a.waiting.items;
+      waiting = a.waiting.items;
+      room = a.room;
+    } };
+
+    ghost invariant = { λ a. (a.room ≤ vec_capacity a.waiting)
+        × (a.sender.capacity ≡ 1)
+        × S.right (params_in a.sender.label.asked) a.sender.label.since
+        (items_in a.sender.sent ++ a.waiting.items) };
 }
 
 /// It takes what the label of its lane allows.
 impl<S: HostView> Sink<Item<S::Row>> for Subscriber<S> {
-    ghost use Rattle.hub_lane.specs.Ends.{behind_push};
     ghost use Rattle.hub_params.specs.FeedModel.{params_in};
+    ghost use Rattle.hub_shared.specs.Blocks.{behind_sent};
 
     ghost allows = { λ s items. S.right (params_in s.label.asked) s.label.since items };
 
     ghost sent = { λ s. s.sent };
 
-    ghost behind = { λ s item. behind_push s item };
+    ghost behind = { λ s item. behind_sent s item };
 }
 
 /// What the connection of a feed gets as the feed is opened.
 #[derive(Drop)]
-pub struct FeedEnd<S: HostView> {
+pub struct FeedTaker<S: HostView> {
     /// The end of the feed's lane that takes.
-    pub receiver: Receiver<FeedLabel<S>, Item<S::Row>>,
+    pub end: FeedEnd<S>,
     /// What its connection shares with a pump of it.
     pub signals: Arc<Signals, Global>,
 }
 
-/// By its sender.
+/// By its lane, and what waits for room there.
 impl<S: HostView> Outbox<S> for Subscriber<S> {
     ghost label = { λ s. s.label };
 
@@ -78,32 +105,45 @@ impl<S: HostView> Outbox<S> for Subscriber<S> {
     }
 }
 
-/// By a lane, and signals that both ends share.
+/// By a lane of one block, and signals that both ends share.
 impl<S: HostView> TwoEnded<S> for Subscriber<S> {
-    type Taker = FeedEnd<S>;
+    type Taker = FeedTaker<S>;
 
     ghost use Rattle.std.proofs.Common.{refl};
 
-    ghost made = { λ end label capacity. new_sender end.receiver.lane_id label capacity };
+    ghost made = { λ taker label capacity. new_subscriber taker.end.lane_id label capacity };
 
-    ghost takes = { λ end label. end.receiver ≡ new_receiver end.receiver.lane_id label };
+    ghost takes = { λ taker label. taker.end ≡ new_receiver taker.end.lane_id label };
 
     fn open(
         alloc: Global,
         capacity: usize,
         feed: FeedLabel<S>,
         params: &FeedParams,
-    ) -> Result<(Subscriber<S>, FeedEnd<S>), AllocError>
+    ) -> Result<(Subscriber<S>, FeedTaker<S>), AllocError>
         requires room { 0 < capacity }
         requires allowed { S.right (params_in feed.asked) feed.since [] }
         ensures outbox { IfOk result (λ ends.
-            ends.0 ≡ new_sender ends.1.receiver.lane_id feed capacity) }
+            ends.0 ≡ new_subscriber ends.1.end.lane_id feed capacity) }
         ensures taker { IfOk result (λ ends.
-            ends.1.receiver ≡ new_receiver ends.1.receiver.lane_id feed) }
+            ends.1.end ≡ new_receiver ends.1.end.lane_id feed) }
     {
-        let (sender, receiver) = Lane::new(alloc, capacity, feed)?;
+        let (sender, receiver) = Lane::new(alloc, 1, feed)?;
         let (own, signals) = Signals::shared(alloc, params)?;
-        Ok((Subscriber::new(sender, own), FeedEnd { receiver, signals }))
+        let waiting = Vec::with_capacity(alloc, capacity)?;
+        Ok((
+            Subscriber {
+                sender,
+                waiting,
+                room: capacity,
+                signals: own,
+                watch: None,
+            },
+            FeedTaker {
+                end: FeedEnd::new(alloc, receiver),
+                signals,
+            },
+        ))
     }
 
     ghost labelled = { λ end l capacity. refl };
@@ -122,20 +162,6 @@ impl<S: HostView> Receives<S> for Subscriber<S> {
 }
 
 impl<S: HostView> Subscriber<S> {
-    // One that nothing watches.
-    fn new(
-        sender: Sender<FeedLabel<S>, Item<S::Row>>,
-        signals: Arc<Signals, Global>,
-    ) -> Subscriber<S>
-        ensures { result ≡ sender }
-    {
-        Subscriber {
-            sender,
-            signals,
-            watch: None,
-        }
-    }
-
     /// Its signals once more. Constant time.
     pub(crate) fn signals(&self) -> Result<Arc<Signals, Global>, AllocError> {
         Arc::try_clone(&self.signals)
@@ -147,28 +173,65 @@ impl<S: HostView> Subscriber<S> {
     {
         self.watch = Some(watch);
     }
+
+    /// Reserves memory for so many items that wait, those that wait among them. Without memory it is as it was.
+    pub(crate) fn make_room(&mut self, room: usize) -> Result<(), AllocError>
+        ensures ok { OnOk result (self.new ≡ with_room room self.old) }
+        ensures err { OnErr result (self.new ≡ self.old) }
+    {
+        let more = room.saturating_sub(self.waiting.len());
+        self.waiting.try_reserve(more)?;
+        self.room = room;
+        Ok(())
+    }
+
+    /// Gives the lane all that waits, as one block, and answers how many items these were: none where nothing
+    /// waits. Where the lane was full at a moment of the call they go on waiting, and the answer is `None`. No
+    /// memory is kept for more that wait. Constant time, and it takes no memory.
+    pub(crate) fn hand_over<R>(&mut self, rt: &R, alloc: Global) -> Option<usize>
+    where
+        R: Asks<FeedLabel<S>, Block<S::Row>>,
+        ensures over { IfSome result (λ count. (count ≡ length self.old.waiting)
+            × (self.new ≡ handed_over self.old)) }
+        ensures held_up { IfNone result ((self.new ≡ with_room 0 self.old)
+            × IsHeldUp (R.refuses rt.now) self.old) }
+    {
+        self.room = 0;
+        let count = self.waiting.len();
+        let Some(block) = Block::of(mem::replace(&mut self.waiting, Vec::new(alloc))) else {
+            return Some(0);
+        };
+        match self.sender.push(rt, block) {
+            Ok(()) => Some(count),
+            Err(Full(block)) => {
+                self.waiting = block.into_items();
+                None
+            }
+        }
+    }
 }
 
-/// What may wait, as a subscriber is given items through it.
+/// How a subscriber is given an item: it waits with it.
 #[derive(Drop)]
-pub struct Through<'a, R>(pub &'a R);
+pub struct Directly;
 
-/// By a push, which is refused only where the lane was full at a moment of the call.
-impl<'a, S: HostView, R: Asks<FeedLabel<S>, Item<S::Row>>> Pushes<Subscriber<S>, Item<S::Row>>
-    for Through<'a, R> {
+/// By the items that wait. One is refused just where as many wait as have room.
+impl<S: HostView> Pushes<Subscriber<S>, Item<S::Row>> for Directly {
     ghost use Rattle.std.proofs.Common.{refl};
+    ghost use Rattle.hub_shared.specs.Blocks.{HasNoRoom};
 
-    ghost refuses = { λ h s item. R.refuses h.0.now s item };
+    ghost refuses = { λ h s item. HasNoRoom s };
 
     ghost sends = { λ s item. refl };
 
     ghost keeps = { λ s item items allowed. allowed };
 
     fn push(&self, sink: &mut Subscriber<S>, item: Item<S::Row>) -> Result<(), Item<S::Row>> {
-        match sink.sender.push(self.0, item) {
-            Ok(()) => Ok(()),
-            Err(Full(item)) => Err(item),
+        if sink.room <= sink.waiting.len() {
+            return Err(item);
         }
+        sink.waiting.push_reserved(item);
+        Ok(())
     }
 }
 
@@ -187,4 +250,52 @@ pub(crate) fn watch<S: HostView>(
     };
     let entry = &mut subscribers[at];
     entry.1.watch(watch);
+}
+
+/// Reserves memory for so many items of the feed of this number that wait, if there is one. It is looked for at
+/// `near` first.
+pub(crate) fn make_room<S: HostView>(
+    subscribers: &mut Vec<(u64, Subscriber<S>)>,
+    near: usize,
+    feed: u64,
+    room: usize,
+) -> Result<(), AllocError>
+    requires rising { AreRising subscribers.old.items }
+    ensures ok { OnOk result (subscribers.new.items ≡ changed feed (with_room room) subscribers.old.items) }
+    ensures err { OnErr result (subscribers.new.items ≡ subscribers.old.items) }
+{
+    let Some(at) = place_near(subscribers.as_slice(), near, feed) else {
+        return Ok(());
+    };
+    let entry = &mut subscribers[at];
+    entry.1.make_room(room)
+}
+
+/// Gives the lane of the feed of this number all that waits for it, if there is one, as
+/// `Subscriber::hand_over`. It is looked for at `near` first.
+pub(crate) fn hand_over<S, R>(
+    rt: &R,
+    alloc: Global,
+    subscribers: &mut Vec<(u64, Subscriber<S>)>,
+    near: usize,
+    feed: u64,
+) -> Option<usize>
+where
+    S: HostView,
+    R: Asks<FeedLabel<S>, Block<S::Row>>,
+    requires rising { AreRising subscribers.old.items }
+    ensures count { IfSome result (λ count. count
+        ≡ length (waiting_of (entry_in feed subscribers.old.items))) }
+    ensures over { IfSome result (λ _. subscribers.new.items
+        ≡ changed feed handed_over subscribers.old.items) }
+    ensures held_up { IfNone result (subscribers.new.items
+        ≡ changed feed (with_room 0) subscribers.old.items) }
+    ensures full { IfNone result (IfSome (entry_in feed subscribers.old.items) (IsHeldUp (R.refuses rt.now))) }
+    ensures feed { IfNone result (IsSome (entry_in feed subscribers.old.items)) }
+{
+    let Some(at) = place_near(subscribers.as_slice(), near, feed) else {
+        return Some(0);
+    };
+    let entry = &mut subscribers[at];
+    entry.1.hand_over(rt, alloc)
 }

@@ -10,11 +10,10 @@ mod surface;
 use hub_database::{DbFault, DbState, Info};
 use hub_document::{Doc, DocId, Limits, LocalDoc, RevId};
 use hub_feed::{FeedId, OpenFault};
-use hub_lane::Receiver;
 use hub_model::{Fault, Item};
 use hub_params::FeedParams;
 use hub_shared::{
-    AuditFault, ChangeItem, ChangeLabel, Handed, Locked, NoCount, Receipt, Through, audit_of,
+    AuditFault, ChangeItem, Directly, FeedEnd, Handed, Locked, NoCount, Receipt, audit_of,
 };
 use std::alloc::{AllocError, Global};
 use std::sync::Wait;
@@ -24,7 +23,7 @@ use std::test::Fail;
 type Database = Locked<DbState>;
 
 // The end of a feed's lane that takes.
-type Taker = Receiver<ChangeLabel, ChangeItem>;
+type Taker = FeedEnd<DbState>;
 
 // What an item is.
 #[derive(Clone, Copy, Debug, PartialEq, Eq)]
@@ -160,7 +159,7 @@ fn try_begin(
         return Err(AllocError);
     };
     match database.begin(params) {
-        Ok(opened) => Ok(Ok((opened.id, opened.taker.receiver))),
+        Ok(opened) => Ok(Ok((opened.id, opened.taker.end))),
         Err(OpenFault::NoMemory) => Err(AllocError),
         Err(fault) => Ok(Err(fault)),
     }
@@ -196,7 +195,7 @@ fn hands<R: Wait>(
     feed: FeedId,
     wanted: Handed,
 ) -> Result<bool, Fail> {
-    let handed = again_on!(database, database.hand(&Through(rt), feed))?;
+    let handed = again_on!(database, database.hand(&Directly, feed))?;
     Ok(handed == wanted)
 }
 
@@ -211,12 +210,14 @@ fn a_full_lane_waits<R: Wait>(
     let (feed, mut taker) = open(alloc, database, "feed=continuous")?;
     let rows = hands(rt, database, feed, Handed::Row)? && hands(rt, database, feed, Handed::Row)?;
     let full = hands(rt, database, feed, Handed::Full)? && hands(rt, database, feed, Handed::Full)?;
+    let over = database.hand_over(rt, feed) == Some(2);
+    again_on!(database, database.make_room(feed))?;
     let first = take(rt, &mut taker) == Some(Told::Row(1));
-    let third = hands(rt, database, feed, Handed::Row)?;
+    let third = hands(rt, database, feed, Handed::Row)? && database.hand_over(rt, feed) == Some(1);
     let second = take(rt, &mut taker) == Some(Told::Row(2));
     let last = take(rt, &mut taker) == Some(Told::Row(3)) && take(rt, &mut taker).is_none();
     let nothing = hands(rt, database, feed, Handed::Nothing)?;
-    Ok(rows && full && first && third && second && last && nothing)
+    Ok(rows && full && over && first && third && second && last && nothing)
 }
 
 #[test]
@@ -234,7 +235,8 @@ fn a_feed_ends<R: Wait>(rt: &R, alloc: Global, database: &mut Database) -> Resul
     let (feed, mut taker) = open(alloc, database, "feed=continuous")?;
     let nothing = hands(rt, database, feed, Handed::Nothing)?;
     database.expire(feed);
-    let end = hands(rt, database, feed, Handed::End)? && hands(rt, database, feed, Handed::Gone)?;
+    let end = hands(rt, database, feed, Handed::End)? && hands(rt, database, feed, Handed::Gone)?
+        && database.hand_over(rt, feed) == Some(1);
     let taken = take(rt, &mut taker) == Some(Told::End(0));
     let sender = database.finish(feed).is_some() && database.finish(feed).is_none();
     Ok(nothing && end && taken && sender && hands(rt, database, feed, Handed::Gone)?)
@@ -253,12 +255,13 @@ fn a_feed_comes_to_its_end(rt: HostRuntime) -> Result<(), Fail> {
 // Whether heartbeats come where they are asked for, until the lane is full.
 fn a_feed_beats<R: Wait>(rt: &R, alloc: Global, database: &mut Database) -> Result<bool, Fail> {
     let (feed, mut taker) = open(alloc, database, "feed=continuous&heartbeat=1000")?;
-    let twice = database.beat(&Through(rt), feed) == Handed::Nothing
-        && database.beat(&Through(rt), feed) == Handed::Nothing;
-    let full = database.beat(&Through(rt), feed) == Handed::Full;
+    let twice = database.beat(&Directly, feed) == Handed::Nothing
+        && database.beat(&Directly, feed) == Handed::Nothing;
+    let full = database.beat(&Directly, feed) == Handed::Full
+        && database.hand_over(rt, feed) == Some(2);
     let beat = take(rt, &mut taker) == Some(Told::Beat);
     let _sender = database.finish(feed);
-    let gone = database.beat(&Through(rt), feed) == Handed::Nothing;
+    let gone = database.beat(&Directly, feed) == Handed::Nothing;
     let second = take(rt, &mut taker) == Some(Told::Beat) && take(rt, &mut taker).is_none();
     Ok(twice && full && beat && gone && second)
 }

@@ -6,7 +6,7 @@ use hub_document::Limits;
 use hub_feed::FeedHost;
 use hub_lane::Asks;
 use hub_model::Item;
-use hub_shared::{Bell, Clock, Count, Db, Feed, FeedLabel, HostFeed, Plain, Watch};
+use hub_shared::{Bell, Block, Clock, Count, Db, Feed, FeedLabel, HostFeed, Plain, Watch};
 use std::alloc::{AllocError, Global};
 use std::sync::{Arc, Wait};
 use std::test::Fail;
@@ -25,7 +25,7 @@ impl Clock for Still {
 // memory, or is at its end.
 fn polled<R, S, C>(rt: &R, feed: &mut HostFeed<S, C>) -> Result<Option<Item<S::Row>>, AllocError>
 where
-    R: Asks<FeedLabel<S>, Item<S::Row>>,
+    R: Asks<FeedLabel<S>, Block<S::Row>>,
     S: FeedHost,
     C: Count,
 {
@@ -38,7 +38,7 @@ where
 // Whether a feed of any host gets just one row, and waits then for a minute.
 fn gets_one_row<R, S, C>(rt: &R, feed: &mut HostFeed<S, C>) -> Result<bool, AllocError>
 where
-    R: Asks<FeedLabel<S>, Item<S::Row>>,
+    R: Asks<FeedLabel<S>, Block<S::Row>>,
     S: FeedHost,
     C: Count,
 {

@@ -8,8 +8,8 @@ use hub_lane::Asks;
 use hub_model::{Fault, Item, UpdateKind};
 use hub_params::FeedParams;
 use hub_shared::{
-    Answer, Count, Db, Feed, FeedLabel, Gate, Handed, Host, HostFeed, Locked, NoCount, Plain,
-    Point, Question, Through, Turn, Updates, UpdatesFeed, hold,
+    Answer, Block, Count, Db, Directly, Feed, FeedLabel, Gate, Handed, Host, HostFeed, Locked, NoCount, Plain,
+    Point, Question, Turn, Updates, UpdatesFeed, hold,
 };
 use hub_updates::{Notice, UpdatesState};
 use std::alloc::{AllocError, Global};
@@ -70,11 +70,12 @@ fn hands_a_note<R: Wait>(
         return Err(AllocError);
     }
     let (feed, mut taker) = match log.begin(params(alloc, "")?) {
-        Ok(opened) => (opened.id, opened.taker.receiver),
+        Ok(opened) => (opened.id, opened.taker.end),
         Err(_) => return Err(AllocError),
     };
-    let handed = (log.hand(&Through(rt), feed)?, log.hand(&Through(rt), feed)?)
-        == (Handed::Row, Handed::End);
+    let handed = (log.hand(&Directly, feed)?, log.hand(&Directly, feed)?)
+        == (Handed::Row, Handed::End)
+        && log.hand_over(rt, feed) == Some(2);
     let row = match taker.take(rt) {
         Some(Item::Row(row)) => {
             row.kind == UpdateKind::Created && row.db_name.as_str() == "d" && row.seq == 1
@@ -159,7 +160,7 @@ fn hands<R, S, C>(
     rows: u64,
 ) -> Result<bool, AllocError>
 where
-    R: Asks<FeedLabel<S>, Item<S::Row>>,
+    R: Asks<FeedLabel<S>, Block<S::Row>>,
     S: FeedHost,
     C: Count,
 {

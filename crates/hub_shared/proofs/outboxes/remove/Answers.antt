@@ -1,4 +1,4 @@
-use Rattle.std.proofs.Common.{◌≡◌, ◌∙◌, ap, sym, Some, None}
+use Rattle.std.proofs.Common.{◌≡◌, ◌∙◌, sym, Some, None}
 use Rattle.std.specs.Prelude.{position}
 use Rattle.hub_model.specs.Entries.{is_of}
 use Rattle.hub_model.proofs.Entries.{entry_here, no_entry, without_absent, without_here}

@@ -1,7 +1,7 @@
 use Rattle.std.proofs.Common.{◌≡◌, ◌∙◌, ap, sym, Some, None}
 use Rattle.std.specs.Prelude.{position, option_and_then}
 use Rattle.hub_model.specs.Entries.{is_of}
-use Rattle.hub_model.proofs.Entries.{changed_absent, changed_here, entry_here, no_entry, stays_here}
+use Rattle.hub_model.proofs.Entries.{changed_absent, changed_here, entry_here, no_entry}
 use Rattle.hub_shared.proofs.outboxes.take.Goals as goal
 
 pub returns-in_err-at-clause-item : goal.returns-in_err-at-clause-item

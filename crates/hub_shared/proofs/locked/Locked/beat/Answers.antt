@@ -1,5 +1,5 @@
 -- A heartbeat for an outbox that stands in the list, pushed or given back.
-use Rattle.std.proofs.Common.{◌≡◌, ◌∙◌, sym, subst, refl, Some, None, true, false}
+use Rattle.std.proofs.Common.{◌≡◌, ◌∙◌, sym, subst, refl, Some, None, true}
 use Rattle.std.specs.Prelude.{position, slice_set}
 use Rattle.std.proofs.lemmas.Option.{same_Some}
 use Rattle.hub_feed.specs.Hand.{MayTake}

@@ -1,4 +1,4 @@
-use Rattle.std.proofs.Common.{◌≡◌, ◌∙◌, ap, sym, subst, ◌∷◌, [], ◌++◌, None}
+use Rattle.std.proofs.Common.{◌≡◌, ◌∙◌, sym, subst, ◌∷◌, [], ◌++◌, None}
 use Rattle.hub_model.specs.Entries.{entry_in}
 use Rattle.hub_feed.specs.Host.{opened}
 use Rattle.hub_model.specs.Feed.{Params, begin}

@@ -3,7 +3,6 @@ use Rattle.std.specs.Prelude.{Ok, Err, IfErr}
 use Rattle.hub_database.specs.Database.{Database}
 use Rattle.hub_shared.specs.Edits.{IsEditAnswer}
 use Rattle.hub_shared.specs.Handles.{HandleState, IsEditedBy}
-use Rattle.hub_shared.specs.Stored.{Adds}
 use Rattle.hub_shared.proofs.Editing.{amount_within, book_added, senders_added}
 use Rattle.hub_shared.proofs.store.Locked+DbState+C+K.write_one.Goals as goal
 

@@ -15,7 +15,7 @@ returns-clause-opened g c =
       subst (λ (feed : FeedState _). IsOpened host (updates_asked (params_asked c.args.params)) feed)
           (sym c.new.ensures)
           (subst (λ (asked : FeedAsked). IsOpened host asked (feed_of c.in_ok-id.field-0.id.number
-          c.in_ok-id.field-0.taker.receiver))
+          c.in_ok-id.field-0.taker.end))
           c.effective.ensures
           (record {
             free = begun.free;

@@ -1,0 +1,90 @@
+//! The end of a feed's lane from which its connection takes.
+
+ghost use Rattle.std.specs.Prelude.{◌≡◌, IfSome, IfNone};
+ghost use Rattle.hub_lane.specs.Ends.{IsAllowedBeginning, behind_take, new_receiver};
+ghost use Rattle.hub_params.specs.FeedModel.{params_in};
+ghost use Rattle.hub_shared.specs.Blocks.{IsDrained};
+
+use crate::block::Block;
+use crate::label::FeedLabel;
+use hub_feed::HostView;
+use hub_lane::{Asks, Receiver};
+use hub_model::Item;
+use std::alloc::Global;
+use std::marker::Model;
+use std::vec::IntoIter;
+
+/// The end of a feed's lane that takes: blocks come out of the lane, and items out of the block that was taken
+/// last. Contracts see the lane, its label, and all items that were taken.
+#[derive(Drop)]
+pub struct FeedEnd<S: HostView> {
+    receiver: Receiver<FeedLabel<S>, Block<S::Row>>,
+    /// What is left of the last block that the lane gave.
+    block: IntoIter<Item<S::Row>>,
+    alloc: Global,
+}
+
+impl<S: HostView> Model for FeedEnd<S> {
+    ghost use Rattle.std.specs.Prelude.{◌≡◌, ◌++◌};
+    ghost use Rattle.std.specs.Vec.Iter.{into_iter_items};
+    ghost use Rattle.hub_model.specs.declared.feeds.Item.{Item as HandedItem};
+    ghost use Rattle.hub_lane.specs.Ends.{ReceiverState};
+    ghost use Rattle.hub_shared.specs.Blocks.{end_of, front_of, items_in};
+    ghost use Rattle.hub_shared.specs.Label.{Label};
+
+    ghost Value = { ReceiverState Label (HandedItem S.Row) };
+
+    ghost view = { λ a. end_of a.receiver (into_iter_items a.block) };
+
+    ghost invariant = { λ a. items_in a.receiver.taken
+        ≡ front_of (items_in a.receiver.taken) (into_iter_items a.block) ++ into_iter_items a.block };
+}
+
+impl<S: HostView> FeedEnd<S> {
+    /// The end of a lane of which nothing was taken. It takes no memory.
+    pub(crate) fn new(
+        alloc: Global,
+        receiver: Receiver<FeedLabel<S>, Block<S::Row>>,
+    ) -> FeedEnd<S>
+        requires new { receiver ≡ new_receiver receiver.lane_id receiver.label }
+        ensures { result ≡ new_receiver receiver.lane_id receiver.label }
+    {
+        FeedEnd {
+            receiver,
+            block: Vec::new(alloc).into_iter(),
+            alloc,
+        }
+    }
+
+    /// What the feed was asked for, and where it began. Constant time, and no memory.
+    pub fn label(&self) -> &FeedLabel<S>
+        ensures { result.now ≡ self.now.label }
+    {
+        self.receiver.label()
+    }
+
+    /// Takes the first item that the lane got and that was not taken yet: what was taken is the beginning of a
+    /// list that is rightly handed, with the parameters and the since of the label. There is none only where
+    /// the lane was empty at a moment of the call, and no item was left of its blocks; then no memory is kept
+    /// for blocks. It waits for nobody, and takes no memory.
+    pub fn take<R: Asks<FeedLabel<S>, Block<S::Row>>>(&mut self, rt: &R) -> Option<Item<S::Row>>
+        ensures taken { IfSome result (λ item. self.new ≡ behind_take self.old item) }
+        ensures same { IfNone result (self.new ≡ self.old) }
+        ensures none { IfNone result (IsDrained (R.lacks rt.now) self.old) }
+        ensures allowed { IsAllowedBeginning
+            (λ l items. S.right (params_in l.asked) l.since items) self.new }
+    {
+        if let Some(item) = self.block.next() {
+            let _label = self.receiver.label();
+            return Some(item);
+        }
+        let Some(block) = self.receiver.take(rt) else {
+            self.block = Vec::new(self.alloc).into_iter();
+            return None;
+        };
+        let mut items = block.into_items().into_iter();
+        let item = items.next();
+        self.block = items;
+        item
+    }
+}
