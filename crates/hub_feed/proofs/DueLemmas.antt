@@ -1,19 +1,13 @@
 -- What follows where a row or an end is due.
-use Rattle.std.proofs.Common.{◌≡◌, ℕ, ◌<◌, ◌≤◌, List, true, refl, sym, ◌∙◌, ap, subst}
-use Rattle.std.proofs.Common.{Option, Some, None, IfSome, find, option_map, Contains}
-use Rattle.hub_model.specs.Current.{Current, pending}
-use Rattle.hub_model.specs.Feed.{Feed, Status, Open, Ending, Due, DueRow, DueEnd}
-use Rattle.hub_model.specs.Feed.{DueNothing, DueGone, due, after_due, is_in_reach}
-use Rattle.hub_model.specs.Hand.{item_of}
-use Rattle.hub_model.specs.declared.feeds.Item.{Item}
-use Rattle.hub_model.specs.declared.feeds.Item.TheVariants as item
+use Rattle.std.proofs.Common.{◌≡◌, ℕ, ◌<◌, ◌≤◌, List, true, refl, subst}
+use Rattle.std.proofs.Common.{IfSome, Contains}
+use Rattle.hub_model.specs.Current.{Current}
+use Rattle.hub_model.specs.Feed.{Feed, Due, DueRow, DueEnd}
+use Rattle.hub_model.specs.Feed.{DueNothing, DueGone, due, is_in_reach}
 use Rattle.hub_model.proofs.Due.{due_row, reach_parts, within_bound}
 use Rattle.hub_model.proofs.Shown.{find_is}
-use Rattle.hub_feed.specs.Due.{after_sequence, due_sequence}
-use Rattle.hub_feed.specs.Next.{next_of}
-use Rattle.hub_feed.specs.declared.due.DueSequence.{DueSequence}
-use Rattle.hub_feed.specs.declared.due.DueSequence.TheVariants.{Row, End, Nothing, Gone}
-use Rattle.hub_feed.specs.declared.next.Next.TheVariants as next
+use Rattle.hub_feed.specs.Due.{due_sequence}
+use Rattle.hub_feed.specs.declared.due.DueSequence.TheVariants.{Row, End}
 
 -- where a row is due by its sequence
 row_due : (due : Due) (seq : ℕ) → Row seq ≡ due_sequence due
@@ -49,42 +43,3 @@ end_due (DueRow row) last_seq e = absurd (cc)
 end_due (DueEnd n) last_seq e = cc
 end_due DueNothing last_seq e = absurd (cc)
 end_due DueGone last_seq e = absurd (cc)
-
--- an item that is due, by its sequence
-module _ {R : Type 0} (show : Current → R) (rows : List Current) where
-  pub item_row : (seq_of : R → ℕ) → ((row : Current) → seq_of (show row) ≡ row.seq)
-      → (due : Due) (shown : R) → item_of show rows due ≡ Some (item.Row shown)
-      → Row (seq_of shown) ≡ due_sequence due
-  item_row seq_of keeps (DueRow row) shown e =
-      let same : shown ≡ show row = cc in ap Row (ap seq_of same ∙ keeps row)
-  item_row seq_of keeps (DueEnd last_seq) shown e = absurd (cc)
-  item_row seq_of keeps DueNothing shown e = absurd (cc)
-  item_row seq_of keeps DueGone shown e = absurd (cc)
-
-  pub item_end : (due : Due) (last_seq n : ℕ) → item_of show rows due ≡ Some (item.End last_seq n)
-      → End last_seq ≡ due_sequence due
-  item_end (DueRow row) last_seq n e = absurd (cc)
-  item_end (DueEnd other) last_seq n e = cc
-  item_end DueNothing last_seq n e = absurd (cc)
-  item_end DueGone last_seq n e = absurd (cc)
-
-  pub item_beat : (due : Due) → item_of show rows due ≡ Some item.Beat → ⊥
-  item_beat (DueRow row) e = absurd (cc)
-  item_beat (DueEnd other) e = absurd (cc)
-  item_beat DueNothing e = absurd (cc)
-  item_beat DueGone e = absurd (cc)
-
-  -- and the feed behind it
-  pub item_moves : (feed : Feed) (len : ℕ) (due : Due) (given : Item R) → item_of show rows due ≡ Some given
-      → after_sequence feed (due_sequence due) len ≡ after_due feed due len
-  item_moves feed len (DueRow row) given e = refl
-  item_moves feed len (DueEnd last_seq) given e = refl
-  item_moves feed len DueNothing given e = absurd (cc)
-  item_moves feed len DueGone given e = refl
-
-  pub gives_item : (due : Due) (given : Item R) → next.Give given ≡ next_of show rows due
-      → item_of show rows due ≡ Some given
-  gives_item (DueRow row) given e = cc
-  gives_item (DueEnd last_seq) given e = cc
-  gives_item DueNothing given e = absurd (cc)
-  gives_item DueGone given e = absurd (cc)

@@ -326,12 +326,12 @@ impl FeedState {
             ≡ Some item.now }
         ensures { self.new ≡ after_due self.old (due (S.current source.now) self.old) (S.length source.now) }
     {
-        let due = match item {
+        let sequence = match item {
             Item::Row(row) => DueSequence::Row(S::seq(row)),
             Item::End { last_seq, .. } => DueSequence::End(*last_seq),
             Item::Beat => return,
         };
-        self.accept_due(source, due);
+        self.accept_due(source, sequence);
     }
 
     /// Hands what is due, where the first row in reach of an open feed is known: it has this sequence,

@@ -1,8 +1,7 @@
 -- The row that is due by its sequence is a current one.
 use Rattle.std.proofs.Common.{◌≡◌, sym, ◌∙◌, ap, subst}
-use Rattle.hub_model.specs.Current.{Current, pending}
-use Rattle.hub_model.specs.Feed.{Feed, DueRow, due}
-use Rattle.hub_model.specs.declared.feeds.Item.TheVariants.{Row, End}
+use Rattle.hub_model.specs.Feed.{Feed, due}
+use Rattle.hub_model.specs.declared.feeds.Item.TheVariants.{Row}
 use Rattle.hub_feed.specs.Next.{next_of}
 use Rattle.hub_feed.specs.declared.next.Next.TheVariants.{Give}
 use Rattle.hub_feed.proofs.DueLemmas.{end_due, row_here}
