@@ -10,16 +10,14 @@ use Rattle.hub_model.specs.Journal.{Edit, IsLegal, edits_of, is_known}
 use Rattle.hub_model.specs.Leaves.{Leaf, leaves_among, best_first, leaves_of, revisions_of}
 use Rattle.hub_model.specs.Walk.{line_of, is_head, shown, shown_of}
 use Rattle.hub_model.proofs.Lists.{contains_here}
-use Rattle.hub_model.proofs.Legal.{first_in, legal_sound}
-use Rattle.hub_model.proofs.Tests.{at_any, is_named, same_is, edits_in, in_edits}
-use Rattle.hub_model.proofs.Sorted.{leaf_edit}
-use Rattle.hub_model.proofs.Shown.{find_is, find_not, head_is, is_head_from}
+use Rattle.hub_model.proofs.Legal.{first_in}
+use Rattle.hub_model.proofs.Tests.{at_any, is_named, same_is}
+use Rattle.hub_model.proofs.Shown.{find_is, head_is}
 use Rattle.hub_document.specs.declared.doc.Doc.{Doc}
 use Rattle.hub_document.specs.declared.open_revs.OpenRevs.TheVariants.{All, Listed}
 use Rattle.hub_revtree.specs.declared.leaf.Winner.{Winner}
-use Rattle.hub_model.specs.Row.{doc_of}
 use Rattle.hub_revtree.specs.Extend.{path_to}
-use Rattle.hub_revtree.specs.Tree.{IsRevTree, Tip, tip, tip_of}
+use Rattle.hub_revtree.specs.Tree.{Tip, tip, tip_of}
 use Rattle.hub_revtree.specs.Winner.{winner_of}
 use Rattle.hub_revtree.proofs.HeadLemmas.{leaf_headed}
 use Rattle.hub_database.specs.declared.document.Document.{Document}

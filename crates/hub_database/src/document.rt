@@ -5,8 +5,6 @@ ghost use Rattle.std.specs.Prelude.{◌^◌, length, vec_len, vec_capacity, IfOk
 ghost use Rattle.std.specs.List.{All};
 ghost use Rattle.hub_index.specs.Rows.{seq_of};
 ghost use Rattle.hub_model.specs.Journal.{IsAcceptable, head_of};
-ghost use Rattle.hub_model.specs.Leaves.{leaves_of};
-ghost use Rattle.hub_model.specs.Row.{is_deleted};
 ghost use Rattle.hub_revtree.specs.Tree.{IsRevTree};
 ghost use Rattle.hub_database.specs.Looked.{IsStorable, IsWritten, NeedsRoomFrom, NeedsRoomFor};
 ghost use Rattle.hub_database.specs.Looked.{HasRoom, look_from, look_at, look_in, unless_full};
@@ -160,14 +158,6 @@ impl Document {
             latest: 0,
             tree: RevTree::new(alloc),
         }
-    }
-
-    /// Whether the winner is deleted. Constant time.
-    pub(crate) fn is_deleted(&self) -> bool
-        ensures mark { result ≡ is_deleted (leaves_of self.now.tree.edits []) }
-        ensures tree { IsRevTree self.now.tree.edits }
-    {
-        self.tree.is_deleted()
     }
 
     /// Takes an edit that was looked at, and says its revision. The journal has room for it. It takes

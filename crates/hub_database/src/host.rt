@@ -63,12 +63,12 @@ impl FeedHost for DbState {
 
     /// Constant time.
     fn length(&self) -> u64 {
-        self.update_seq()
+        self.contents.update_seq()
     }
 
     /// Constant time.
     fn life(&self) -> u64 {
-        DbState::life(self)
+        self.contents.life()
     }
 
     /// Constant time.
@@ -76,7 +76,7 @@ impl FeedHost for DbState {
         if self.deleted {
             return Some(OpenFault::Deleted);
         }
-        if self.feeds_are_full() {
+        if self.feeds.is_full(self.contents.limits().feeds) {
             return Some(OpenFault::TooManyFeeds);
         }
         None
@@ -84,34 +84,44 @@ impl FeedHost for DbState {
 
     /// It costs what the list of feeds does that grows by one.
     fn open_feed(&mut self, params: FeedParams) -> Result<FeedId, OpenFault> {
-        match self.refusal() {
-            Some(fault) => Err(fault),
-            None => DbState::open_feed(self, params),
+        if let Some(fault) = self.refusal() {
+            return Err(fault);
+        }
+        let length = self.contents.update_seq();
+        let life = self.contents.life();
+        match self.feeds.open(params, length, life) {
+            Ok(feed) => Ok(feed),
+            Err(AllocError) => Err(OpenFault::NoMemory),
         }
     }
 
-    /// It costs what `DbState::hand` does.
+    /// It costs what `DbState::next_item` does, and a push: one search for the feed in all.
     fn hand<K: Sink<Item<ChangeRow>>, H: Pushes<K, Item<ChangeRow>>>(
         &mut self,
         feed: FeedId,
         handle: &H,
         sink: &mut K,
     ) -> Result<Handed, AllocError> {
-        DbState::hand(self, feed, handle, sink)
+        let Some(at) = self.feeds.place(feed) else {
+            return Ok(Handed::Gone);
+        };
+        let first = self.first_at(feed, at);
+        let rows = self.contents.rows();
+        self.feeds.hand_at(&rows, feed, at, first, handle, sink)
     }
 
     /// It costs a binary search among the feeds.
     fn beat_due(&self, feed: FeedId) -> bool {
-        DbState::beat_due(self, feed)
+        self.feeds.beat_due(feed)
     }
 
     /// It costs a binary search among the feeds.
     fn expire(&mut self, feed: FeedId) {
-        DbState::expire(self, feed);
+        self.feeds.expire(feed);
     }
 
     /// It costs a look at each feed.
     fn finish(&mut self, feed: FeedId) {
-        DbState::finish(self, feed);
+        self.feeds.finish(feed);
     }
 }

@@ -138,7 +138,7 @@ impl Store {
                     seq,
                 )?;
                 let rev = document.take(&mut self.journal, number, ready);
-                self.deleted = recounted(self.deleted, false, document.is_deleted());
+                self.deleted = recounted(self.deleted, false, document.tree.is_deleted());
                 self.hints.remember(document.id.as_str(), number);
                 self.documents.push_reserved(document);
                 Ok(Outcome::Stored(rev))
@@ -179,7 +179,7 @@ impl Store {
         match self.number_of(id.as_str()) {
             Some(number) => {
                 let document = &mut self.documents[number as usize];
-                let was = document.is_deleted();
+                let was = document.tree.is_deleted();
                 let outcome = document.extend(
                     &mut self.journal,
                     &mut self.index,
@@ -187,7 +187,7 @@ impl Store {
                     self.limits.journal,
                     edit,
                 )?;
-                self.deleted = recounted(self.deleted, was, document.is_deleted());
+                self.deleted = recounted(self.deleted, was, document.tree.is_deleted());
                 Ok(outcome)
             }
             None => self.insert(id, edit),

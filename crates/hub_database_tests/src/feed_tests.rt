@@ -8,7 +8,7 @@ use crate::tests::Step::{Batch, Feed, Read};
 use crate::tests::{Step, all_are, assert_steps, assert_within};
 use hub_database::DbState;
 use hub_document::{ChangeRow, Changes, Limits, RevId};
-use hub_feed::{FeedId, Next, OpenFault};
+use hub_feed::{FeedHost, FeedId, Next, OpenFault};
 use hub_model::Item;
 use hub_model::Outcome::{self, Stored};
 use hub_params::FeedParams;

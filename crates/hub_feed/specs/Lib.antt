@@ -1,8 +1,8 @@
+pub mod Due
 pub mod Feeds
 pub mod Hand
 pub mod Handing
 pub mod Host
-pub mod Mark
 pub mod Next
 pub mod Reach
 pub mod Shown

@@ -1,23 +1,22 @@
 //! A feed's state.
 
 ghost use Rattle.std.specs.Prelude.{◌≡◌, ◌<◌, ◌≤◌, map, option_map, find};
-ghost use Rattle.std.specs.Prelude.{Some, string_bytes, IfSome, IfOk, OnErr};
+ghost use Rattle.std.specs.Prelude.{List, Some, string_bytes, IfSome, IfOk, OnErr};
 ghost use Rattle.hub_model.specs.Feed.{Open, begin, due, is_in_reach, is_open, bound_of, bound_after};
 ghost use Rattle.hub_model.specs.Feed.{status_after, after_due, after_nothing, after_row, beat_due, expire};
 ghost use Rattle.hub_model.specs.Feed.{end};
 ghost use Rattle.hub_model.specs.Hand.{item_of};
 ghost use Rattle.hub_model.specs.declared.feeds.Item.TheVariants.{End};
-ghost use Rattle.hub_model.specs.Current.{pending};
+ghost use Rattle.hub_model.specs.Current.{Current, pending};
 ghost use Rattle.hub_params.specs.FeedModel.{params_of};
+ghost use Rattle.hub_feed.specs.Due.{after_sequence, due_sequence};
 ghost use Rattle.hub_feed.specs.Hand.{HandsTo, MayTake};
-ghost use Rattle.hub_feed.specs.Mark.{mark_of};
 ghost use Rattle.hub_feed.specs.Next.{next_of, after_next, IsRowDue};
 ghost use Rattle.hub_feed.specs.Reach.{first_listed, lesser, listed_in};
 ghost use Rattle.hub_feed.specs.Shown.{status_of};
-ghost use Rattle.hub_feed.specs.declared.next.Next.TheVariants.{Give};
 
+use crate::due::DueSequence;
 use crate::handed::Handed;
-use crate::mark::Mark;
 use crate::next::Next;
 use crate::sink::{Pushes, Sink};
 use crate::source::Source;
@@ -224,33 +223,21 @@ impl FeedState {
         }
     }
 
-    // What an open feed has to hand, whose first row in reach, if there is one, has this sequence.
-    fn next_of_open<S: Source>(
-        &mut self,
-        source: &S,
-        first: Option<u64>,
-    ) -> Result<Next<S::Row>, AllocError>
-        requires open { self.old.status ≡ Open }
-        requires reached { self.old.place ≤ S.length source.now }
-        requires first { first ≡ option_map (λ c. c.seq)
-            (find (is_in_reach self.old) (S.current source.now)) }
-        ensures ok { IfOk result (λ next.
-            next ≡ next_of (S.shown source.now self.old.params.style self.old.params.include_docs)
-            (S.current source.now) (due (S.current source.now) self.old)) }
-        ensures new { IfOk result (λ next.
-            self.new ≡ after_next self.old (due (S.current source.now) self.old) (S.length source.now)) }
-        ensures err { OnErr result ((self.new ≡ self.old) × IsRowDue (due (S.current source.now) self.old)) }
+    // What is due by its sequence, of rows of which the first in reach of an open feed has this one,
+    // if there is such a row. Constant time.
+    fn due(&self, first: Option<u64>) -> DueSequence
+        ensures { (rows : List Current)
+            → (self.now.status ≡ Open → first ≡ option_map (λ c. c.seq) (find (is_in_reach self.now) rows))
+            → result ≡ due_sequence (due rows self.now) }
     {
-        if let Some(seq) = first {
-            let row = source.row(seq, self.params.style, self.params.include_docs)?;
-            return Ok(Next::Give(Item::Row(row)));
-        }
-        match self.bound {
-            Some(bound) => Ok(Next::Give(end_at(source, bound))),
-            None => {
-                self.place = source.length();
-                Ok(Next::Nothing)
-            }
+        match self.status {
+            Status::Open => match (first, self.bound) {
+                (Some(seq), _) => DueSequence::Row(seq),
+                (None, Some(bound)) => DueSequence::End(bound),
+                (None, None) => DueSequence::Nothing,
+            },
+            Status::Ending => DueSequence::End(self.place),
+            Status::Ended => DueSequence::Gone,
         }
     }
 
@@ -289,10 +276,17 @@ impl FeedState {
             self.new ≡ after_next self.old (due (S.current source.now) self.old) (S.length source.now)) }
         ensures err { OnErr result ((self.new ≡ self.old) × IsRowDue (due (S.current source.now) self.old)) }
     {
-        match self.status {
-            Status::Open => self.next_of_open(source, first),
-            Status::Ending => Ok(Next::Give(end_at(source, self.place))),
-            Status::Ended => Ok(Next::Gone),
+        match self.due(first) {
+            DueSequence::Row(seq) => {
+                let row = source.row(seq, self.params.style, self.params.include_docs)?;
+                Ok(Next::Give(Item::Row(row)))
+            }
+            DueSequence::End(last_seq) => Ok(Next::Give(end_at(source, last_seq))),
+            DueSequence::Nothing => {
+                self.place = source.length();
+                Ok(Next::Nothing)
+            }
+            DueSequence::Gone => Ok(Next::Gone),
         }
     }
 
@@ -309,6 +303,22 @@ impl FeedState {
         self.status = status_after(self.params.limit, self.rows);
     }
 
+    // The feed goes on behind the item of which this is the sequence: a row's, or an end's. It takes no
+    // memory, and constant time.
+    fn accept_due<S: Source>(&mut self, source: &S, sequence: DueSequence)
+        requires due { sequence ≡ due_sequence (due (S.current source.now) self.old) }
+        ensures { self.new ≡ after_sequence self.old sequence (S.length source.now) }
+    {
+        match sequence {
+            DueSequence::Row(seq) => self.accept_row(seq, source.length()),
+            DueSequence::End(last_seq) => {
+                self.place = last_seq;
+                self.status = Status::Ended;
+            }
+            DueSequence::Nothing | DueSequence::Gone => {}
+        }
+    }
+
     /// Goes on behind the item that `next_item` gives now. It takes no memory, and constant time.
     pub fn accept_item<S: Source>(&mut self, source: &S, item: &Item<S::Row>)
         requires due { item_of (S.shown source.now self.old.params.style self.old.params.include_docs)
@@ -316,54 +326,12 @@ impl FeedState {
             ≡ Some item.now }
         ensures { self.new ≡ after_due self.old (due (S.current source.now) self.old) (S.length source.now) }
     {
-        self.accept_marked(source, Mark::of::<S>(item));
-    }
-
-    /// Goes on behind the item that `next_item` gives now, of which this is the mark. It takes no
-    /// memory, and constant time.
-    pub fn accept_marked<S: Source>(&mut self, source: &S, mark: Mark)
-        requires due { option_map (mark_of S.seq_of)
-            (item_of (S.shown source.now self.old.params.style self.old.params.include_docs)
-            (S.current source.now) (due (S.current source.now) self.old))
-            ≡ Some mark }
-        ensures { self.new ≡ after_due self.old (due (S.current source.now) self.old) (S.length source.now) }
-    {
-        match mark {
-            Mark::Row(seq) => self.accept_row(seq, source.length()),
-            Mark::Beat => {}
-            Mark::End(last_seq) => {
-                self.place = last_seq;
-                self.status = Status::Ended;
-            }
-        }
-    }
-
-    // The item that is due is taken, and only then the feed goes on.
-    fn give<S: Source, K: Sink<Item<S::Row>>, H: Pushes<K, Item<S::Row>>>(
-        &mut self,
-        source: &S,
-        item: Item<S::Row>,
-        handle: &H,
-        sink: &mut K,
-    ) -> Handed
-        requires due { item_of (S.shown source.now self.old.params.style self.old.params.include_docs)
-            (S.current source.now) (due (S.current source.now) self.old)
-            ≡ Some item }
-        requires may { MayTake K.allows K.sent sink.old item }
-        ensures { HandsTo K.behind (H.refuses handle.now) self.old
-            (after_due self.old (due (S.current source.now) self.old) (S.length source.now))
-            (after_nothing self.old (S.length source.now)) sink.old
-            (Give item) result self.new sink.new }
-    {
-        let handed = Handed::of(&item);
-        let mark = Mark::of::<S>(&item);
-        match handle.push(sink, item) {
-            Ok(()) => {
-                self.accept_marked(source, mark);
-                handed
-            }
-            Err(_) => Handed::Full,
-        }
+        let sequence = match item {
+            Item::Row(row) => DueSequence::Row(S::seq(row)),
+            Item::End { last_seq, .. } => DueSequence::End(*last_seq),
+            Item::Beat => return,
+        };
+        self.accept_due(source, sequence);
     }
 
     /// Hands what is due, where the first row in reach of an open feed is known: it has this sequence,
@@ -394,11 +362,18 @@ impl FeedState {
         ensures err { OnErr result ((self.new ≡ self.old) × (sink.new ≡ sink.old)
             × IsRowDue (due (S.current source.now) self.old)) }
     {
-        match self.next_item_at(source, first)? {
-            Next::Give(item) => Ok(self.give(source, item, handle, sink)),
-            Next::Nothing => Ok(Handed::Nothing),
-            Next::Gone => Ok(Handed::Gone),
+        let due = self.due(first);
+        let item = match self.next_item_at(source, first)? {
+            Next::Give(item) => item,
+            Next::Nothing => return Ok(Handed::Nothing),
+            Next::Gone => return Ok(Handed::Gone),
+        };
+        let handed = Handed::of(&item);
+        if let Err(_back) = handle.push(sink, item) {
+            return Ok(Handed::Full);
         }
+        self.accept_due(source, due);
+        Ok(handed)
     }
 
     /// Whether it may hand rows. Constant time.

@@ -1,14 +1,13 @@
 //! The feeds that something keeps, by their numbers.
 
 ghost use Rattle.std.specs.Prelude.{◌≡◌, ◌<◌, ◌^◌, ◌+◌, ◌-◌, ◌||◌, ◌++◌, ◌∷◌, [], ℕ, length, map};
-ghost use Rattle.std.specs.Prelude.{nat_le, position, Some, None, option_map, IfSome, IfOk, OnOk, OnErr};
+ghost use Rattle.std.specs.Prelude.{nat_le, position, Some, None, IfSome, IfOk, OnOk, OnErr};
 ghost use Rattle.hub_model.specs.Entries.{changed, entry_in, is_of, without};
 ghost use Rattle.hub_model.specs.Feed.{begin, expire};
 ghost use Rattle.hub_params.specs.FeedModel.{params_of};
 ghost use Rattle.hub_feed.specs.Feeds.{AreBehind, ended, feeds_of, over};
 ghost use Rattle.hub_feed.specs.Hand.{HandsTo, MayTake};
 ghost use Rattle.hub_feed.specs.Host.{answered, behind_answer, due_to, handed, is_beat_due, item_due};
-ghost use Rattle.hub_feed.specs.Mark.{mark_of};
 ghost use Rattle.hub_feed.specs.Next.{IsRowDue};
 ghost use Rattle.hub_feed.specs.Reach.{IsFirst};
 ghost use Rattle.hub_feed.specs.declared.next.Next.TheVariants.{Nothing};
@@ -16,7 +15,6 @@ ghost use Rattle.hub_feed.specs.declared.next.Next.TheVariants.{Nothing};
 use crate::feed::FeedState;
 use crate::handed::Handed;
 use crate::host::FeedId;
-use crate::mark::Mark;
 use crate::next::Next;
 use crate::sink::{Pushes, Sink};
 use crate::source::Source;
@@ -135,7 +133,7 @@ impl Feeds {
 
     /// What the feed that stands here has to hand now, of the source that they all follow, where the
     /// first row in reach of the feed, if it is open, has this sequence. An item is made and nothing
-    /// changes: `accept_marked` goes on. A feed that has nothing to hand goes to the source's length.
+    /// changes: `accept_item` goes on. A feed that has nothing to hand goes to the source's length.
     /// Only a row takes memory. It costs what `FeedState::next_item_at` does.
     pub fn next_at<S: Source>(
         &mut self,
@@ -195,13 +193,13 @@ impl Feeds {
         state.1.hand(source, first, handle, sink)
     }
 
-    /// Goes on behind the item that `next_at` gives now, of which this is the mark. It takes no memory,
-    /// and constant time where the last item was made for this feed.
-    pub fn accept_marked<S: Source>(&mut self, source: &S, feed: FeedId, mark: Mark)
+    /// Goes on behind the item that `next_at` gives now. It takes no memory, and constant time where
+    /// the last item was made for this feed.
+    pub fn accept_item<S: Source>(&mut self, source: &S, feed: FeedId, item: &Item<S::Row>)
         requires behind { AreBehind (S.length source.now) self.old.feeds }
-        requires due { option_map (mark_of S.seq_of) (item_due
-            (over (S.length source.now) (S.current source.now) (S.shown source.now) self.old) feed.number)
-            ≡ Some mark }
+        requires due { item_due
+            (over (S.length source.now) (S.current source.now) (S.shown source.now) self.old) feed.number
+            ≡ Some item.now }
         ensures new { self.new ≡ feeds_of (handed
             (over (S.length source.now) (S.current source.now) (S.shown source.now) self.old) feed.number) }
         ensures behind { AreBehind (S.length source.now) self.new.feeds }
@@ -210,7 +208,7 @@ impl Feeds {
             return;
         };
         let feed = &mut self.list[at];
-        feed.1.accept_marked(source, mark);
+        feed.1.accept_item(source, item);
     }
 
     /// Whether a heartbeat may be handed to a feed now: one was asked for, and the feed is open and

@@ -2,11 +2,11 @@
 //! `_changes` and `_db_updates`).
 #![tactic(auto)]
 
+mod due;
 mod feed;
 mod feeds;
 mod handed;
 mod host;
-mod mark;
 mod next;
 mod sink;
 mod source;
@@ -17,7 +17,6 @@ pub use handed::Handed;
 pub use host::{FeedHost, FeedId, HostView, OpenFault};
 pub use hub_document::{ChangeRow, UpdateRow};
 pub use hub_model::{Item, UpdateKind};
-pub use mark::Mark;
 pub use next::Next;
 pub use sink::{Pushes, Sink};
 pub use source::{Source, is_ahead};

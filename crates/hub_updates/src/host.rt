@@ -78,8 +78,8 @@ impl FeedHost for UpdatesState {
 
     /// It costs what the list of feeds does that grows by one.
     fn open_feed(&mut self, params: FeedParams) -> Result<FeedId, OpenFault> {
-        if self.feeds.is_full(self.limits.feeds) {
-            return Err(OpenFault::TooManyFeeds);
+        if let Some(fault) = self.refusal() {
+            return Err(fault);
         }
         match self.feeds.open(params, self.log.len(), self.log.life()) {
             Ok(feed) => Ok(feed),

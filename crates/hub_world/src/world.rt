@@ -18,7 +18,7 @@ use crate::plain_list::{Directly, PlainList};
 use crate::reply::Reply;
 use hub_database::DbState;
 use hub_document::{ChangeRow, Limits};
-use hub_feed::{FeedId, OpenFault};
+use hub_feed::{FeedHost, FeedId, OpenFault};
 use hub_model::Item;
 use hub_params::FeedParams;
 use hub_shared::{Handed, Locked, NoCount, Plain};

@@ -4,7 +4,7 @@ use crate::tests::handed::Shown::{Beat, End, Row};
 use crate::tests::{FIVE, LIFE, TRIES, again, docs};
 use hub_database::DbState;
 use hub_document::{ChangeRow, Changes, DocId, Limits, RevId, Revisions};
-use hub_feed::{FeedId, Next, OpenFault};
+use hub_feed::{FeedHost, FeedId, Next, OpenFault};
 use hub_filter::Filter;
 use hub_follower::rightly_handed;
 use hub_model::{Item, Mode, Since, Style};

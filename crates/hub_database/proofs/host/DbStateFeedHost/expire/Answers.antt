@@ -4,7 +4,7 @@ use Rattle.hub_model.specs.Feed.{expire}
 use Rattle.hub_feed.specs.Feeds.{FeedList}
 use Rattle.hub_database.specs.Listing.{IsListing}
 use Rattle.hub_database.proofs.ListingLemmas.{expires_asking, kept_on, one_asks}
-use Rattle.hub_database.proofs.database.DbState.expire.Goals as goal
+use Rattle.hub_database.proofs.host.DbStateFeedHost.expire.Goals as goal
 
 pub invariant_of-self : goal.invariant_of-self
 invariant_of-self c =

@@ -3,7 +3,7 @@ use Rattle.hub_model.specs.Entries.{without}
 use Rattle.hub_feed.specs.Feeds.{FeedList}
 use Rattle.hub_database.specs.Listing.{IsListing}
 use Rattle.hub_database.proofs.ListingLemmas.{kept_on, one_goes}
-use Rattle.hub_database.proofs.database.DbState.finish.Goals as goal
+use Rattle.hub_database.proofs.host.DbStateFeedHost.finish.Goals as goal
 
 pub invariant_of-self : goal.invariant_of-self
 invariant_of-self c =

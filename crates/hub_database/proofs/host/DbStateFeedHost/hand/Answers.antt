@@ -16,7 +16,7 @@ use Rattle.hub_database.specs.Database.{Database, Followed}
 use Rattle.hub_database.specs.Hosting.{hosted_of, with_hosted}
 use Rattle.hub_database.specs.Listing.{IsListing}
 use Rattle.hub_database.proofs.ListingLemmas.{answer_kept, handed_kept}
-use Rattle.hub_database.proofs.database.DbState.hand.Goals as goal
+use Rattle.hub_database.proofs.host.DbStateFeedHost.hand.Goals as goal
 
 pub returns-in_default-clause-ok : goal.returns-in_default-clause-ok
 returns-in_default-clause-ok g c =

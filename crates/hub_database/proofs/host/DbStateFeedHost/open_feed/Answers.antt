@@ -5,7 +5,7 @@ use Rattle.hub_feed.specs.Feeds.{AreBehind, FeedList}
 use Rattle.hub_feed.proofs.FeedsLemmas.{ok_or_err}
 use Rattle.hub_database.specs.Listing.{IsListing}
 use Rattle.hub_database.proofs.ListingLemmas.{kept_on, one_comes}
-use Rattle.hub_database.proofs.database.DbState.open_feed.Goals as goal
+use Rattle.hub_database.proofs.host.DbStateFeedHost.open_feed.Goals as goal
 
 pub invariant_of-self : goal.invariant_of-self
 invariant_of-self c =

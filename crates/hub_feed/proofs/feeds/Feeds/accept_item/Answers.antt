@@ -1,12 +1,11 @@
-use Rattle.std.proofs.Common.{◌≡◌, ◌∙◌, sym, subst, ap, ℕ, List, Some, None, nat_eq, option_map}
+use Rattle.std.proofs.Common.{◌≡◌, ◌∙◌, sym, subst, ap, ℕ, List, Some, None, nat_eq}
 use Rattle.std.specs.Prelude.{position, slice_set}
 use Rattle.hub_model.specs.Feed.{Feed, due, after_due}
 use Rattle.hub_model.proofs.Entries.{changed_absent, changed_here, entry_here, no_entry}
 use Rattle.hub_feed.specs.Feeds.{AreBehind, AreNumbered, FeedList, feeds_of, over}
 use Rattle.hub_feed.specs.Host.{handed, item_due}
-use Rattle.hub_feed.specs.Mark.{mark_of}
 use Rattle.hub_feed.proofs.FeedsLemmas.{behind_changed, goes_behind, numbered_changed}
-use Rattle.hub_feed.proofs.feeds.Feeds.accept_marked.Goals as goal
+use Rattle.hub_feed.proofs.feeds.Feeds.accept_item.Goals as goal
 
 pub returns-in_default-clause-new : goal.returns-in_default-clause-new
 returns-in_default-clause-new g c =
@@ -18,8 +17,8 @@ returns-in_default-clause-new g c =
     (ap (λ (fs : List (ℕ × Feed)). record { feeds = fs; next = c.self.inside.next })
     (sym (changed_absent id _ c.self.inside.list.items (no_entry id c.self.inside.list.items none))))
 
-pub accept_marked-requires : goal.accept_marked-requires
-accept_marked-requires g c =
+pub accept_item-requires : goal.accept_item-requires
+accept_item-requires g c =
     let id = c.args.feed.number in
     let feeds = c.self.inside.list.items in
     let len = g.S.Source.length c.args.source.now in
@@ -29,9 +28,8 @@ accept_marked-requires g c =
     let p = c.index_mut-feed.result.now in
     let is = c.index_mut-feed.ensures.value in
     let asked =
-    subst (λ (list : FeedList). option_map (mark_of g.S.Source.seq_of)
-    (item_due (over len rows (g.S.Source.shown c.args.source.now) list) id)
-    ≡ Some c.args.mark)
+    subst (λ (list : FeedList). item_due (over len rows (g.S.Source.shown c.args.source.now) list) id
+    ≡ Some c.args.item.now)
     (sym c.self.view_is) c.requires.due in
     record { due = rw (entry_here id feeds c.in-Some.at placed p is) at asked }
 
@@ -47,8 +45,8 @@ invariant_of-self g c =
     let is = c.index_mut-feed.ensures.value in
     let change : Feed → Feed = λ f. after_due f (due rows f) len in
     subst (AreNumbered c.self.inside.next)
-    (sym (changed_here id feeds c.in-Some.at placed p is change c.accept_marked.new.self
-    c.self.invariant.rising c.accept_marked.ensures))
+    (sym (changed_here id feeds c.in-Some.at placed p is change c.accept_item.new.self
+    c.self.invariant.rising c.accept_item.ensures))
     (numbered_changed id change c.self.inside.next feeds c.self.invariant)
 
 pub returns-clause-new : goal.returns-clause-new
@@ -64,13 +62,13 @@ returns-clause-new g c =
     let change : Feed → Feed = λ f. after_due f (due rows f) len in
     subst (λ (list : FeedList). ◌≡◌ {A = FeedList}
     (record {
-      feeds = slice_set feeds c.in-Some.at (p.0, c.accept_marked.new.self);
+      feeds = slice_set feeds c.in-Some.at (p.0, c.accept_item.new.self);
       next = c.self.inside.next;
     })
     (feeds_of (handed (over len rows (g.S.Source.shown c.args.source.now) list) id))) c.self.view_is
     (ap (λ (fs : List (ℕ × Feed)). record { feeds = fs; next = c.self.inside.next })
-    (changed_here id feeds c.in-Some.at placed p is change c.accept_marked.new.self c.self.invariant.rising
-    c.accept_marked.ensures))
+    (changed_here id feeds c.in-Some.at placed p is change c.accept_item.new.self c.self.invariant.rising
+    c.accept_item.ensures))
 
 pub returns-clause-behind : goal.returns-clause-behind
 returns-clause-behind g c =
@@ -86,7 +84,7 @@ returns-clause-behind g c =
     let behind : AreBehind len feeds =
     subst (λ (list : FeedList). AreBehind len list.feeds) (sym c.self.view_is) c.requires.behind in
     subst (AreBehind len)
-    (sym (changed_here id feeds c.in-Some.at placed p is change c.accept_marked.new.self
-    c.self.invariant.rising c.accept_marked.ensures))
+    (sym (changed_here id feeds c.in-Some.at placed p is change c.accept_item.new.self
+    c.self.invariant.rising c.accept_item.ensures))
     (behind_changed id change len feeds
     (goes_behind rows len (g.met.S.Source.within c.args.source.now)) behind)
