@@ -1,3 +1,4 @@
+pub mod AppendLemmas
 pub mod BlockLemmas
 pub mod BoxLemmas
 pub mod ChangeLemmas

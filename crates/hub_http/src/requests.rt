@@ -1,8 +1,9 @@
 //! The requests that a reader's bytes spell.
-ghost use Rattle.std.specs.Prelude.{◌≡◌, ◌<◌, ◌≤◌, ◌+◌, ◌⊎◌, ℕ, List, ◌++◌, length, min, max};
-ghost use Rattle.std.specs.Prelude.{take, drop, IfOk, IfErr, IfSome, OnOk, IsTrue, IsFalse, IsErrOf};
-ghost use Rattle.std.specs.Io.KnownBytes.{Keeps, IsAtEnd, prepend_known};
+ghost use Rattle.std.specs.Prelude.{◌≡◌, ◌<◌, ◌≤◌, ◌+◌, ℕ, List, ◌++◌, length, min, max};
+ghost use Rattle.std.specs.Prelude.{take, drop, IfOk, IfErr, IfSome, OnOk, IsErrOf};
+ghost use Rattle.std.specs.Io.KnownBytes.{Keeps, prepend_known};
 ghost use Rattle.hub_http.specs.Counts.{CallCounts};
+ghost use Rattle.hub_http.specs.Fills.{Fills};
 ghost use Rattle.hub_http.specs.Stream.{Asked, Leaves, Spells, known, to_read};
 ghost use Rattle.hub_http.specs.Exclusions.{SpelledHasNoFault, NothingSpellsNothing};
 ghost use Rattle.hub_http.specs.Exclusions.{NothingHasNoFault, HeadHasOneFault, HeadFaultIsNamed};
@@ -73,13 +74,8 @@ fn fill_room<R: Input>(
     held: &mut Vec<u8>,
     wanted: usize,
 ) -> Result<bool, HttpFault>
-    ensures kept { Keeps (prepend_known held.old.items (to_read block.old (R.left reader.old)))
-        (prepend_known held.new.items (to_read block.new (R.left reader.new))) }
-    ensures grown { (more : List ℕ) × (held.new.items ≡ held.old.items ++ more) }
-    ensures full { IfOk result (λ full. IsTrue full → wanted ≤ length held.new.items) }
-    ensures cut { IfOk result (λ full.
-        IsFalse full → (length held.new.items < wanted) × IsAtEnd (to_read block.new (R.left reader.new))) }
-    ensures err { IfErr result (λ e. (e ≡ HttpFault.NoMemory) ⊎ (e ≡ HttpFault.IoFault)) }
+    ensures filled { Fills wanted result held.old.items held.new.items
+        (to_read block.old (R.left reader.old)) (to_read block.new (R.left reader.new)) }
     ensures counts { CallCounts (IsErrOf result HttpFault.IoFault) R.fault_count
         R.failure_count reader.old reader.new }
 {
@@ -107,13 +103,8 @@ fn fill<R: Input>(
     held: &mut Vec<u8>,
     wanted: usize,
 ) -> Result<bool, HttpFault>
-    ensures kept { Keeps (prepend_known held.old.items (to_read block.old (R.left reader.old)))
-        (prepend_known held.new.items (to_read block.new (R.left reader.new))) }
-    ensures grown { (more : List ℕ) × (held.new.items ≡ held.old.items ++ more) }
-    ensures full { IfOk result (λ full. IsTrue full → wanted ≤ length held.new.items) }
-    ensures cut { IfOk result (λ full.
-        IsFalse full → (length held.new.items < wanted) × IsAtEnd (to_read block.new (R.left reader.new))) }
-    ensures err { IfErr result (λ e. (e ≡ HttpFault.NoMemory) ⊎ (e ≡ HttpFault.IoFault)) }
+    ensures filled { Fills wanted result held.old.items held.new.items
+        (to_read block.old (R.left reader.old)) (to_read block.new (R.left reader.new)) }
     ensures counts { CallCounts (IsErrOf result HttpFault.IoFault) R.fault_count
         R.failure_count reader.old reader.new }
 {
