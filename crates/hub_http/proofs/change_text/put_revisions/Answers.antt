@@ -1,4 +1,4 @@
-use Rattle.std.proofs.Common.{tt}
+use Rattle.std.proofs.Common.{rules}
 use Rattle.hub_http.proofs.AppendLemmas.{appended}
 use Rattle.hub_http.proofs.ChangeLemmas.{no_revisions, revisions_written}
 use Rattle.hub_document.proofs.WriteLemmas.{front-front}
@@ -10,7 +10,7 @@ returns-in_default c =
 
 pub returns-in_err-put_revision-2 : goal.returns-in_err-put_revision-2
 returns-in_err-put_revision-2 c = record {
-  ok = tt;
+  ok = search rules;
   front = front-front c.args.out.now.items _ _ _ c.in_ok-put_revision.ensures.ok
       (front-front _ _ _ _ c.loop-rev.invariant
       (front-front _ _ _ _ c.in_ok-extend_from_slice.ensures.items c.in_err-put_revision-2.ensures.front));
