@@ -1,3 +1,4 @@
+pub mod AppendLemmas
 pub mod BlockLemmas
 pub mod BoxLemmas
 pub mod ChangeLemmas
@@ -8,6 +9,7 @@ pub mod FrontLemmas
 pub mod HeadLemmas
 pub mod LengthLemmas
 pub mod OfferLemmas
+pub mod ReplyLemmas
 pub mod RequestLemmas
 pub mod SendLemmas
 pub mod UniqueLemmas

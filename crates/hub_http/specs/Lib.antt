@@ -1,7 +1,9 @@
 pub mod Counts
+pub mod Appends
 pub mod Heads
 pub mod Looking
 pub mod Stream
+pub mod Fills
 pub mod Offers
 pub mod Boxes
 pub mod Exclusions

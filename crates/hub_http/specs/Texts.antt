@@ -34,6 +34,14 @@ head_text status framing close =
     status_line status (reason_phrase status)
     ++ (type_line ++ (framing ++ (close_line close ++ codes "\r\n")))
 
+-- the head of an answer as far as the length of its body
+abbrev pub head_front : ℕ → List ℕ
+head_front status = status_line status (reason_phrase status) ++ (type_line ++ codes "Content-Length: ")
+
+-- what stands in the head behind that length
+abbrev pub head_end : Bool → List ℕ
+head_end close = codes "\r\n" ++ (close_line close ++ codes "\r\n")
+
 -- the body of a refusal
 unfoldable pub refusal_body : Refusal → List ℕ
 refusal_body refusal =

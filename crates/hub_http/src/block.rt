@@ -1,8 +1,8 @@
 //! The block that a reader's bytes come in.
 ghost use Rattle.std.specs.Prelude.{◌≡◌, ◌<◌, ◌≤◌, ℕ, [], ◌++◌, length, min, take};
-ghost use Rattle.std.specs.Prelude.{drop, IfOk, IfErr, OnErr, IsTrue, IsFalse};
+ghost use Rattle.std.specs.Prelude.{drop, IfOk, IfErr, OnErr, IsTrue, IsFalse, IsErr};
 ghost use Rattle.std.specs.Io.KnownBytes.{Keeps, IsAtEnd, prepend_known};
-ghost use Rattle.hub_http.specs.Counts.{Rose, GaveUp};
+ghost use Rattle.hub_http.specs.Counts.{CallCounts};
 ghost use Rattle.hub_http.specs.Stream.{to_read};
 
 use crate::fault::HttpFault;
@@ -62,11 +62,7 @@ impl Block {
         ensures kept { Keeps (R.left reader.old) (prepend_known self.new (R.left reader.new)) }
         ensures end { IfOk result (λ _. self.new ≡ [] → IsAtEnd (R.left reader.new)) }
         ensures err { IfErr result (λ e. (e ≡ HttpFault.IoFault) × (self.new ≡ [])) }
-        ensures monotone { R.fault_count reader.old ≤ R.fault_count reader.new }
-        ensures failures_monotone { R.failure_count reader.old ≤ R.failure_count reader.new }
-        ensures fault { OnErr result (Rose (R.fault_count reader.old) (R.fault_count reader.new)) }
-        ensures tried { OnErr result (GaveUp (R.failure_count reader.old) (R.failure_count reader.new)
-            (R.fault_count reader.old) (R.fault_count reader.new)) }
+        ensures counts { CallCounts (IsErr result) R.fault_count R.failure_count reader.old reader.new }
     {
         let size = most.min(BLOCK);
         for _ in 0..TRIES {
@@ -91,11 +87,7 @@ impl Block {
         ensures kept { Keeps (to_read self.old (R.left reader.old)) (to_read self.new (R.left reader.new)) }
         ensures end { IfOk result (λ _. self.new ≡ [] → IsAtEnd (R.left reader.new)) }
         ensures err { IfErr result (λ e. e ≡ HttpFault.IoFault) }
-        ensures monotone { R.fault_count reader.old ≤ R.fault_count reader.new }
-        ensures failures_monotone { R.failure_count reader.old ≤ R.failure_count reader.new }
-        ensures fault { OnErr result (Rose (R.fault_count reader.old) (R.fault_count reader.new)) }
-        ensures tried { OnErr result (GaveUp (R.failure_count reader.old) (R.failure_count reader.new)
-            (R.fault_count reader.old) (R.fault_count reader.new)) }
+        ensures counts { CallCounts (IsErr result) R.fault_count R.failure_count reader.old reader.new }
     {
         if !self.is_empty() {
             return Ok(());

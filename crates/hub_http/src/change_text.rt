@@ -1,6 +1,7 @@
 //! The texts of rows of changes.
 
-ghost use Rattle.std.specs.Prelude.{◌≡◌, [], ◌∷◌, ◌++◌, length, take, OnOk};
+ghost use Rattle.std.specs.Prelude.{◌≡◌, [], ◌∷◌, ◌++◌};
+ghost use Rattle.hub_http.specs.Appends.{Appends};
 ghost use Rattle.json.specs.Print.{escape};
 ghost use Rattle.hub_http.specs.ChangeTexts.{revision_text, revisions_text, row_mark, doc_member, row_end};
 ghost use Rattle.hub_http.specs.ChangeTexts.{id_member, row_head, change_row_text, change_end_text};
@@ -13,8 +14,7 @@ use itoa::Buffer;
 use std::alloc::AllocError;
 
 fn put_revision(out: &mut Vec<u8>, rev: &RevId) -> Result<(), AllocError>
-    ensures ok { OnOk result (out.new.items ≡ out.old.items ++ revision_text rev.now) }
-    ensures front { take (length out.old.items) out.new.items ≡ out.old.items }
+    ensures { Appends (revision_text rev.now) result out.old.items out.new.items }
 {
     out.extend_from_slice(b"{\"rev\":")?;
     rev.print_quoted(out)?;
@@ -24,8 +24,7 @@ fn put_revision(out: &mut Vec<u8>, rev: &RevId) -> Result<(), AllocError>
 
 // One revision whose hash is a digest's text.
 fn put_digest_revision(out: &mut Vec<u8>, rev: &DigestRev) -> Result<(), AllocError>
-    ensures ok { OnOk result (out.new.items ≡ out.old.items ++ revision_text rev.now) }
-    ensures front { take (length out.old.items) out.new.items ≡ out.old.items }
+    ensures { Appends (revision_text rev.now) result out.old.items out.new.items }
 {
     out.extend_from_slice(b"{\"rev\":")?;
     rev.print_quoted(out)?;
@@ -34,8 +33,7 @@ fn put_digest_revision(out: &mut Vec<u8>, rev: &DigestRev) -> Result<(), AllocEr
 }
 
 fn put_changes(out: &mut Vec<u8>, changes: &Changes) -> Result<(), AllocError>
-    ensures ok { OnOk result (out.new.items ≡ out.old.items ++ revisions_text changes.now) }
-    ensures front { take (length out.old.items) out.new.items ≡ out.old.items }
+    ensures { Appends (revisions_text changes.now) result out.old.items out.new.items }
 {
     match changes.lent() {
         LentChanges::One(rev) => {
@@ -47,8 +45,7 @@ fn put_changes(out: &mut Vec<u8>, changes: &Changes) -> Result<(), AllocError>
 }
 
 fn put_revisions(out: &mut Vec<u8>, revs: &[RevId]) -> Result<(), AllocError>
-    ensures ok { OnOk result (out.new.items ≡ out.old.items ++ revisions_text revs.now) }
-    ensures front { take (length out.old.items) out.new.items ≡ out.old.items }
+    ensures { Appends (revisions_text revs.now) result out.old.items out.new.items }
 {
     let Some((first, rest)) = revs.split_first() else {
         return Ok(());
@@ -64,8 +61,7 @@ fn put_revisions(out: &mut Vec<u8>, revs: &[RevId]) -> Result<(), AllocError>
 // Appends a member of an id that needs no escape, and of what stands behind it.
 fn put_plain_id(out: &mut Vec<u8>, id: &str) -> Result<(), AllocError>
     requires { escape id.now ≡ id.now }
-    ensures ok { OnOk result (out.new.items ≡ out.old.items ++ id_member id.now) }
-    ensures front { take (length out.old.items) out.new.items ≡ out.old.items }
+    ensures { Appends (id_member id.now) result out.old.items out.new.items }
 {
     out.extend_from_slice(b",\"id\":\"")?;
     out.extend_from_slice(id.as_bytes())?;
@@ -74,8 +70,7 @@ fn put_plain_id(out: &mut Vec<u8>, id: &str) -> Result<(), AllocError>
 }
 
 fn put_quoted_id(out: &mut Vec<u8>, id: &str) -> Result<(), AllocError>
-    ensures ok { OnOk result (out.new.items ≡ out.old.items ++ id_member id.now) }
-    ensures front { take (length out.old.items) out.new.items ≡ out.old.items }
+    ensures { Appends (id_member id.now) result out.old.items out.new.items }
 {
     out.extend_from_slice(b",\"id\":")?;
     put_quoted(out, id)?;
@@ -84,8 +79,7 @@ fn put_quoted_id(out: &mut Vec<u8>, id: &str) -> Result<(), AllocError>
 }
 
 fn put_id(out: &mut Vec<u8>, id: &str) -> Result<(), AllocError>
-    ensures ok { OnOk result (out.new.items ≡ out.old.items ++ id_member id.now) }
-    ensures front { take (length out.old.items) out.new.items ≡ out.old.items }
+    ensures { Appends (id_member id.now) result out.old.items out.new.items }
 {
     if is_plain(id.as_bytes()) {
         put_plain_id(out, id)
@@ -96,8 +90,7 @@ fn put_id(out: &mut Vec<u8>, id: &str) -> Result<(), AllocError>
 
 #[tactic(auto, unfolding(crate::specs::ChangeTexts::row_head))]
 fn put_row_head(out: &mut Vec<u8>, life: u64, seq: u64, id: &str) -> Result<(), AllocError>
-    ensures ok { OnOk result (out.new.items ≡ out.old.items ++ row_head life seq id.now) }
-    ensures front { take (length out.old.items) out.new.items ≡ out.old.items }
+    ensures { Appends (row_head life seq id.now) result out.old.items out.new.items }
 {
     out.extend_from_slice(b"{\"seq\":")?;
     put_sequence(out, seq, life)?;
@@ -107,8 +100,7 @@ fn put_row_head(out: &mut Vec<u8>, life: u64, seq: u64, id: &str) -> Result<(), 
 
 #[tactic(auto, unfolding(crate::specs::ChangeTexts::row_mark))]
 fn put_mark(out: &mut Vec<u8>, deleted: bool) -> Result<(), AllocError>
-    ensures ok { OnOk result (out.new.items ≡ out.old.items ++ row_mark deleted) }
-    ensures front { take (length out.old.items) out.new.items ≡ out.old.items }
+    ensures { Appends (row_mark deleted) result out.old.items out.new.items }
 {
     if deleted {
         out.extend_from_slice(b"],\"deleted\":true")
@@ -120,8 +112,7 @@ fn put_mark(out: &mut Vec<u8>, deleted: bool) -> Result<(), AllocError>
 // Appends the end of a row that brings no document.
 #[tactic(auto, unfolding(crate::specs::ChangeTexts::row_mark))]
 fn put_short_end(out: &mut Vec<u8>, deleted: bool) -> Result<(), AllocError>
-    ensures ok { OnOk result (out.new.items ≡ out.old.items ++ (row_mark deleted ++ 125 ∷ [])) }
-    ensures front { take (length out.old.items) out.new.items ≡ out.old.items }
+    ensures { Appends (row_mark deleted ++ 125 ∷ []) result out.old.items out.new.items }
 {
     if deleted {
         out.extend_from_slice(b"],\"deleted\":true}")
@@ -131,8 +122,7 @@ fn put_short_end(out: &mut Vec<u8>, deleted: bool) -> Result<(), AllocError>
 }
 
 fn put_doc(out: &mut Vec<u8>, row: &ChangeRow) -> Result<(), AllocError>
-    ensures ok { OnOk result (out.new.items ≡ out.old.items ++ doc_member row.now row.now.doc) }
-    ensures front { take (length out.old.items) out.new.items ≡ out.old.items }
+    ensures { Appends (doc_member row.now row.now.doc) result out.old.items out.new.items }
 {
     let Some(body) = &row.doc else {
         return Ok(());
@@ -143,8 +133,7 @@ fn put_doc(out: &mut Vec<u8>, row: &ChangeRow) -> Result<(), AllocError>
 }
 
 fn put_long_end(out: &mut Vec<u8>, row: &ChangeRow) -> Result<(), AllocError>
-    ensures ok { OnOk result (out.new.items ≡ out.old.items ++ row_end row.now) }
-    ensures front { take (length out.old.items) out.new.items ≡ out.old.items }
+    ensures { Appends (row_end row.now) result out.old.items out.new.items }
 {
     put_mark(out, row.deleted)?;
     put_doc(out, row)?;
@@ -153,8 +142,7 @@ fn put_long_end(out: &mut Vec<u8>, row: &ChangeRow) -> Result<(), AllocError>
 }
 
 fn put_row_end(out: &mut Vec<u8>, row: &ChangeRow) -> Result<(), AllocError>
-    ensures ok { OnOk result (out.new.items ≡ out.old.items ++ row_end row.now) }
-    ensures front { take (length out.old.items) out.new.items ≡ out.old.items }
+    ensures { Appends (row_end row.now) result out.old.items out.new.items }
 {
     match &row.doc {
         None => put_short_end(out, row.deleted),

@@ -3,7 +3,7 @@
 ghost use Rattle.std.specs.Prelude.{◌≡◌, ◌-◌, ◌<◌, ◌≤◌, [], ◌∷◌, ◌++◌, drop};
 ghost use Rattle.std.specs.Prelude.{false, length, IfOk, IsErrOf, OnOk};
 ghost use Rattle.std.specs.Fmt.{digit_glyph, digits};
-ghost use Rattle.hub_http.specs.Counts.{Rose, GaveUp};
+ghost use Rattle.hub_http.specs.Counts.{CallCounts};
 ghost use Rattle.hub_http.specs.Chunks.{Writes, head_room, text_chunks};
 ghost use Rattle.hub_http.specs.Texts.{chunk_text};
 
@@ -121,13 +121,8 @@ impl ChunkWriter {
         ensures memory { IsErrOf result ChunkFault.NoMemory → writer.new ≡ writer.old }
         ensures empty { T.bytes text.now ≡ []
             → (writer.new ≡ writer.old) × ¬ (IsErrOf result ChunkFault.IoFault) }
-        ensures monotone { W.fault_count writer.old ≤ W.fault_count writer.new }
-        ensures failures_monotone { W.failure_count writer.old ≤ W.failure_count writer.new }
-        ensures fault { IsErrOf result ChunkFault.IoFault
-            → Rose (W.fault_count writer.old) (W.fault_count writer.new) }
-        ensures tried { IsErrOf result ChunkFault.IoFault
-            → GaveUp (W.failure_count writer.old) (W.failure_count writer.new)
-            (W.fault_count writer.old) (W.fault_count writer.new) }
+        ensures counts { CallCounts (IsErrOf result ChunkFault.IoFault) W.fault_count
+            W.failure_count writer.old writer.new }
     {
         if self.put(text).is_err() {
             return Err(ChunkFault::NoMemory);
@@ -143,13 +138,8 @@ impl ChunkWriter {
         ensures bytes { Writes (text_chunks (drop head_room self.old.buffer.items)) result
             (W.written writer.old) (W.written writer.new) }
         ensures memory { IsErrOf result ChunkFault.NoMemory → writer.new ≡ writer.old }
-        ensures monotone { W.fault_count writer.old ≤ W.fault_count writer.new }
-        ensures failures_monotone { W.failure_count writer.old ≤ W.failure_count writer.new }
-        ensures fault { IsErrOf result ChunkFault.IoFault
-            → Rose (W.fault_count writer.old) (W.fault_count writer.new) }
-        ensures tried { IsErrOf result ChunkFault.IoFault
-            → GaveUp (W.failure_count writer.old) (W.failure_count writer.new)
-            (W.fault_count writer.old) (W.fault_count writer.new) }
+        ensures counts { CallCounts (IsErrOf result ChunkFault.IoFault) W.fault_count
+            W.failure_count writer.old writer.new }
     {
         let Ok(start) = close_chunk(&mut self.buffer) else {
             return Err(ChunkFault::NoMemory);

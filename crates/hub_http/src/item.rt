@@ -1,6 +1,7 @@
 //! The texts of a feed's items.
 
-ghost use Rattle.std.specs.Prelude.{◌≡◌, ◌++◌, length, take, OnOk};
+ghost use Rattle.std.specs.Prelude.{◌≡◌};
+ghost use Rattle.hub_http.specs.Appends.{Appends};
 ghost use Rattle.hub_http.specs.Items.{separator, before_row, after_row, before_end, item_text, feed_head};
 
 use crate::row_text::RowText;
@@ -9,8 +10,7 @@ use std::alloc::AllocError;
 
 #[tactic(auto, unfolding(crate::specs::Items::separator))]
 fn put_separator(out: &mut Vec<u8>, rows_before: u64) -> Result<(), AllocError>
-    ensures ok { OnOk result (out.new.items ≡ out.old.items ++ separator rows_before) }
-    ensures front { take (length out.old.items) out.new.items ≡ out.old.items }
+    ensures { Appends (separator rows_before) result out.old.items out.new.items }
 {
     if rows_before == 0 {
         Ok(())
@@ -21,8 +21,7 @@ fn put_separator(out: &mut Vec<u8>, rows_before: u64) -> Result<(), AllocError>
 
 #[tactic(auto, unfolding(crate::specs::Items::before_row))]
 fn put_before_row(out: &mut Vec<u8>, mode: Mode, rows_before: u64) -> Result<(), AllocError>
-    ensures ok { OnOk result (out.new.items ≡ out.old.items ++ before_row mode rows_before) }
-    ensures front { take (length out.old.items) out.new.items ≡ out.old.items }
+    ensures { Appends (before_row mode rows_before) result out.old.items out.new.items }
 {
     by_mode!(
         mode,
@@ -34,8 +33,7 @@ fn put_before_row(out: &mut Vec<u8>, mode: Mode, rows_before: u64) -> Result<(),
 
 #[tactic(auto, unfolding(crate::specs::Items::after_row))]
 fn put_after_row(out: &mut Vec<u8>, mode: Mode) -> Result<(), AllocError>
-    ensures ok { OnOk result (out.new.items ≡ out.old.items ++ after_row mode) }
-    ensures front { take (length out.old.items) out.new.items ≡ out.old.items }
+    ensures { Appends (after_row mode) result out.old.items out.new.items }
 {
     by_mode!(
         mode,
@@ -68,9 +66,8 @@ pub fn item_text<R: RowText>(
     life: u64,
     item: &Item<R>,
 ) -> Result<(), AllocError>
-    ensures ok { OnOk result (out.new.items
-        ≡ out.old.items ++ item_text R.row_text R.end_text mode rows_before life item.now) }
-    ensures front { take (length out.old.items) out.new.items ≡ out.old.items }
+    ensures { Appends (item_text R.row_text R.end_text mode rows_before life item.now) result out.old.items
+        out.new.items }
 {
     match item {
         Item::Row(row) => {

@@ -1,11 +1,11 @@
 //! Where replies go.
 ghost use Rattle.std.specs.Prelude.{◌≡◌, ◌<◌, ◌≤◌, ℕ, List, Option, is_err, length};
-ghost use Rattle.std.specs.Prelude.{IfOk, IfNone, IfSome, OnOk, OnErr, take};
+ghost use Rattle.std.specs.Prelude.{IfOk, IfNone, IfSome, OnOk, OnErr, take, IsErr};
 ghost use Rattle.std.specs.Io.{WritesAtMost};
 ghost use Rattle.std.specs.IoError.{error_kind};
 ghost use Rattle.std.specs.Io.KnownBytes.{Keeps, Appends, WriteAppends};
 ghost use Rattle.hub_http.specs.Counts.{bumped_if, write_faulted, write_failed, call_failed};
-ghost use Rattle.hub_http.specs.Counts.{is_interruption, GaveUp, Rose, AppendsFront, Sends};
+ghost use Rattle.hub_http.specs.Counts.{is_interruption, CallCounts, AppendsFront, Sends};
 
 use std::io;
 use std::io::ErrorKind;
@@ -78,11 +78,7 @@ fn write_some<W: Output>(writer: &mut W, bytes: &[u8]) -> Result<usize, IoFault>
     ensures bound { IfOk result (λ n. (0 < n) × (n ≤ length bytes.now)) }
     ensures ok { IfOk result (λ n. Appends (W.written writer.old) (W.written writer.new) (take n bytes.now)) }
     ensures err { OnErr result (Keeps (W.written writer.old) (W.written writer.new)) }
-    ensures monotone { W.fault_count writer.old ≤ W.fault_count writer.new }
-    ensures failures_monotone { W.failure_count writer.old ≤ W.failure_count writer.new }
-    ensures fault { OnErr result (Rose (W.fault_count writer.old) (W.fault_count writer.new)) }
-    ensures tried { OnErr result (GaveUp (W.failure_count writer.old) (W.failure_count writer.new)
-        (W.fault_count writer.old) (W.fault_count writer.new)) }
+    ensures counts { CallCounts (IsErr result) W.fault_count W.failure_count writer.old writer.new }
 {
     for _ in 0..TRIES {
         match writer.write(bytes) {
@@ -101,11 +97,7 @@ fn write_some<W: Output>(writer: &mut W, bytes: &[u8]) -> Result<usize, IoFault>
 /// Flushes, again where a flush is interrupted.
 fn flush<W: Output>(writer: &mut W) -> Result<(), IoFault>
     ensures bytes { Keeps (W.written writer.old) (W.written writer.new) }
-    ensures monotone { W.fault_count writer.old ≤ W.fault_count writer.new }
-    ensures failures_monotone { W.failure_count writer.old ≤ W.failure_count writer.new }
-    ensures fault { OnErr result (Rose (W.fault_count writer.old) (W.fault_count writer.new)) }
-    ensures tried { OnErr result (GaveUp (W.failure_count writer.old) (W.failure_count writer.new)
-        (W.fault_count writer.old) (W.fault_count writer.new)) }
+    ensures counts { CallCounts (IsErr result) W.fault_count W.failure_count writer.old writer.new }
 {
     for _ in 0..TRIES {
         match writer.flush() {
@@ -125,11 +117,7 @@ fn flush<W: Output>(writer: &mut W) -> Result<(), IoFault>
 pub fn write_all<W: Output>(writer: &mut W, bytes: &[u8]) -> Result<(), IoFault>
     ensures ok { OnOk result (Appends (W.written writer.old) (W.written writer.new) bytes.now) }
     ensures front { AppendsFront (W.written writer.old) (W.written writer.new) bytes.now }
-    ensures monotone { W.fault_count writer.old ≤ W.fault_count writer.new }
-    ensures failures_monotone { W.failure_count writer.old ≤ W.failure_count writer.new }
-    ensures fault { OnErr result (Rose (W.fault_count writer.old) (W.fault_count writer.new)) }
-    ensures tried { OnErr result (GaveUp (W.failure_count writer.old) (W.failure_count writer.new)
-        (W.fault_count writer.old) (W.fault_count writer.new)) }
+    ensures counts { CallCounts (IsErr result) W.fault_count W.failure_count writer.old writer.new }
 {
     let mut rest = bytes;
     while !rest.is_empty() {
@@ -142,11 +130,7 @@ pub fn write_all<W: Output>(writer: &mut W, bytes: &[u8]) -> Result<(), IoFault>
 /// Writes all of a vector, whose memory the writer may keep, and does not flush, as `write_all` does.
 pub fn write_vec<W: Output>(writer: &mut W, bytes: Vec<u8>) -> Result<(), IoFault>
     ensures sent { Sends (is_err result) (W.written writer.old) (W.written writer.new) bytes.items }
-    ensures monotone { W.fault_count writer.old ≤ W.fault_count writer.new }
-    ensures failures_monotone { W.failure_count writer.old ≤ W.failure_count writer.new }
-    ensures fault { OnErr result (Rose (W.fault_count writer.old) (W.fault_count writer.new)) }
-    ensures tried { OnErr result (GaveUp (W.failure_count writer.old) (W.failure_count writer.new)
-        (W.fault_count writer.old) (W.fault_count writer.new)) }
+    ensures counts { CallCounts (IsErr result) W.fault_count W.failure_count writer.old writer.new }
 {
     match writer.keep(bytes) {
         None => Ok(()),
@@ -158,11 +142,7 @@ pub fn write_vec<W: Output>(writer: &mut W, bytes: Vec<u8>) -> Result<(), IoFaul
 /// written. A write or a flush that is interrupted is made again; 1,000,000 in a row are a fault.
 pub fn send<W: Output>(writer: &mut W, bytes: &[u8]) -> Result<(), IoFault>
     ensures sent { Sends (is_err result) (W.written writer.old) (W.written writer.new) bytes.now }
-    ensures monotone { W.fault_count writer.old ≤ W.fault_count writer.new }
-    ensures failures_monotone { W.failure_count writer.old ≤ W.failure_count writer.new }
-    ensures fault { OnErr result (Rose (W.fault_count writer.old) (W.fault_count writer.new)) }
-    ensures tried { OnErr result (GaveUp (W.failure_count writer.old) (W.failure_count writer.new)
-        (W.fault_count writer.old) (W.fault_count writer.new)) }
+    ensures counts { CallCounts (IsErr result) W.fault_count W.failure_count writer.old writer.new }
 {
     write_all(writer, bytes)?;
     flush(writer)

@@ -1,8 +1,8 @@
 //! Reading into a buffer.
-ghost use Rattle.std.specs.Prelude.{◌≡◌, ◌<◌, ◌≤◌, ◌+◌, ◌⊎◌, ℕ, List, []};
-ghost use Rattle.std.specs.Prelude.{◌++◌, length, Err, IfOk, OnErr, IfErr};
+ghost use Rattle.std.specs.Prelude.{◌≡◌, ◌<◌, ◌≤◌, ◌+◌, ◌⊎◌, ℕ, List};
+ghost use Rattle.std.specs.Prelude.{◌++◌, length, Err, IfOk, OnErr, IfErr, IsErrOf};
 ghost use Rattle.std.specs.Io.KnownBytes.{Keeps, IsAtEnd, prepend_known};
-ghost use Rattle.hub_http.specs.Counts.{Rose, GaveUp};
+ghost use Rattle.hub_http.specs.Counts.{CallCounts};
 ghost use Rattle.hub_http.specs.Stream.{to_read};
 
 use crate::block::Block;
@@ -30,13 +30,8 @@ pub(crate) fn read_more<R: Input>(
     ensures end { IfOk result (λ n. n ≡ 0 → IsAtEnd (to_read block.new (R.left reader.new))) }
     ensures err { IfErr result (λ e. (e ≡ HttpFault.NoMemory) ⊎ (e ≡ HttpFault.IoFault)) }
     ensures memory { result ≡ Err HttpFault.NoMemory → 0 < length block.new }
-    ensures monotone { R.fault_count reader.old ≤ R.fault_count reader.new }
-    ensures failures_monotone { R.failure_count reader.old ≤ R.failure_count reader.new }
-    ensures fault { IfErr result
-        (λ e. e ≡ HttpFault.IoFault → Rose (R.fault_count reader.old) (R.fault_count reader.new)) }
-    ensures tried { IfErr result (λ e. e ≡ HttpFault.IoFault
-        → GaveUp (R.failure_count reader.old) (R.failure_count reader.new) (R.fault_count reader.old)
-        (R.fault_count reader.new)) }
+    ensures counts { CallCounts (IsErrOf result HttpFault.IoFault) R.fault_count
+        R.failure_count reader.old reader.new }
 {
     match block.refill(reader, most) {
         Ok(()) => {}

@@ -2,7 +2,7 @@
 
 ghost use Rattle.std.specs.Prelude.{◌≡◌, ◌++◌, IfOk, OnOk};
 ghost use Rattle.hub_http.specs.Statuses.{reason_phrase};
-ghost use Rattle.hub_http.specs.Texts.{close_line, length_line, status_line};
+ghost use Rattle.hub_http.specs.Texts.{head_end, head_front, length_line, status_line};
 ghost use Rattle.hub_http.specs.Texts.{head_text, refusal_body, answer_text, reply_text};
 
 use crate::refusal::Refusal;
@@ -27,13 +27,6 @@ pub enum Reply {
 // No head of an answer and no body of a refusal is longer.
 const ROOM: usize = 192;
 
-#[tactic(auto, unfolding(crate::specs::Texts::close_line))]
-fn close_line(close: bool) -> &'static str
-    ensures { result.now ≡ close_line close }
-{
-    if close { "Connection: close\r\n" } else { "" }
-}
-
 #[tactic(auto, unfolding(crate::specs::Texts::status_line))]
 fn put_status_line(out: &mut Vec<u8>, status: StatusCode) -> Result<(), AllocError>
     ensures { OnOk result (out.new.items
@@ -48,15 +41,31 @@ fn put_status_line(out: &mut Vec<u8>, status: StatusCode) -> Result<(), AllocErr
     Ok(())
 }
 
-#[tactic(auto, unfolding(crate::specs::Texts::length_line))]
-fn put_length_line(out: &mut Vec<u8>, len: usize) -> Result<(), AllocError>
-    ensures { OnOk result (out.new.items ≡ out.old.items ++ length_line len) }
+// Appends a head as far as the length of the body. Where the status is 200 it is one append.
+fn put_front(out: &mut Vec<u8>, status: StatusCode) -> Result<(), AllocError>
+    ensures { OnOk result (out.new.items ≡ out.old.items ++ head_front status) }
 {
-    let mut number = Buffer::new();
-    out.extend_from_slice(b"Content-Length: ")?;
-    out.extend_from_slice(number.format(len).as_bytes())?;
-    out.extend_from_slice(b"\r\n")?;
+    if status.as_u16() == 200 {
+        out.extend_from_slice(
+            b"HTTP/1.1 200 OK\r\nContent-Type: application/json\r\nContent-Length: ",
+        )?;
+        return Ok(());
+    }
+    put_status_line(out, status)?;
+    out.extend_from_slice(b"Content-Type: application/json\r\nContent-Length: ")?;
     Ok(())
+}
+
+/// What stands in a head behind the length of the body.
+#[tactic(auto, unfolding(crate::specs::Texts::close_line))]
+fn head_end(close: bool) -> &'static str
+    ensures { result.now ≡ head_end close }
+{
+    if close {
+        "\r\nConnection: close\r\n\r\n"
+    } else {
+        "\r\n\r\n"
+    }
 }
 
 fn put_head(
@@ -67,11 +76,10 @@ fn put_head(
 ) -> Result<(), AllocError>
     ensures { OnOk result (out.new.items ≡ out.old.items ++ head_text status (length_line len) close) }
 {
-    put_status_line(out, status)?;
-    out.extend_from_slice(b"Content-Type: application/json\r\n")?;
-    put_length_line(out, len)?;
-    out.extend_from_slice(close_line(close).as_bytes())?;
-    out.extend_from_slice(b"\r\n")?;
+    let mut number = Buffer::new();
+    put_front(out, status)?;
+    out.extend_from_slice(number.format(len).as_bytes())?;
+    out.extend_from_slice(head_end(close).as_bytes())?;
     Ok(())
 }
 

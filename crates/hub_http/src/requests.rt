@@ -1,8 +1,9 @@
 //! The requests that a reader's bytes spell.
-ghost use Rattle.std.specs.Prelude.{◌≡◌, ◌<◌, ◌≤◌, ◌+◌, ◌⊎◌, ℕ, List, ◌++◌, length, min, max};
-ghost use Rattle.std.specs.Prelude.{take, drop, IfOk, IfErr, IfSome, OnOk, IsTrue, IsFalse};
-ghost use Rattle.std.specs.Io.KnownBytes.{Keeps, IsAtEnd, prepend_known};
-ghost use Rattle.hub_http.specs.Counts.{Rose, GaveUp};
+ghost use Rattle.std.specs.Prelude.{◌≡◌, ◌<◌, ◌≤◌, ◌+◌, ℕ, List, ◌++◌, length, min, max};
+ghost use Rattle.std.specs.Prelude.{take, drop, IfOk, IfErr, IfSome, OnOk, IsErrOf};
+ghost use Rattle.std.specs.Io.KnownBytes.{Keeps, prepend_known};
+ghost use Rattle.hub_http.specs.Counts.{CallCounts};
+ghost use Rattle.hub_http.specs.Fills.{Fills};
 ghost use Rattle.hub_http.specs.Stream.{Asked, Leaves, Spells, known, to_read};
 ghost use Rattle.hub_http.specs.Exclusions.{SpelledHasNoFault, NothingSpellsNothing};
 ghost use Rattle.hub_http.specs.Exclusions.{NothingHasNoFault, HeadHasOneFault, HeadFaultIsNamed};
@@ -30,13 +31,8 @@ fn find_head<R: Input>(
     ensures kept { Keeps (prepend_known held.old.items (to_read block.old (R.left reader.old)))
         (prepend_known held.new.items (to_read block.new (R.left reader.new))) }
     ensures found { Finds held.new.items (to_read block.new (R.left reader.new)) result }
-    ensures monotone { R.fault_count reader.old ≤ R.fault_count reader.new }
-    ensures failures_monotone { R.failure_count reader.old ≤ R.failure_count reader.new }
-    ensures fault { IfErr result
-        (λ e. e ≡ HttpFault.IoFault → Rose (R.fault_count reader.old) (R.fault_count reader.new)) }
-    ensures tried { IfErr result (λ e. e ≡ HttpFault.IoFault → GaveUp
-        (R.failure_count reader.old) (R.failure_count reader.new)
-        (R.fault_count reader.old) (R.fault_count reader.new)) }
+    ensures counts { CallCounts (IsErrOf result HttpFault.IoFault) R.fault_count
+        R.failure_count reader.old reader.new }
 {
     loop {
         match look(alloc, held) {
@@ -78,20 +74,10 @@ fn fill_room<R: Input>(
     held: &mut Vec<u8>,
     wanted: usize,
 ) -> Result<bool, HttpFault>
-    ensures kept { Keeps (prepend_known held.old.items (to_read block.old (R.left reader.old)))
-        (prepend_known held.new.items (to_read block.new (R.left reader.new))) }
-    ensures grown { (more : List ℕ) × (held.new.items ≡ held.old.items ++ more) }
-    ensures full { IfOk result (λ full. IsTrue full → wanted ≤ length held.new.items) }
-    ensures cut { IfOk result (λ full.
-        IsFalse full → (length held.new.items < wanted) × IsAtEnd (to_read block.new (R.left reader.new))) }
-    ensures err { IfErr result (λ e. (e ≡ HttpFault.NoMemory) ⊎ (e ≡ HttpFault.IoFault)) }
-    ensures monotone { R.fault_count reader.old ≤ R.fault_count reader.new }
-    ensures failures_monotone { R.failure_count reader.old ≤ R.failure_count reader.new }
-    ensures fault { IfErr result
-        (λ e. e ≡ HttpFault.IoFault → Rose (R.fault_count reader.old) (R.fault_count reader.new)) }
-    ensures tried { IfErr result (λ e. e ≡ HttpFault.IoFault → GaveUp
-        (R.failure_count reader.old) (R.failure_count reader.new)
-        (R.fault_count reader.old) (R.fault_count reader.new)) }
+    ensures filled { Fills wanted result held.old.items held.new.items
+        (to_read block.old (R.left reader.old)) (to_read block.new (R.left reader.new)) }
+    ensures counts { CallCounts (IsErrOf result HttpFault.IoFault) R.fault_count
+        R.failure_count reader.old reader.new }
 {
     if held
         .reserve_exact(wanted.saturating_sub(held.len()))
@@ -117,20 +103,10 @@ fn fill<R: Input>(
     held: &mut Vec<u8>,
     wanted: usize,
 ) -> Result<bool, HttpFault>
-    ensures kept { Keeps (prepend_known held.old.items (to_read block.old (R.left reader.old)))
-        (prepend_known held.new.items (to_read block.new (R.left reader.new))) }
-    ensures grown { (more : List ℕ) × (held.new.items ≡ held.old.items ++ more) }
-    ensures full { IfOk result (λ full. IsTrue full → wanted ≤ length held.new.items) }
-    ensures cut { IfOk result (λ full.
-        IsFalse full → (length held.new.items < wanted) × IsAtEnd (to_read block.new (R.left reader.new))) }
-    ensures err { IfErr result (λ e. (e ≡ HttpFault.NoMemory) ⊎ (e ≡ HttpFault.IoFault)) }
-    ensures monotone { R.fault_count reader.old ≤ R.fault_count reader.new }
-    ensures failures_monotone { R.failure_count reader.old ≤ R.failure_count reader.new }
-    ensures fault { IfErr result
-        (λ e. e ≡ HttpFault.IoFault → Rose (R.fault_count reader.old) (R.fault_count reader.new)) }
-    ensures tried { IfErr result (λ e. e ≡ HttpFault.IoFault → GaveUp
-        (R.failure_count reader.old) (R.failure_count reader.new)
-        (R.fault_count reader.old) (R.fault_count reader.new)) }
+    ensures filled { Fills wanted result held.old.items held.new.items
+        (to_read block.old (R.left reader.old)) (to_read block.new (R.left reader.new)) }
+    ensures counts { CallCounts (IsErrOf result HttpFault.IoFault) R.fault_count
+        R.failure_count reader.old reader.new }
 {
     while held.len() < wanted {
         let goal = room(held.len(), wanted);
@@ -237,13 +213,8 @@ fn read_request<R: Input>(
 ) -> Result<Option<Request>, HttpFault>
     ensures told { IfSome (known held.old.items (to_read block.old (R.left reader.old)))
         (λ bytes. Leaves bytes result (known held.new.items (to_read block.new (R.left reader.new)))) }
-    ensures monotone { R.fault_count reader.old ≤ R.fault_count reader.new }
-    ensures failures_monotone { R.failure_count reader.old ≤ R.failure_count reader.new }
-    ensures fault { IfErr result
-        (λ e. e ≡ HttpFault.IoFault → Rose (R.fault_count reader.old) (R.fault_count reader.new)) }
-    ensures tried { IfErr result (λ e. e ≡ HttpFault.IoFault → GaveUp
-        (R.failure_count reader.old) (R.failure_count reader.new)
-        (R.fault_count reader.old) (R.fault_count reader.new)) }
+    ensures counts { CallCounts (IsErrOf result HttpFault.IoFault) R.fault_count
+        R.failure_count reader.old reader.new }
 {
     let head = match find_head(alloc, reader, block, held) {
         Ok(Some(head)) => head,
@@ -341,14 +312,8 @@ impl<R: Input> Requests<R> {
         ensures closed { IfErr result (λ e. ¬ (e ≡ HttpFault.NoMemory) → HasEnded self.new) }
         ensures ended { HasEnded self.old → (result ≡ Err HttpFault.Ended) × (self.new ≡ self.old) }
 
-        ensures monotone { faults_of R.fault_count self.old ≤ faults_of R.fault_count self.new }
-        ensures failures_monotone { failures_of R.failure_count self.old
-            ≤ failures_of R.failure_count self.new }
-        ensures fault { IfErr result (λ e. e ≡ HttpFault.IoFault
-            → Rose (faults_of R.fault_count self.old) (faults_of R.fault_count self.new)) }
-        ensures tried { IfErr result (λ e. e ≡ HttpFault.IoFault → GaveUp
-            (failures_of R.failure_count self.old) (failures_of R.failure_count self.new)
-            (faults_of R.fault_count self.old) (faults_of R.fault_count self.new)) }
+        ensures counts { CallCounts (IsErrOf result HttpFault.IoFault) (faults_of R.fault_count)
+            (failures_of R.failure_count) self.old self.new }
     {
         if self.ended {
             return Err(HttpFault::Ended);

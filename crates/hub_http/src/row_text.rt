@@ -1,6 +1,7 @@
 //! Rows as a feed writes them.
 
-ghost use Rattle.std.specs.Prelude.{◌≡◌, ◌++◌, ℕ, List, length, take, OnOk};
+ghost use Rattle.std.specs.Prelude.{ℕ, List};
+ghost use Rattle.hub_http.specs.Appends.{Appends};
 
 use std::alloc::AllocError;
 
@@ -17,11 +18,9 @@ pub trait RowText {
 
     /// Appends the object. It costs the text's length.
     fn put_row(&self, out: &mut Vec<u8>, life: u64) -> Result<(), AllocError>
-        ensures ok { OnOk result (out.new.items ≡ out.old.items ++ row_text life self.now) }
-        ensures front { take (length out.old.items) out.new.items ≡ out.old.items };
+        ensures { Appends (row_text life self.now) result out.old.items out.new.items };
 
     /// Appends the members that end a feed of such rows, and the brace. It costs the text's length.
     fn put_end(out: &mut Vec<u8>, life: u64, last_seq: u64, pending: u64) -> Result<(), AllocError>
-        ensures ok { OnOk result (out.new.items ≡ out.old.items ++ end_text life last_seq pending) }
-        ensures front { take (length out.old.items) out.new.items ≡ out.old.items };
+        ensures { Appends (end_text life last_seq pending) result out.old.items out.new.items };
 }

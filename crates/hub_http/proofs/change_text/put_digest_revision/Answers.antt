@@ -1,13 +1,15 @@
+use Rattle.hub_http.proofs.AppendLemmas.{appended}
 use Rattle.hub_document.proofs.WriteLemmas.{three_parts}
 use Rattle.hub_http.specs.ChangeTexts.{revision_text}
 use Rattle.hub_http.proofs.change_text.put_digest_revision.Goals as goal
 
-pub returns-clause-ok : goal.returns-clause-ok
+pub returns : goal.returns
 unfolding revision_text
-returns-clause-ok c =
-    rw (
+returns c =
+    appended _ _ _
+    (rw (
       c.in_ok-extend_from_slice-2.ensures.items,
       c.in_ok-print_quoted.ensures.ok,
       c.in_ok-extend_from_slice.ensures.items,
     )
-    (three_parts c.args.out.now.items _ _ _)
+    (three_parts c.args.out.now.items _ _ _))

@@ -1,6 +1,6 @@
 use Rattle.hub_http.specs.ChangeTexts.{doc_member, row_end}
 use Rattle.hub_http.proofs.change_text.put_row_end.Goals as goal
 
-pub returns-in-None-clause-ok : goal.returns-in-None-clause-ok
+pub returns-in-None : goal.returns-in-None
 unfolding row_end doc_member
-returns-in-None-clause-ok c = rw (← c.row.view_is, c.in-None.is) c.put_short_end.ensures.ok
+returns-in-None c = rw (← c.row.view_is, c.in-None.is) c.put_short_end.ensures

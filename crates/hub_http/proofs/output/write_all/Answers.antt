@@ -10,8 +10,8 @@ pub loop-rest-preserved : goal.loop-rest-preserved
 loop-rest-preserved g c = (
   next_part _ _ _ c.args.bytes.now c.loop-rest.rest.now c.in_ok-n.n
       c.loop-rest.invariant.0 c.in_ok-n.ensures.ok,
-  omega (arith, c.loop-rest.invariant.1, c.write_some.ensures.monotone),
-  omega (arith, c.loop-rest.invariant.2, c.write_some.ensures.failures_monotone),
+  omega (arith, c.loop-rest.invariant.1, c.write_some.ensures.counts.faults),
+  omega (arith, c.loop-rest.invariant.2, c.write_some.ensures.counts.failures),
 )
 
 pub returns-clause-front : goal.returns-clause-front

@@ -24,8 +24,8 @@ returns-clause-told g c =
     } in
     told_request _ _ _ c.find_head.new.held.items c.fill.new.held.items c.take_body.new.held.items
     c.in-Ok-Some.head request c.unwrap_or-body_len.result
-    c.in-Ok-Some.ensures.kept found c.in-Ok-true.ensures.kept c.in-Ok-true.ensures.grown
-    (c.in-Ok-true.ensures.full c.in-Ok-true.field-0-test) c.unwrap_or-body_len.ensures
+    c.in-Ok-Some.ensures.kept found c.in-Ok-true.ensures.filled.kept c.in-Ok-true.ensures.filled.grown
+    (c.in-Ok-true.ensures.filled.full c.in-Ok-true.field-0-test) c.unwrap_or-body_len.ensures
     c.in-Ok.ensures.ok.0 c.in-Ok.ensures.ok.1 refl refl c.is_some.ensures refl
 
 pub returns-in-Err-clause-told : goal.returns-in-Err-clause-told
@@ -36,13 +36,13 @@ pub returns-in-Err-fill-clause-told : goal.returns-in-Err-fill-clause-told
 returns-in-Err-fill-clause-told g c =
     let found = rw c.in-Ok-Some.field-0-is at c.in-Ok-Some.ensures.found in
     told_memory _ _ _ c.find_head.new.held.items c.fill.new.held.items c.in-Ok-Some.head c.in-Err-fill.e
-    c.in-Ok-Some.ensures.kept found c.in-Err-fill.ensures.kept c.in-Err-fill.ensures.grown
-    c.in-Err-fill.ensures.err
+    c.in-Ok-Some.ensures.kept found c.in-Err-fill.ensures.filled.kept c.in-Err-fill.ensures.filled.grown
+    c.in-Err-fill.ensures.filled.err
 
 pub returns-in-Err-take_body-clause-told : goal.returns-in-Err-take_body-clause-told
 returns-in-Err-take_body-clause-told g c =
     let found = rw c.in-Ok-Some.field-0-is at c.in-Ok-Some.ensures.found in
     rw c.in-Err-take_body.ensures.err.1
     (told_memory _ _ _ c.find_head.new.held.items c.fill.new.held.items c.in-Ok-Some.head
-    c.in-Err-take_body.e c.in-Ok-Some.ensures.kept found c.in-Ok-true.ensures.kept c.in-Ok-true.ensures.grown
+    c.in-Err-take_body.e c.in-Ok-Some.ensures.kept found c.in-Ok-true.ensures.filled.kept c.in-Ok-true.ensures.filled.grown
     (inl c.in-Err-take_body.ensures.err.0))

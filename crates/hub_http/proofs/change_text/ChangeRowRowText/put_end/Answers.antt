@@ -1,11 +1,13 @@
+use Rattle.hub_http.proofs.AppendLemmas.{appended}
 use Rattle.hub_http.specs.ChangeTexts.{change_end_text}
 use Rattle.hub_document.proofs.WriteLemmas.{five_parts}
 use Rattle.hub_http.proofs.change_text.ChangeRowRowText.put_end.Goals as goal
 
-pub returns-clause-ok : goal.returns-clause-ok
+pub returns : goal.returns
 unfolding change_end_text
-returns-clause-ok c =
-    rw (
+returns c =
+    appended _ _ _
+    (rw (
       c.in_ok-extend_from_slice-4.ensures.items,
       c.in_ok-extend_from_slice-3.ensures.items,
       c.as_bytes.ensures.value,
@@ -14,4 +16,4 @@ returns-clause-ok c =
       c.in_ok-put_sequence.ensures.ok,
       c.in_ok-extend_from_slice.ensures.items,
     )
-    (five_parts c.args.out.now.items _ _ _ _ _)
+    (five_parts c.args.out.now.items _ _ _ _ _))

@@ -1,11 +1,13 @@
+use Rattle.hub_http.proofs.AppendLemmas.{appended}
 use Rattle.hub_http.specs.UpdateTexts.{update_row_text}
 use Rattle.hub_http.proofs.UpdateLemmas.{seven_parts}
 use Rattle.hub_http.proofs.update_text.UpdateRowRowText.put_row.Goals as goal
 
-pub returns-clause-ok : goal.returns-clause-ok
+pub returns : goal.returns
 unfolding update_row_text
-returns-clause-ok c =
-    rw (
+returns c =
+    appended _ _ _
+    (rw (
       c.in_ok-extend_from_slice-5.ensures.items,
       c.in_ok-put_sequence.ensures.ok,
       c.in_ok-extend_from_slice-4.ensures.items,
@@ -18,4 +20,4 @@ returns-clause-ok c =
       c.in_ok-extend_from_slice.ensures.items,
       ← c.self.view_is,
     )
-    (seven_parts c.args.out.now.items _ _ _ _ _ _ _)
+    (seven_parts c.args.out.now.items _ _ _ _ _ _ _))
