@@ -1,6 +1,6 @@
--- The premises of a look at the stems of a tree (own). An example: of the three stems that stand as the example
--- in Stem, place 1 of stem 0 is one of a revision, 1-a, and place 2 of it is none. Without an index the stems are
--- indexed; with one they are where it tells each of their revisions. They are so up to generation 3, and up to 4.
+-- The premises of a look at the stems of a tree (own). An example: the three stems of the example in `Stem`
+-- are indexed without an index, and with one that tells each of their revisions. They are so up to generation
+-- 3, and up to 4, but not up to 2. Place 1 of stem 0 is one of a revision, 1-a; place 2 of stem 0 is none.
 use Rattle.std.specs.Prelude.{ℕ, List, Option}
 use Rattle.hub_model.specs.Journal.{IsLegal}
 use Rattle.hub_revtree.specs.Branch.{edits_in}
@@ -25,7 +25,8 @@ pub record AreIndexedUpTo (list : List Stem) (told : Option Index) (most : ℕ) 
   pub index : IsIndexed told list
   pub highest : AreUpTo list most
 
--- the same stems and their index; their edits are a legal journal, and one of their revisions stands at the place
+-- these are stems of a tree with its index, as above; their edits are a legal journal; and one of their
+-- revisions stands at the place
 pub record IsLineStart (list : List Stem) (told : Option Index) (place : Place) : Type 0 where
   pub stems : AreStems list
   pub index : IsIndexed told list
