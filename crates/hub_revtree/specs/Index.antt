@@ -18,7 +18,7 @@ use Rattle.hub_model.specs.Path.{names}
 use Rattle.hub_revtree.specs.Key.{IsKey}
 use Rattle.hub_revtree.specs.Branch.{edits_in}
 use Rattle.hub_revtree.specs.Extend.{line_to}
-use Rattle.hub_revtree.specs.Stem.{Stem, branches_of, rev_at, revisions_at}
+use Rattle.hub_revtree.specs.Stem.{Stem, AreStems, branches_of, rev_at, revisions_at}
 use Rattle.hub_revtree.specs.declared.stem.Place.{Place}
 use Rattle.hub_revtree.specs.declared.index.Index.{Index}
 
@@ -107,3 +107,14 @@ IsNewestLine (Some digests) stems =
 abbrev pub IsIndexed : Option Index → List Stem → Type 0
 IsIndexed None stems = Unit {0}
 IsIndexed (Some index) stems = IsIndex index stems × IsNewestLine index.line stems
+
+-- the second index has the entries, the others and the links of the first
+pub record HasSameEntries (before after : Index) : Type 0 where
+  pub stems : after.stems ≡ before.stems
+  pub others : after.others ≡ before.others
+  pub links : after.links ≡ before.links
+
+-- these are stems of a tree, and the last of them has this number
+pub record IsLastOf (list : List Stem) (number : ℕ) : Type 0 where
+  pub stems : AreStems list
+  pub newest : number + 1 ≡ length list

@@ -11,6 +11,7 @@ pub mod Key
 pub mod Order
 pub mod First
 pub mod Index
+pub mod Lookup
 pub mod Candidate
 pub mod Candidates
 pub mod Common

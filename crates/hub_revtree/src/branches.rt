@@ -17,6 +17,7 @@ ghost use Rattle.hub_revtree.specs.Count.{revision_count as count_of};
 ghost use Rattle.hub_revtree.specs.Extend.{line_to};
 ghost use Rattle.hub_revtree.specs.Index.{IsIndexed};
 ghost use Rattle.hub_model.specs.Revision.{Revision};
+ghost use Rattle.hub_revtree.specs.Lookup.{AreIndexed};
 ghost use Rattle.hub_revtree.specs.Common.{last_in};
 ghost use Rattle.hub_revtree.specs.Stem.{Stem, AreStems, IsBrought, branches_of};
 ghost use Rattle.hub_revtree.specs.Tree.{nameless, tip, tip_of};
@@ -131,8 +132,7 @@ fn without_line(index: Option<Box<Index>>) -> Option<Box<Index>>
 // Whether nothing stands behind the path's last revision. Constant time where that is of the first
 // generation; else it costs what `place_behind` does.
 fn ends(stems: &[Stem], index: Option<&Index>, path: &Run) -> bool
-    requires stems { AreStems stems.now }
-    requires index { IsIndexed (option_map (λ i. i.now) index) stems.now }
+    requires indexed { AreIndexed stems.now (option_map (λ i. i.now) index) }
     requires legal { IsLegal (edits_in (branches_of stems.now)) }
     requires path { IsPath path.now }
     ensures { IsTrue result → (x r : Revision) → last_in path.now ≡ Some x → ¬ IsBrought stems.now r x }

@@ -238,7 +238,7 @@ impl RevTree {
             (λ ready. ready ≡ nameless (rev.now ∷ line_to self.old.edits older.now) deleted body) }
         ensures room { IfOk result (λ ready. length ready.path ≤ self.new.room) }
     {
-        let alloc = self.allocator();
+        let alloc = self.branches().allocator();
         let path = self.path_on(alloc, rev, older)?;
         self.ready_with(path, Run::of_one(rev), deleted, body)
     }
@@ -268,7 +268,7 @@ impl RevTree {
         ensures memory { result ≡ Err EditFault.NoMemory
             → HasNextRevision self.old.edits (draft [] parent deleted body) }
     {
-        let alloc = self.allocator();
+        let alloc = self.branches().allocator();
         let older = self.extended(parent)?;
         let rev = match next_rev(alloc, id, older, deleted, &body) {
             Ok(rev) => rev,

@@ -8,8 +8,9 @@ ghost use Rattle.hub_model.specs.Revision.{Revision, revision_cmp};
 ghost use Rattle.hub_revtree.specs.Branch.{Branch};
 ghost use Rattle.hub_revtree.specs.Candidates.{AreCandidates, candidates_in};
 ghost use Rattle.hub_revtree.specs.First.{first_put};
-ghost use Rattle.hub_revtree.specs.Index.{AreLinked, AreTold, Has, HasTo, IsFirstPlace, IsIndex};
-ghost use Rattle.hub_revtree.specs.Index.{IsIndexed, IsNewestLine, entry_in, link_in, other_in};
+ghost use Rattle.hub_revtree.specs.Index.{AreLinked, AreTold, Has, HasSameEntries, HasTo, IsFirstPlace};
+ghost use Rattle.hub_revtree.specs.Index.{IsIndex, IsIndexed, IsLastOf, IsNewestLine, entry_in, link_in};
+ghost use Rattle.hub_revtree.specs.Index.{other_in};
 ghost use Rattle.hub_revtree.specs.Stem.{AreStems, has_revision, revisions_at};
 
 use crate::candidates::Candidates;
@@ -103,8 +104,7 @@ impl Index {
     // Takes in the revision at this place of the newest stem, which has this number. Constant time where the
     // key of its hash is a new one; else at most log n comparisons of revisions.
     fn add_at(&mut self, stems: &[Stem], number: u32, at: usize) -> Result<(), AllocError>
-        requires stems { AreStems stems.now }
-        requires newest { number + 1 ≡ length stems.now }
+        requires last { IsLastOf stems.now number }
         requires within { at < length (revisions_at stems.now number) }
         requires told { AreTold (HasTo stems.now number at) (entry_in self.old) (other_in self.old) }
         ensures told { OnOk result
@@ -129,8 +129,7 @@ impl Index {
 
     // Takes in the revisions of the newest stem, which has this number. It costs what `add_at` does for each.
     fn add_all(&mut self, stems: &[Stem], number: u32) -> Result<(), AllocError>
-        requires stems { AreStems stems.now }
-        requires newest { number + 1 ≡ length stems.now }
+        requires last { IsLastOf stems.now number }
         requires told { AreTold (Has (take number stems.now)) (entry_in self.old) (other_in self.old) }
         ensures told { OnOk result (AreTold (Has stems.now) (entry_in self.new) (other_in self.new)) }
         ensures links { self.new.links ≡ self.old.links }
@@ -145,8 +144,7 @@ impl Index {
     // Links the revision at this place of the newest stem, where its first stem does not go on behind it, and
     // this one does. It costs a find, and at most log n comparisons of revisions.
     fn link_at(&mut self, stems: &[Stem], number: u32, at: usize) -> Result<(), AllocError>
-        requires stems { AreStems stems.now }
-        requires newest { number + 1 ≡ length stems.now }
+        requires last { IsLastOf stems.now number }
         requires within { at < length (revisions_at stems.now number) }
         requires told { AreTold (Has stems.now) (entry_in self.old) (other_in self.old) }
         requires linked { AreLinked (HasTo stems.now number at) stems.now (link_in self.old) }
@@ -171,8 +169,7 @@ impl Index {
 
     // Links the revisions of the newest stem, which has this number. It costs what `link_at` does for each.
     fn link_all(&mut self, stems: &[Stem], number: u32) -> Result<(), AllocError>
-        requires stems { AreStems stems.now }
-        requires newest { number + 1 ≡ length stems.now }
+        requires last { IsLastOf stems.now number }
         requires told { AreTold (Has stems.now) (entry_in self.old) (other_in self.old) }
         requires linked { AreLinked (Has (take number stems.now)) (take number stems.now) (link_in self.old) }
         ensures index { OnOk result (IsIndex self.new stems.now) }
@@ -211,9 +208,7 @@ impl Index {
 
     /// Gives up the path, so that whoever shares it may have it alone.
     pub(crate) fn drop_line(&mut self)
-        ensures stems { self.new.stems ≡ self.old.stems }
-        ensures others { self.new.others ≡ self.old.others }
-        ensures links { self.new.links ≡ self.old.links }
+        ensures same { HasSameEntries self.old self.new }
         ensures candidates { self.new.candidates ≡ self.old.candidates }
         ensures line { self.new.line ≡ None }
     {
@@ -222,9 +217,7 @@ impl Index {
 
     /// The candidates, which it gives up; those of no edit where there are none.
     pub(crate) fn take_candidates(&mut self, alloc: Global) -> Candidates
-        ensures stems { self.new.stems ≡ self.old.stems }
-        ensures others { self.new.others ≡ self.old.others }
-        ensures links { self.new.links ≡ self.old.links }
+        ensures same { HasSameEntries self.old self.new }
         ensures line { self.new.line ≡ self.old.line }
         ensures candidates { self.new.candidates ≡ None }
         ensures taken { (branches : List Branch) → IfSome self.old.candidates (AreCandidates branches)
@@ -238,9 +231,7 @@ impl Index {
 
     /// Keeps the candidates.
     pub(crate) fn put_candidates(&mut self, candidates: Candidates)
-        ensures stems { self.new.stems ≡ self.old.stems }
-        ensures others { self.new.others ≡ self.old.others }
-        ensures links { self.new.links ≡ self.old.links }
+        ensures same { HasSameEntries self.old self.new }
         ensures line { self.new.line ≡ self.old.line }
         ensures candidates { self.new.candidates ≡ Some candidates }
     {

@@ -5,7 +5,7 @@ ghost use Rattle.std.specs.Prelude.{slice_get, slice_set, true, vec_capacity, ve
 ghost use Rattle.std.specs.List.{list_any};
 ghost use Rattle.hub_model.specs.Revision.{is_same};
 ghost use Rattle.hub_model.specs.Path.{IsPath, names};
-ghost use Rattle.hub_revtree.specs.Index.{IsIndexed};
+ghost use Rattle.hub_revtree.specs.Lookup.{AreIndexed, IsPlaceIn};
 ghost use Rattle.hub_revtree.specs.Mark.{Notes, plain, with_note};
 ghost use Rattle.hub_revtree.specs.Stem.{Stem as StemModel, AreStems, IsWithin, has_revision, is_at};
 
@@ -26,8 +26,7 @@ fn note(stems: &mut [Stem], number: usize)
 
 // Notes the stem of the place as inner, where the revision there is its newest. Constant time.
 fn note_at(stems: &mut [Stem], place: Place)
-    requires stems { AreStems stems.old }
-    requires within { IsWithin stems.old place }
+    requires { IsPlaceIn stems.old place }
     ensures plain { map plain stems.new ≡ map plain stems.old }
     ensures noted { Notes stems.old (λ r. is_at stems.old r (Some place)) stems.new }
 {
@@ -50,8 +49,7 @@ fn note_parent(stems: &mut [Stem], parent: Option<Place>)
 
 // Notes the stem as inner whose newest revision this is, if there is one. One find.
 fn note_headed(stems: &mut [Stem], index: Option<&Index>, rev: &RevId)
-    requires stems { AreStems stems.old }
-    requires index { IsIndexed (option_map (λ i. i.now) index) stems.old }
+    requires { AreIndexed stems.old (option_map (λ i. i.now) index) }
     ensures plain { map plain stems.new ≡ map plain stems.old }
     ensures noted { Notes stems.old (λ r. is_same r rev.now) stems.new }
 {
@@ -62,8 +60,7 @@ fn note_headed(stems: &mut [Stem], index: Option<&Index>, rev: &RevId)
 
 // Notes the stems as inner whose newest revisions are among these behind the first. A find for each of these.
 fn note_rest(stems: &mut [Stem], index: Option<&Index>, run: &Run)
-    requires stems { AreStems stems.old }
-    requires index { IsIndexed (option_map (λ i. i.now) index) stems.old }
+    requires indexed { AreIndexed stems.old (option_map (λ i. i.now) index) }
     requires run { IsPath run.now }
     ensures plain { map plain stems.new ≡ map plain stems.old }
     ensures noted { Notes stems.old (λ r. names (drop 1 run.now) r) stems.new }
@@ -75,8 +72,7 @@ fn note_rest(stems: &mut [Stem], index: Option<&Index>, run: &Run)
 
 // The same, where one of these may be known.
 fn note_joined(stems: &mut [Stem], index: Option<&Index>, run: &Run, joins: bool)
-    requires stems { AreStems stems.old }
-    requires index { IsIndexed (option_map (λ i. i.now) index) stems.old }
+    requires indexed { AreIndexed stems.old (option_map (λ i. i.now) index) }
     requires run { IsPath run.now }
     requires fresh { joins ≡ false → list_any (has_revision stems.old) run.now ≡ false }
     ensures plain { map plain stems.new ≡ map plain stems.old }
@@ -90,8 +86,7 @@ fn note_joined(stems: &mut [Stem], index: Option<&Index>, run: &Run, joins: bool
 // Notes the stems as inner whose newest revisions stand behind that of the stem with these
 // revisions, which is to come behind them.
 fn note_behind(stems: &mut [Stem], index: Option<&Index>, run: &Run, standing: &Standing)
-    requires stems { AreStems stems.old }
-    requires index { IsIndexed (option_map (λ i. i.now) index) stems.old }
+    requires indexed { AreIndexed stems.old (option_map (λ i. i.now) index) }
     requires run { IsPath run.now }
     requires within { IfSome standing.now.parent (IsWithin stems.old) }
     requires fresh { standing.now.joins ≡ false → list_any (has_revision stems.old) run.now ≡ false }
@@ -111,8 +106,7 @@ pub(crate) fn note_inner(
     run: &Run,
     standing: &Standing,
 )
-    requires stems { AreStems stems.old.items }
-    requires index { IsIndexed (option_map (λ i. i.now) index) stems.old.items }
+    requires indexed { AreIndexed stems.old.items (option_map (λ i. i.now) index) }
     requires run { IsPath run.now }
     requires within { IfSome standing.now.parent (IsWithin stems.old.items) }
     requires fresh { standing.now.joins ≡ false → list_any (has_revision stems.old.items) run.now ≡ false }

@@ -13,6 +13,7 @@ ghost use Rattle.hub_revtree.specs.Branch.{edits_in};
 ghost use Rattle.hub_revtree.specs.Common.{common as common_of, last_in};
 ghost use Rattle.hub_revtree.specs.Extend.{line_to};
 ghost use Rattle.hub_revtree.specs.Index.{AreLinked, GoesOn, Has, IsIndex, IsIndexed, link_in};
+ghost use Rattle.hub_revtree.specs.Lookup.{AreIndexed, AreIndexedUpTo, IsLineStart, IsPlaceIn};
 ghost use Rattle.hub_revtree.specs.Stem.{Stem as StemModel, AreStems, AreUpTo, IsBrought};
 ghost use Rattle.hub_revtree.specs.Stem.{IsWithin, branches_of, chain_from, chains_of};
 ghost use Rattle.hub_revtree.specs.Stem.{has_revision, own_path, rev_at, revisions_at};
@@ -62,8 +63,7 @@ pub(crate) fn place_in(stems: &[Stem], number: usize, rev: &RevId) -> Option<Pla
 /// in their first eight bytes, else at most log n comparisons of revisions. Without one it is one
 /// look an edit, from the newest on up to the one that brought it.
 pub(crate) fn place_of(stems: &[Stem], index: Option<&Index>, rev: &RevId) -> Option<Place>
-    requires stems { AreStems stems.now }
-    requires index { IsIndexed (option_map (λ i. i.now) index) stems.now }
+    requires { AreIndexed stems.now (option_map (λ i. i.now) index) }
     ensures found { IfSome result
         (λ place. slice_get (revisions_at stems.now place.stem) place.at ≡ Some rev.now) }
     ensures none { IfNone result (has_revision stems.now rev.now ≡ false) }
@@ -82,9 +82,7 @@ pub(crate) fn place_up_to(
     highest: u16,
     rev: &RevId,
 ) -> Option<Place>
-    requires stems { AreStems stems.now }
-    requires index { IsIndexed (option_map (λ i. i.now) index) stems.now }
-    requires highest { AreUpTo stems.now highest }
+    requires { AreIndexedUpTo stems.now (option_map (λ i. i.now) index) highest }
     ensures found { IfSome result
         (λ place. slice_get (revisions_at stems.now place.stem) place.at ≡ Some rev.now) }
     ensures none { IfNone result (has_revision stems.now rev.now ≡ false) }
@@ -132,8 +130,7 @@ fn headed_by<'a>(stems: &'a [Stem], index: &Index, rev: &RevId) -> Option<&'a St
 /// The stem whose newest revision this is. With an index it costs what `place_of` does; else one
 /// look an edit, from the newest on up to that one.
 pub(crate) fn headed<'a>(stems: &'a [Stem], index: Option<&Index>, rev: &RevId) -> Option<&'a Stem>
-    requires stems { AreStems stems.now }
-    requires index { IsIndexed (option_map (λ i. i.now) index) stems.now }
+    requires { AreIndexed stems.now (option_map (λ i. i.now) index) }
     ensures { option_map (λ s. s.now) result ≡ find (λ s. is_first rev.now s.revisions) stems.now }
 {
     match index {
@@ -155,8 +152,7 @@ pub(crate) fn is_newest(stems: &[Stem], rev: &RevId) -> bool
 
 // How many revisions the chain has from the place on. Constant time.
 fn reach_from(stems: &[Stem], place: Place) -> usize
-    requires stems { AreStems stems.now }
-    requires within { IsWithin stems.now place }
+    requires { IsPlaceIn stems.now place }
     ensures { result ≡ length (chain_from (chains_of stems.now) (Some place)) }
 {
     usize::from(stems[place.stem].reach()) - usize::from(place.at)
@@ -165,8 +161,7 @@ fn reach_from(stems: &[Stem], place: Place) -> usize
 // Puts the revision at the place, and those behind it in its chain, behind what the vector holds. It costs
 // their number.
 fn append_chain(stems: &[Stem], place: Place, line: &mut Vec<RevId>) -> Result<(), AllocError>
-    requires stems { AreStems stems.now }
-    requires within { IsWithin stems.now place }
+    requires { IsPlaceIn stems.now place }
     ensures { OnOk result (line.new.items ≡ line.old.items ++ chain_from (chains_of stems.now) (Some place)) }
 {
     let mut next = Some(place);
@@ -185,8 +180,7 @@ fn append_chain_digests(
     place: Place,
     digests: &mut Vec<[u8; 16]>,
 ) -> Result<bool, AllocError>
-    requires stems { AreStems stems.now }
-    requires within { IsWithin stems.now place }
+    requires { IsPlaceIn stems.now place }
     ensures { IfOk result (λ all. IsTrue all
         → map encode_lower digests.new.items
         ≡ map encode_lower digests.old.items
@@ -206,8 +200,7 @@ fn append_chain_digests(
 // For how many these are the revision at the place and those behind it in its chain, as far as both go; None
 // where one of them differs. It costs their number.
 fn common(stems: &[Stem], place: Place, revisions: &[RevId]) -> Option<usize>
-    requires stems { AreStems stems.now }
-    requires within { IsWithin stems.now place }
+    requires { IsPlaceIn stems.now place }
     ensures { result ≡ common_of revisions.now (chain_from (chains_of stems.now) (Some place)) }
 {
     let mut at = 0usize;
@@ -226,8 +219,7 @@ fn common(stems: &[Stem], place: Place, revisions: &[RevId]) -> Option<usize>
 
 // The last revision of the chain from the place on. One step a stem.
 fn end_of(stems: &[Stem], place: Place) -> RevId
-    requires stems { AreStems stems.now }
-    requires within { IsWithin stems.now place }
+    requires { IsPlaceIn stems.now place }
     ensures { last_in (chain_from (chains_of stems.now) (Some place)) ≡ Some result }
 {
     let mut at = place.stem;
@@ -322,8 +314,7 @@ fn behind_by(stems: &[Stem], index: &Index, rev: &RevId) -> Option<Place>
 /// `place_of` does, and where the first stem that has the revision has none behind it one more look
 /// there, at most log n comparisons of revisions; else one look a stem.
 pub(crate) fn place_behind(stems: &[Stem], index: Option<&Index>, rev: &RevId) -> Option<Place>
-    requires stems { AreStems stems.now }
-    requires index { IsIndexed (option_map (λ i. i.now) index) stems.now }
+    requires { AreIndexed stems.now (option_map (λ i. i.now) index) }
     ensures found { IfSome result (λ place. IsWithin stems.now place
         × ((r : Revision) → rev_at stems.now (Some place) ≡ Some r → IsBrought stems.now r rev.now)) }
     ensures none { IfNone result ((r : Revision) → ¬ IsBrought stems.now r rev.now) }
@@ -338,10 +329,7 @@ pub(crate) fn place_behind(stems: &[Stem], index: Option<&Index>, rev: &RevId) -
 // one. A chain that ends with the first generation has none, in constant time; else it costs a step a stem of
 // the chain, and what `place_behind` does.
 fn beyond(stems: &[Stem], index: Option<&Index>, place: Place) -> Option<Place>
-    requires stems { AreStems stems.now }
-    requires index { IsIndexed (option_map (λ i. i.now) index) stems.now }
-    requires legal { IsLegal (edits_in (branches_of stems.now)) }
-    requires within { IsWithin stems.now place }
+    requires { IsLineStart stems.now (option_map (λ i. i.now) index) place }
     ensures within { IfSome result (IsWithin stems.now) }
     ensures behind { (x : Revision) → last_in (chain_from (chains_of stems.now) (Some place)) ≡ Some x
         → rev_at stems.now result ≡ behind_of x (edits_in (branches_of stems.now)) }
@@ -357,10 +345,7 @@ fn beyond(stems: &[Stem], index: Option<&Index>, place: Place) -> Option<Place>
 /// How many revisions the one at the place and all that stand behind it are. It costs for each chain what
 /// `beyond` does: constant time where the first one ends with the first generation.
 pub(crate) fn line_length(stems: &[Stem], index: Option<&Index>, place: Place) -> u16
-    requires stems { AreStems stems.now }
-    requires index { IsIndexed (option_map (λ i. i.now) index) stems.now }
-    requires legal { IsLegal (edits_in (branches_of stems.now)) }
-    requires within { IsWithin stems.now place }
+    requires start { IsLineStart stems.now (option_map (λ i. i.now) index) place }
     requires short { length (line_to (edits_in (branches_of stems.now)) (rev_at stems.now (Some place)))
         < 2 ^ 16 }
     ensures { result ≡ length (line_to (edits_in (branches_of stems.now)) (rev_at stems.now (Some place))) }
@@ -382,10 +367,7 @@ pub(crate) fn append_from(
     place: Place,
     line: &mut Vec<RevId>,
 ) -> Result<(), AllocError>
-    requires stems { AreStems stems.now }
-    requires index { IsIndexed (option_map (λ i. i.now) index) stems.now }
-    requires legal { IsLegal (edits_in (branches_of stems.now)) }
-    requires within { IsWithin stems.now place }
+    requires { IsLineStart stems.now (option_map (λ i. i.now) index) place }
     ensures { OnOk result
         (line.new.items ≡ line.old.items ++ line_to (edits_in (branches_of stems.now))
         (rev_at stems.now (Some place))) }
@@ -407,10 +389,7 @@ pub(crate) fn append_digests(
     place: Place,
     digests: &mut Vec<[u8; 16]>,
 ) -> Result<bool, AllocError>
-    requires stems { AreStems stems.now }
-    requires index { IsIndexed (option_map (λ i. i.now) index) stems.now }
-    requires legal { IsLegal (edits_in (branches_of stems.now)) }
-    requires within { IsWithin stems.now place }
+    requires { IsLineStart stems.now (option_map (λ i. i.now) index) place }
     ensures { IfOk result (λ all. IsTrue all
         → map encode_lower digests.new.items
         ≡ map encode_lower digests.old.items
@@ -434,9 +413,7 @@ fn place_or_told(
     told: Option<Place>,
     rev: &RevId,
 ) -> Option<Place>
-    requires stems { AreStems stems.now }
-    requires index { IsIndexed (option_map (λ i. i.now) index) stems.now }
-    requires highest { AreUpTo stems.now highest }
+    requires indexed { AreIndexedUpTo stems.now (option_map (λ i. i.now) index) highest }
     requires told { IfSome told (IsWithin stems.now) }
     ensures told { IfSome told (λ place. result ≡ Some place) }
     ensures within { IfSome result (IsWithin stems.now) }
@@ -459,9 +436,7 @@ pub(crate) fn agreeing(
     highest: u16,
     revisions: &[RevId],
 ) -> Option<usize>
-    requires stems { AreStems stems.now }
-    requires index { IsIndexed (option_map (λ i. i.now) index) stems.now }
-    requires highest { AreUpTo stems.now highest }
+    requires indexed { AreIndexedUpTo stems.now (option_map (λ i. i.now) index) highest }
     requires legal { IsLegal (edits_in (branches_of stems.now)) }
     requires history { IsHistory revisions.now }
     ensures agrees { is_some result ≡ list_all (λ b. agrees_with revisions.now b.path)
@@ -506,9 +481,7 @@ pub(crate) struct Meeting {
 /// is the front of one chain. It costs what `place_of` does for each revision that no path names, but
 /// constant time for each of a generation above the highest.
 pub(crate) fn met_by(stems: &[Stem], index: Option<&Index>, highest: u16, path: &Run) -> Meeting
-    requires stems { AreStems stems.now }
-    requires index { IsIndexed (option_map (λ i. i.now) index) stems.now }
-    requires highest { AreUpTo stems.now highest }
+    requires indexed { AreIndexedUpTo stems.now (option_map (λ i. i.now) index) highest }
     requires path { IsPath path.now }
     ensures kept { result.at ≤ length path.now }
     ensures within { IfSome result.place (IsWithin stems.now) }

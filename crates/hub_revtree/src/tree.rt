@@ -113,11 +113,6 @@ impl RevTree {
         }
     }
 
-    // What the tree takes its memory from.
-    pub(crate) fn allocator(&self) -> Global {
-        self.branches.allocator()
-    }
-
     // The edit, with memory for it, and the first of its revisions, so many, which are new.
     pub(crate) fn made_ready(
         &mut self,
@@ -132,7 +127,7 @@ impl RevTree {
         ensures room { IfOk result (λ ready. length ready.path ≤ self.new.room) }
     {
         let _head = path.head();
-        let run = Run::front(self.allocator(), path.revisions(), new)?;
+        let run = Run::front(self.branches.allocator(), path.revisions(), new)?;
         self.ready_with(Run::whole(path.into_revisions()), run, deleted, body)
     }
 

@@ -7,7 +7,7 @@ use Rattle.hub_revtree.proofs.inner.note_behind.Goals as goal
 
 pub note_parent-requires-clause-stems : goal.note_parent-requires-clause-stems
 note_parent-requires-clause-stems c =
-    stems_same c.args.stems.now c.note_joined.new.stems (sym c.note_joined.ensures.plain) c.requires.stems
+    stems_same c.args.stems.now c.note_joined.new.stems (sym c.note_joined.ensures.plain) c.requires.indexed.stems
 
 pub note_parent-requires-clause-within : goal.note_parent-requires-clause-within
 note_parent-requires-clause-within c =

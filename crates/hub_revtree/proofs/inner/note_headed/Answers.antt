@@ -7,9 +7,11 @@ use Rattle.hub_revtree.proofs.MarkLemmas.{first_test, notes_as, unknown_noted}
 use Rattle.hub_revtree.proofs.StemLemmas.{rev_within}
 use Rattle.hub_revtree.proofs.inner.note_headed.Goals as goal
 
-pub note_at-requires-clause-within : goal.note_at-requires-clause-within
-note_at-requires-clause-within c =
-    rev_within c.args.stems.now c.in-Some.place c.args.rev.now c.in-Some.ensures.found
+pub note_at-requires : goal.note_at-requires
+note_at-requires c = record {
+  stems = c.requires.stems;
+  within = rev_within c.args.stems.now c.in-Some.place c.args.rev.now c.in-Some.ensures.found;
+}
 
 pub returns-in-Some-clause-noted : goal.returns-in-Some-clause-noted
 returns-in-Some-clause-noted c =

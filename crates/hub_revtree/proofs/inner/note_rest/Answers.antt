@@ -10,13 +10,12 @@ loop-at-init c = record {
   noted = last_noted c.args.stems.now c.args.run.now c.len-at.result (omega (arith, c.len-at.ensures));
 }
 
-pub note_headed-requires-clause-stems : goal.note_headed-requires-clause-stems
-note_headed-requires-clause-stems c =
-    stems_same c.args.stems.now c.loop-at.stems (sym c.loop-at.invariant.plain) c.requires.stems
-
-pub note_headed-requires-clause-index : goal.note_headed-requires-clause-index
-note_headed-requires-clause-index c =
-    indexed_same c.args.stems.now c.loop-at.stems _ (sym c.loop-at.invariant.plain) c.requires.index
+pub note_headed-requires : goal.note_headed-requires
+note_headed-requires c = record {
+  stems = stems_same c.args.stems.now c.loop-at.stems (sym c.loop-at.invariant.plain) c.requires.indexed.stems;
+  index =
+      indexed_same c.args.stems.now c.loop-at.stems _ (sym c.loop-at.invariant.plain) c.requires.indexed.index;
+}
 
 pub loop-at-preserved : goal.loop-at-preserved
 loop-at-preserved c = record {

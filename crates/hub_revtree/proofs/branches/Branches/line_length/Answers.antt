@@ -18,10 +18,12 @@ line_length-requires c =
     (arith, few, c.generation-revisions_at_most.ensures.value, c.generation-revisions_at_most.type_inv) in
     rw c.as_slice-in-Some.ensures.value
     (record {
-      stems = c.self.invariant.0;
-      index = rw c.lent-index.ensures c.self.invariant.2;
-      legal = legal;
-      within = rev_within xs c.in-Some.place c.args.rev.now found;
+      start = record {
+        stems = c.self.invariant.0;
+        index = rw c.lent-index.ensures c.self.invariant.2;
+        legal = legal;
+        within = rev_within xs c.in-Some.place c.args.rev.now found;
+      };
       short = subst (λ o. length (line_to (edits_in (branches_of xs)) o) < 2 ^ 16) (sym found) short;
     })
 

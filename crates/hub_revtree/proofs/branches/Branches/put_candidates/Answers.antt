@@ -11,9 +11,9 @@ invariant_of-self c = elim c.match-self.branch [
         c.self.invariant.0,
         c.self.invariant.1,
         rw (
-          w.put_candidates.ensures.stems,
-          w.put_candidates.ensures.others,
-          w.put_candidates.ensures.links,
+          w.put_candidates.ensures.same.stems,
+          w.put_candidates.ensures.same.others,
+          w.put_candidates.ensures.same.links,
           w.put_candidates.ensures.line,
           w.deref_mut.ensures.value,
         ) own,

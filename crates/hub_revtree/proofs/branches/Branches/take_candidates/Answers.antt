@@ -9,9 +9,9 @@ invariant_of-self c = elim c.match-self.branch [
         c.self.invariant.0,
         c.self.invariant.1,
         rw (
-          w.take_candidates.ensures.stems,
-          w.take_candidates.ensures.others,
-          w.take_candidates.ensures.links,
+          w.take_candidates.ensures.same.stems,
+          w.take_candidates.ensures.same.others,
+          w.take_candidates.ensures.same.links,
           w.take_candidates.ensures.line,
           w.deref_mut.ensures.value,
         ) own,

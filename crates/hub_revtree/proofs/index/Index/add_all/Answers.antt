@@ -18,7 +18,7 @@ add_at-requires-clause-within c =
     omega (
       arith,
       read_long c.args.stems.now c.args.number c.index-stems-number.result
-          (omega (arith, c.requires.newest)) c.index-stems-number.is,
+          (omega (arith, c.requires.last.newest)) c.index-stems-number.is,
       c.loop-at-test.true,
       c.len-at-end.ensures,
     )
@@ -26,11 +26,11 @@ add_at-requires-clause-within c =
 pub returns-clause-told : goal.returns-clause-told
 returns-clause-told c =
     told_end c.args.stems.now c.args.number c.loop-at.at (entry_in c.loop-at.self) (other_in c.loop-at.self)
-    (omega (arith, c.requires.newest))
+    (omega (arith, c.requires.last.newest))
     (omega (
       arith,
       read_long c.args.stems.now c.args.number c.index-stems-number.result
-          (omega (arith, c.requires.newest)) c.index-stems-number.is,
+          (omega (arith, c.requires.last.newest)) c.index-stems-number.is,
       c.loop-at-test.false,
       c.len-at-end.ensures,
     )) c.loop-at.invariant.told

@@ -11,7 +11,7 @@ use Rattle.hub_revtree.proofs.index.Index.add_at.Goals as goal
 pub returns-in_default-clause-told : goal.returns-in_default-clause-told
 returns-in_default-clause-told c =
     let xs = c.args.stems.now in
-    let low : c.args.number < length xs = omega (arith, c.requires.newest) in
+    let low : c.args.number < length xs = omega (arith, c.requires.last.newest) in
     let there =
     read_there xs c.args.number c.args.at c.index-stems-number.result c.rev.result
     low c.index-stems-number.is c.rev.ensures in
@@ -24,7 +24,7 @@ returns-in_default-clause-told c =
 pub returns-then-first-number-clause-told : goal.returns-then-first-number-clause-told
 returns-then-first-number-clause-told c =
     let xs = c.args.stems.now in
-    let low : c.args.number < length xs = omega (arith, c.requires.newest) in
+    let low : c.args.number < length xs = omega (arith, c.requires.last.newest) in
     let i = get_some _ c.args.at c.requires.within in
     let back =
     read_back xs c.args.number c.args.at c.index-stems-number.result i.0 low c.index-stems-number.is i.1 in
@@ -36,7 +36,7 @@ returns-then-first-number-clause-told c =
 pub returns-then-is_some-clause-told : goal.returns-then-is_some-clause-told
 returns-then-is_some-clause-told c =
     let xs = c.args.stems.now in
-    let low : c.args.number < length xs = omega (arith, c.requires.newest) in
+    let low : c.args.number < length xs = omega (arith, c.requires.last.newest) in
     let there =
     read_there xs c.args.number c.args.at c.index-stems-number.result c.rev-rev.result low
     c.index-stems-number.is c.rev-rev.ensures in
@@ -52,7 +52,7 @@ returns-then-is_some-clause-told c =
 pub returns-clause-told : goal.returns-clause-told
 returns-clause-told c =
     let xs = c.args.stems.now in
-    let low : c.args.number < length xs = omega (arith, c.requires.newest) in
+    let low : c.args.number < length xs = omega (arith, c.requires.last.newest) in
     let there =
     read_there xs c.args.number c.args.at c.index-stems-number.result c.rev-rev.result low
     c.index-stems-number.is c.rev-rev.ensures in

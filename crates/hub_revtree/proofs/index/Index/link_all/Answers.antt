@@ -17,7 +17,7 @@ link_at-requires-clause-within c =
     omega (
       arith,
       read_long c.args.stems.now c.args.number c.index-stems-number.result
-          (omega (arith, c.requires.newest)) c.index-stems-number.is,
+          (omega (arith, c.requires.last.newest)) c.index-stems-number.is,
       c.loop-at-test.true,
       c.len-at-end.ensures,
     )
@@ -29,11 +29,11 @@ pub returns-clause-index : goal.returns-clause-index
 returns-clause-index c = (
   rw (c.loop-at.invariant.entries, c.loop-at.invariant.others) c.requires.told,
   link_end c.args.stems.now c.args.number c.loop-at.at (link_in c.loop-at.self)
-      (omega (arith, c.requires.newest))
+      (omega (arith, c.requires.last.newest))
       (omega (
         arith,
         read_long c.args.stems.now c.args.number c.index-stems-number.result
-            (omega (arith, c.requires.newest)) c.index-stems-number.is,
+            (omega (arith, c.requires.last.newest)) c.index-stems-number.is,
         c.loop-at-test.false,
         c.len-at-end.ensures,
       ))

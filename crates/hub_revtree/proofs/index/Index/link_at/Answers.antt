@@ -14,7 +14,7 @@ returns-in_default-clause-linked c =
     let xs = c.args.stems.now in
     let there =
     read_there xs c.args.number c.args.at c.index-stems-number.result c.rev-rev.result
-    (omega (arith, c.requires.newest)) c.index-stems-number.is c.rev-rev.ensures in
+    (omega (arith, c.requires.last.newest)) c.index-stems-number.is c.rev-rev.ensures in
     link_same xs c.args.number c.args.at c.rev-rev.result there (link_in c.args.self.now)
     (link_in c.args.self.now) c.requires.linked (λ x. refl)
     (λ g. absurd (both_ways _ c.in_default.ensures.none
@@ -26,7 +26,7 @@ returns-then-is_some-clause-linked c =
     let xs = c.args.stems.now in
     let there =
     read_there xs c.args.number c.args.at c.index-stems-number.result c.rev-rev.result
-    (omega (arith, c.requires.newest)) c.index-stems-number.is c.rev-rev.ensures in
+    (omega (arith, c.requires.last.newest)) c.index-stems-number.is c.rev-rev.ensures in
     link_same xs c.args.number c.args.at c.rev-rev.result there (link_in c.args.self.now)
     (link_in c.args.self.now) c.requires.linked (λ x. refl)
     (λ g. (
@@ -41,7 +41,7 @@ returns-then-is_none-clause-linked c =
     let xs = c.args.stems.now in
     let there =
     read_there xs c.args.number c.args.at c.index-stems-number.result c.rev-rev.result
-    (omega (arith, c.requires.newest)) c.index-stems-number.is c.rev-rev.ensures in
+    (omega (arith, c.requires.last.newest)) c.index-stems-number.is c.rev-rev.ensures in
     link_same xs c.args.number c.args.at c.rev-rev.result there (link_in c.args.self.now)
     (link_in c.args.self.now) c.requires.linked (λ x. refl)
     (λ g. absurd (none_if c.behind_in-2.result (¬ GoesOn xs c.args.number c.rev-rev.result)
@@ -52,7 +52,7 @@ returns-clause-linked c =
     let xs = c.args.stems.now in
     let there =
     read_there xs c.args.number c.args.at c.index-stems-number.result c.rev-rev.result
-    (omega (arith, c.requires.newest)) c.index-stems-number.is c.rev-rev.ensures in
+    (omega (arith, c.requires.last.newest)) c.index-stems-number.is c.rev-rev.ensures in
     on_ok_weaker c.put_at.result
     (λ put. link_put xs c.args.number c.args.at c.rev-rev.result there
     (link_in c.args.self.now) (ordered_get revision_cmp c.put_at.new.map) c.requires.linked put

@@ -1,0 +1,34 @@
+-- The premises of a look at the stems of a tree (own). An example: the three stems of the example in `Stem`
+-- are indexed without an index, and with one that tells each of their revisions. They are so up to generation
+-- 3, and up to 4, but not up to 2. Place 1 of stem 0 is one of a revision, 1-a; place 2 of stem 0 is none.
+use Rattle.std.specs.Prelude.{ℕ, List, Option}
+use Rattle.hub_model.specs.Journal.{IsLegal}
+use Rattle.hub_revtree.specs.Branch.{edits_in}
+use Rattle.hub_revtree.specs.Index.{IsIndexed}
+use Rattle.hub_revtree.specs.Stem.{Stem, AreStems, AreUpTo, IsWithin, branches_of}
+use Rattle.hub_revtree.specs.declared.index.Index.{Index}
+use Rattle.hub_revtree.specs.declared.stem.Place.{Place}
+
+-- these are stems of a tree, and one of their revisions stands at the place
+pub record IsPlaceIn (list : List Stem) (place : Place) : Type 0 where
+  pub stems : AreStems list
+  pub within : IsWithin list place
+
+-- these are stems of a tree, and the index is one of them, if there is one
+pub record AreIndexed (list : List Stem) (told : Option Index) : Type 0 where
+  pub stems : AreStems list
+  pub index : IsIndexed told list
+
+-- the same, and none of their revisions is of a generation above this one
+pub record AreIndexedUpTo (list : List Stem) (told : Option Index) (most : ℕ) : Type 0 where
+  pub stems : AreStems list
+  pub index : IsIndexed told list
+  pub highest : AreUpTo list most
+
+-- these are stems of a tree with its index, as above; their edits are a legal journal; and one of their
+-- revisions stands at the place
+pub record IsLineStart (list : List Stem) (told : Option Index) (place : Place) : Type 0 where
+  pub stems : AreStems list
+  pub index : IsIndexed told list
+  pub legal : IsLegal (edits_in (branches_of list))
+  pub within : IsWithin list place
