@@ -15,5 +15,5 @@ returns-in-Err-send-clause-bytes g c =
 
 pub returns-in-Err-send-clause-tried : goal.returns-in-Err-send-clause-tried
 returns-in-Err-send-clause-tried g c = λ broken.
-    gave_up_since _ _ _ _ _ _ c.write.ensures.failures_monotone c.write.ensures.monotone
+    gave_up_since _ _ _ _ _ _ c.write.ensures.counts.failures c.write.ensures.counts.faults
     c.in-Err-send.ensures.tried
