@@ -1,6 +1,13 @@
 -- What follows from an answer by its cases.
-use Rattle.std.proofs.Common.{Option, Some, None}
-use Rattle.std.specs.Prelude.{IfSome, IfNone}
+use Rattle.std.proofs.Common.{◌≡◌, ◌∙◌, ap, sym, subst, arith, ◌+◌, ◌-◌, List, [], ◌∷◌, ◌++◌, length, take}
+use Rattle.std.proofs.Common.{append_assoc, append-nil, length-append, Option, Some, None}
+use Rattle.std.proofs.lemmas.Grind.{flat_map-append}
+use Rattle.std.proofs.Math.Seq.{take-append_seam}
+use Rattle.hub_lane.specs.Ends.{ReceiverState, behind_take}
+use Rattle.hub_model.specs.declared.feeds.Item.{Item}
+use Rattle.hub_shared.specs.Blocks.{end_of, front_of, items_in}
+use Rattle.hub_shared.specs.Label.{Label}
+use Rattle.std.specs.Prelude.{IfSome, IfNone, OnOk, OnErr, Result, Ok, Err, option_to_list}
 
 pub some_then : {A : Type 0} {P Q : A → Type 0} (o : Option A) → ((x : A) → P x → Q x) → IfSome o P → IfSome o Q
 some_then None f h = tt
@@ -9,3 +16,58 @@ some_then (Some x) f h = f x h
 pub none_then : {A : Type 0} {P Q : Type 0} (o : Option A) → (P → Q) → IfNone o P → IfNone o Q
 none_then None f h = f h
 none_then (Some x) f h = tt
+
+-- what follows in each case
+pub by_result : {A E P Q G : Type 0} (r : Result A E) → OnOk r P → OnErr r Q → (P → G) → (Q → G) → G
+by_result (Ok x) ok err f h = f ok
+by_result (Err e) ok err f h = h err
+
+pub by_option : {A P Q G : Type 0} (o : Option A) → IfSome o (λ x. P) → IfNone o Q → (P → G) → (Q → G) → G
+by_option None some none f h = h none
+by_option (Some x) some none f h = f some
+
+module _ {I : Type 0} where
+  -- before a list that stands at the end lies what stands before it
+  front_seam : (before end : List I) → front_of (before ++ end) end ≡ before
+  front_seam before end =
+      let sum : length (before ++ end) ≡ length before + length end = length-append before end in
+      let less : length (before ++ end) - length end ≡ length before = omega (arith, sum) in
+      ap (λ n. take n (before ++ end)) less ∙ take-append_seam before end
+
+  -- of a list that is made up so
+  pub front_is : (all before end : List I) → all ≡ before ++ end → front_of all end ≡ before
+  front_is all before end is = ap (λ list. front_of list end) is ∙ front_seam before end
+
+  pub front_whole : (all before end : List I) → all ≡ before ++ end → all ≡ front_of all end ++ end
+  front_whole all before end is = is ∙ ap (λ list. list ++ end) (sym (front_is all before end is))
+
+  -- the items of blocks, and of one more
+  pub items_more : (blocks : List (List I)) (block : List I)
+      → items_in (blocks ++ block ∷ []) ≡ items_in blocks ++ block
+  items_more blocks block =
+      flat_map-append (λ items. items) blocks (block ∷ []) ∙ ap (λ list. items_in blocks ++ list) (append-nil block)
+
+  -- what is allowed of all blocks is allowed of a front of their items, what is left of them, and the others
+  pub front_allowed : (P : List I → Type 0) (blocks others : List (List I)) (front left : List I)
+      → items_in blocks ≡ front ++ left → P (items_in (blocks ++ others))
+      → P (front ++ (left ++ items_in others))
+  front_allowed P blocks others front left is allowed =
+      subst P (flat_map-append (λ items. items) blocks others
+      ∙ (ap (λ list. list ++ items_in others) is ∙ append_assoc front left (items_in others))) allowed
+
+-- an end of which nothing was left, behind one more block: what comes first of it was taken
+module _ {R : Type 0} (old new : ReceiverState Label (List (Item R))) (left rest block : List (Item R))
+    (empty : left ≡ []) (more : new ≡ behind_take old block) where
+  pub end_takes : (o : Option (Item R)) → block ≡ option_to_list o ++ rest
+      → IfSome o (λ item. end_of new rest ≡ behind_take (end_of old left) item)
+  end_takes None is = tt
+  end_takes (Some item) is =
+      let before = items_in old.taken in
+      let whole : items_in (old.taken ++ block ∷ []) ≡ (before ++ item ∷ []) ++ rest =
+      items_more old.taken block ∙ (ap (λ list. before ++ list) is ∙ sym (append_assoc before (item ∷ []) rest)) in
+      let none : front_of before left ≡ before =
+      ap (front_of before) empty ∙ front_is before before [] (sym (append-nil before)) in
+      ap (λ r. end_of r rest) more
+      ∙ ap (λ taken. record { lane_id = old.lane_id; label = old.label; taken = taken })
+      (front_is (items_in (old.taken ++ block ∷ [])) (before ++ item ∷ []) rest whole
+      ∙ ap (λ list. list ++ item ∷ []) (sym none))

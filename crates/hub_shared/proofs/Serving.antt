@@ -143,3 +143,14 @@ module _ {R K : Type 0} (label : K → Label) (sent : K → List (Item R)) (fits
     served_still change same None (Some s) i = absurd i
     served_still change same (Some f) None i = absurd i
     served_still change same (Some f) (Some s) i = sender_still label sent fits f s (change s) (same s) i
+
+-- outboxes of which one changes, whose label stays and what it was sent, serve what they served
+pub senders_still : {R K : Type 0} (label : K → Label) (sent : K → List (Item R))
+    (fits : Feed → List (Item R) → Type 0) (host : Hosted R) (id : ℕ) (senders : List (ℕ × K)) (change : K → K)
+    → ((k : K) → (label (change k) ≡ label k) × (sent (change k) ≡ sent k))
+    → AreSendersOf label sent fits host senders
+    → AreSendersOf label sent fits host (changed id change senders)
+senders_still label sent fits host id senders change same served =
+    sender_changes label sent fits fits (λ feed items fit. fit) id host host (λ q n. refl) senders change refl
+    served (served_still label sent fits change same (entry_in id host.feeds) (entry_in id senders)
+    (served.each id))
