@@ -12,16 +12,6 @@ use std::net::{Net, TcpListener};
 use std::sync::Wait;
 use std::thread::Threads;
 
-/// How many items the lane of a feed holds at most. Who hands a feed its items takes them in the same turn,
-/// and a place in a lane has some 100 bytes: so a feed that waits stays small.
-const LANE: u64 = 8;
-
-/// These limits, with lanes of a server.
-fn narrowed(mut limits: Limits) -> Limits {
-    limits.lane = limits.lane.min(LANE);
-    limits
-}
-
 /// Serves so many connections of a hub without databases, by as many workers as there are processors, and
 /// comes back once all have ended. Connections are numbered from 1 as they are accepted; each passes
 /// `Point::Request` of its number at the gate before each answer. A connection is a value of one worker, in
@@ -46,7 +36,7 @@ where
     G: Gate + Send + Sync + Drop + 'static,
     K: Clock + Send + Sync + Drop + 'static,
 {
-    let hub = Hub::new(alloc, narrowed(limits))?;
+    let hub = Hub::new(alloc, limits)?;
     let routes = Routes::new(alloc)?;
     let services = HubServices {
         rt,

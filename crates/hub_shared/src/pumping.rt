@@ -91,7 +91,7 @@ where
     let done = turned(locked, feed, turn);
     let behind = locked.hand_over(rt, feed);
     let (last, sent) = done?;
-    let has_sent = sent > 0 || before.unwrap_or(0) > 0;
+    let has_sent = sent > 0 || before.unwrap_or(0) > 0 || behind.unwrap_or(0) > 0;
     if turn == Turn::Hand && behind.is_none() {
         return Ok((Handed::Full, has_sent));
     }

@@ -156,7 +156,8 @@ fn fifty_writers_beside_two_feeds(rt: HostRuntime) -> Result<(), Fail> {
     Ok(())
 }
 
-/// How many documents are written beside a client that does not read: more than sockets hold, and the lane.
+/// How many documents are written beside a client that does not read: more than sockets hold, the lane, and
+/// the items that wait for it.
 const LARGE: u64 = 100;
 
 /// A batch of one document of 64,000 bytes.

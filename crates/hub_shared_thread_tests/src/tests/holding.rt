@@ -60,22 +60,50 @@ fn a_full_lane_keeps_its_rows(rt: HostRuntime) -> Result<(), Fail> {
     Ok(())
 }
 
+// Two rows lie in the lane, and two wait: the third holding hands none.
+const NOT_READ: Shown = (
+    "",
+    0,
+    &[
+        Hands(Handed::Full),
+        Hands(Handed::Full),
+        Hands(Handed::Full),
+        Takes(Some(Row(1))),
+        Takes(Some(Row(2))),
+        Takes(None),
+        Hands(Handed::Full),
+        Takes(Some(Row(3))),
+        Takes(Some(Row(4))),
+        Takes(None),
+        Hands(Handed::Gone),
+        Takes(Some(Row(5))),
+        Takes(Some(End(5))),
+        Takes(None),
+    ],
+);
+
+#[test]
+fn a_feed_that_is_not_read_stops_and_goes_on(rt: HostRuntime) -> Result<(), Fail> {
+    let (db, mut handle) = database(rt.alloc(), 2, 64)?;
+    store(&rt, rt.alloc(), &mut handle, &FIVE)?;
+    assert_feed(&rt, rt.alloc(), &db, &mut handle, NOT_READ)
+}
+
 const WITH_ROOM: Shown = (
     "",
     0,
     &[
         Hands(Handed::Full),
         Takes(Some(Row(1))),
-        Hands(Handed::Full),
-        Takes(Some(Row(2))),
         Hands(Handed::End),
+        Takes(Some(Row(2))),
         Takes(Some(Row(3))),
         Takes(Some(End(3))),
         Takes(None),
     ],
 );
 
-// Room for one item more is handed one item more.
+// The lane has room as soon as the first item of its block is taken.
 #[test]
 fn a_lane_with_room_is_handed_on(rt: HostRuntime) -> Result<(), Fail> {
     let (db, mut handle) = database(rt.alloc(), 2, 64)?;
@@ -83,11 +111,41 @@ fn a_lane_with_room_is_handed_on(rt: HostRuntime) -> Result<(), Fail> {
     assert_feed(&rt, rt.alloc(), &db, &mut handle, WITH_ROOM)
 }
 
+const ONE_MORE: Shown = (
+    "",
+    0,
+    &[
+        Hands(Handed::Row),
+        Hands(Handed::Full),
+        Hands(Handed::Full),
+        Hands(Handed::Full),
+        Takes(Some(Row(1))),
+        Takes(None),
+        Hands(Handed::Full),
+        Takes(Some(Row(2))),
+        Takes(Some(Row(3))),
+        Takes(None),
+        Hands(Handed::Gone),
+        Takes(Some(End(3))),
+        Takes(None),
+    ],
+);
+
+// Behind a full lane, room for one item more is handed one item more.
+#[test]
+fn items_wait_one_by_one(rt: HostRuntime) -> Result<(), Fail> {
+    let (db, mut handle) = database(rt.alloc(), 2, 1)?;
+    store(&rt, rt.alloc(), &mut handle, &FIVE[..3])?;
+    assert_feed(&rt, rt.alloc(), &db, &mut handle, ONE_MORE)
+}
+
+// The first heartbeat lies in the lane, and the second one waits.
 const ONE_STEP: Shown = (
     "feed=continuous&heartbeat=1000",
     0,
     &[
         Turns(Turn::Hand, Handed::Nothing),
+        Turns(Turn::Beat, Handed::Nothing),
         Turns(Turn::Beat, Handed::Nothing),
         Turns(Turn::Beat, Handed::Full),
         Turns(Turn::Expire, Handed::Nothing),
