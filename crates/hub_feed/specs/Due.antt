@@ -12,8 +12,8 @@ due_sequence (DueEnd last_seq) = End last_seq
 due_sequence DueNothing = Nothing
 due_sequence DueGone = Gone
 
--- The feed once it handed the item that is due so, while there are len edits: where there is no item it stays.
--- Where Row 6 is due to a feed with place 3 and rows 1, it has place 6 and rows 2 then.
+-- The feed once it handed the item that is due so, while there are len edits: where there is no item it
+-- stays. Where Row 6 is due to a feed with place 3 and rows 1, it has place 6 and rows 2 then.
 abbrev pub after_sequence : Feed → DueSequence → ℕ → Feed
 after_sequence feed (Row seq) len = after_row feed seq len
 after_sequence feed (End last_seq) len = after_end feed last_seq

@@ -9,7 +9,8 @@ use Rattle.hub_shared.specs.Blocks.{end_of, front_of, items_in}
 use Rattle.hub_shared.specs.Label.{Label}
 use Rattle.std.specs.Prelude.{IfSome, IfNone, OnOk, OnErr, Result, Ok, Err, option_to_list}
 
-pub some_then : {A : Type 0} {P Q : A → Type 0} (o : Option A) → ((x : A) → P x → Q x) → IfSome o P → IfSome o Q
+pub some_then : {A : Type 0} {P Q : A → Type 0} (o : Option A) → ((x : A) → P x → Q x)
+    → IfSome o P → IfSome o Q
 some_then None f h = tt
 some_then (Some x) f h = f x h
 
@@ -45,7 +46,8 @@ module _ {I : Type 0} where
   pub items_more : (blocks : List (List I)) (block : List I)
       → items_in (blocks ++ block ∷ []) ≡ items_in blocks ++ block
   items_more blocks block =
-      flat_map-append (λ items. items) blocks (block ∷ []) ∙ ap (λ list. items_in blocks ++ list) (append-nil block)
+      flat_map-append (λ items. items) blocks (block ∷ [])
+      ∙ ap (λ list. items_in blocks ++ list) (append-nil block)
 
   -- what is allowed of all blocks is allowed of a front of their items, what is left of them, and the others
   pub front_allowed : (P : List I → Type 0) (blocks others : List (List I)) (front left : List I)
@@ -64,7 +66,8 @@ module _ {R : Type 0} (old new : ReceiverState Label (List (Item R))) (left rest
   end_takes (Some item) is =
       let before = items_in old.taken in
       let whole : items_in (old.taken ++ block ∷ []) ≡ (before ++ item ∷ []) ++ rest =
-      items_more old.taken block ∙ (ap (λ list. before ++ list) is ∙ sym (append_assoc before (item ∷ []) rest)) in
+      items_more old.taken block
+      ∙ (ap (λ list. before ++ list) is ∙ sym (append_assoc before (item ∷ []) rest)) in
       let none : front_of before left ≡ before =
       ap (front_of before) empty ∙ front_is before before [] (sym (append-nil before)) in
       ap (λ r. end_of r rest) more

@@ -146,7 +146,8 @@ module _ {R K : Type 0} (label : K → Label) (sent : K → List (Item R)) (fits
 
 -- outboxes of which one changes, whose label stays and what it was sent, serve what they served
 pub senders_still : {R K : Type 0} (label : K → Label) (sent : K → List (Item R))
-    (fits : Feed → List (Item R) → Type 0) (host : Hosted R) (id : ℕ) (senders : List (ℕ × K)) (change : K → K)
+    (fits : Feed → List (Item R) → Type 0) (host : Hosted R) (id : ℕ) (senders : List (ℕ × K))
+    (change : K → K)
     → ((k : K) → (label (change k) ≡ label k) × (sent (change k) ≡ sent k))
     → AreSendersOf label sent fits host senders
     → AreSendersOf label sent fits host (changed id change senders)

@@ -51,9 +51,10 @@ module _ {R : Type 0} where
   abbrev pub HasNoRoom : SubscriberState R → Type 0
   HasNoRoom s = s.room ≤ length s.waiting
 
-  -- what `refuses` says of the sender of the subscriber's lane, which sent all but what waits, and of the block
-  -- that waits: with `Asks`, the lane was full at a moment of the call
-  abbrev pub IsHeldUp : (SenderState Label (List (Item R)) → List (Item R) → Type 0) → SubscriberState R → Type 0
+  -- what `refuses` says of the sender of the subscriber's lane, which sent all but what waits, and of the
+  -- block that waits: with `Asks`, the lane was full at a moment of the call
+  abbrev pub IsHeldUp : (SenderState Label (List (Item R)) → List (Item R) → Type 0) → SubscriberState R
+      → Type 0
   IsHeldUp refuses s =
       (sender : SenderState Label (List (Item R))) × (sender.lane_id ≡ s.lane_id) × (sender.label ≡ s.label)
       × (sender.capacity ≡ 1) × (items_in sender.sent ++ s.waiting ≡ s.sent) × refuses sender s.waiting
@@ -63,9 +64,10 @@ module _ {R : Type 0} where
   end_of r left =
       record { lane_id = r.lane_id; label = r.label; taken = front_of (items_in r.taken) left }
 
-  -- what `lacks` says of the receiver of the end's lane, of whose blocks every item was taken: with `Asks`, the
-  -- lane was empty at a moment of the call
-  abbrev pub IsDrained : (ReceiverState Label (List (Item R)) → Type 0) → ReceiverState Label (Item R) → Type 0
+  -- what `lacks` says of the receiver of the end's lane, of whose blocks every item was taken: with `Asks`,
+  -- the lane was empty at a moment of the call
+  abbrev pub IsDrained : (ReceiverState Label (List (Item R)) → Type 0) → ReceiverState Label (Item R)
+      → Type 0
   IsDrained lacks end =
       (receiver : ReceiverState Label (List (Item R))) × (receiver.lane_id ≡ end.lane_id)
       × (receiver.label ≡ end.label) × (items_in receiver.taken ≡ end.taken) × lacks receiver

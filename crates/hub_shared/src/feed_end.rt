@@ -14,8 +14,8 @@ use std::alloc::Global;
 use std::marker::Model;
 use std::vec::IntoIter;
 
-/// The end of a feed's lane that takes: blocks come out of the lane, and items out of the block that was taken
-/// last. Contracts see the lane, its label, and all items that were taken.
+/// The end of a feed's lane that takes: blocks come out of the lane, and items out of the block that was
+/// taken last. Contracts see the lane, its label, and all items that were taken.
 #[derive(Drop)]
 pub struct FeedEnd<S: HostView> {
     receiver: Receiver<FeedLabel<S>, Block<S::Row>>,
@@ -42,10 +42,7 @@ impl<S: HostView> Model for FeedEnd<S> {
 
 impl<S: HostView> FeedEnd<S> {
     /// The end of a lane of which nothing was taken. It takes no memory.
-    pub(crate) fn new(
-        alloc: Global,
-        receiver: Receiver<FeedLabel<S>, Block<S::Row>>,
-    ) -> FeedEnd<S>
+    pub(crate) fn new(alloc: Global, receiver: Receiver<FeedLabel<S>, Block<S::Row>>) -> FeedEnd<S>
         requires new { receiver ≡ new_receiver receiver.lane_id receiver.label }
         ensures { result ≡ new_receiver receiver.lane_id receiver.label }
     {
@@ -63,10 +60,10 @@ impl<S: HostView> FeedEnd<S> {
         self.receiver.label()
     }
 
-    /// Takes the first item that the lane got and that was not taken yet: what was taken is the beginning of a
-    /// list that is rightly handed, with the parameters and the since of the label. There is none only where
-    /// the lane was empty at a moment of the call, and no item was left of its blocks; then no memory is kept
-    /// for blocks. It waits for nobody, and takes no memory.
+    /// Takes the first item that the lane got and that was not taken yet: what was taken is the beginning
+    /// of a list that is rightly handed, with the parameters and the since of the label. There is none only
+    /// where the lane was empty at a moment of the call, and no item was left of its blocks; then no memory
+    /// is kept for blocks. It waits for nobody, and takes no memory.
     pub fn take<R: Asks<FeedLabel<S>, Block<S::Row>>>(&mut self, rt: &R) -> Option<Item<S::Row>>
         ensures taken { IfSome result (λ item. self.new ≡ behind_take self.old item) }
         ensures same { IfNone result (self.new ≡ self.old) }

@@ -105,9 +105,9 @@ impl<S: HostView, C: Count> Locked<S, C> {
         watch(&mut self.subscribers, feed.number, news);
     }
 
-    /// Reserves memory for as many items of a feed as may wait, those that wait among them, if there is a feed
-    /// of this number. Without memory nothing changes. It costs a search among the outboxes, which is constant
-    /// time where the last hand was for the same feed.
+    /// Reserves memory for as many items of a feed as may wait, those that wait among them, if there is a
+    /// feed of this number. Without memory nothing changes. It costs a search among the outboxes, which is
+    /// constant time where the last hand was for the same feed.
     pub fn make_room(&mut self, feed: FeedId) -> Result<(), AllocError>
         ensures ok { OnOk result (self.new ≡ record self.old {
           senders = changed feed.number (with_room self.old.lane) self.old.senders;
@@ -117,10 +117,10 @@ impl<S: HostView, C: Count> Locked<S, C> {
         make_room(&mut self.subscribers, self.near, feed.number, self.lane)
     }
 
-    /// Gives the lane of a feed all items of it that wait, as one block, and answers how many these were: none
-    /// also where there is no feed of this number. Where the lane was full at a moment of the call they go on
-    /// waiting, and the answer is `None`. No memory is kept for more that wait: `make_room` reserves it. It
-    /// costs a search as `make_room`, and takes no memory.
+    /// Gives the lane of a feed all items of it that wait, as one block, and answers how many these were:
+    /// none also where there is no feed of this number. Where the lane was full at a moment of the call
+    /// they go on waiting, and the answer is `None`. No memory is kept for more that wait: `make_room`
+    /// reserves it. It costs a search as `make_room`, and takes no memory.
     pub fn hand_over<R>(&mut self, rt: &R, feed: FeedId) -> Option<usize>
     where
         R: Asks<FeedLabel<S>, Block<S::Row>>,
@@ -136,7 +136,13 @@ impl<S: HostView, C: Count> Locked<S, C> {
             (IsHeldUp (R.refuses rt.now))) }
         ensures feed { IfNone result (IsSome (entry_in feed.number self.old.senders)) }
     {
-        hand_over(rt, self.alloc, &mut self.subscribers, self.near, feed.number)
+        hand_over(
+            rt,
+            self.alloc,
+            &mut self.subscribers,
+            self.near,
+            feed.number,
+        )
     }
 }
 

@@ -73,9 +73,9 @@ fn turned<S: FeedHost, C: Count>(
     hand_on(locked, feed, most)
 }
 
-// One holding: what waits goes into the lane, then come the steps, and what they sent goes into the lane, also
-// where they found no memory. Items that wait behind a turn that hands are told as `Full`: once there is room
-// the feed is to be held again.
+// One holding: what waits goes into the lane, then come the steps, and what they sent goes into the lane,
+// also where they found no memory. Items that wait behind a turn that hands are told as `Full`: once there
+// is room the feed is to be held again.
 fn held<S, C, R>(
     locked: &mut Locked<S, C>,
     rt: &R,
@@ -130,10 +130,10 @@ impl<S: FeedHost, C: Count> Host<S, C> {
     }
 }
 
-/// Takes the lock once. `Turn::Hand` hands until an answer is not `Row`, or as many items were handed
-/// as one holding may, and answers the last; without memory for a row what was handed before it
-/// stays handed. What was handed goes into the feed's lane as one block; where the lane was full it waits, and
-/// the answer is `Full`, as it is where as many items wait as may. The other turns make one step: both answer
+/// Takes the lock once. `Turn::Hand` hands until an answer is not `Row`, or as many items were handed as
+/// one holding may, and answers the last; without memory for a row what was handed before it stays handed.
+/// What was handed goes into the feed's lane as one block; where the lane was full it waits, and the answer
+/// is `Full`, as it is where as many items wait as may. The other turns make one step: both answer
 /// `Nothing`, also where there is nothing to do, and `Turn::Beat` answers `Full` where as many wait as may.
 pub fn hold<S, C, R, G>(
     rt: &R,

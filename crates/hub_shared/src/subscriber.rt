@@ -22,9 +22,10 @@ use std::marker::Model;
 use std::mem;
 use std::sync::Arc;
 
-/// The end of a feed's lane that sends, with the items that wait for room in the lane, and whom to tell of the
-/// feed. An item that is sent waits here; what waits goes into the lane as one block. Contracts see the lane,
-/// its label, all items that were sent, those of them that wait, and for how many that wait memory is reserved.
+/// The end of a feed's lane that sends, with the items that wait for room in the lane, and whom to tell of
+/// the feed. An item that is sent waits here; what waits goes into the lane as one block. Contracts see the
+/// lane, its label, all items that were sent, those of them that wait, and for how many that wait memory is
+/// reserved.
 pub struct Subscriber<S: HostView> {
     sender: Sender<FeedLabel<S>, Block<S::Row>>,
     /// The items that were sent, and that the lane has not got yet.
@@ -174,7 +175,8 @@ impl<S: HostView> Subscriber<S> {
         self.watch = Some(watch);
     }
 
-    /// Reserves memory for so many items that wait, those that wait among them. Without memory it is as it was.
+    /// Reserves memory for so many items that wait, those that wait among them. Without memory it is as it
+    /// was.
     pub(crate) fn make_room(&mut self, room: usize) -> Result<(), AllocError>
         ensures ok { OnOk result (self.new ≡ with_room room self.old) }
         ensures err { OnErr result (self.new ≡ self.old) }
@@ -185,9 +187,9 @@ impl<S: HostView> Subscriber<S> {
         Ok(())
     }
 
-    /// Gives the lane all that waits, as one block, and answers how many items these were: none where nothing
-    /// waits. Where the lane was full at a moment of the call they go on waiting, and the answer is `None`. No
-    /// memory is kept for more that wait. Constant time, and it takes no memory.
+    /// Gives the lane all that waits, as one block, and answers how many items these were: none where
+    /// nothing waits. Where the lane was full at a moment of the call they go on waiting, and the answer is
+    /// `None`. No memory is kept for more that wait. Constant time, and it takes no memory.
     pub(crate) fn hand_over<R>(&mut self, rt: &R, alloc: Global) -> Option<usize>
     where
         R: Asks<FeedLabel<S>, Block<S::Row>>,
@@ -252,8 +254,8 @@ pub(crate) fn watch<S: HostView>(
     entry.1.watch(watch);
 }
 
-/// Reserves memory for so many items of the feed of this number that wait, if there is one. It is looked for at
-/// `near` first.
+/// Reserves memory for so many items of the feed of this number that wait, if there is one. It is looked
+/// for at `near` first.
 pub(crate) fn make_room<S: HostView>(
     subscribers: &mut Vec<(u64, Subscriber<S>)>,
     near: usize,
@@ -290,7 +292,8 @@ where
         ≡ changed feed handed_over subscribers.old.items) }
     ensures held_up { IfNone result (subscribers.new.items
         ≡ changed feed (with_room 0) subscribers.old.items) }
-    ensures full { IfNone result (IfSome (entry_in feed subscribers.old.items) (IsHeldUp (R.refuses rt.now))) }
+    ensures full { IfNone result
+        (IfSome (entry_in feed subscribers.old.items) (IsHeldUp (R.refuses rt.now))) }
     ensures feed { IfNone result (IsSome (entry_in feed subscribers.old.items)) }
 {
     let Some(at) = place_near(subscribers.as_slice(), near, feed) else {

@@ -30,9 +30,11 @@ returns-in-Some-clause-allowed g c =
     c.self.invariant ∙ (ap (λ list. front_of all left ++ list) c.next.ensures.items
     ∙ sym (append_assoc (front_of all left) (option_to_list c.next.result) rest)) in
     let whole = front_whole all (front_of all left ++ option_to_list c.next.result) rest is in
-    let allowed = c.label-label.ensures.allowed in
-    (_, front_allowed (λ items. g.S.HostView.right (params_in label.asked) label.since items)
-    c.self.inside.receiver.taken allowed.0 (front_of all rest) rest whole allowed.1)
+    let allowed = c.label-label.ensures.allowed in (
+      _,
+      front_allowed (λ items. g.S.HostView.right (params_in label.asked) label.since items)
+          c.self.inside.receiver.taken allowed.0 (front_of all rest) rest whole allowed.1,
+    )
 
 -- the blocks that the lane gave are all those before, and this one
 pub invariant_of-self-2 : goal.invariant_of-self-2
@@ -65,9 +67,11 @@ returns-clause-allowed g c =
     more ∙ (ap (λ list. before ++ list) block
     ∙ sym (append_assoc before (option_to_list c.next-item.result) rest)) in
     let whole = front_whole all (before ++ option_to_list c.next-item.result) rest is in
-    let allowed = c.take.ensures.allowed in
-    (_, front_allowed (λ items. g.S.HostView.right (params_in label.asked) label.since items)
-    c.take.new.self.taken allowed.0 (front_of all rest) rest whole allowed.1)
+    let allowed = c.take.ensures.allowed in (
+      _,
+      front_allowed (λ items. g.S.HostView.right (params_in label.asked) label.since items)
+          c.take.new.self.taken allowed.0 (front_of all rest) rest whole allowed.1,
+    )
 
 pub returns-clause-taken : goal.returns-clause-taken
 returns-clause-taken g c =

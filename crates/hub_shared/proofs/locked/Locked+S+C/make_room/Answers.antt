@@ -1,4 +1,4 @@
-use Rattle.std.proofs.Common.{List, ℕ, refl, sym, subst}
+use Rattle.std.proofs.Common.{refl, sym, subst}
 use Rattle.hub_shared.specs.Blocks.{SubscriberState, with_room}
 use Rattle.hub_shared.specs.Locked.{AreSendersOf}
 use Rattle.hub_shared.proofs.Blocks.{by_result}
@@ -13,13 +13,12 @@ invariant_of-self g c =
     let senders = c.self.inside.subscribers.items in
     let still =
     λ (change : SubscriberState g.row.S-Row.Denot → SubscriberState g.row.S-Row.Denot).
-    senders_still (λ k. k.label) (λ k. k.sent) (v.fits s) (v.hosted s) number senders change in
-    (
+    senders_still (λ k. k.label) (λ k. k.sent) (v.fits s) (v.hosted s) number senders change in (
       c.self.invariant.0,
       by_result c.make_room.result c.make_room.ensures.ok c.make_room.ensures.err
-          (λ is. subst (λ list. AreSendersOf (λ k. k.label) (λ k. k.sent) (v.fits s) (v.hosted s) list) (sym is)
+          (λ is. subst (AreSendersOf (λ k. k.label) (λ k. k.sent) (v.fits s) (v.hosted s)) (sym is)
           (still (with_room c.self.inside.lane) (λ k. (refl, refl)) c.self.invariant.1))
-          (λ is. subst (λ list. AreSendersOf (λ k. k.label) (λ k. k.sent) (v.fits s) (v.hosted s) list) (sym is)
+          (λ is. subst (AreSendersOf (λ k. k.label) (λ k. k.sent) (v.fits s) (v.hosted s)) (sym is)
           c.self.invariant.1),
       c.self.invariant.2,
     )
