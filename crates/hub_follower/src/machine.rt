@@ -134,7 +134,12 @@ fn opened(
 }
 
 // The answer to the merge.
-fn merged(session: &Session, got: FetchedDocs, last: Seq, answer: Answer) -> Result<Next, FollowFault>
+fn merged(
+    session: &Session,
+    got: FetchedDocs,
+    last: Seq,
+    answer: Answer,
+) -> Result<Next, FollowFault>
     requires fits { follow.IsAnswerTo (follow.Merge (map edit_of got)) (answer_of answer) }
     ensures ok { IfOk result (λ goes.
         follow.phase_result session.now (follow.Storage (map edit_of got) last) (answer_of answer)
@@ -370,7 +375,9 @@ impl FollowCore {
             State::Busy(_session, Phase::Retrieval(next, _later, _got, _last)) => Some(
                 Call::OpenRevs(next),
             ),
-            State::Busy(_session, Phase::Storage(docs, _last)) => Some(Call::Merge(docs.as_slice())),
+            State::Busy(_session, Phase::Storage(docs, _last)) => Some(Call::Merge(
+                docs.as_slice(),
+            )),
             State::Busy(session, Phase::SourceCheckpoint) => Some(Call::PutSource(session)),
             State::Busy(session, Phase::TargetCheckpoint) => Some(Call::PutTarget(session)),
         }
@@ -381,7 +388,7 @@ impl FollowCore {
     /// `NoMemory`. After an error the phase is dropped, and the place stays.
     pub fn accept(&mut self, alloc: Global, answer: Answer) -> Result<(), FollowFault>
         requires fits { follow.IsAnswerToNext (follow.next_call self.old) (answer_of answer) }
-            ensures ok { OnOk result (follow.answer_result self.old (answer_of answer) ≡ Ok self.new) }
+        ensures ok { OnOk result (follow.answer_result self.old (answer_of answer) ≡ Ok self.new) }
         ensures err { IfErr result (λ e. (self.new ≡ follow.after_failure self.old)
             × IsFaultOf e (follow.answer_result self.old (answer_of answer))) }
         ensures own { IfErr result IsOwnFault }

@@ -13,7 +13,8 @@ returns-in-Ok-open_revs-clause-ok c =
     let id = c.as_str.result.now in
     let named = c.as_str.ensures.value ∙ ap (λ (asked : Asked). asked.id) c.asked.view_is in
     let listed = c.in-Ok.ensures.value ∙ ap (λ (asked : Asked). asked.revs) c.asked.view_is in
-    ap (λ found. map found_edit found) (c.new.ensures ∙ c.in-Ok-open_revs.ensures.ok.1) ∙ (opened_shown J id c.in-Ok.revs
+    ap (λ found. map found_edit found) (c.new.ensures ∙ c.in-Ok-open_revs.ensures.ok.1)
+    ∙ (opened_shown J id c.in-Ok.revs
     ∙ (ap (λ asked. map (shown J asked) c.in-Ok.revs) named
     ∙ ap (λ asked. map (shown J c.args.asked.now.id) asked) listed))
 
