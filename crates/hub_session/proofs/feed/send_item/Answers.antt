@@ -1,4 +1,4 @@
-use Rattle.std.proofs.Common.{◌∙◌, subst}
+use Rattle.std.proofs.Common.{◌∙◌, refl, subst}
 use Rattle.hub_http.specs.Counts.{AppendsFront}
 use Rattle.hub_http.proofs.CountLemmas.{gave_up_since}
 use Rattle.hub_http.proofs.SendLemmas.{front_after}
@@ -16,4 +16,4 @@ returns-in-Err-send-clause-bytes g c =
 pub returns-in-Err-send-clause-tried : goal.returns-in-Err-send-clause-tried
 returns-in-Err-send-clause-tried g c = λ broken.
     gave_up_since _ _ _ _ _ _ c.write.ensures.counts.failures c.write.ensures.counts.faults
-    c.in-Err-send.ensures.tried
+    (c.in-Err-send.ensures.counts.gave_up refl)
