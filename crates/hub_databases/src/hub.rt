@@ -23,7 +23,8 @@ use hub_lane::Asks;
 use hub_model::{Item, UpdateKind};
 use hub_params::FeedParams;
 use hub_shared::{
-    Block, Clock, Db, FeedLabel, Gate, Handed, Handle, Plain, Turn, Updates, UpdatesFeed, hold, pump,
+    Block, Clock, Db, FeedLabel, Gate, Handed, Handle, Plain, Turn, Updates, UpdatesFeed, hold,
+    pump,
 };
 use hub_updates::{NoteFault, Notice, UpdatesState};
 use std::alloc::{AllocError, Global};

@@ -235,7 +235,8 @@ fn a_feed_ends<R: Wait>(rt: &R, alloc: Global, database: &mut Database) -> Resul
     let (feed, mut taker) = open(alloc, database, "feed=continuous")?;
     let nothing = hands(rt, database, feed, Handed::Nothing)?;
     database.expire(feed);
-    let end = hands(rt, database, feed, Handed::End)? && hands(rt, database, feed, Handed::Gone)?
+    let end = hands(rt, database, feed, Handed::End)?
+        && hands(rt, database, feed, Handed::Gone)?
         && database.hand_over(rt, feed) == Some(1);
     let taken = take(rt, &mut taker) == Some(Told::End(0));
     let sender = database.finish(feed).is_some() && database.finish(feed).is_none();

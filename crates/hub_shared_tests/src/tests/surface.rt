@@ -8,8 +8,8 @@ use hub_lane::Asks;
 use hub_model::{Fault, Item, UpdateKind};
 use hub_params::FeedParams;
 use hub_shared::{
-    Answer, Block, Count, Db, Directly, Feed, FeedLabel, Gate, Handed, Host, HostFeed, Locked, NoCount, Plain,
-    Point, Question, Turn, Updates, UpdatesFeed, hold,
+    Answer, Block, Count, Db, Directly, Feed, FeedLabel, Gate, Handed, Host, HostFeed, Locked,
+    NoCount, Plain, Point, Question, Turn, Updates, UpdatesFeed, hold,
 };
 use hub_updates::{Notice, UpdatesState};
 use std::alloc::{AllocError, Global};
