@@ -1,7 +1,6 @@
 mod AskedLemmas
 pub mod MadeLemmas
 pub mod DigestLemmas
-pub mod DigitLemmas
 pub mod PartLemmas
 pub mod PathLemmas
 pub mod PlaceLemmas

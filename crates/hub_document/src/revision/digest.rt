@@ -11,35 +11,13 @@ use hex::FromHex;
 /// The sixteen digits.
 const DIGITS: &[u8; 16] = b"0123456789abcdef";
 
-/// The two digits of each byte, from 00 to ff.
-static PAIRS: [u8; 512] = *b"\
-    000102030405060708090a0b0c0d0e0f101112131415161718191a1b1c1d1e1f\
-    202122232425262728292a2b2c2d2e2f303132333435363738393a3b3c3d3e3f\
-    404142434445464748494a4b4c4d4e4f505152535455565758595a5b5c5d5e5f\
-    606162636465666768696a6b6c6d6e6f707172737475767778797a7b7c7d7e7f\
-    808182838485868788898a8b8c8d8e8f909192939495969798999a9b9c9d9e9f\
-    a0a1a2a3a4a5a6a7a8a9aaabacadaeafb0b1b2b3b4b5b6b7b8b9babbbcbdbebf\
-    c0c1c2c3c4c5c6c7c8c9cacbcccdcecfd0d1d2d3d4d5d6d7d8d9dadbdcdddedf\
-    e0e1e2e3e4e5e6e7e8e9eaebecedeeeff0f1f2f3f4f5f6f7f8f9fafbfcfdfeff";
-
-// The two digits of a byte.
-fn digits_of(byte: u8) -> (u8, u8)
-    ensures { result ≡ (slice_index lower_digits (byte / 16), slice_index lower_digits (byte % 16)) }
-{
-    let place = 2 * usize::from(byte);
-    (PAIRS[place], PAIRS[place + 1])
-}
-
 /// Writes the text of the digest, 32 lower-case digits, over these 32 letters. Constant time.
 pub(crate) fn write_digits(letters: &mut [u8], digest: &[u8; 16])
     requires { length letters.old ≡ 32 }
     ensures { letters.new ≡ encode_lower digest.now }
 {
-    for at in 0..16usize {
-        let (high, low) = digits_of(digest[at]);
-        letters[2 * at] = high;
-        letters[2 * at + 1] = low;
-    }
+    let written = hex::encode_to_slice(digest.as_slice(), letters);
+    prove!(written.is_ok());
 }
 
 // Whether these are the two digits of the byte.
