@@ -92,6 +92,15 @@ quoted_text revision good =
     ∙ ap (λ l. decimal revision.generation ++ l) dash in
     ap (λ l. 34 ∷ (l ++ 34 ∷ [])) whole
 
+-- so that it is made of these parts, a comma behind it
+pub quoted_revision : (revision : Revision) → IsRevision revision → quoted (text_of revision) ++ 44 ∷ []
+    ≡ 34 ∷ (decimal revision.generation ++ 45 ∷ (revision.hash ++ 34 ∷ 44 ∷ []))
+quoted_revision revision good =
+    ap (λ l. l ++ 44 ∷ []) (quoted_text revision good)
+    ∙ ap (λ l. 34 ∷ l)
+    (append_assoc (text_of revision) (34 ∷ []) (44 ∷ [])
+    ∙ append_assoc (decimal revision.generation) (45 ∷ revision.hash) (34 ∷ 44 ∷ []))
+
 -- and so does the revision of a local document
 pub quoted_count : (n : ℕ) → n < 2 ^ 64 → quoted (48 ∷ 45 ∷ decimal n) ≡ 34 ∷ 48 ∷ 45 ∷ (decimal n ++ 34 ∷ [])
 quoted_count n small =

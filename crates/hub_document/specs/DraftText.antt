@@ -1,11 +1,8 @@
--- The text that is hashed for a revision that is made here, part by part (own).
-use Rattle.std.specs.Prelude.{ℕ, List, ◌++◌, codes, Bool, Option}
-use Rattle.json.specs.Print.{quoted}
-use Rattle.hub_model.specs.Revision.{Revision}
-use Rattle.hub_model.specs.Draft.{bool_text, parent_text}
+-- What is hashed for a revision that is made here, part by part (own).
+use Rattle.std.specs.Prelude.{ℕ, List, ◌++◌}
+use Rattle.md5.specs.Md5.{Holds}
+use Rattle.md5.specs.declared.Md5.{Md5}
 
--- what stands before the body: `[deleted,parent,id,`
-abbrev pub front_text : Bool → Option Revision → List ℕ → List ℕ
-front_text deleted parent id =
-    codes "["
-    ++ (bool_text deleted ++ (codes "," ++ (parent_text parent ++ (codes "," ++ (quoted id ++ codes ",")))))
+-- the hasher took this text behind what it held
+abbrev pub Takes : List ℕ → Md5 → Md5 → Type 0
+Takes text old new = (held : List ℕ) → Holds old held → Holds new (held ++ text)

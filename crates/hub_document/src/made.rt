@@ -1,14 +1,16 @@
 //! The revisions that a database makes.
 
 ghost use Rattle.std.specs.Prelude.{◌≡◌, ◌<◌, ◌≤◌, ◌++◌, codes, IfOk, OnOk};
-ghost use Rattle.md5.specs.Md5.{md5};
+ghost use Rattle.json.specs.Print.{escape, quoted};
 ghost use Rattle.hub_model.specs.Draft.{made, generation_of as generation_in, bool_text, parent_text};
-ghost use Rattle.hub_document.specs.DraftText.{front_text};
+ghost use Rattle.hub_document.specs.DraftText.{Takes};
 
 use crate::body::Body;
 use crate::doc_id::DocId;
+use crate::plain::is_plain;
 use crate::revision::{DigestRev, RevId};
 use crate::text::put_quoted;
+use itoa::Buffer;
 use md5::{Digest, Md5};
 use std::alloc::{AllocError, Global};
 
@@ -28,46 +30,50 @@ fn opening(deleted: bool) -> &'static [u8]
     if deleted { b"[true," } else { b"[false," }
 }
 
-fn put_parent(out: &mut Vec<u8>, parent: Option<RevId>) -> Result<(), AllocError>
-    ensures { OnOk result (out.new.items ≡ out.old.items ++ parent_text parent) }
+// Hashes the text of the parent and a comma.
+fn hash_parent(hasher: &mut Md5, parent: &Option<RevId>)
+    ensures { Takes (parent_text parent.now ++ codes ",") hasher.old hasher.new }
 {
-    match parent {
-        Some(rev) => rev.print_quoted(out),
-        None => out.extend_from_slice(b"null"),
+    let Some(rev) = parent else {
+        hasher.update(b"null,");
+        return;
+    };
+    let mut number = Buffer::new();
+    hasher.update(b"\"");
+    hasher.update(number.format(rev.generation()).as_bytes());
+    hasher.update(b"-");
+    hasher.update(rev.hash());
+    hasher.update(b"\",");
+}
+
+// Hashes the JSON string of a text that needs no escape, and a comma.
+fn hash_plain(hasher: &mut Md5, text: &str)
+    requires { escape text.now ≡ text.now }
+    ensures { Takes (quoted text.now ++ codes ",") hasher.old hasher.new }
+{
+    hasher.update(b"\"");
+    hasher.update(text.as_bytes());
+    hasher.update(b"\",");
+}
+
+// Hashes the JSON string of any text, and a comma.
+fn hash_quoted(alloc: Global, hasher: &mut Md5, text: &str) -> Result<(), AllocError>
+    ensures { OnOk result (Takes (quoted text.now ++ codes ",") hasher.old hasher.new) }
+{
+    if is_plain(text.as_bytes()) {
+        hash_plain(hasher, text);
+        return Ok(());
     }
-}
-
-// What is hashed before the body.
-fn draft_front(
-    alloc: Global,
-    deleted: bool,
-    parent: Option<RevId>,
-    id: &str,
-) -> Result<Vec<u8>, AllocError>
-    ensures { IfOk result (λ v. v.items ≡ front_text deleted parent id.now) }
-{
-    let mut front = Vec::from_slice(alloc, opening(deleted))?;
-    put_parent(&mut front, parent)?;
-    front.push(b',')?;
-    put_quoted(&mut front, id)?;
-    front.push(b',')?;
-    Ok(front)
-}
-
-// The body is hashed where it stands, and not copied.
-fn digest_of(front: &[u8], body: &[u8]) -> [u8; 16]
-    ensures { result ≡ md5 (front.now ++ body.now ++ codes "]") }
-{
-    let mut hasher = Md5::new();
-    hasher.update(front);
-    hasher.update(body);
-    hasher.update(b"]");
-    hasher.finalize()
+    let mut string = Vec::new(alloc);
+    put_quoted(&mut string, text)?;
+    hasher.update(string.as_slice());
+    hasher.update(b",");
+    Ok(())
 }
 
 /// The revision of an edit that is made here: its generation is one above its parent's, and its hash
 /// the MD5 (RFC 1321) of `[deleted,parent,id,body]`, in 32 lower-case digits (own). It costs the
-/// body's length.
+/// body's length, and takes memory only for an id that needs an escape.
 pub fn rev_of_edit(
     alloc: Global,
     deleted: bool,
@@ -79,7 +85,11 @@ pub fn rev_of_edit(
     ensures { IfOk result
         (λ r. r ≡ made (record { id = id.now; rev = parent; deleted = deleted; body = body.now }) parent) }
 {
-    let front = draft_front(alloc, deleted, parent, id.as_str())?;
-    let digest = digest_of(front.as_slice(), body.as_bytes());
-    Ok(DigestRev::new(generation_of(&parent) + 1, digest))
+    let mut hasher = Md5::new();
+    hasher.update(opening(deleted));
+    hash_parent(&mut hasher, &parent);
+    hash_quoted(alloc, &mut hasher, id.as_str())?;
+    hasher.update(body.as_bytes());
+    hasher.update(b"]");
+    Ok(DigestRev::new(generation_of(&parent) + 1, hasher.finalize()))
 }
