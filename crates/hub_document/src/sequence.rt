@@ -1,32 +1,22 @@
 //! The texts of sequences.
 
-ghost use Rattle.std.specs.Prelude.{◌≡◌, ◌<◌, ◌∷◌, [], ◌++◌, length, take, decimal, OnOk};
+ghost use Rattle.std.specs.Prelude.{◌≡◌, ◌+◌, ◌<◌, ◌≤◌, ◌∷◌, ◌++◌, length, take, drop, OnOk};
 ghost use Rattle.hub_document.specs.SequenceText.{sequence_text};
 
-use itoa::Buffer;
+use itoa::write_digits;
 use std::alloc::AllocError;
 
-// What stands behind the number of the sequence where that of the life has one digit.
-fn short_ending(life: u64) -> [u8; 3]
-    requires { life < 10 }
-    ensures { result ≡ 45 ∷ (decimal life ++ 34 ∷ []) }
-{
-    [b'-', b'0' + life as u8, b'"']
-}
+// The room of the longest text: two numbers of 20 digits, two quotes and a dash.
+const ROOM: usize = 43;
 
-// Appends it for any life: a dash, the number of the life and the quote.
-fn put_life(out: &mut Vec<u8>, life: u64) -> Result<(), AllocError>
-    ensures ok { OnOk result (out.new.items ≡ out.old.items ++ 45 ∷ (decimal life ++ 34 ∷ [])) }
-    ensures front { take (length out.old.items) out.new.items ≡ out.old.items }
+// Writes the byte so that it ends at `end`, and returns where it stands.
+fn put_before(text: &mut [u8], end: usize, byte: u8) -> usize
+    requires { (0 < end) × (end ≤ length text.old) }
+    ensures start { result + 1 ≡ end }
+    ensures written { drop result text.new ≡ byte ∷ drop end text.old }
 {
-    if life < 10 {
-        return out.extend_from_slice(short_ending(life).as_slice());
-    }
-    let mut number = Buffer::new();
-    out.push(b'-')?;
-    out.extend_from_slice(number.format(life).as_bytes())?;
-    out.push(b'"')?;
-    Ok(())
+    text[end - 1] = byte;
+    end - 1
 }
 
 /// Writes a sequence of the life of this number as a JSON string behind what the vector holds, as
@@ -37,8 +27,11 @@ pub fn put_sequence(out: &mut Vec<u8>, seq: u64, life: u64) -> Result<(), AllocE
     ensures ok { OnOk result (out.new.items ≡ out.old.items ++ sequence_text seq life) }
     ensures front { take (length out.old.items) out.new.items ≡ out.old.items }
 {
-    let mut number = Buffer::new();
-    out.push(b'"')?;
-    out.extend_from_slice(number.format(seq).as_bytes())?;
-    put_life(out, life)
+    // The text is made from its end on.
+    let mut text = [b'"'; ROOM];
+    let life_at = write_digits(life, &mut text, ROOM - 1);
+    let dash_at = put_before(&mut text, life_at, b'-');
+    let seq_at = write_digits(seq, &mut text, dash_at);
+    let at = put_before(&mut text, seq_at, b'"');
+    out.extend_from_slice(&text[at..])
 }
