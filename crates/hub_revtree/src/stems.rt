@@ -34,7 +34,7 @@ fn place_among(stems: &[Stem], rev: &RevId) -> Option<Place>
 {
     let sought = Sought::among(rev, stems.len());
     for number in (0..stems.len()).rev() {
-        if let Some(at) = stems[number].position(&sought) {
+        if let Some(at) = stems[number].run().position(&sought) {
             return Some(Place { stem: number, at });
         }
     }
@@ -52,7 +52,7 @@ pub(crate) fn place_in(stems: &[Stem], number: usize, rev: &RevId) -> Option<Pla
     if number >= stems.len() {
         return None;
     }
-    match stems[number].position(&Sought::once(rev)) {
+    match stems[number].run().position(&Sought::once(rev)) {
         Some(at) => Some(Place { stem: number, at }),
         None => None,
     }
@@ -167,7 +167,7 @@ fn append_chain(stems: &[Stem], place: Place, line: &mut Vec<RevId>) -> Result<(
     let mut next = Some(place);
     while let Some(place) = next {
         let stem = &stems[place.stem];
-        stem.append_from(place.at, line)?;
+        stem.run().append_from(usize::from(place.at), line)?;
         next = stem.parent();
     }
     Ok(())
@@ -189,7 +189,7 @@ fn append_chain_digests(
     let mut next = Some(place);
     while let Some(place) = next {
         let stem = &stems[place.stem];
-        if !stem.append_digests(place.at, digests)? {
+        if !stem.run().append_digests(usize::from(place.at), digests)? {
             return Ok(false);
         }
         next = stem.parent();
@@ -207,7 +207,7 @@ fn common(stems: &[Stem], place: Place, revisions: &[RevId]) -> Option<usize>
     let mut next = Some(place);
     while let Some(place) = next {
         let stem = &stems[place.stem];
-        let count = stem.common(place.at, &revisions[at..])?;
+        let count = stem.run().common(usize::from(place.at), &revisions[at..])?;
         at += count;
         if at == revisions.len() {
             return Some(at);
@@ -226,8 +226,8 @@ fn end_of(stems: &[Stem], place: Place) -> RevId
     while let Some(below) = stems[at].parent() {
         at = below.stem;
     }
-    let stem = &stems[at];
-    stem.rev(stem.len() - 1)
+    let run = stems[at].run();
+    run.at(run.len() - 1)
 }
 
 /// The place directly behind the revision in what the stem of this number brought. Constant time.
@@ -243,10 +243,11 @@ pub(crate) fn behind_in(stems: &[Stem], number: usize, sought: &Sought) -> Optio
     ensures ends { IfNone result (¬ GoesOn stems.now number sought.now) }
 {
     let stem = &stems[number];
-    let at = stem.position(sought)?;
+    let run = stem.run();
+    let at = run.position(sought)?;
     // A stem has no more revisions than its newest one's generation.
-    let _revisions_at_most = stem.generation();
-    if usize::from(at) + 1 < stem.len() {
+    let _revisions_at_most = run.generation();
+    if usize::from(at) + 1 < run.len() {
         Some(Place {
             stem: number,
             at: at + 1,
@@ -335,7 +336,7 @@ fn beyond(stems: &[Stem], index: Option<&Index>, place: Place) -> Option<Place>
         → rev_at stems.now result ≡ behind_of x (edits_in (branches_of stems.now)) }
 {
     let stem = &stems[place.stem];
-    if stem.generation() == stem.reach() {
+    if stem.run().generation() == stem.reach() {
         return None;
     }
     let last = end_of(stems, place);
@@ -529,12 +530,13 @@ pub(crate) fn new_in(stems: &[Stem], number: usize) -> usize
         → result ≡ length (filter (λ r. not (has_revision (take number stems.now) r)) stem.revisions) }
 {
     let stem = &stems[number];
+    let run = stem.run();
     if !stem.joins() {
-        return stem.len();
+        return run.len();
     }
     let mut count = 0usize;
-    for at in 0..stem.len() {
-        if place_among(&stems[..number], &stem.rev(at)).is_none() {
+    for at in 0..run.len() {
+        if place_among(&stems[..number], &run.at(at)).is_none() {
             count += 1;
         }
     }
