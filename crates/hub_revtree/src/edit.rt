@@ -142,12 +142,7 @@ impl RevTree {
     }
 
     // The same as revisions.
-    fn revisions_on(
-        &self,
-        alloc: Global,
-        rev: &DigestRev,
-        older: &RevId,
-    ) -> Result<Run, AllocError>
+    fn revisions_on(&self, alloc: Global, rev: &DigestRev, older: &RevId) -> Result<Run, AllocError>
         ensures { IfOk result (λ path. path ≡ rev.now ∷ line_to self.now.edits (Some older.now)) }
     {
         let branches = self.branches();
@@ -160,12 +155,7 @@ impl RevTree {
 
     // The path with the revision in front of the known one: it shares what stands behind it where
     // `shared_line` does, and else is in memory of its own size.
-    fn path_behind(
-        &self,
-        alloc: Global,
-        rev: &DigestRev,
-        older: &RevId,
-    ) -> Result<Run, AllocError>
+    fn path_behind(&self, alloc: Global, rev: &DigestRev, older: &RevId) -> Result<Run, AllocError>
         requires { IsHistory (rev.now ∷ line_to self.now.edits (Some older.now)) }
         ensures { IfOk result (λ path. path ≡ rev.now ∷ line_to self.now.edits (Some older.now)) }
     {
