@@ -15,7 +15,7 @@ ghost use Rattle.hub_revtree.specs.Extend.{line_to};
 ghost use Rattle.hub_revtree.specs.Index.{AreLinked, GoesOn, Has, IsIndex, IsIndexed, link_in};
 ghost use Rattle.hub_revtree.specs.Lookup.{AreIndexed, AreIndexedUpTo, IsLineStart, IsPlaceIn};
 ghost use Rattle.hub_revtree.specs.Stem.{Stem as StemModel, AreStems, AreUpTo, IsBrought};
-ghost use Rattle.hub_revtree.specs.Stem.{IsWithin, branches_of, chain_from, chains_of};
+ghost use Rattle.hub_revtree.specs.Stem.{IsBehind, IsWithin, StandsAt, branches_of, chain_from, chains_of};
 ghost use Rattle.hub_revtree.specs.Stem.{has_revision, own_path, rev_at, revisions_at};
 
 use crate::index::Index;
@@ -28,8 +28,7 @@ use std::alloc::AllocError;
 // Where the revision stands. One look an edit, from the newest on up to the one that brought it.
 fn place_among(stems: &[Stem], rev: &RevId) -> Option<Place>
     requires { AreStems stems.now }
-    ensures found { IfSome result
-        (λ place. slice_get (revisions_at stems.now place.stem) place.at ≡ Some rev.now) }
+    ensures found { IfSome result (StandsAt stems.now rev.now) }
     ensures none { IfNone result (has_revision stems.now rev.now ≡ false) }
 {
     let sought = Sought::among(rev, stems.len());
@@ -44,8 +43,7 @@ fn place_among(stems: &[Stem], rev: &RevId) -> Option<Place>
 /// Where the revision stands in the stem of this number, if it does. Constant time.
 pub(crate) fn place_in(stems: &[Stem], number: usize, rev: &RevId) -> Option<Place>
     requires { AreStems stems.now }
-    ensures found { IfSome result
-        (λ place. slice_get (revisions_at stems.now place.stem) place.at ≡ Some rev.now) }
+    ensures found { IfSome result (StandsAt stems.now rev.now) }
     ensures stem { IfSome result (λ place. place.stem ≡ number) }
     ensures none { IfNone result (names (revisions_at stems.now number) rev.now ≡ false) }
 {
@@ -64,8 +62,7 @@ pub(crate) fn place_in(stems: &[Stem], number: usize, rev: &RevId) -> Option<Pla
 /// look an edit, from the newest on up to the one that brought it.
 pub(crate) fn place_of(stems: &[Stem], index: Option<&Index>, rev: &RevId) -> Option<Place>
     requires { AreIndexed stems.now (option_map (λ i. i.now) index) }
-    ensures found { IfSome result
-        (λ place. slice_get (revisions_at stems.now place.stem) place.at ≡ Some rev.now) }
+    ensures found { IfSome result (StandsAt stems.now rev.now) }
     ensures none { IfNone result (has_revision stems.now rev.now ≡ false) }
 {
     match index {
@@ -83,8 +80,7 @@ pub(crate) fn place_up_to(
     rev: &RevId,
 ) -> Option<Place>
     requires { AreIndexedUpTo stems.now (option_map (λ i. i.now) index) highest }
-    ensures found { IfSome result
-        (λ place. slice_get (revisions_at stems.now place.stem) place.at ≡ Some rev.now) }
+    ensures found { IfSome result (StandsAt stems.now rev.now) }
     ensures none { IfNone result (has_revision stems.now rev.now ≡ false) }
 {
     if rev.generation() > highest {
@@ -234,8 +230,7 @@ fn end_of(stems: &[Stem], place: Place) -> RevId
 pub(crate) fn behind_in(stems: &[Stem], number: usize, sought: &Sought) -> Option<Place>
     requires stems { AreStems stems.now }
     requires within { number < length stems.now }
-    ensures found { IfSome result (λ place. IsWithin stems.now place
-        × ((r : Revision) → rev_at stems.now (Some place) ≡ Some r → IsBrought stems.now r sought.now)) }
+    ensures found { IfSome result (IsBehind stems.now sought.now) }
     ensures none { IfNone result
         ((stem : StemModel) (r : Revision) → slice_get stems.now number ≡ Some stem
         → ¬ IsNext (own_path stems.now stem) sought.now r) }
@@ -260,8 +255,7 @@ pub(crate) fn behind_in(stems: &[Stem], number: usize, sought: &Sought) -> Optio
 // The place directly behind the revision in what a stem brought. One look a stem.
 fn behind_among(stems: &[Stem], rev: &RevId) -> Option<Place>
     requires stems { AreStems stems.now }
-    ensures found { IfSome result (λ place. IsWithin stems.now place
-        × ((r : Revision) → rev_at stems.now (Some place) ≡ Some r → IsBrought stems.now r rev.now)) }
+    ensures found { IfSome result (IsBehind stems.now rev.now) }
     ensures none { IfNone result ((r : Revision) → ¬ IsBrought stems.now r rev.now) }
 {
     let sought = Sought::among(rev, stems.len());
@@ -278,8 +272,7 @@ fn behind_among(stems: &[Stem], rev: &RevId) -> Option<Place>
 fn linked(stems: &[Stem], index: &Index, rev: &RevId) -> Option<Place>
     requires stems { AreStems stems.now }
     requires links { AreLinked (Has stems.now) stems.now (link_in index.now) }
-    ensures found { IfSome result (λ place. IsWithin stems.now place
-        × ((r : Revision) → rev_at stems.now (Some place) ≡ Some r → IsBrought stems.now r rev.now)) }
+    ensures found { IfSome result (IsBehind stems.now rev.now) }
     ensures none { IfNone result (link_in index.now rev.now ≡ None) }
 {
     match index.link(rev) {
@@ -298,8 +291,7 @@ fn linked(stems: &[Stem], index: &Index, rev: &RevId) -> Option<Place>
 fn behind_by(stems: &[Stem], index: &Index, rev: &RevId) -> Option<Place>
     requires stems { AreStems stems.now }
     requires index { IsIndex index.now stems.now }
-    ensures found { IfSome result (λ place. IsWithin stems.now place
-        × ((r : Revision) → rev_at stems.now (Some place) ≡ Some r → IsBrought stems.now r rev.now)) }
+    ensures found { IfSome result (IsBehind stems.now rev.now) }
     ensures none { IfNone result ((r : Revision) → ¬ IsBrought stems.now r rev.now) }
 {
     let Some(place) = index.place(stems, rev) else {
@@ -316,8 +308,7 @@ fn behind_by(stems: &[Stem], index: &Index, rev: &RevId) -> Option<Place>
 /// there, at most log n comparisons of revisions; else one look a stem.
 pub(crate) fn place_behind(stems: &[Stem], index: Option<&Index>, rev: &RevId) -> Option<Place>
     requires { AreIndexed stems.now (option_map (λ i. i.now) index) }
-    ensures found { IfSome result (λ place. IsWithin stems.now place
-        × ((r : Revision) → rev_at stems.now (Some place) ≡ Some r → IsBrought stems.now r rev.now)) }
+    ensures found { IfSome result (IsBehind stems.now rev.now) }
     ensures none { IfNone result ((r : Revision) → ¬ IsBrought stems.now r rev.now) }
 {
     match index {
@@ -418,7 +409,7 @@ fn place_or_told(
     requires told { IfSome told (IsWithin stems.now) }
     ensures told { IfSome told (λ place. result ≡ Some place) }
     ensures within { IfSome result (IsWithin stems.now) }
-    ensures found { IfNone told (IfSome result (λ place. rev_at stems.now (Some place) ≡ Some rev.now)) }
+    ensures found { IfNone told (IfSome result (StandsAt stems.now rev.now)) }
     ensures none { IfNone result (has_revision stems.now rev.now ≡ false) }
 {
     match told {
