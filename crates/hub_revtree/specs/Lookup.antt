@@ -1,13 +1,17 @@
 -- The premises of a look at the stems of a tree (own). An example: the three stems of the example in `Stem`
 -- are indexed without an index, and with one that tells each of their revisions. They are so up to generation
 -- 3, and up to 4, but not up to 2. Place 1 of stem 0 is one of a revision, 1-a; place 2 of stem 0 is none.
-use Rattle.std.specs.Prelude.{ℕ, List, Option}
+use Rattle.std.specs.Prelude.{◌≡◌, ℕ, List, Option, IfSome, false}
+use Rattle.std.specs.List.{list_any}
 use Rattle.hub_model.specs.Journal.{IsLegal}
+use Rattle.hub_model.specs.Path.{IsPath}
+use Rattle.hub_model.specs.Revision.{Revision}
 use Rattle.hub_revtree.specs.Branch.{edits_in}
 use Rattle.hub_revtree.specs.Index.{IsIndexed}
-use Rattle.hub_revtree.specs.Stem.{Stem, AreStems, AreUpTo, IsWithin, branches_of}
+use Rattle.hub_revtree.specs.Stem.{Stem, AreStems, AreUpTo, IsWithin, branches_of, has_revision}
 use Rattle.hub_revtree.specs.declared.index.Index.{Index}
 use Rattle.hub_revtree.specs.declared.stem.Place.{Place}
+use Rattle.hub_revtree.specs.declared.stem.Standing.{Standing}
 
 -- these are stems of a tree, and one of their revisions stands at the place
 pub record IsPlaceIn (list : List Stem) (place : Place) : Type 0 where
@@ -32,3 +36,10 @@ pub record IsLineStart (list : List Stem) (told : Option Index) (place : Place) 
   pub index : IsIndexed told list
   pub legal : IsLegal (edits_in (branches_of list))
   pub within : IsWithin list place
+
+-- a stem with these revisions, standing so, may come behind the stems: the revisions are a path; it stands on a
+-- place of the stems, or on nothing; and where it joins none, none of its revisions is one of theirs
+pub record MayCome (list : List Stem) (run : List Revision) (standing : Standing) : Type 0 where
+  pub path : IsPath run
+  pub within : IfSome standing.parent (IsWithin list)
+  pub fresh : standing.joins ≡ false → list_any (has_revision list) run ≡ false

@@ -2,7 +2,7 @@
 -- by now (own). An example: an edit with the path 2-b 1-a came first, then one with 3-c 2-b 1-a,
 -- then one with 3-d 2-e 1-a. The newest revisions of their stems are 2-b, 3-c and 3-d. 2-b stands
 -- behind 3-c, so that the first stem is noted as inner, and the two others are not.
-use Rattle.std.specs.Prelude.{◌≡◌, ℕ, List, slice_get, Some, Bool, true, false, ◌||◌}
+use Rattle.std.specs.Prelude.{◌≡◌, ℕ, List, map, slice_get, Some, Bool, true, false, ◌||◌}
 use Rattle.std.specs.List.{list_any}
 use Rattle.hub_model.specs.Revision.{Revision}
 use Rattle.hub_revtree.specs.declared.mark.Mark.{Mark}
@@ -65,3 +65,8 @@ Notes before this after =
     (test : Revision → Bool) →
     ((revision : Revision) → is_inner before revision ≡ true → test revision ≡ true) → AreNoted test before
     → AreNoted (λ revision. this revision || test revision) after
+
+-- the stems after are those before but for what is noted of them, and `this` is noted of them, as above
+pub record NotesOnly (before : List Stem) (this : Revision → Bool) (after : List Stem) : Type 0 where
+  pub plain : map plain after ≡ map plain before
+  pub noted : Notes before this after

@@ -146,6 +146,16 @@ abbrev pub IsBrought : List Stem → Revision → Revision → Type 0
 IsBrought stems revision other =
     (k : ℕ) × (stem : Stem) × (slice_get stems k ≡ Some stem) × IsNext (own_path stems stem) other revision
 
+-- revision is the one at the place
+abbrev pub StandsAt : List Stem → Revision → Place → Type 0
+StandsAt stems revision place = rev_at stems (Some place) ≡ Some revision
+
+-- one of the stems has a revision at the place, and it stands directly behind other in what a stem brought
+abbrev pub IsBehind : List Stem → Revision → Place → Type 0
+IsBehind stems other place =
+    IsWithin stems place
+    × ((revision : Revision) → StandsAt stems revision place → IsBrought stems revision other)
+
 -- whether revision is the revision at the place, if there is one
 abbrev pub is_at : List Stem → Revision → Option Place → Bool
 is_at stems revision None = false

@@ -91,7 +91,7 @@ fn stored(stem: &Stem) -> StoredEdit<'_>
 {
     StoredEdit {
         rev: stem.head(),
-        deleted: stem.deleted(),
+        deleted: stem.mark().deleted(),
         body: stem.body(),
         count: stem.count(),
     }
@@ -255,7 +255,7 @@ impl Branches {
             (IsSomeAnd (option_and_then head_in (slice_get self.now.list at))
             (λ w. ¬ IsDigestText w.rev.hash)) }
     {
-        let changes = self.stems[at].newest(alloc)?;
+        let changes = self.stems[at].run().newest(alloc)?;
         Ok(changes)
     }
 
@@ -274,7 +274,7 @@ impl Branches {
         ensures { option_map (λ w. w.deleted) (option_and_then head_in (slice_get self.now.list at))
             ≡ Some result }
     {
-        self.stems[at].deleted()
+        self.stems[at].mark().deleted()
     }
 
     /// Whether a path names the revision. One find; constant time where its generation is above all others.
@@ -290,7 +290,7 @@ impl Branches {
         ensures { (w : Winner) → option_and_then head_in (slice_get self.now.list at) ≡ Some w
             → result ≡ list_any (λ b. stands_behind_head w.rev (edit_of b)) self.now.list }
     {
-        self.stems[at].is_inner()
+        self.stems[at].mark().is_inner()
     }
 
     /// Whether a path names the revision, and it stands behind no head. One find.
@@ -299,7 +299,7 @@ impl Branches {
             && not (list_any (λ b. stands_behind_head rev.now (edit_of b)) self.now.list)) }
     {
         match headed(self.stems.as_slice(), lent(&self.index), rev) {
-            Some(stem) => !stem.is_inner(),
+            Some(stem) => !stem.mark().is_inner(),
             None => false,
         }
     }

@@ -96,48 +96,23 @@ impl RevTree {
         }
     }
 
-    // How many revisions this one, if there is one, and all that stand behind it are.
-    fn line_length(&self, rev: &Option<RevId>) -> u16
-        ensures { result ≡ length (line_to self.now.edits rev.now) }
-    {
-        match rev {
-            Some(rev) => self.branches().line_length(rev),
-            None => 0,
-        }
-    }
-
-    // Puts the digests of the revision, if there is one, and of all that stands behind it behind what the
-    // vector holds; false where one of the revisions is kept otherwise.
-    fn append_digests(
-        &self,
-        rev: &Option<RevId>,
-        digests: &mut Vec<[u8; 16]>,
-    ) -> Result<bool, AllocError>
-        ensures { IfOk result (λ all. IsTrue all
-            → map encode_lower digests.new.items
-            ≡ map encode_lower digests.old.items ++ map (λ r. r.hash) (line_to self.now.edits rev.now)) }
-    {
-        match rev {
-            Some(rev) => self.branches().append_digests(rev, digests),
-            None => Ok(true),
-        }
-    }
-
-    // The path with the revision in front of the one that it extends, as digests; None where one of the
-    // revisions is kept otherwise.
+    // The path with the revision in front of the known one, as digests; None where one of the revisions is kept
+    // otherwise.
     fn digests_on(
         &self,
         alloc: Global,
         rev: &DigestRev,
-        older: &Option<RevId>,
+        older: &RevId,
     ) -> Result<Option<Run>, AllocError>
-        requires { IsHistory (rev.now ∷ line_to self.now.edits older.now) }
+        requires { IsHistory (rev.now ∷ line_to self.now.edits (Some older.now)) }
         ensures { IfOk result
-            (λ found. IfSome found (λ path. path ≡ rev.now ∷ line_to self.now.edits older.now)) }
+            (λ found. IfSome found (λ path. path ≡ rev.now ∷ line_to self.now.edits (Some older.now))) }
     {
-        let mut digests = Vec::with_capacity(alloc, 1 + usize::from(self.line_length(older)))?;
+        let branches = self.branches();
+        let count = usize::from(branches.line_length(older));
+        let mut digests = Vec::with_capacity(alloc, 1 + count)?;
         digests.push(rev.digest())?;
-        if !self.append_digests(older, &mut digests)? {
+        if !branches.append_digests(older, &mut digests)? {
             return Ok(None);
         }
         Ok(Some(Run::from_digests(rev.generation(), digests)))
@@ -166,45 +141,35 @@ impl RevTree {
         Ok(Some(line))
     }
 
-    // The path with the revision in front of the one that it extends, which shares what stands behind it;
-    // None where `shared_line` is.
-    fn shared_on(
-        &self,
-        alloc: Global,
-        rev: &DigestRev,
-        older: &Option<RevId>,
-    ) -> Result<Option<Run>, AllocError>
-        requires { IsHistory (rev.now ∷ line_to self.now.edits older.now) }
-        ensures { IfOk result
-            (λ found. IfSome found (λ path. path ≡ rev.now ∷ line_to self.now.edits older.now)) }
-    {
-        let Some(older) = older else {
-            return Ok(None);
-        };
-        match self.shared_line(alloc, older)? {
-            Some(line) => Ok(Some(Run::on(rev, line))),
-            None => Ok(None),
-        }
-    }
-
     // The same as revisions.
-    fn revisions_on(
-        &self,
-        alloc: Global,
-        rev: &DigestRev,
-        older: &Option<RevId>,
-    ) -> Result<Run, AllocError>
-        ensures { IfOk result (λ path. path ≡ rev.now ∷ line_to self.now.edits older.now) }
+    fn revisions_on(&self, alloc: Global, rev: &DigestRev, older: &RevId) -> Result<Run, AllocError>
+        ensures { IfOk result (λ path. path ≡ rev.now ∷ line_to self.now.edits (Some older.now)) }
     {
-        let mut revisions = Vec::with_capacity(alloc, 1 + usize::from(self.line_length(older)))?;
+        let branches = self.branches();
+        let count = usize::from(branches.line_length(older));
+        let mut revisions = Vec::with_capacity(alloc, 1 + count)?;
         revisions.push(rev.rev())?;
-        if let Some(older) = older {
-            self.branches().append_line(older, &mut revisions)?;
-        }
+        branches.append_line(older, &mut revisions)?;
         Ok(Run::whole(revisions))
     }
 
-    // The path with the revision in front of the one that it extends, in memory of its own size.
+    // The path with the revision in front of the known one: it shares what stands behind it where
+    // `shared_line` does, and else is in memory of its own size.
+    fn path_behind(&self, alloc: Global, rev: &DigestRev, older: &RevId) -> Result<Run, AllocError>
+        requires { IsHistory (rev.now ∷ line_to self.now.edits (Some older.now)) }
+        ensures { IfOk result (λ path. path ≡ rev.now ∷ line_to self.now.edits (Some older.now)) }
+    {
+        if let Some(line) = self.shared_line(alloc, older)? {
+            return Ok(Run::on(rev, line));
+        }
+        match self.digests_on(alloc, rev, older)? {
+            Some(path) => Ok(path),
+            None => self.revisions_on(alloc, rev, older),
+        }
+    }
+
+    // The path with the revision in front of the one that it extends, if there is one. A revision that stands
+    // alone takes no memory.
     fn path_on(
         &self,
         alloc: Global,
@@ -214,12 +179,9 @@ impl RevTree {
         requires { IsHistory (rev.now ∷ line_to self.now.edits older.now) }
         ensures { IfOk result (λ path. path ≡ rev.now ∷ line_to self.now.edits older.now) }
     {
-        if let Some(path) = self.shared_on(alloc, rev, older)? {
-            return Ok(path);
-        }
-        match self.digests_on(alloc, rev, older)? {
-            Some(path) => Ok(path),
-            None => self.revisions_on(alloc, rev, older),
+        match older {
+            Some(older) => self.path_behind(alloc, rev, older),
+            None => Ok(Run::of_one(rev)),
         }
     }
 

@@ -112,15 +112,15 @@ impl Index {
         ensures links { self.new.links ≡ self.old.links }
         ensures candidates { self.new.candidates ≡ self.old.candidates }
     {
-        let stem = &stems[number as usize];
-        let Some(key) = stem.key_at(at) else {
-            return put_at(&mut self.others, &stem.rev(at), number);
+        let run = stems[number as usize].run();
+        let Some(key) = run.key_at(at) else {
+            return put_at(&mut self.others, &run.at(at), number);
         };
         let first = self.put(key, number)?;
         if first == number {
             return Ok(());
         }
-        let rev = stem.rev(at);
+        let rev = run.at(at);
         if place_in(stems, first as usize, &rev).is_some() {
             return Ok(());
         }
@@ -135,7 +135,7 @@ impl Index {
         ensures links { self.new.links ≡ self.old.links }
         ensures candidates { self.new.candidates ≡ self.old.candidates }
     {
-        for at in 0..stems[number as usize].len() {
+        for at in 0..stems[number as usize].run().len() {
             self.add_at(stems, number, at)?;
         }
         Ok(())
@@ -154,7 +154,7 @@ impl Index {
         ensures others { self.new.others ≡ self.old.others }
         ensures candidates { self.new.candidates ≡ self.old.candidates }
     {
-        let rev = stems[number as usize].rev(at);
+        let rev = stems[number as usize].run().at(at);
         let Some(place) = self.place(stems, &rev) else {
             return Ok(());
         };
@@ -175,7 +175,7 @@ impl Index {
         ensures index { OnOk result (IsIndex self.new stems.now) }
         ensures candidates { self.new.candidates ≡ self.old.candidates }
     {
-        for at in 0..stems[number as usize].len() {
+        for at in 0..stems[number as usize].run().len() {
             self.link_at(stems, number, at)?;
         }
         Ok(())

@@ -1,12 +1,12 @@
 //! Which of the stems' newest revisions stand behind others.
 
-ghost use Rattle.std.specs.Prelude.{◌≡◌, ◌<◌, ◌||◌, Some, drop, false, length, map, option_map};
+ghost use Rattle.std.specs.Prelude.{◌≡◌, ◌<◌, ◌||◌, Some, drop, false, length, option_map};
 ghost use Rattle.std.specs.Prelude.{slice_get, slice_set, true, vec_capacity, vec_len, IfSome};
 ghost use Rattle.std.specs.List.{list_any};
 ghost use Rattle.hub_model.specs.Revision.{is_same};
 ghost use Rattle.hub_model.specs.Path.{IsPath, names};
-ghost use Rattle.hub_revtree.specs.Lookup.{AreIndexed, IsPlaceIn};
-ghost use Rattle.hub_revtree.specs.Mark.{Notes, plain, with_note};
+ghost use Rattle.hub_revtree.specs.Lookup.{AreIndexed, IsPlaceIn, MayCome};
+ghost use Rattle.hub_revtree.specs.Mark.{NotesOnly, with_note};
 ghost use Rattle.hub_revtree.specs.Stem.{Stem as StemModel, AreStems, IsWithin, has_revision, is_at};
 
 use crate::index::Index;
@@ -27,8 +27,7 @@ fn note(stems: &mut [Stem], number: usize)
 // Notes the stem of the place as inner, where the revision there is its newest. Constant time.
 fn note_at(stems: &mut [Stem], place: Place)
     requires { IsPlaceIn stems.old place }
-    ensures plain { map plain stems.new ≡ map plain stems.old }
-    ensures noted { Notes stems.old (λ r. is_at stems.old r (Some place)) stems.new }
+    ensures { NotesOnly stems.old (λ r. is_at stems.old r (Some place)) stems.new }
 {
     if place.at == 0 {
         note(stems, place.stem);
@@ -39,8 +38,7 @@ fn note_at(stems: &mut [Stem], place: Place)
 fn note_parent(stems: &mut [Stem], parent: Option<Place>)
     requires stems { AreStems stems.old }
     requires within { IfSome parent (IsWithin stems.old) }
-    ensures plain { map plain stems.new ≡ map plain stems.old }
-    ensures noted { Notes stems.old (λ r. is_at stems.old r parent) stems.new }
+    ensures { NotesOnly stems.old (λ r. is_at stems.old r parent) stems.new }
 {
     if let Some(place) = parent {
         note_at(stems, place);
@@ -50,8 +48,7 @@ fn note_parent(stems: &mut [Stem], parent: Option<Place>)
 // Notes the stem as inner whose newest revision this is, if there is one. One find.
 fn note_headed(stems: &mut [Stem], index: Option<&Index>, rev: &RevId)
     requires { AreIndexed stems.old (option_map (λ i. i.now) index) }
-    ensures plain { map plain stems.new ≡ map plain stems.old }
-    ensures noted { Notes stems.old (λ r. is_same r rev.now) stems.new }
+    ensures { NotesOnly stems.old (λ r. is_same r rev.now) stems.new }
 {
     if let Some(place) = place_of(stems, index, rev) {
         note_at(stems, place);
@@ -62,8 +59,7 @@ fn note_headed(stems: &mut [Stem], index: Option<&Index>, rev: &RevId)
 fn note_rest(stems: &mut [Stem], index: Option<&Index>, run: &Run)
     requires indexed { AreIndexed stems.old (option_map (λ i. i.now) index) }
     requires run { IsPath run.now }
-    ensures plain { map plain stems.new ≡ map plain stems.old }
-    ensures noted { Notes stems.old (λ r. names (drop 1 run.now) r) stems.new }
+    ensures { NotesOnly stems.old (λ r. names (drop 1 run.now) r) stems.new }
 {
     for at in (1..run.len()).rev() {
         note_headed(stems, index, &run.at(at));
@@ -75,8 +71,7 @@ fn note_joined(stems: &mut [Stem], index: Option<&Index>, run: &Run, joins: bool
     requires indexed { AreIndexed stems.old (option_map (λ i. i.now) index) }
     requires run { IsPath run.now }
     requires fresh { joins ≡ false → list_any (has_revision stems.old) run.now ≡ false }
-    ensures plain { map plain stems.new ≡ map plain stems.old }
-    ensures noted { Notes stems.old (λ r. names (drop 1 run.now) r) stems.new }
+    ensures { NotesOnly stems.old (λ r. names (drop 1 run.now) r) stems.new }
 {
     if joins {
         note_rest(stems, index, run);
@@ -87,11 +82,8 @@ fn note_joined(stems: &mut [Stem], index: Option<&Index>, run: &Run, joins: bool
 // revisions, which is to come behind them.
 fn note_behind(stems: &mut [Stem], index: Option<&Index>, run: &Run, standing: &Standing)
     requires indexed { AreIndexed stems.old (option_map (λ i. i.now) index) }
-    requires run { IsPath run.now }
-    requires within { IfSome standing.now.parent (IsWithin stems.old) }
-    requires fresh { standing.now.joins ≡ false → list_any (has_revision stems.old) run.now ≡ false }
-    ensures plain { map plain stems.new ≡ map plain stems.old }
-    ensures noted { Notes stems.old
+    requires comes { MayCome stems.old run.now standing.now }
+    ensures { NotesOnly stems.old
         (λ r. is_at stems.old r standing.now.parent || names (drop 1 run.now) r) stems.new }
 {
     note_joined(stems, index, run, standing.joins);
@@ -107,11 +99,8 @@ pub(crate) fn note_inner(
     standing: &Standing,
 )
     requires indexed { AreIndexed stems.old.items (option_map (λ i. i.now) index) }
-    requires run { IsPath run.now }
-    requires within { IfSome standing.now.parent (IsWithin stems.old.items) }
-    requires fresh { standing.now.joins ≡ false → list_any (has_revision stems.old.items) run.now ≡ false }
-    ensures plain { map plain stems.new.items ≡ map plain stems.old.items }
-    ensures noted { Notes stems.old.items
+    requires comes { MayCome stems.old.items run.now standing.now }
+    ensures notes { NotesOnly stems.old.items
         (λ r. is_at stems.old.items r standing.now.parent || names (drop 1 run.now) r) stems.new.items }
     ensures len { vec_len stems.new ≡ vec_len stems.old }
     ensures capacity { vec_capacity stems.new ≡ vec_capacity stems.old }

@@ -24,7 +24,8 @@ pub struct Winner {
     pub deleted: bool,
 }
 
-fn revision_order(rev: &RevId, other: &RevId) -> Ordering
+/// The greater generation is above, then the greater hash in the order of its bytes.
+pub(crate) fn revision_order(rev: &RevId, other: &RevId) -> Ordering
     ensures { result ≡ revision_cmp rev.now other.now }
 {
     rev.generation()

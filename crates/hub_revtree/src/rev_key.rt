@@ -6,6 +6,7 @@ ghost use Rattle.std.specs.Cmp.{partial_equiv_from_equiv, partial_order_from_tot
 ghost use Rattle.hub_model.specs.Revision.{revision_cmp};
 ghost use Rattle.hub_revtree.specs.Order.{revisions_level, revisions_total};
 
+use crate::leaf::revision_order;
 use hub_document::RevId;
 use std::cmp::Ordering;
 use std::marker::Model;
@@ -67,9 +68,6 @@ impl Ord for RevKey {
     ghost matches_eq = { λ r s. refl };
 
     fn cmp(&self, other: &RevKey) -> Ordering {
-        self.rev
-            .generation()
-            .cmp(&other.rev.generation())
-            .then_with(|| self.rev.hash().cmp(other.rev.hash()))
+        revision_order(&self.rev, &other.rev)
     }
 }

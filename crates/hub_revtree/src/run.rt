@@ -156,7 +156,7 @@ fn is_of(generation: u16, digest: &[u8; 16], sought: &Sought) -> bool
     ensures { result ≡ (nat_eq sought.now.generation generation
         && bytes_eq sought.now.hash (encode_lower digest.now)) }
 {
-    sought.generation() == generation && sought.has_digest(digest)
+    sought.rev().generation() == generation && sought.has_digest(digest)
 }
 
 impl Run {
@@ -322,7 +322,7 @@ impl Run {
                 digest_at(digest, line, place),
                 sought,
             ),
-            Kept::Texts(revisions) => sought.is_same(&revisions[place]),
+            Kept::Texts(revisions) => sought.rev().is_same(&revisions[place]),
         }
     }
 
@@ -336,10 +336,11 @@ impl Run {
             return is_of(*newest, digest, sought).then_some(0);
         }
         let newest = self.generation();
-        if sought.generation() > newest {
+        let own = sought.rev().generation();
+        if own > newest {
             return None;
         }
-        let place = newest - sought.generation();
+        let place = newest - own;
         if usize::from(place) >= self.len() {
             return None;
         }

@@ -3,7 +3,6 @@
 ghost use Rattle.std.specs.Prelude.{◌≡◌};
 ghost use Rattle.std.specs.Str.{bytes_eq};
 ghost use Rattle.hex.specs.Hex.{encode_lower};
-ghost use Rattle.hub_model.specs.Revision.{IsRevision, is_same as is_same_revision};
 ghost use Rattle.hub_revtree.specs.Sought.{IsFormOf};
 
 use hub_document::RevId;
@@ -76,12 +75,11 @@ impl<'a> Sought<'a> {
         }
     }
 
-    /// Its generation.
-    pub(crate) fn generation(&self) -> u16
-        ensures value { result ≡ self.now.generation }
-        ensures good { IsRevision self.now }
+    /// The revision itself.
+    pub(crate) fn rev(&self) -> &'a RevId
+        ensures { result.now ≡ self.now }
     {
-        self.rev.generation()
+        self.rev
     }
 
     /// Whether its hash is the hexadecimal text of the digest, in lower-case digits.
@@ -93,12 +91,5 @@ impl<'a> Sought<'a> {
             Form::Other => false,
             Form::Unmade => self.rev.has_digest(digest),
         }
-    }
-
-    /// Whether both are one.
-    pub(crate) fn is_same(&self, other: &RevId) -> bool
-        ensures { result ≡ is_same_revision self.now other.now }
-    {
-        self.rev.is_same(other)
     }
 }

@@ -8,7 +8,7 @@ ghost use Rattle.hub_model.specs.Path.{IsPath, names, is_first};
 ghost use Rattle.hub_model.specs.Revision.{Revision};
 ghost use Rattle.hub_revtree.specs.Common.{common as common_of};
 ghost use Rattle.hub_revtree.specs.Key.{HasKey};
-ghost use Rattle.hub_revtree.specs.Mark.{with_note};
+ghost use Rattle.hub_revtree.specs.Mark.{deletes, is_passed, with_note};
 
 use crate::mark::Mark;
 use crate::run::Run;
@@ -142,18 +142,13 @@ impl Stem {
         self.joins
     }
 
-    /// Whether the edit deletes the document.
-    pub(crate) fn deleted(&self) -> bool
-        ensures { result ≡ self.now.deleted }
+    /// Whether the edit deletes the document, and whether its newest revision is inner: it stands behind that
+    /// of another stem by now.
+    pub(crate) fn mark(&self) -> Mark
+        ensures deletes { deletes result ≡ self.now.deleted }
+        ensures inner { is_passed result ≡ self.now.inner }
     {
-        self.mark.deleted()
-    }
-
-    /// Whether its newest revision is inner: it stands behind that of another stem by now.
-    pub(crate) fn is_inner(&self) -> bool
-        ensures { result ≡ self.now.inner }
-    {
-        self.mark.is_inner()
+        self.mark
     }
 
     /// Notes that its newest revision is inner.
@@ -170,11 +165,11 @@ impl Stem {
         &self.body
     }
 
-    /// How many revisions are its own.
-    pub(crate) fn len(&self) -> usize
-        ensures { result ≡ length self.now.revisions }
+    /// The revisions that are its own.
+    pub(crate) fn run(&self) -> &Run
+        ensures { result.now ≡ self.now.revisions }
     {
-        self.run.len()
+        &self.run
     }
 
     /// The newest of them. Constant time.
@@ -185,86 +180,11 @@ impl Stem {
         self.run.at(0)
     }
 
-    /// As `Run::key_at`.
-    pub(crate) fn key_at(&self, at: usize) -> Option<u64>
-        requires { at < length self.now.revisions }
-        ensures { (r : Revision) → slice_get self.now.revisions at ≡ Some r → HasKey r.hash result }
-    {
-        self.run.key_at(at)
-    }
-
-    /// As `Run::newest`.
-    pub(crate) fn newest(&self, alloc: Global) -> Result<Changes, AllocError>
-        requires { IsPath self.now.revisions }
-        ensures ok { IfOk result (λ changes. changes ≡ take 1 self.now.revisions) }
-        ensures memory { OnErr result
-            (IsSomeAnd (slice_get self.now.revisions 0) (λ r. ¬ IsDigestText r.hash)) }
-    {
-        self.run.newest(alloc)
-    }
-
-    /// Where the revision stands, counted from the newest. Constant time.
-    pub(crate) fn position(&self, sought: &Sought) -> Option<u16>
-        requires { IsPath self.now.revisions }
-        ensures found { IfSome result (λ k. slice_get self.now.revisions k ≡ Some sought.now) }
-        ensures absent { IfNone result (names self.now.revisions sought.now ≡ false) }
-    {
-        self.run.position(sought)
-    }
-
     /// Whether the revision is the newest. Constant time.
     pub(crate) fn is_head(&self, sought: &Sought) -> bool
         requires { IsPath self.now.revisions }
         ensures { result ≡ is_first sought.now self.now.revisions }
     {
         self.run.is_at(0, sought)
-    }
-
-    /// As `Run::append_from`.
-    pub(crate) fn append_from(&self, at: u16, line: &mut Vec<RevId>) -> Result<(), AllocError>
-        requires { IsPath self.now.revisions }
-        ensures { OnOk result (line.new.items ≡ line.old.items ++ drop at self.now.revisions) }
-    {
-        self.run.append_from(usize::from(at), line)
-    }
-
-    /// As `Run::append_digests`.
-    pub(crate) fn append_digests(
-        &self,
-        at: u16,
-        digests: &mut Vec<[u8; 16]>,
-    ) -> Result<bool, AllocError>
-        requires { at < length self.now.revisions }
-        ensures { IfOk result (λ all. IsTrue all
-            → map encode_lower digests.new.items
-            ≡ map encode_lower digests.old.items ++ map (λ r. r.hash) (drop at self.now.revisions)) }
-    {
-        self.run.append_digests(usize::from(at), digests)
-    }
-
-    /// As `Run::common`.
-    pub(crate) fn common(&self, at: u16, revisions: &[RevId]) -> Option<usize>
-        requires path { IsPath self.now.revisions }
-        requires within { at ≤ length self.now.revisions }
-        ensures { result ≡ common_of revisions.now (drop at self.now.revisions) }
-    {
-        self.run.common(usize::from(at), revisions)
-    }
-
-    /// The revision at this place. Constant time.
-    pub(crate) fn rev(&self, at: usize) -> RevId
-        requires path { IsPath self.now.revisions }
-        requires within { at < length self.now.revisions }
-        ensures { slice_get self.now.revisions at ≡ Some result }
-    {
-        self.run.at(at)
-    }
-
-    /// The newest one's generation.
-    pub(crate) fn generation(&self) -> u16
-        requires { IsPath self.now.revisions }
-        ensures { option_map (λ r. r.generation) (slice_get self.now.revisions 0) ≡ Some result }
-    {
-        self.run.generation()
     }
 }

@@ -15,7 +15,7 @@ ghost use Rattle.hub_revtree.specs.Extend.{line_to};
 ghost use Rattle.hub_revtree.specs.Index.{AreLinked, GoesOn, Has, IsIndex, IsIndexed, link_in};
 ghost use Rattle.hub_revtree.specs.Lookup.{AreIndexed, AreIndexedUpTo, IsLineStart, IsPlaceIn};
 ghost use Rattle.hub_revtree.specs.Stem.{Stem as StemModel, AreStems, AreUpTo, IsBrought};
-ghost use Rattle.hub_revtree.specs.Stem.{IsWithin, branches_of, chain_from, chains_of};
+ghost use Rattle.hub_revtree.specs.Stem.{IsBehind, IsWithin, StandsAt, branches_of, chain_from, chains_of};
 ghost use Rattle.hub_revtree.specs.Stem.{has_revision, own_path, rev_at, revisions_at};
 
 use crate::index::Index;
@@ -28,13 +28,12 @@ use std::alloc::AllocError;
 // Where the revision stands. One look an edit, from the newest on up to the one that brought it.
 fn place_among(stems: &[Stem], rev: &RevId) -> Option<Place>
     requires { AreStems stems.now }
-    ensures found { IfSome result
-        (λ place. slice_get (revisions_at stems.now place.stem) place.at ≡ Some rev.now) }
+    ensures found { IfSome result (StandsAt stems.now rev.now) }
     ensures none { IfNone result (has_revision stems.now rev.now ≡ false) }
 {
     let sought = Sought::among(rev, stems.len());
     for number in (0..stems.len()).rev() {
-        if let Some(at) = stems[number].position(&sought) {
+        if let Some(at) = stems[number].run().position(&sought) {
             return Some(Place { stem: number, at });
         }
     }
@@ -44,15 +43,14 @@ fn place_among(stems: &[Stem], rev: &RevId) -> Option<Place>
 /// Where the revision stands in the stem of this number, if it does. Constant time.
 pub(crate) fn place_in(stems: &[Stem], number: usize, rev: &RevId) -> Option<Place>
     requires { AreStems stems.now }
-    ensures found { IfSome result
-        (λ place. slice_get (revisions_at stems.now place.stem) place.at ≡ Some rev.now) }
+    ensures found { IfSome result (StandsAt stems.now rev.now) }
     ensures stem { IfSome result (λ place. place.stem ≡ number) }
     ensures none { IfNone result (names (revisions_at stems.now number) rev.now ≡ false) }
 {
     if number >= stems.len() {
         return None;
     }
-    match stems[number].position(&Sought::once(rev)) {
+    match stems[number].run().position(&Sought::once(rev)) {
         Some(at) => Some(Place { stem: number, at }),
         None => None,
     }
@@ -64,8 +62,7 @@ pub(crate) fn place_in(stems: &[Stem], number: usize, rev: &RevId) -> Option<Pla
 /// look an edit, from the newest on up to the one that brought it.
 pub(crate) fn place_of(stems: &[Stem], index: Option<&Index>, rev: &RevId) -> Option<Place>
     requires { AreIndexed stems.now (option_map (λ i. i.now) index) }
-    ensures found { IfSome result
-        (λ place. slice_get (revisions_at stems.now place.stem) place.at ≡ Some rev.now) }
+    ensures found { IfSome result (StandsAt stems.now rev.now) }
     ensures none { IfNone result (has_revision stems.now rev.now ≡ false) }
 {
     match index {
@@ -83,8 +80,7 @@ pub(crate) fn place_up_to(
     rev: &RevId,
 ) -> Option<Place>
     requires { AreIndexedUpTo stems.now (option_map (λ i. i.now) index) highest }
-    ensures found { IfSome result
-        (λ place. slice_get (revisions_at stems.now place.stem) place.at ≡ Some rev.now) }
+    ensures found { IfSome result (StandsAt stems.now rev.now) }
     ensures none { IfNone result (has_revision stems.now rev.now ≡ false) }
 {
     if rev.generation() > highest {
@@ -167,7 +163,7 @@ fn append_chain(stems: &[Stem], place: Place, line: &mut Vec<RevId>) -> Result<(
     let mut next = Some(place);
     while let Some(place) = next {
         let stem = &stems[place.stem];
-        stem.append_from(place.at, line)?;
+        stem.run().append_from(usize::from(place.at), line)?;
         next = stem.parent();
     }
     Ok(())
@@ -189,7 +185,7 @@ fn append_chain_digests(
     let mut next = Some(place);
     while let Some(place) = next {
         let stem = &stems[place.stem];
-        if !stem.append_digests(place.at, digests)? {
+        if !stem.run().append_digests(usize::from(place.at), digests)? {
             return Ok(false);
         }
         next = stem.parent();
@@ -207,7 +203,7 @@ fn common(stems: &[Stem], place: Place, revisions: &[RevId]) -> Option<usize>
     let mut next = Some(place);
     while let Some(place) = next {
         let stem = &stems[place.stem];
-        let count = stem.common(place.at, &revisions[at..])?;
+        let count = stem.run().common(usize::from(place.at), &revisions[at..])?;
         at += count;
         if at == revisions.len() {
             return Some(at);
@@ -226,16 +222,15 @@ fn end_of(stems: &[Stem], place: Place) -> RevId
     while let Some(below) = stems[at].parent() {
         at = below.stem;
     }
-    let stem = &stems[at];
-    stem.rev(stem.len() - 1)
+    let run = stems[at].run();
+    run.at(run.len() - 1)
 }
 
 /// The place directly behind the revision in what the stem of this number brought. Constant time.
 pub(crate) fn behind_in(stems: &[Stem], number: usize, sought: &Sought) -> Option<Place>
     requires stems { AreStems stems.now }
     requires within { number < length stems.now }
-    ensures found { IfSome result (λ place. IsWithin stems.now place
-        × ((r : Revision) → rev_at stems.now (Some place) ≡ Some r → IsBrought stems.now r sought.now)) }
+    ensures found { IfSome result (IsBehind stems.now sought.now) }
     ensures none { IfNone result
         ((stem : StemModel) (r : Revision) → slice_get stems.now number ≡ Some stem
         → ¬ IsNext (own_path stems.now stem) sought.now r) }
@@ -243,10 +238,11 @@ pub(crate) fn behind_in(stems: &[Stem], number: usize, sought: &Sought) -> Optio
     ensures ends { IfNone result (¬ GoesOn stems.now number sought.now) }
 {
     let stem = &stems[number];
-    let at = stem.position(sought)?;
+    let run = stem.run();
+    let at = run.position(sought)?;
     // A stem has no more revisions than its newest one's generation.
-    let _revisions_at_most = stem.generation();
-    if usize::from(at) + 1 < stem.len() {
+    let _revisions_at_most = run.generation();
+    if usize::from(at) + 1 < run.len() {
         Some(Place {
             stem: number,
             at: at + 1,
@@ -259,8 +255,7 @@ pub(crate) fn behind_in(stems: &[Stem], number: usize, sought: &Sought) -> Optio
 // The place directly behind the revision in what a stem brought. One look a stem.
 fn behind_among(stems: &[Stem], rev: &RevId) -> Option<Place>
     requires stems { AreStems stems.now }
-    ensures found { IfSome result (λ place. IsWithin stems.now place
-        × ((r : Revision) → rev_at stems.now (Some place) ≡ Some r → IsBrought stems.now r rev.now)) }
+    ensures found { IfSome result (IsBehind stems.now rev.now) }
     ensures none { IfNone result ((r : Revision) → ¬ IsBrought stems.now r rev.now) }
 {
     let sought = Sought::among(rev, stems.len());
@@ -277,8 +272,7 @@ fn behind_among(stems: &[Stem], rev: &RevId) -> Option<Place>
 fn linked(stems: &[Stem], index: &Index, rev: &RevId) -> Option<Place>
     requires stems { AreStems stems.now }
     requires links { AreLinked (Has stems.now) stems.now (link_in index.now) }
-    ensures found { IfSome result (λ place. IsWithin stems.now place
-        × ((r : Revision) → rev_at stems.now (Some place) ≡ Some r → IsBrought stems.now r rev.now)) }
+    ensures found { IfSome result (IsBehind stems.now rev.now) }
     ensures none { IfNone result (link_in index.now rev.now ≡ None) }
 {
     match index.link(rev) {
@@ -297,8 +291,7 @@ fn linked(stems: &[Stem], index: &Index, rev: &RevId) -> Option<Place>
 fn behind_by(stems: &[Stem], index: &Index, rev: &RevId) -> Option<Place>
     requires stems { AreStems stems.now }
     requires index { IsIndex index.now stems.now }
-    ensures found { IfSome result (λ place. IsWithin stems.now place
-        × ((r : Revision) → rev_at stems.now (Some place) ≡ Some r → IsBrought stems.now r rev.now)) }
+    ensures found { IfSome result (IsBehind stems.now rev.now) }
     ensures none { IfNone result ((r : Revision) → ¬ IsBrought stems.now r rev.now) }
 {
     let Some(place) = index.place(stems, rev) else {
@@ -315,8 +308,7 @@ fn behind_by(stems: &[Stem], index: &Index, rev: &RevId) -> Option<Place>
 /// there, at most log n comparisons of revisions; else one look a stem.
 pub(crate) fn place_behind(stems: &[Stem], index: Option<&Index>, rev: &RevId) -> Option<Place>
     requires { AreIndexed stems.now (option_map (λ i. i.now) index) }
-    ensures found { IfSome result (λ place. IsWithin stems.now place
-        × ((r : Revision) → rev_at stems.now (Some place) ≡ Some r → IsBrought stems.now r rev.now)) }
+    ensures found { IfSome result (IsBehind stems.now rev.now) }
     ensures none { IfNone result ((r : Revision) → ¬ IsBrought stems.now r rev.now) }
 {
     match index {
@@ -335,7 +327,7 @@ fn beyond(stems: &[Stem], index: Option<&Index>, place: Place) -> Option<Place>
         → rev_at stems.now result ≡ behind_of x (edits_in (branches_of stems.now)) }
 {
     let stem = &stems[place.stem];
-    if stem.generation() == stem.reach() {
+    if stem.run().generation() == stem.reach() {
         return None;
     }
     let last = end_of(stems, place);
@@ -417,7 +409,7 @@ fn place_or_told(
     requires told { IfSome told (IsWithin stems.now) }
     ensures told { IfSome told (λ place. result ≡ Some place) }
     ensures within { IfSome result (IsWithin stems.now) }
-    ensures found { IfNone told (IfSome result (λ place. rev_at stems.now (Some place) ≡ Some rev.now)) }
+    ensures found { IfNone told (IfSome result (StandsAt stems.now rev.now)) }
     ensures none { IfNone result (has_revision stems.now rev.now ≡ false) }
 {
     match told {
@@ -529,12 +521,13 @@ pub(crate) fn new_in(stems: &[Stem], number: usize) -> usize
         → result ≡ length (filter (λ r. not (has_revision (take number stems.now) r)) stem.revisions) }
 {
     let stem = &stems[number];
+    let run = stem.run();
     if !stem.joins() {
-        return stem.len();
+        return run.len();
     }
     let mut count = 0usize;
-    for at in 0..stem.len() {
-        if place_among(&stems[..number], &stem.rev(at)).is_none() {
+    for at in 0..run.len() {
+        if place_among(&stems[..number], &run.at(at)).is_none() {
             count += 1;
         }
     }

@@ -17,14 +17,14 @@ enum Turn {
 }
 
 /// A tree of so many leaves of the first generation, what is done to them by turns, and the winner
-/// afterwards, where it is told.
+/// after the first of these steps, so many.
 struct Row {
     leaves: usize,
     /// Whether the hashes of the leaves are digests.
     digests: bool,
     turns: [Turn; 2],
     steps: usize,
-    winner: Option<&'static str>,
+    winner: (usize, &'static str),
 }
 
 // The hash of the leaf of this number: its digits at the end of a digest, or of another text.
@@ -76,104 +76,99 @@ fn is_taken(
     Ok(matches!(make(alloc, tree, Some(leaf), deleted), Some(Ok(_))))
 }
 
-// The first step of the row that cannot be made, or after which the winner is not the first of the
-// leaves; and the winner after the last.
-fn outcome(alloc: Global, row: &Row) -> Result<(Option<usize>, Option<RevId>), AllocError> {
+// Whether the winner is the first of the leaves, which stand best first, and the one that is told, if it is
+// told for so many steps.
+fn is_right(tree: &RevTree, leaves: &[RevId], row: &Row, steps: usize) -> bool {
+    let winner = tree.winner();
+    let (told, rev) = row.winner;
+    winner.is_some()
+        && winner == leaves.first().copied()
+        && (steps != told || winner == rev_of(Some(rev)))
+}
+
+// The first step of the row that cannot be made, or after which the winner is another.
+fn wrong_step(alloc: Global, row: &Row) -> Result<Option<usize>, AllocError> {
     let mut tree = tree_of(alloc, row)?;
     let mut leaves = tree.leaves(alloc)?;
     for step in 0..row.steps {
         if !is_taken(alloc, &mut tree, leaves.as_slice(), row.turns[step % 2])? {
-            return Ok((Some(step), None));
+            return Ok(Some(step));
         }
         leaves = tree.leaves(alloc)?;
-        if tree.winner() != leaves.as_slice().first().copied() {
-            return Ok((Some(step), None));
+        if !is_right(&tree, leaves.as_slice(), row, step.saturating_add(1)) {
+            return Ok(Some(step));
         }
     }
-    Ok((None, tree.winner()))
+    Ok(None)
 }
 
-// The numbers of the leaves are from 0 on. So the best of 601 has the number 600, and where 40 of
-// them are gone from above, from below or from both ends by turns, it is 560, 600 or 580. A leaf
+// The numbers of the leaves are from 0 on. So the best of 307 has the number 306, and where 20 of
+// them are gone from above, from below or from both ends by turns, it is 286, 306 or 296. A leaf
 // that is extended by an edit that is not deleted is of the second generation, and so above those
-// of the first. In the last row no leaf is left that is not deleted.
+// of the first. In the last row one leaf is left after 256 steps, and after 257 none that is not deleted.
 const ROWS: &[Row] = &[
     Row {
-        leaves: 601,
+        leaves: 307,
         digests: true,
         turns: [Best(true), Best(true)],
-        steps: 40,
-        winner: Some("1-00000000000000000000000000000230"),
+        steps: 20,
+        winner: (20, "1-0000000000000000000000000000011e"),
     },
     Row {
-        leaves: 601,
+        leaves: 307,
         digests: true,
         turns: [Worst(true), Worst(true)],
-        steps: 40,
-        winner: Some("1-00000000000000000000000000000258"),
+        steps: 20,
+        winner: (20, "1-00000000000000000000000000000132"),
     },
     Row {
-        leaves: 601,
+        leaves: 307,
         digests: true,
         turns: [Best(true), Worst(true)],
-        steps: 40,
-        winner: Some("1-00000000000000000000000000000244"),
+        steps: 20,
+        winner: (20, "1-00000000000000000000000000000128"),
     },
     Row {
-        leaves: 601,
+        leaves: 307,
         digests: true,
         turns: [Best(false), Best(true)],
-        steps: 40,
-        winner: Some("1-00000000000000000000000000000244"),
+        steps: 20,
+        winner: (20, "1-00000000000000000000000000000128"),
     },
     Row {
-        leaves: 601,
+        leaves: 307,
         digests: true,
         turns: [Worst(false), Best(true)],
-        steps: 40,
-        winner: Some("1-00000000000000000000000000000258"),
+        steps: 20,
+        winner: (20, "1-00000000000000000000000000000132"),
     },
     Row {
-        leaves: 601,
+        leaves: 307,
         digests: false,
         turns: [Best(true), Best(true)],
-        steps: 40,
-        winner: Some("1-x560"),
+        steps: 20,
+        winner: (20, "1-x286"),
     },
     Row {
-        leaves: 601,
+        leaves: 307,
         digests: false,
         turns: [Worst(false), Best(true)],
-        steps: 40,
-        winner: Some("1-x600"),
-    },
-    Row {
-        leaves: 257,
-        digests: true,
-        turns: [Best(true), Best(true)],
-        steps: 256,
-        winner: Some("1-00000000000000000000000000000000"),
+        steps: 20,
+        winner: (20, "1-x306"),
     },
     Row {
         leaves: 257,
         digests: true,
         turns: [Best(true), Best(true)],
         steps: 257,
-        winner: None,
+        winner: (256, "1-00000000000000000000000000000000"),
     },
 ];
 
 #[test]
 fn best_leaf_follows_the_best(rt: HostRuntime) -> Result<(), Fail> {
     for row in ROWS {
-        let Some((wrong, winner)) = again!(outcome(rt.alloc(), row)) else {
-            return Err(Fail::new("out of memory"));
-        };
-        assert_eq!(rt; wrong, None);
-        assert!(rt; winner.is_some());
-        if row.winner.is_some() {
-            assert_eq!(rt; winner, rev_of(row.winner));
-        }
+        assert_eq!(rt; again!(wrong_step(rt.alloc(), row)), Some(None));
     }
     Ok(())
 }

@@ -1,4 +1,4 @@
-use Rattle.std.proofs.Common.{◌∙◌, ap}
+use Rattle.std.proofs.Common.{◌∙◌, ap, refl}
 use Rattle.std.specs.Prelude.{Some}
 use Rattle.hub_model.specs.Revision.{is_same}
 use Rattle.hub_model.proofs.Tests.{same_is}
@@ -13,15 +13,22 @@ note_at-requires c = record {
   within = rev_within c.args.stems.now c.in-Some.place c.args.rev.now c.in-Some.ensures.found;
 }
 
-pub returns-in-Some-clause-noted : goal.returns-in-Some-clause-noted
-returns-in-Some-clause-noted c =
+pub returns-in-Some : goal.returns-in-Some
+returns-in-Some c =
     let xs = c.args.stems.now in
     let p = c.in-Some.place in
-    notes_as xs c.note_at.new.stems (λ r. is_at xs r (Some p)) (λ r. is_same r c.args.rev.now)
-    (λ r. first_test (revisions_at xs p.stem) p.at c.args.rev.now r c.in-Some.ensures.found)
-    c.note_at.ensures.noted
+    record {
+      plain = c.note_at.ensures.plain;
+      noted =
+          notes_as xs c.note_at.new.stems (λ r. is_at xs r (Some p)) (λ r. is_same r c.args.rev.now)
+          (λ r. first_test (revisions_at xs p.stem) p.at c.args.rev.now r c.in-Some.ensures.found)
+          c.note_at.ensures.noted;
+    }
 
-pub returns-in_default-clause-noted : goal.returns-in_default-clause-noted
-returns-in_default-clause-noted c =
-    unknown_noted c.args.stems.now (λ r. is_same r c.args.rev.now)
-    (λ r t. ap (has_revision c.args.stems.now) (same_is r c.args.rev.now t) ∙ c.in_default.ensures.none)
+pub returns-in_default : goal.returns-in_default
+returns-in_default c = record {
+  plain = refl;
+  noted =
+      unknown_noted c.args.stems.now (λ r. is_same r c.args.rev.now)
+      (λ r t. ap (has_revision c.args.stems.now) (same_is r c.args.rev.now t) ∙ c.in_default.ensures.none);
+}

@@ -27,7 +27,10 @@ loop-at-preserved c = record {
       c.loop-at.invariant.noted c.note_headed.ensures.noted;
 }
 
-pub returns-clause-noted : goal.returns-clause-noted
-returns-clause-noted c =
+pub returns : goal.returns
+returns c =
     let end : c.loop-at.at ≡ 1 = omega (arith, c.loop-at-test.false, c.loop-at.invariant.low) in
-    rw end at c.loop-at.invariant.noted
+    record {
+      plain = c.loop-at.invariant.plain;
+      noted = rw end at c.loop-at.invariant.noted;
+    }

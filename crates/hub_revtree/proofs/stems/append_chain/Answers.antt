@@ -17,7 +17,7 @@ loop-next-preserved c =
           walk_next c.args.stems.now c.requires.stems c.loop-next.next c.in-Some.place
           c.index-stems-place.result c.loop-next.invariant.within c.in-Some.is c.index-stems-place.is;
       whole =
-          ap (λ z. z ++ rest) c.in_ok-append_from.ensures
+          ap (λ z. z ++ rest) (rw (c.from.ensures, c.run.ensures) at c.in_ok-append_from.ensures)
           ∙ append_assoc c.loop-next.line.items
           (drop c.in-Some.place.at c.index-stems-place.result.revisions) rest
           ∙ ap (λ z. c.loop-next.line.items ++ z)

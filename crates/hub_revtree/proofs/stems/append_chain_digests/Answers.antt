@@ -25,7 +25,7 @@ loop-next-preserved c =
           c.index-stems-place.result c.loop-next.invariant.within c.in-Some.is c.index-stems-place.is;
       whole =
           ap (λ z. z ++ map (λ (revision : Revision). revision.hash) rest)
-          (c.in_ok-append_digests.ensures c.if-not-branch.false)
+          (rw (c.from.ensures, c.run.ensures) at (c.in_ok-append_digests.ensures c.if-not-branch.false))
           ∙ append_assoc (map encode_lower c.loop-next.digests.items)
           (map (λ (revision : Revision). revision.hash) own)
           (map (λ (revision : Revision). revision.hash) rest)

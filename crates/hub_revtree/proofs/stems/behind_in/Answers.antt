@@ -1,4 +1,4 @@
-use Rattle.std.proofs.Common.{◌≡◌, ◌<◌, ◌≤◌, ◌+◌, length, false, sym, ◌∙◌, subst, refl, arith}
+use Rattle.std.proofs.Common.{◌≡◌, ◌<◌, ◌≤◌, ◌+◌, length, false, sym, ap, ◌∙◌, subst, refl, arith}
 use Rattle.std.proofs.lemmas.Grind.{common_steps}
 use Rattle.std.proofs.lemmas.Option.{same_Some}
 use Rattle.hub_model.specs.Path.{names}
@@ -18,7 +18,7 @@ returns-in_err-at-clause-none c =
     rw c.from_residual.ensures (λ stem r e.
     none_own c.args.stems.now c.requires.stems c.args.number stem e c.args.sought.now
     (subst (λ (z : Stem). names z.revisions c.args.sought.now ≡ false)
-    (same_Some c.index-stems-number.result stem (sym there ∙ e)) c.in_err-at.ensures.absent) r)
+    (same_Some c.index-stems-number.result stem (sym there ∙ e)) (rw c.run-run.ensures at c.in_err-at.ensures.absent)) r)
 
 pub overflow_add-result : goal.overflow_add-result
 overflow_add-result c =
@@ -27,7 +27,7 @@ overflow_add-result c =
     c.index-stems-number.is in
     let newest =
     newest_of c.index-stems-number.result.revisions c.generation-revisions_at_most.result
-    c.generation-revisions_at_most.ensures in
+    (rw c.run-run.ensures at c.generation-revisions_at_most.ensures) in
     let few =
     within_generation c.index-stems-number.result.revisions newest.0
     (record { falls = c.requires.stems.falling c.args.number c.index-stems-number.result there }) newest.1 in
@@ -40,6 +40,7 @@ overflow_add-result c =
       c.if-from-len.true,
       c.from.ensures,
       c.len.ensures,
+      ap length c.run-run.ensures,
     )
 
 pub returns-then-from-len-clause-found : goal.returns-then-from-len-clause-found
@@ -48,9 +49,9 @@ returns-then-from-len-clause-found c =
     read_stem c.args.stems.now c.args.number c.index-stems-number.result c.requires.within
     c.index-stems-number.is in
     let low : c.in_ok-at.at + 1 < length c.index-stems-number.result.revisions =
-    grind (arith, common_steps, c.if-from-len.true, c.from.ensures, c.len.ensures) in
+    grind (arith, common_steps, c.if-from-len.true, c.from.ensures, c.len.ensures, ap length c.run-run.ensures) in
     inner_brought c.args.stems.now c.requires.stems
-    c.args.number c.index-stems-number.result there c.args.sought.now c.in_ok-at.at c.in_ok-at.ensures.found
+    c.args.number c.index-stems-number.result there c.args.sought.now c.in_ok-at.at (rw c.run-run.ensures at c.in_ok-at.ensures.found)
     (record { stem = c.args.number; at = c.in_ok-at.at + 1 }) refl low
 
 pub returns-else-from-len-clause-found : goal.returns-else-from-len-clause-found
@@ -59,10 +60,10 @@ returns-else-from-len-clause-found c =
     read_stem c.args.stems.now c.args.number c.index-stems-number.result c.requires.within
     c.index-stems-number.is in
     let past : length c.index-stems-number.result.revisions ≤ c.in_ok-at.at + 1 =
-    grind (arith, common_steps, c.if-from-len.false, c.from.ensures, c.len.ensures) in
+    grind (arith, common_steps, c.if-from-len.false, c.from.ensures, c.len.ensures, ap length c.run-run.ensures) in
     rw c.parent.ensures
     (parent_brought c.args.stems.now c.requires.stems c.args.number c.index-stems-number.result there
-    c.args.sought.now c.in_ok-at.at c.in_ok-at.ensures.found past)
+    c.args.sought.now c.in_ok-at.at (rw c.run-run.ensures at c.in_ok-at.ensures.found) past)
 
 pub returns-else-from-len-clause-none : goal.returns-else-from-len-clause-none
 returns-else-from-len-clause-none c =
@@ -70,10 +71,10 @@ returns-else-from-len-clause-none c =
     read_stem c.args.stems.now c.args.number c.index-stems-number.result c.requires.within
     c.index-stems-number.is in
     let past : length c.index-stems-number.result.revisions ≤ c.in_ok-at.at + 1 =
-    grind (arith, common_steps, c.if-from-len.false, c.from.ensures, c.len.ensures) in
+    grind (arith, common_steps, c.if-from-len.false, c.from.ensures, c.len.ensures, ap length c.run-run.ensures) in
     rw c.parent.ensures
     (none_parent c.args.stems.now c.requires.stems c.args.number c.index-stems-number.result
-    there c.args.sought.now c.in_ok-at.at c.in_ok-at.ensures.found past)
+    there c.args.sought.now c.in_ok-at.at (rw c.run-run.ensures at c.in_ok-at.ensures.found) past)
 
 pub returns-in_err-at-clause-ends : goal.returns-in_err-at-clause-ends
 returns-in_err-at-clause-ends c =
@@ -82,7 +83,7 @@ returns-in_err-at-clause-ends c =
     c.index-stems-number.is in
     rw c.from_residual.ensures
     (goes_absent c.args.stems.now c.requires.stems c.args.number c.index-stems-number.result
-    there c.args.sought.now c.in_err-at.ensures.absent)
+    there c.args.sought.now (rw c.run-run.ensures at c.in_err-at.ensures.absent))
 
 pub returns-then-from-len-clause-goes : goal.returns-then-from-len-clause-goes
 returns-then-from-len-clause-goes c =
@@ -90,9 +91,9 @@ returns-then-from-len-clause-goes c =
     read_stem c.args.stems.now c.args.number c.index-stems-number.result c.requires.within
     c.index-stems-number.is in
     let low : c.in_ok-at.at + 1 < length c.index-stems-number.result.revisions =
-    grind (arith, common_steps, c.if-from-len.true, c.from.ensures, c.len.ensures) in
+    grind (arith, common_steps, c.if-from-len.true, c.from.ensures, c.len.ensures, ap length c.run-run.ensures) in
     goes_inner c.args.stems.now c.requires.stems c.args.number c.index-stems-number.result
-    there c.args.sought.now c.in_ok-at.at c.in_ok-at.ensures.found low
+    there c.args.sought.now c.in_ok-at.at (rw c.run-run.ensures at c.in_ok-at.ensures.found) low
 
 pub returns-else-from-len-clause-goes : goal.returns-else-from-len-clause-goes
 returns-else-from-len-clause-goes c =
@@ -101,7 +102,7 @@ returns-else-from-len-clause-goes c =
     c.index-stems-number.is in
     rw c.parent.ensures
     (goes_parent c.args.stems.now c.requires.stems c.args.number c.index-stems-number.result
-    there c.args.sought.now c.in_ok-at.at c.in_ok-at.ensures.found)
+    there c.args.sought.now c.in_ok-at.at (rw c.run-run.ensures at c.in_ok-at.ensures.found))
 
 pub returns-else-from-len-clause-ends : goal.returns-else-from-len-clause-ends
 returns-else-from-len-clause-ends c =
@@ -109,7 +110,7 @@ returns-else-from-len-clause-ends c =
     read_stem c.args.stems.now c.args.number c.index-stems-number.result c.requires.within
     c.index-stems-number.is in
     let past : length c.index-stems-number.result.revisions ≤ c.in_ok-at.at + 1 =
-    grind (arith, common_steps, c.if-from-len.false, c.from.ensures, c.len.ensures) in
+    grind (arith, common_steps, c.if-from-len.false, c.from.ensures, c.len.ensures, ap length c.run-run.ensures) in
     rw c.parent.ensures
     (ends_parent c.args.stems.now c.requires.stems c.args.number c.index-stems-number.result
-    there c.args.sought.now c.in_ok-at.at c.in_ok-at.ensures.found past)
+    there c.args.sought.now c.in_ok-at.at (rw c.run-run.ensures at c.in_ok-at.ensures.found) past)

@@ -17,7 +17,8 @@ returns-then-generation-reach-clause-behind c =
     read_stem xs c.args.place.stem c.index-stems-place.result
     (slice_get_within xs c.args.place.stem i.0 i.1) c.index-stems-place.is in
     nothing_beyond xs c.requires.stems c.requires.legal c.args.place
-    c.index-stems-place.result c.generation.result there c.requires.within c.generation.ensures
+    c.index-stems-place.result c.generation.result there c.requires.within
+    (rw c.run.ensures at c.generation.ensures)
     (c.if-generation-reach.true ∙ c.reach.ensures)
 
 pub returns-clause-behind : goal.returns-clause-behind

@@ -1,4 +1,4 @@
-use Rattle.std.proofs.Common.{◌-◌, ◌∙◌, ap, sym, arith}
+use Rattle.std.proofs.Common.{◌-◌, ◌∙◌, ap, length, sym, arith}
 use Rattle.std.specs.Prelude.{slice_get}
 use Rattle.std.proofs.lemmas.Option.{same_Some, slice_get_within}
 use Rattle.hub_revtree.specs.Stem.{Stem}
@@ -44,24 +44,24 @@ overflow_sub-len c =
     let some =
     some_path c.index-stems-at-2.result.revisions
     (c.requires.stems.falling c.loop-below.at c.index-stems-at-2.result there) in
-    omega (arith, some, c.len.ensures)
+    omega (arith, some, c.len.ensures, ap length c.run-run.ensures)
 
-pub rev-requires-clause-path : goal.rev-requires-clause-path
-rev-requires-clause-path c =
+pub at-requires-clause-path : goal.at-requires-clause-path
+at-requires-clause-path c =
     let there =
     read_stem c.args.stems.now c.loop-below.at c.index-stems-at-2.result c.loop-below.invariant.within
     c.index-stems-at-2.is in
-    c.requires.stems.falling c.loop-below.at c.index-stems-at-2.result there
+    rw c.run-run.ensures (c.requires.stems.falling c.loop-below.at c.index-stems-at-2.result there)
 
-pub rev-requires-clause-within : goal.rev-requires-clause-within
-rev-requires-clause-within c =
+pub at-requires-clause-within : goal.at-requires-clause-within
+at-requires-clause-within c =
     let there =
     read_stem c.args.stems.now c.loop-below.at c.index-stems-at-2.result c.loop-below.invariant.within
     c.index-stems-at-2.is in
     let some =
     some_path c.index-stems-at-2.result.revisions
     (c.requires.stems.falling c.loop-below.at c.index-stems-at-2.result there) in
-    omega (arith, some, c.len.ensures)
+    omega (arith, some, c.len.ensures, ap length c.run-run.ensures)
 
 pub returns : goal.returns
 returns c =
@@ -72,5 +72,7 @@ returns c =
     let there = read_stem xs at stem c.loop-below.invariant.within c.index-stems-at-2.is in
     let same = same_Some stem c.index-stems-at.result (sym there ∙ tested) in
     let alone = ap (λ (s : Stem). s.parent) same ∙ sym c.parent.ensures ∙ c.in_default.is in
-    let last = ap (λ n. slice_get stem.revisions (n - 1)) (sym c.len.ensures) ∙ c.rev.ensures in
-    c.loop-below.invariant.same ∙ end_here xs c.requires.stems at stem c.rev.result there alone last
+    let last =
+    rw c.run-run.ensures at
+    (ap (λ n. slice_get c.run-run.result.now (n - 1)) (sym c.len.ensures) ∙ c.at.ensures) in
+    c.loop-below.invariant.same ∙ end_here xs c.requires.stems at stem c.at.result there alone last

@@ -17,6 +17,7 @@ returns-then-not-joins c = λ stem e.
     c.requires.stems.fresh c.args.number c.index-stems-number.result there
     (sym c.joins.ensures ∙ c.if-not-joins.true) in
     c.len.ensures
+    ∙ ap length c.run-run.ensures
     ∙ ap length (sym (all_new (take c.args.number xs) c.index-stems-number.result.revisions none))
     ∙ ap (λ (s : Stem). length (new_of (take c.args.number xs) s.revisions))
     (same_Some c.index-stems-number.result stem (sym there ∙ e))
@@ -27,25 +28,32 @@ place_among-requires c = are_taken c.args.number c.args.stems.now c.requires.ste
 pub overflow_add-count : goal.overflow_add-count
 overflow_add-count c =
     let few =
-    new_few (take c.args.number c.args.stems.now) c.index-stems-number.result.revisions c.loop-at.at
+    new_few (take c.args.number c.args.stems.now) c.run-run.result.now c.loop-at.at
     c.loop-at.count c.loop-at.invariant in
     omega (arith, few)
+
+pub at-requires-clause-path : goal.at-requires-clause-path
+at-requires-clause-path c =
+    let there =
+    read_stem c.args.stems.now c.args.number c.index-stems-number.result c.requires.within
+    c.index-stems-number.is in
+    rw c.run-run.ensures (c.requires.stems.falling c.args.number c.index-stems-number.result there)
 
 pub loop-at-preserved : goal.loop-at-preserved
 loop-at-preserved c =
     let earlier = take c.args.number c.args.stems.now in
     let placed =
-    is_placed earlier c.rev.result c.place_among.result c.place_among.ensures.found
+    is_placed earlier c.at.result c.place_among.result c.place_among.ensures.found
     c.place_among.ensures.none in
     elim c.if-is_none.branch [
       | then-is_none w ↦
           w.count-is
-          ∙ new_more earlier c.index-stems-number.result.revisions c.loop-at.at c.loop-at.count c.rev.result
-          c.rev.ensures (sym placed ∙ c.is_none.ensures ∙ ap not w.if-is_none.true) c.loop-at.invariant
+          ∙ new_more earlier c.run-run.result.now c.loop-at.at c.loop-at.count c.at.result
+          c.at.ensures (sym placed ∙ c.is_none.ensures ∙ ap not w.if-is_none.true) c.loop-at.invariant
       | else-is_none w ↦
           w.count-is
-          ∙ new_same earlier c.index-stems-number.result.revisions c.loop-at.at c.loop-at.count c.rev.result
-          c.rev.ensures (sym placed ∙ c.is_none.ensures ∙ ap not w.if-is_none.false) c.loop-at.invariant
+          ∙ new_same earlier c.run-run.result.now c.loop-at.at c.loop-at.count c.at.result
+          c.at.ensures (sym placed ∙ c.is_none.ensures ∙ ap not w.if-is_none.false) c.loop-at.invariant
     ]
 
 pub returns : goal.returns
@@ -55,7 +63,8 @@ returns c = λ stem e.
     read_stem xs c.args.number c.index-stems-number.result c.requires.within c.index-stems-number.is in
     c.loop-at.invariant
     ∙ ap (λ p. length (new_of (take c.args.number xs) p))
-    (take_all c.loop-at.at c.index-stems-number.result.revisions
-    (omega (arith, c.loop-at-test.false, c.len-at-end.ensures)))
+    (take_all c.loop-at.at c.run-run.result.now
+    (omega (arith, c.loop-at-test.false, c.len-at-end.ensures))
+    ∙ c.run-run.ensures)
     ∙ ap (λ (s : Stem). length (new_of (take c.args.number xs) s.revisions))
     (same_Some c.index-stems-number.result stem (sym there ∙ e))

@@ -17,8 +17,8 @@ newest-requires c =
     let low =
     low_stem c.self.inside.stems.items c.args.self.now.list c.args.at
     (ap (λ (storage : Storage). storage.list) c.self.view_is) c.requires in
-    c.self.invariant.0.falling c.args.at c.index.result.now
-    (read_stem c.self.inside.stems.items c.args.at c.index.result.now low c.index.ensures)
+    rw c.run.ensures (c.self.invariant.0.falling c.args.at c.index.result.now
+    (read_stem c.self.inside.stems.items c.args.at c.index.result.now low c.index.ensures))
 
 pub returns-in_err-changes-clause-memory : goal.returns-in_err-changes-clause-memory
 returns-in_err-changes-clause-memory c =
@@ -29,7 +29,7 @@ returns-in_err-changes-clause-memory c =
     (rw (sym c.self.view_is)
     (head_other c.self.inside.stems.items c.self.invariant.0 c.args.at c.index.result.now
     (read_stem c.self.inside.stems.items c.args.at c.index.result.now low c.index.ensures)
-    c.in_err-changes.ensures.memory))
+    (rw c.run.ensures at c.in_err-changes.ensures.memory)))
 
 pub returns-clause-ok : goal.returns-clause-ok
 returns-clause-ok c =
@@ -39,4 +39,4 @@ returns-clause-ok c =
     rw (sym c.self.view_is)
     (head_alone c.self.inside.stems.items c.self.invariant.0 c.args.at c.index.result.now
     (read_stem c.self.inside.stems.items c.args.at c.index.result.now low c.index.ensures)
-    c.in_ok-changes.changes c.in_ok-changes.ensures.ok)
+    c.in_ok-changes.changes (rw c.run.ensures at c.in_ok-changes.ensures.ok))

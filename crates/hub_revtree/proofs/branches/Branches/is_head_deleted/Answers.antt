@@ -1,4 +1,4 @@
-use Rattle.std.proofs.Common.{sym, ap, arith}
+use Rattle.std.proofs.Common.{◌∙◌, sym, ap, arith}
 use Rattle.hub_revtree.specs.Branch.{Storage}
 use Rattle.hub_revtree.proofs.AloneLemmas.{head_mark}
 use Rattle.hub_revtree.proofs.StemLooks.{low_stem, read_stem}
@@ -19,4 +19,4 @@ returns c =
     rw (sym c.self.view_is)
     (head_mark c.self.inside.stems.items c.self.invariant.0 c.args.at c.index.result.now
     (read_stem c.self.inside.stems.items c.args.at c.index.result.now low c.index.ensures)
-    c.deleted.result c.deleted.ensures)
+    c.deleted.result (c.deleted.ensures ∙ c.mark.ensures.deletes))

@@ -132,8 +132,8 @@ line_of c =
       | else-whole w ↦ rw w.line2-is tt
     ]
 
-pub note_inner-requires-clause-run : goal.note_inner-requires-clause-run
-note_inner-requires-clause-run c =
+pub note_inner-requires-clause-comes : goal.note_inner-requires-clause-comes
+note_inner-requires-clause-comes c =
     let xs = c.self.inside.stems.items in
     let legal = rw (sym c.self.view_is) at c.requires.legal in
     let ok = rw (sym c.self.view_is) at c.requires.acceptable in
@@ -150,19 +150,15 @@ note_inner-requires-clause-run c =
       fresh = met.fresh;
     } in
     let some = some_kept xs c.self.invariant.0 legal c.args.path c.args.deleted c.args.body ok _ _ _ _ is in
-    rw c.kept-run.ensures.run
-    (take_falls c.met_by-met.result.at c.args.path
-    (λ z. omega (arith, z, some)) c.requires.acceptable.history.falls)
-
-pub note_inner-requires-clause-within : goal.note_inner-requires-clause-within
-note_inner-requires-clause-within c =
-    let met = rw c.as_slice-stems.ensures.value at c.met_by-met.ensures in
-    rw c.standing_of-standing.ensures.parent met.within
-
-pub note_inner-requires-clause-fresh : goal.note_inner-requires-clause-fresh
-note_inner-requires-clause-fresh c = λ j.
-    let met = rw c.as_slice-stems.ensures.value at c.met_by-met.ensures in
-    rw c.kept-run.ensures.run (met.fresh (sym c.standing_of-standing.ensures.joins ∙ j))
+    record {
+      path =
+          rw c.kept-run.ensures.run
+          (take_falls c.met_by-met.result.at c.args.path
+          (λ z. omega (arith, z, some)) c.requires.acceptable.history.falls);
+      within = rw c.standing_of-standing.ensures.parent met.within;
+      fresh =
+          λ j. rw c.kept-run.ensures.run (met.fresh (sym c.standing_of-standing.ensures.joins ∙ j));
+    }
 
 pub renewed-requires-clause-stems : goal.renewed-requires-clause-stems
 renewed-requires-clause-stems c =
@@ -198,14 +194,14 @@ renewed-requires-clause-stems c =
     (c.standing_of-standing.ensures.count ∙ c.len.ensures) c.standing_of-standing.ensures.reach
     c.standing_of-standing.ensures.joins in
     rw (c.as_slice.ensures.value, c.push_reserved.ensures.items, c.new.ensures)
-    (stems_same (xs ++ stem ∷ []) (ys ++ stem ∷ []) (plain_more xs ys stem c.note_inner.ensures.plain)
+    (stems_same (xs ++ stem ∷ []) (ys ++ stem ∷ []) (plain_more xs ys stem c.note_inner.ensures.notes.plain)
     (brought_stems xs c.self.invariant.0 legal c.args.path c.args.deleted c.args.body ok stem path))
 
 pub renewed-requires-clause-index : goal.renewed-requires-clause-index
 renewed-requires-clause-index c =
     let xs = c.self.inside.stems.items in
     rw (c.as_slice.ensures.value, c.push_reserved.ensures.items)
-    (indexed_front xs c.note_inner.new.stems.items c.new.result _ c.note_inner.ensures.plain
+    (indexed_front xs c.note_inner.new.stems.items c.new.result _ c.note_inner.ensures.notes.plain
     (c.without_line-index.ensures.index xs (rw c.take.ensures.value c.self.invariant.2)))
 
 edits_more : (c : Joined-drop)
@@ -217,7 +213,7 @@ edits_more c =
     let stem = stem_of c in
     let legal = rw (sym c.self.view_is) at c.requires.legal in
     let ok = rw (sym c.self.view_is) at c.requires.acceptable in
-    let same = plain_more xs ys stem c.note_inner.ensures.plain in
+    let same = plain_more xs ys stem c.note_inner.ensures.notes.plain in
     ap edits_in (sym (branches_same (xs ++ stem ∷ []) (ys ++ stem ∷ []) same))
     ∙ brought_edit xs c.self.invariant.0 legal c.args.path c.args.deleted c.args.body ok stem (brings c)
 
@@ -232,7 +228,7 @@ invariant_of-self c =
     let more =
     brought_stems xs c.self.invariant.0 legal c.args.path c.args.deleted c.args.body ok stem path in
     let head = newest_of c.args.path c.generation-newest.result c.generation-newest.ensures in
-    let same = plain_more xs ys stem c.note_inner.ensures.plain in
+    let same = plain_more xs ys stem c.note_inner.ensures.notes.plain in
     let up =
     up_to_more xs stem c.args.path head.0 c.self.inside.highest c.max-self-inside.result c.self.invariant.0
     more c.self.invariant.1 c.requires.acceptable.history.falls head.1 path.whole
@@ -243,7 +239,7 @@ invariant_of-self c =
       rw (c.as_slice.ensures.value, c.push_reserved.ensures.items, c.new.ensures) at c.renewed.ensures.index
           (line_same (xs ++ stem ∷ []) (ys ++ stem ∷ []) c.if-whole.line2 same (line_of c)),
       marked_more xs ys stem c.self.invariant.0 more (within_told xs stem.parent path.next.within)
-          c.note_inner.ensures.plain c.self.invariant.3 refl c.note_inner.ensures.noted,
+          c.note_inner.ensures.notes.plain c.self.invariant.3 refl c.note_inner.ensures.notes.noted,
       candidates_more (branches_of xs) (branches_of (ys ++ stem ∷ []))
           (nameless c.args.path c.args.deleted c.args.body) _ _ (edits_more c) c.renewed.ensures.candidates
           (rw (c.without_line-index.ensures.candidates, c.take.ensures.value) c.self.invariant.4),

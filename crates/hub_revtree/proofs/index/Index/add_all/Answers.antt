@@ -1,4 +1,4 @@
-use Rattle.std.proofs.Common.{refl, arith}
+use Rattle.std.proofs.Common.{ap, length, refl, arith}
 use Rattle.hub_revtree.specs.Index.{entry_in, other_in}
 use Rattle.hub_revtree.proofs.FirstLemmas.{told_end, told_start}
 use Rattle.hub_revtree.proofs.IndexLemmas.{read_long}
@@ -21,6 +21,7 @@ add_at-requires-clause-within c =
           (omega (arith, c.requires.last.newest)) c.index-stems-number.is,
       c.loop-at-test.true,
       c.len-at-end.ensures,
+      ap length c.run.ensures,
     )
 
 pub returns-clause-told : goal.returns-clause-told
@@ -33,4 +34,5 @@ returns-clause-told c =
           (omega (arith, c.requires.last.newest)) c.index-stems-number.is,
       c.loop-at-test.false,
       c.len-at-end.ensures,
+      ap length c.run.ensures,
     )) c.loop-at.invariant.told

@@ -13,12 +13,12 @@ returns-in_default-clause-told c =
     let xs = c.args.stems.now in
     let low : c.args.number < length xs = omega (arith, c.requires.last.newest) in
     let there =
-    read_there xs c.args.number c.args.at c.index-stems-number.result c.rev.result
-    low c.index-stems-number.is c.rev.ensures in
+    read_there xs c.args.number c.args.at c.index-stems-number.result c.at.result
+    low c.index-stems-number.is (rw c.run-run.ensures at c.at.ensures) in
     on_ok_weaker c.put_at.result
-    (λ put. no_key xs c.args.number c.args.at c.rev.result there (entry_in c.args.self.now)
+    (λ put. no_key xs c.args.number c.args.at c.at.result there (entry_in c.args.self.now)
     (entry_in c.args.self.now) (other_in c.args.self.now) (ordered_get revision_cmp c.put_at.new.map)
-    c.requires.told (λ key is. c.in_default.ensures c.rev.result c.rev.ensures key is) (λ q. refl) put)
+    c.requires.told (λ key is. c.in_default.ensures c.at.result c.at.ensures key is) (λ q. refl) put)
     c.put_at.ensures
 
 pub returns-then-first-number-clause-told : goal.returns-then-first-number-clause-told
@@ -30,7 +30,7 @@ returns-then-first-number-clause-told c =
     read_back xs c.args.number c.args.at c.index-stems-number.result i.0 low c.index-stems-number.is i.1 in
     own_entry xs c.args.number c.args.at i.0 i.1 (entry_in c.args.self.now) (entry_in c.put.new.self)
     (other_in c.args.self.now) (other_in c.put.new.self) c.requires.told
-    c.in-Some.key (c.in-Some.ensures i.0 back) c.in_ok-first.first c.in_ok-first.ensures.entries
+    c.in-Some.key (c.in-Some.ensures i.0 (rw c.run-run.ensures back)) c.in_ok-first.first c.in_ok-first.ensures.entries
     c.in_ok-first.ensures.first c.if-first-number.true (λ x. rw c.put.ensures.others refl)
 
 pub returns-then-is_some-clause-told : goal.returns-then-is_some-clause-told
@@ -38,14 +38,14 @@ returns-then-is_some-clause-told c =
     let xs = c.args.stems.now in
     let low : c.args.number < length xs = omega (arith, c.requires.last.newest) in
     let there =
-    read_there xs c.args.number c.args.at c.index-stems-number.result c.rev-rev.result low
-    c.index-stems-number.is c.rev-rev.ensures in
+    read_there xs c.args.number c.args.at c.index-stems-number.result c.at-rev.result low
+    c.index-stems-number.is (rw c.run-run.ensures at c.at-rev.ensures) in
     let has =
-    placed_has xs c.in_ok-first.first c.rev-rev.result c.place_in.result c.place_in.ensures.found
+    placed_has xs c.in_ok-first.first c.at-rev.result c.place_in.result c.place_in.ensures.found
     c.place_in.ensures.stem (sym c.is_some.ensures ∙ c.if-is_some.true) in
-    known_entry xs c.args.number c.args.at c.rev-rev.result there (entry_in c.args.self.now)
+    known_entry xs c.args.number c.args.at c.at-rev.result there (entry_in c.args.self.now)
     (entry_in c.put.new.self) (other_in c.args.self.now) (other_in c.put.new.self) c.requires.told
-    c.in-Some.key (c.in-Some.ensures c.rev-rev.result c.rev-rev.ensures) c.in_ok-first.first
+    c.in-Some.key (c.in-Some.ensures c.at-rev.result c.at-rev.ensures) c.in_ok-first.first
     c.in_ok-first.ensures.entries c.in_ok-first.ensures.first c.if-first-number.false has
     (λ x. rw c.put.ensures.others refl)
 
@@ -54,14 +54,14 @@ returns-clause-told c =
     let xs = c.args.stems.now in
     let low : c.args.number < length xs = omega (arith, c.requires.last.newest) in
     let there =
-    read_there xs c.args.number c.args.at c.index-stems-number.result c.rev-rev.result low
-    c.index-stems-number.is c.rev-rev.ensures in
+    read_there xs c.args.number c.args.at c.index-stems-number.result c.at-rev.result low
+    c.index-stems-number.is (rw c.run-run.ensures at c.at-rev.ensures) in
     let none =
-    placed_none xs c.in_ok-first.first c.rev-rev.result c.place_in.result c.place_in.ensures.none
+    placed_none xs c.in_ok-first.first c.at-rev.result c.place_in.result c.place_in.ensures.none
     (sym c.is_some.ensures ∙ c.if-is_some.false) in
     on_ok_weaker c.put_at-2.result
-    (λ put. other_entry xs c.args.number c.args.at c.rev-rev.result there (entry_in c.args.self.now)
+    (λ put. other_entry xs c.args.number c.args.at c.at-rev.result there (entry_in c.args.self.now)
     (entry_in c.put.new.self) (other_in c.args.self.now) (ordered_get revision_cmp c.put_at-2.new.map)
-    c.requires.told c.in-Some.key (c.in-Some.ensures c.rev-rev.result c.rev-rev.ensures) c.in_ok-first.first
+    c.requires.told c.in-Some.key (c.in-Some.ensures c.at-rev.result c.at-rev.ensures) c.in_ok-first.first
     c.in_ok-first.ensures.entries c.in_ok-first.ensures.first none (rw c.put.ensures.others at put))
     c.put_at-2.ensures

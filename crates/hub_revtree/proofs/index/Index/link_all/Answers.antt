@@ -1,4 +1,4 @@
-use Rattle.std.proofs.Common.{refl, arith}
+use Rattle.std.proofs.Common.{ap, length, refl, arith}
 use Rattle.hub_revtree.specs.Index.{link_in}
 use Rattle.hub_revtree.proofs.IndexLemmas.{read_long}
 use Rattle.hub_revtree.proofs.LinkLemmas.{link_end, link_start}
@@ -20,6 +20,7 @@ link_at-requires-clause-within c =
           (omega (arith, c.requires.last.newest)) c.index-stems-number.is,
       c.loop-at-test.true,
       c.len-at-end.ensures,
+      ap length c.run.ensures,
     )
 
 pub link_at-requires-clause-told : goal.link_at-requires-clause-told
@@ -36,6 +37,7 @@ returns-clause-index c = (
             (omega (arith, c.requires.last.newest)) c.index-stems-number.is,
         c.loop-at-test.false,
         c.len-at-end.ensures,
+        ap length c.run.ensures,
       ))
       c.loop-at.invariant.linked,
 )

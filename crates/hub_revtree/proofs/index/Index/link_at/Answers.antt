@@ -13,26 +13,26 @@ pub returns-in_default-clause-linked : goal.returns-in_default-clause-linked
 returns-in_default-clause-linked c =
     let xs = c.args.stems.now in
     let there =
-    read_there xs c.args.number c.args.at c.index-stems-number.result c.rev-rev.result
-    (omega (arith, c.requires.last.newest)) c.index-stems-number.is c.rev-rev.ensures in
-    link_same xs c.args.number c.args.at c.rev-rev.result there (link_in c.args.self.now)
+    read_there xs c.args.number c.args.at c.index-stems-number.result c.at-rev.result
+    (omega (arith, c.requires.last.newest)) c.index-stems-number.is (rw c.run.ensures at c.at-rev.ensures) in
+    link_same xs c.args.number c.args.at c.at-rev.result there (link_in c.args.self.now)
     (link_in c.args.self.now) c.requires.linked (λ x. refl)
     (λ g. absurd (both_ways _ c.in_default.ensures.none
-    (has_any xs c.args.number c.rev-rev.result
-    (has_there xs c.args.number c.args.at c.rev-rev.result there))))
+    (has_any xs c.args.number c.at-rev.result
+    (has_there xs c.args.number c.args.at c.at-rev.result there))))
 
 pub returns-then-is_some-clause-linked : goal.returns-then-is_some-clause-linked
 returns-then-is_some-clause-linked c =
     let xs = c.args.stems.now in
     let there =
-    read_there xs c.args.number c.args.at c.index-stems-number.result c.rev-rev.result
-    (omega (arith, c.requires.last.newest)) c.index-stems-number.is c.rev-rev.ensures in
-    link_same xs c.args.number c.args.at c.rev-rev.result there (link_in c.args.self.now)
+    read_there xs c.args.number c.args.at c.index-stems-number.result c.at-rev.result
+    (omega (arith, c.requires.last.newest)) c.index-stems-number.is (rw c.run.ensures at c.at-rev.ensures) in
+    link_same xs c.args.number c.args.at c.at-rev.result there (link_in c.args.self.now)
     (link_in c.args.self.now) c.requires.linked (λ x. refl)
     (λ g. (
       c.in-Some.place.stem,
       c.in-Some.ensures.found.1,
-      some_if c.behind_in.result (GoesOn xs c.in-Some.place.stem c.rev-rev.result)
+      some_if c.behind_in.result (GoesOn xs c.in-Some.place.stem c.at-rev.result)
           (rw c.once.ensures at c.behind_in.ensures.goes) (sym c.is_some.ensures ∙ c.if-is_some.true),
     ))
 
@@ -40,22 +40,22 @@ pub returns-then-is_none-clause-linked : goal.returns-then-is_none-clause-linked
 returns-then-is_none-clause-linked c =
     let xs = c.args.stems.now in
     let there =
-    read_there xs c.args.number c.args.at c.index-stems-number.result c.rev-rev.result
-    (omega (arith, c.requires.last.newest)) c.index-stems-number.is c.rev-rev.ensures in
-    link_same xs c.args.number c.args.at c.rev-rev.result there (link_in c.args.self.now)
+    read_there xs c.args.number c.args.at c.index-stems-number.result c.at-rev.result
+    (omega (arith, c.requires.last.newest)) c.index-stems-number.is (rw c.run.ensures at c.at-rev.ensures) in
+    link_same xs c.args.number c.args.at c.at-rev.result there (link_in c.args.self.now)
     (link_in c.args.self.now) c.requires.linked (λ x. refl)
-    (λ g. absurd (none_if c.behind_in-2.result (¬ GoesOn xs c.args.number c.rev-rev.result)
+    (λ g. absurd (none_if c.behind_in-2.result (¬ GoesOn xs c.args.number c.at-rev.result)
     (rw c.once-2.ensures at c.behind_in-2.ensures.ends) (c.is_none.ensures ∙ ap not c.if-is_none.true) g))
 
 pub returns-clause-linked : goal.returns-clause-linked
 returns-clause-linked c =
     let xs = c.args.stems.now in
     let there =
-    read_there xs c.args.number c.args.at c.index-stems-number.result c.rev-rev.result
-    (omega (arith, c.requires.last.newest)) c.index-stems-number.is c.rev-rev.ensures in
+    read_there xs c.args.number c.args.at c.index-stems-number.result c.at-rev.result
+    (omega (arith, c.requires.last.newest)) c.index-stems-number.is (rw c.run.ensures at c.at-rev.ensures) in
     on_ok_weaker c.put_at.result
-    (λ put. link_put xs c.args.number c.args.at c.rev-rev.result there
+    (λ put. link_put xs c.args.number c.args.at c.at-rev.result there
     (link_in c.args.self.now) (ordered_get revision_cmp c.put_at.new.map) c.requires.linked put
-    (some_if c.behind_in-2.result (GoesOn xs c.args.number c.rev-rev.result)
+    (some_if c.behind_in-2.result (GoesOn xs c.args.number c.at-rev.result)
     (rw c.once-2.ensures at c.behind_in-2.ensures.goes) (c.is_none.ensures ∙ ap not c.if-is_none.false)))
     c.put_at.ensures

@@ -2,20 +2,22 @@ use Rattle.std.proofs.Common.{◌≡◌, ◌-◌, ◌<◌, length, sym, arith}
 use Rattle.hub_revtree.proofs.RunLemmas.{is_absent, is_there, too_new, too_old}
 use Rattle.hub_revtree.proofs.run.Run.position.Goals as goal
 
-pub returns-then-generation-newest-clause-absent : goal.returns-then-generation-newest-clause-absent
-returns-then-generation-newest-clause-absent c =
+pub returns-then-own-newest-clause-absent : goal.returns-then-own-newest-clause-absent
+returns-then-own-newest-clause-absent c =
     too_new c.args.self.now c.requires c.generation-newest.result c.generation-newest.ensures
-    c.args.sought.now (omega (arith, c.if-generation-newest.true, c.generation.ensures.value))
+    c.args.sought.now (omega (arith, c.if-own-newest.true, rw c.rev.ensures at c.generation-own.ensures.value))
 
 pub returns-then-from-len-clause-absent : goal.returns-then-from-len-clause-absent
 returns-then-from-len-clause-absent c =
-    let down : c.from.result ≡ c.generation-newest.result - c.args.sought.now.generation = grind arith in
+    let down : c.from.result ≡ c.generation-newest.result - c.args.sought.now.generation =
+    grind (arith, rw c.rev.ensures at c.generation-own.ensures.value) in
     too_old c.args.self.now c.requires c.generation-newest.result c.generation-newest.ensures
     c.args.sought.now c.from.result down (omega (arith, c.if-from-len.true, c.len.ensures))
 
 pub returns-clause-found : goal.returns-clause-found
 returns-clause-found c =
-    let down : c.from.result ≡ c.generation-newest.result - c.args.sought.now.generation = grind arith in
+    let down : c.from.result ≡ c.generation-newest.result - c.args.sought.now.generation =
+    grind (arith, rw c.rev.ensures at c.generation-own.ensures.value) in
     let low : c.from.result < length c.args.self.now = omega (arith, c.if-from-len.false, c.len.ensures) in
     rw (c.then_some-2.ensures, sym c.from.ensures)
     (is_there c.args.self.now c.requires c.generation-newest.result
@@ -24,7 +26,8 @@ returns-clause-found c =
 
 pub returns-clause-absent : goal.returns-clause-absent
 returns-clause-absent c =
-    let down : c.from.result ≡ c.generation-newest.result - c.args.sought.now.generation = grind arith in
+    let down : c.from.result ≡ c.generation-newest.result - c.args.sought.now.generation =
+    grind (arith, rw c.rev.ensures at c.generation-own.ensures.value) in
     rw (c.then_some-2.ensures, sym c.from.ensures)
     (is_absent c.args.self.now c.requires c.generation-newest.result
     c.generation-newest.ensures c.args.sought.now c.from.result down c.is_at.result
