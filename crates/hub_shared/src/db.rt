@@ -5,6 +5,7 @@ ghost use Rattle.std.specs.Prelude.{◌≡◌, true, IfOk};
 use crate::count::{Count, NoCount, Plain};
 use crate::handle::Handle;
 use crate::host::Host;
+use crate::locked::Locked;
 use hub_database::DbState;
 use hub_document::Limits;
 use std::alloc::{AllocError, Global};
@@ -24,13 +25,9 @@ impl<C: Count> Host<DbState, C> {
         ensures parts { IfOk result (λ made. C.counts ≡ true → made.1.parts ≡ C.all_parts) }
     {
         let (book, share) = count.open();
-        let db = Host::of(
-            alloc,
-            DbState::new(alloc, limits, life),
-            limits.lane as usize,
-            limits.hold,
-            book,
-        )?;
+        let state = DbState::new(alloc, limits, life);
+        let locked = Locked::new(alloc, state, limits.lane as usize, limits.hold, book);
+        let db = Host::of(alloc, locked)?;
         let handle = Handle::new(db.again()?, share);
         Ok((db, handle))
     }
