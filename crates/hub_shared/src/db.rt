@@ -5,7 +5,6 @@ ghost use Rattle.std.specs.Prelude.{◌≡◌, true, IfOk};
 use crate::count::{Count, NoCount, Plain};
 use crate::handle::Handle;
 use crate::host::Host;
-use crate::locked::Locked;
 use hub_database::DbState;
 use hub_document::Limits;
 use std::alloc::{AllocError, Global};
@@ -26,8 +25,7 @@ impl<C: Count> Host<DbState, C> {
     {
         let (book, share) = count.open();
         let state = DbState::new(alloc, limits, life);
-        let locked = Locked::new(alloc, state, limits.lane as usize, limits.hold, book);
-        let db = Host::of(alloc, locked)?;
+        let db = Host::of(alloc, state, limits.lane as usize, limits.hold, book)?;
         let handle = Handle::new(db.again()?, share);
         Ok((db, handle))
     }

@@ -1,8 +1,11 @@
 //! What threads share that keeps feeds: a lock, and news.
 
+ghost use Rattle.std.specs.Prelude.{◌<◌};
+ghost use Rattle.hub_shared.specs.Locked.{IsUnused};
+
 use crate::count::{Count, Plain};
 use crate::locked::Locked;
-use hub_feed::HostView;
+use hub_feed::{FeedHost, HostView};
 use std::alloc::{AllocError, Global};
 use std::sync::{Arc, Condvar, Mutex, Wait};
 use std::time::{self, Duration};
@@ -27,9 +30,19 @@ impl<S: HostView + Drop, C: Count> Drop for Host<S, C> {
     }
 }
 
-impl<S: HostView + Drop, C: Count> Host<S, C> {
-    /// What is to lie under a lock.
-    pub(crate) fn of(alloc: Global, locked: Locked<S, C>) -> Result<Host<S, C>, AllocError> {
+impl<S: FeedHost + Drop, C: Count> Host<S, C> {
+    /// What is to lie under a lock, which has no feed: as `Locked::new`.
+    pub(crate) fn of(
+        alloc: Global,
+        state: S,
+        lane: usize,
+        hold: u64,
+        book: C::Book,
+    ) -> Result<Host<S, C>, AllocError>
+        requires room { 0 < lane }
+        requires unused { IsUnused C.counts (C.total book) (S.hosted state) }
+    {
+        let locked = Locked::new(alloc, state, lane, hold, book);
         let shared = Arc::new(alloc, (Mutex::new(locked), Condvar::new()))?;
         Ok(Host { shared, alloc })
     }

@@ -47,8 +47,7 @@ impl Host<UpdatesState> {
     /// A log of nothing. Its life is 0, which no database has.
     pub fn of_updates(alloc: Global, limits: Limits) -> Result<Updates, AllocError> {
         let state = UpdatesState::new(alloc, limits, 0);
-        let locked = Locked::new(alloc, state, limits.lane as usize, limits.hold, NoCount);
-        Host::of(alloc, locked)
+        Host::of(alloc, state, limits.lane as usize, limits.hold, NoCount)
     }
 
     /// Adds a notice at the end of the log, or hands it back, as `UpdatesState::note`, and tells the
