@@ -124,32 +124,32 @@ found_iff es name = (
       ∙ list_any-from_Contains (eq_by_cmp_equiv nat_list_cmp_total) name (names_of es) there)),
 )
 
-module _ {Y V : Type 0} (name_of : V → List ℕ) where
-  -- what stands there has the name that it stands under
-  abbrev Own : (String Y × V) → Type 0
-  Own e = name_of e.1 ≡ string_bytes e.0
+module _ {Y : Type 0} where
+  -- a database has the name that it stands under
+  abbrev Own : (String Y × List ℕ) → Type 0
+  Own e = e.1 ≡ string_bytes e.0
 
-  -- also once something is put in under its name
-  pub own_put : (es : List (String Y × V)) (key : String Y) (what : V) → All Own es
-      → name_of what ≡ string_bytes key → All Own (insert_entry string_cmp es key what)
-  own_put [] key what all own = All-cons Own (key, what) [] own all
-  own_put (e ∷ es) key what all own =
+  -- also once one is put in under its name
+  pub own_put : (es : List (String Y × List ℕ)) (key : String Y) (db : List ℕ) → All Own es
+      → db ≡ string_bytes key → All Own (insert_entry string_cmp es key db)
+  own_put [] key db all own = All-cons Own (key, db) [] own all
+  own_put (e ∷ es) key db all own =
       from (slice_cmp nat_cmp (string_bytes key) (string_bytes e.0)) refl
-      (own_put es key what (All-tail Own e es all) own)
+      (own_put es key db (All-tail Own e es all) own)
     where
       from : (ordering : Ordering) → slice_cmp nat_cmp (string_bytes key) (string_bytes e.0) ≡ ordering
-          → All Own (insert_entry string_cmp es key what)
+          → All Own (insert_entry string_cmp es key db)
           → All Own
-          (match_ordering ordering ((key, what) ∷ e ∷ es) ((e.0, what) ∷ es)
-          (e ∷ insert_entry string_cmp es key what))
-      from Less is h = All-cons Own (key, what) (e ∷ es) own all
+          (match_ordering ordering ((key, db) ∷ e ∷ es) ((e.0, db) ∷ es)
+          (e ∷ insert_entry string_cmp es key db))
+      from Less is h = All-cons Own (key, db) (e ∷ es) own all
       from Equal is h =
-          All-cons Own (e.0, what) es
+          All-cons Own (e.0, db) es
           (own ∙ exact_bytes (string_bytes key) (string_bytes e.0) is) (All-tail Own e es all)
       from Greater is h = All-cons Own e _ (All-head Own e es all) h
 
   -- also once an entry is taken out
-  pub own_taken : (test : String Y → Bool) (es : List (String Y × V)) → All Own es
+  pub own_taken : (test : String Y → Bool) (es : List (String Y × List ℕ)) → All Own es
       → All Own (remove_entry test es)
   own_taken test [] all = all
   own_taken test (e ∷ es) all = from (test e.0) (own_taken test es (All-tail Own e es all))
@@ -159,19 +159,19 @@ module _ {Y V : Type 0} (name_of : V → List ℕ) where
       from false h = All-cons Own e _ (All-head Own e es all) h
 
   -- what a look finds has the name that was asked for
-  pub own_found : (es : List (String Y × V)) (name : List ℕ) → All Own es
+  pub own_found : (es : List (String Y × List ℕ)) (name : List ℕ) → All Own es
       → IfSome (lookup (is_at (λ k. slice_cmp nat_cmp name (string_bytes k))) es)
-      (λ what. name_of what ≡ name)
+      (λ db. db ≡ name)
   own_found [] name all = tt
   own_found (e ∷ es) name all =
       from (slice_cmp nat_cmp name (string_bytes e.0)) refl (own_found es name (All-tail Own e es all))
     where
       from : (ordering : Ordering) → slice_cmp nat_cmp name (string_bytes e.0) ≡ ordering
           → IfSome (lookup (is_at (λ k. slice_cmp nat_cmp name (string_bytes k))) es)
-          (λ what. name_of what ≡ name)
+          (λ db. db ≡ name)
           → IfSome (cond (is_eq ordering) (Some e.1)
           (lookup (is_at (λ k. slice_cmp nat_cmp name (string_bytes k))) es))
-          (λ what. name_of what ≡ name)
+          (λ db. db ≡ name)
       from Less is h = h
       from Equal is h = All-head Own e es all ∙ sym (exact_bytes name (string_bytes e.0) is)
       from Greater is h = h
@@ -179,7 +179,7 @@ module _ {Y V : Type 0} (name_of : V → List ℕ) where
   -- ---- what is kept of the entries
 
   -- of none
-  pub kept_none : (limit : ℕ) → limit ≤ most_databases → AreKept {Y = Y} name_of limit []
+  pub kept_none : (limit : ℕ) → limit ≤ most_databases → AreKept {Y = Y} limit []
   unfolding IsStrictlySortedBy
   kept_none limit few = record {
     names = record { valid = All-nil _; once = tt; within = omega arith };
@@ -187,30 +187,30 @@ module _ {Y V : Type 0} (name_of : V → List ℕ) where
     own = All-nil _;
   }
 
-  module _ (limit : ℕ) (es : List (String Y × V)) (kept : AreKept name_of limit es) where
+  module _ (limit : ℕ) (es : List (String Y × List ℕ)) (kept : AreKept limit es) where
     -- with one put in under its name
-    pub kept_put : (key : String Y) (what : V) (new : List (String Y × V)) → is_name (string_bytes key) ≡ true
-        → name_of what ≡ string_bytes key
-        → new ≡ insert_entry string_cmp es key what → IsStrictlySortedBy string_cmp (keys_of new)
-        → length new ≤ limit → AreKept name_of limit new
-    kept_put key what new valid own is once within = record {
+    pub kept_put : (key : String Y) (db : List ℕ) (new : List (String Y × List ℕ)) → is_name (string_bytes key) ≡ true
+        → db ≡ string_bytes key
+        → new ≡ insert_entry string_cmp es key db → IsStrictlySortedBy string_cmp (keys_of new)
+        → length new ≤ limit → AreKept limit new
+    kept_put key db new valid own is once within = record {
       names = record {
         valid =
-            subst (λ ns. All (λ name. is_name name ≡ true) ns) (sym (ap names_of is ∙ names_put es key what))
+            subst (λ ns. All (λ name. is_name name ≡ true) ns) (sym (ap names_of is ∙ names_put es key db))
             (All-insert_key (slice_cmp nat_cmp) (string_bytes key) (λ name. is_name name ≡ true)
             (names_of es) kept.names.valid valid);
         once = names_sorted _ once;
         within = omega (arith, length-map (keys_of new) string_bytes, length-map new (λ e. e.0));
       };
       few = kept.few;
-      own = subst (λ xs. All Own xs) (sym is) (own_put es key what kept.own own);
+      own = subst (λ xs. All Own xs) (sym is) (own_put es key db kept.own own);
     }
 
     -- with one taken out
-    pub kept_taken : (name : List ℕ) (new : List (String Y × V))
+    pub kept_taken : (name : List ℕ) (new : List (String Y × List ℕ))
         → new ≡ remove_entry (is_at (λ k. slice_cmp nat_cmp name (string_bytes k))) es
         → IsStrictlySortedBy string_cmp (keys_of new)
-        → length new ≤ length es → AreKept name_of limit new
+        → length new ≤ length es → AreKept limit new
     kept_taken name new is once within = record {
       names = record {
         valid =

@@ -20,7 +20,7 @@ pub record AreNames (limit : ℕ) (names : List (List ℕ)) : Type 0 where
   pub once : IsStrictlySortedBy (slice_cmp nat_cmp) names
   pub within : length names ≤ limit
 
--- what is seen of names and what stands under each
+-- what is seen of names and the databases under them
 pub record NamesState : Type 0 where
   pub names : List (List ℕ)  -- in the order of their bytes
   pub limit : ℕ  -- how many there may be
@@ -42,9 +42,8 @@ without_name name state = record state { names = remove_key (bytes_eq name) stat
 abbrev pub names_of : {Y V : Type 0} → List (String Y × V) → List (List ℕ)
 names_of entries = map string_bytes (keys_of entries)
 
--- what holds of these entries, where what stands under a name has a name of its own
-pub record AreKept {Y V : Type 0} (name_of : V → List ℕ) (limit : ℕ) (entries : List (String Y × V))
-    : Type 0 where
+-- what holds of these entries: under each name is the database that has it
+pub record AreKept {Y : Type 0} (limit : ℕ) (entries : List (String Y × List ℕ)) : Type 0 where
   pub names : AreNames limit (names_of entries)
   pub few : limit ≤ most_databases
-  pub own : All (λ e. name_of e.1 ≡ string_bytes e.0) entries
+  pub own : All (λ e. e.1 ≡ string_bytes e.0) entries

@@ -1,35 +1,29 @@
 //! A hub of databases behind locks.
 
-ghost use Rattle.std.specs.Prelude.{◌≡◌, ◌⊎◌, ◌<◌, ◌-◌, ◌^◌, [], true, false, Ok, Err, length, map};
-ghost use Rattle.std.specs.Prelude.{string_bytes, Contains, IfErr, IfOk, IsSome, OnErr, OnOk};
-ghost use Rattle.std.specs.Arc.{arc_value};
+ghost use Rattle.std.specs.Prelude.{◌≡◌, ◌↔◌, ◌⊎◌, ◌<◌, ◌-◌, ◌^◌, [], true, false, Ok, Err, map};
+ghost use Rattle.std.specs.Prelude.{string_bytes, Contains, IfErr, IfOk, IsSome, OnOk};
 ghost use Rattle.hub_databases.specs.Kept.{AreNames, most_databases, with_made, with_name, without_name};
 ghost use Rattle.hub_databases.specs.Names.{is_name as is_database_name};
-ghost use Rattle.hub_databases.specs.Refusals.{IsCreationFault, IsRemovalFault};
+ghost use Rattle.hub_databases.specs.Refusals.{IsCreationFault, IsFree, IsRemovalFault};
 ghost use Rattle.hub_params.specs.FeedShown.{params_asked};
 ghost use Rattle.hub_shared.specs.Handles.{IsBeginningFor, IsEditedBy, IsStoredBy};
 ghost use Rattle.hub_shared.specs.Stored.{HasStored};
 ghost use Rattle.hub_updates.specs.Asked.{updates_asked};
 
 use crate::fault::HubFault;
-use crate::hub_db::{HubDb, Named};
+use crate::hub_db::HubDb;
 use crate::name::is_name;
 use crate::names::Names;
 use crate::written::{Edited, Written, has_stored};
 use hub_database::{Batch, DbFault};
-use hub_document::{Doc, Limits, UpdateRow};
-use hub_feed::{FeedId, OpenFault};
-use hub_lane::Asks;
-use hub_model::{Item, UpdateKind};
+use hub_document::{Doc, Limits};
+use hub_feed::OpenFault;
+use hub_model::UpdateKind;
 use hub_params::FeedParams;
-use hub_shared::{
-    Block, Clock, Db, FeedLabel, Gate, Handed, Handle, Plain, Turn, Updates, UpdatesFeed, hold,
-    pump,
-};
-use hub_updates::{NoteFault, Notice, UpdatesState};
+use hub_shared::{Handle, Plain, Updates, UpdatesFeed};
+use hub_updates::{NoteFault, Notice};
 use std::alloc::{AllocError, Global};
-use std::sync::{Arc, RwLock, Wait};
-use std::time;
+use std::sync::{RwLock, Wait};
 
 /// The databases of a hub by their names, and the log of what happens to them. Threads share it, by
 /// reference or by an `Arc`.
@@ -40,7 +34,7 @@ pub struct Hub {
     // neither is held, and nothing is taken under it: whoever holds a database holds only those that
     // ask for that database. So a write may be noted behind the deletion that it came before.
     /// The databases by their names.
-    names: RwLock<Names<Arc<Named, Global>>>,
+    names: RwLock<Names>,
     /// What happened to them. Its lock is taken alone, or under that of the names.
     updates: Updates,
 }
@@ -78,30 +72,18 @@ impl Hub {
         }
     }
 
-    // An empty database of this name, of the life of this number. Life 0 is that of the log.
-    fn named(&self, name: &str, life: u64) -> Result<Arc<Named, Global>, AllocError>
-        requires { 0 < life }
-        ensures { IfOk result (λ named. string_bytes (arc_value named).name ≡ name.now) }
-    {
-        let name = name.to_string(self.alloc)?;
-        let (db, _handle) = Db::new(self.alloc, self.limits, life, Plain)?;
-        Ok(Arc::new(self.alloc, Named { name, db })?)
-    }
-
     // Puts an empty database of the next life under a name. It is not counted yet.
-    fn add(&self, names: &mut Names<Arc<Named, Global>>, name: &str) -> Result<(), HubFault>
+    fn add(&self, names: &mut Names, name: &str) -> Result<(), HubFault>
         requires { is_database_name name.now ≡ true }
-        ensures new { OnOk result (¬ Contains names.old.names name.now) }
-        ensures room { OnOk result (length names.old.names < names.old.limit) }
+        ensures free { OnOk result (IsFree names.old name.now) }
         ensures low { OnOk result (names.old.made < 2 ^ 64 - 1) }
         ensures ok { OnOk result (names.new ≡ with_name name.now names.old) }
-        ensures same { OnErr result (names.new ≡ names.old) }
-        ensures err { IfErr result (λ e. IsCreationFault names.old name.now e) }
+        ensures err { IfErr result (λ e. (names.new ≡ names.old) × IsCreationFault names.old name.now e) }
     {
         let life = names.next_life(name)?;
         let key = name.to_string(self.alloc)?;
-        let named = self.named(name, life)?;
-        names.put(key, named)?;
+        let db = HubDb::new(self.alloc, self.limits, name, life)?;
+        names.put(key, db)?;
         Ok(())
     }
 
@@ -110,16 +92,14 @@ impl Hub {
     fn put<R: Wait>(
         &self,
         rt: &R,
-        names: &mut Names<Arc<Named, Global>>,
+        names: &mut Names,
         name: &str,
         notice: Notice,
     ) -> Result<(), HubFault>
         requires { is_database_name name.now ≡ true }
-        ensures new { OnOk result (¬ Contains names.old.names name.now) }
-        ensures room { OnOk result (length names.old.names < names.old.limit) }
+        ensures free { OnOk result (IsFree names.old name.now) }
         ensures ok { OnOk result (names.new ≡ with_made name.now names.old) }
-        ensures same { OnErr result (names.new ≡ names.old) }
-        ensures err { IfErr result (λ e. IsCreationFault names.old name.now e) }
+        ensures err { IfErr result (λ e. (names.new ≡ names.old) × IsCreationFault names.old name.now e) }
     {
         if let Err(fault) = self.add(names, name) {
             notice.lapse();
@@ -137,8 +117,7 @@ impl Hub {
     /// databases that were made so far, itself included. It costs the wait for the names and for the
     /// log, a search among the names, and a note. The names are held meanwhile.
     pub fn create<R: Wait>(&self, rt: &R, name: &str) -> Result<(), HubFault>
-        ensures bad { is_database_name name.now ≡ false → result ≡ Err HubFault.BadName }
-        ensures only_bad { result ≡ Err HubFault.BadName → is_database_name name.now ≡ false }
+        ensures bad { (is_database_name name.now ≡ false) ↔ (result ≡ Err HubFault.BadName) }
         ensures err { IfErr result (λ e. ¬ (e ≡ HubFault.Absent)) }
     {
         if !is_name(name) {
@@ -153,8 +132,7 @@ impl Hub {
     /// among them.
     pub fn find<R: Wait>(&self, rt: &R, name: &str) -> Result<HubDb, HubFault>
         ensures own { IfOk result (λ db. db ≡ name.now) }
-        ensures bad { is_database_name name.now ≡ false → result ≡ Err HubFault.BadName }
-        ensures only_bad { result ≡ Err HubFault.BadName → is_database_name name.now ≡ false }
+        ensures bad { (is_database_name name.now ≡ false) ↔ (result ≡ Err HubFault.BadName) }
         ensures err { IfErr result (λ e.
             (e ≡ HubFault.BadName) ⊎ (e ≡ HubFault.Absent) ⊎ (e ≡ HubFault.NoMemory)) }
     {
@@ -163,7 +141,7 @@ impl Hub {
         }
         let names = self.names.read(rt);
         match names.find(name) {
-            Some(named) => Ok(HubDb::new(Arc::try_clone(named)?)),
+            Some(db) => Ok(db.again()?),
             None => Err(HubFault::Absent),
         }
     }
@@ -173,17 +151,16 @@ impl Hub {
     fn take<R: Wait>(
         &self,
         rt: &R,
-        names: &mut Names<Arc<Named, Global>>,
+        names: &mut Names,
         name: &str,
         notice: Notice,
     ) -> Result<Handle<Plain>, HubFault>
         ensures there { OnOk result (Contains names.old.names name.now) }
         ensures ok { OnOk result (names.new ≡ without_name name.now names.old) }
-        ensures same { OnErr result (names.new ≡ names.old) }
-        ensures err { IfErr result (λ e. IsRemovalFault names.old name.now e) }
+        ensures err { IfErr result (λ e. (names.new ≡ names.old) × IsRemovalFault names.old name.now e) }
     {
         let handle = match names.find(name) {
-            Some(named) => named.db.handle(),
+            Some(db) => db.handle(),
             None => {
                 notice.lapse();
                 return Err(HubFault::Absent);
@@ -203,8 +180,7 @@ impl Hub {
     /// unless someone has it. It costs the wait for the names and for the log, a search among the
     /// names, a note, and what `Handle::delete` does.
     pub fn remove<R: Wait>(&self, rt: &R, name: &str) -> Result<(), HubFault>
-        ensures bad { is_database_name name.now ≡ false → result ≡ Err HubFault.BadName }
-        ensures only_bad { result ≡ Err HubFault.BadName → is_database_name name.now ≡ false }
+        ensures bad { (is_database_name name.now ≡ false) ↔ (result ≡ Err HubFault.BadName) }
         ensures err { IfErr result (λ e. ¬ (e ≡ HubFault.Exists) × ¬ (e ≡ HubFault.TooMany)) }
     {
         if !is_name(name) {
@@ -296,7 +272,7 @@ impl Hub {
     }
 
     /// Opens a feed of the log of updates, which stays until it is finished: its connection is to call
-    /// `HostFeed::poll`, or something `pump_updates` for it, and `HostFeed::take`. It shows every row of the
+    /// `HostFeed::poll`, or something `pump` for it, and `HostFeed::take`. It shows every row of the
     /// log, upwards (`Updates::open_feed`). It costs the wait for the log, and what that call does.
     pub fn updates<R: Wait>(&self, rt: &R, params: FeedParams) -> Result<UpdatesFeed, OpenFault>
         ensures asks { IfOk result (λ feed. feed.label.asked ≡ updates_asked (params_asked params)) }
@@ -305,38 +281,5 @@ impl Hub {
         ensures err { IfErr result (λ e. (e ≡ OpenFault.NoMemory) ⊎ (e ≡ OpenFault.TooManyFeeds)) }
     {
         self.updates.open_feed(rt, params)
-    }
-
-    /// Takes the lock of the log once, as `hold`, for a feed of it. Writes wait for that lock: a gate
-    /// that holds the thread there holds every write of every database.
-    pub fn hold_updates<R, G>(
-        &self,
-        rt: &R,
-        feed: FeedId,
-        turn: Turn,
-        gate: &G,
-    ) -> Result<Handed, AllocError>
-    where
-        R: Asks<FeedLabel<UpdatesState>, Block<UpdateRow>>,
-        G: Gate,
-    {
-        hold(rt, &self.updates, feed, turn, gate)
-    }
-
-    /// Hands a feed of the log its items as they come, as `pump`, until it is finished or has handed its
-    /// end.
-    pub fn pump_updates<R, G, K>(
-        &self,
-        rt: &R,
-        feed: FeedId,
-        gate: &G,
-        clock: &K,
-    ) -> Result<(), AllocError>
-    where
-        R: Asks<FeedLabel<UpdatesState>, Block<UpdateRow>> + time::Clock,
-        G: Gate,
-        K: Clock,
-    {
-        pump(rt, &self.updates, feed, gate, clock)
     }
 }

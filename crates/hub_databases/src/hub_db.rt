@@ -1,72 +1,78 @@
 //! A database of a hub.
 
-ghost use Rattle.std.specs.Prelude.{◌≡◌, ℕ, List, string_bytes, IfOk};
-ghost use Rattle.std.specs.Arc.{arc_value};
+ghost use Rattle.std.specs.Prelude.{◌≡◌, ◌<◌, ℕ, List, IfOk};
+ghost use Rattle.std.specs.Arc.{arc_str_bytes};
 
-use crate::names::HasName;
+use hub_document::Limits;
 use hub_shared::{Db, Handle, Plain};
 use std::alloc::{AllocError, Global};
 use std::marker::Model;
-use std::sync::Arc;
+use std::sync::ArcStr;
 
-/// A database with its name, which stays with it while someone has it.
-#[derive(Drop)]
-pub(crate) struct Named {
-    pub(crate) name: String,
-    pub(crate) db: Db<Plain>,
-}
-
-impl HasName for Arc<Named, Global> {
-    ghost use Rattle.std.specs.Prelude.{string_bytes};
-    ghost use Rattle.std.specs.Arc.{arc_value};
-
-    ghost name_of = { λ a. string_bytes (arc_value a).name };
-}
-
-/// A database that was found in a hub. It stays when it is removed from there, for those that have
-/// it: what they write is then refused. Contracts see its name.
+/// A database with its name, which stays with it while someone has it. It stays when it is removed from its
+/// hub, for those that have it: what they write is then refused. Contracts see its name.
 pub struct HubDb {
-    named: Arc<Named, Global>,
+    name: ArcStr,
+    db: Db<Plain>,
 }
 
 impl Drop for HubDb {
     fn drop(self) {
-        let Self { named } = self;
+        let Self { name, db } = self;
     }
 }
 
 impl Model for HubDb {
-    ghost use Rattle.std.specs.Prelude.{ℕ, List, string_bytes};
-    ghost use Rattle.std.specs.Arc.{arc_value};
+    ghost use Rattle.std.specs.Prelude.{ℕ, List};
+    ghost use Rattle.std.specs.Arc.{arc_str_bytes};
 
     ghost Value = { List ℕ };
 
-    ghost view = { λ a. string_bytes (arc_value a.named).name };
+    ghost view = { λ a. arc_str_bytes a.name };
 }
 
 impl HubDb {
-    pub(crate) fn new(named: Arc<Named, Global>) -> HubDb
-        ensures { result ≡ string_bytes (arc_value named).name }
+    /// An empty database of this name, of the life of this number. Life 0 is that of the log.
+    pub(crate) fn new(
+        alloc: Global,
+        limits: Limits,
+        name: &str,
+        life: u64,
+    ) -> Result<HubDb, AllocError>
+        requires { 0 < life }
+        ensures { IfOk result (λ made. made ≡ name.now) }
     {
-        HubDb { named }
+        let name = ArcStr::from_str(alloc, name)?;
+        let (db, _handle) = Db::new(alloc, limits, life, Plain)?;
+        Ok(HubDb { name, db })
+    }
+
+    /// The same once more. Constant time.
+    pub(crate) fn again(&self) -> Result<HubDb, AllocError>
+        ensures { IfOk result (λ db. db ≡ self.now) }
+    {
+        Ok(HubDb {
+            name: self.name.clone()?,
+            db: self.db.again()?,
+        })
     }
 
     /// The database. Constant time.
     pub fn db(&self) -> &Db<Plain> {
-        &self.named.db
+        &self.db
     }
 
     /// A handle on the database: each thread has its own. Constant time.
     pub fn handle(&self) -> Result<Handle<Plain>, AllocError>
         ensures { IfOk result (λ handle. handle.count ≡ 0) }
     {
-        self.named.db.handle()
+        self.db.handle()
     }
 
     /// Its name. Constant time.
     pub fn name(&self) -> &str
         ensures { result.now ≡ self.now }
     {
-        self.named.name.as_str()
+        self.name.as_str()
     }
 }

@@ -1,48 +1,41 @@
-//! What stands under each name.
+//! The databases of a hub by their names.
 
-ghost use Rattle.std.specs.Prelude.{◌≡◌, ◌↔◌, ◌<◌, ◌≤◌, ◌+◌, ◌-◌, ◌^◌, ℕ, List, [], true, Err, length, map};
+ghost use Rattle.std.specs.Prelude.{◌≡◌, ◌↔◌, ◌≤◌, ◌+◌, ◌-◌, ◌^◌, ◌<◌, [], true, Err, map};
 ghost use Rattle.std.specs.Prelude.{string_bytes, Contains, IsSome, OnOk, OnErr, IfErr, IfOk, IfSome};
 ghost use Rattle.hub_databases.specs.Kept.{AreNames, most_databases, with_name, without_name};
 ghost use Rattle.hub_databases.specs.Names.{is_name as is_database_name};
-ghost use Rattle.hub_databases.specs.Refusals.{IsCreationFault};
+ghost use Rattle.hub_databases.specs.Refusals.{IsCreationFault, IsFree};
 
 use crate::fault::HubFault;
+use crate::hub_db::HubDb;
 use std::alloc::{AllocError, Global};
 use std::collections::BTreeMap;
 use std::marker::Model;
 
-/// What stands under a name, and has that name.
-pub(crate) trait HasName: Drop {
-    ghost use Rattle.std.specs.Prelude.{ℕ, List};
-
-    /// The bytes of its name.
-    ghost name_of: { Self → List ℕ };
-}
-
-/// What stands under each name: it has that name. It is seen as its names, in the order of their
-/// bytes, how many there may be, and how many were made so far.
+/// The database under each name: it has that name. It is seen as its names, in the order of their bytes, how
+/// many there may be, and how many were made so far.
 #[derive(Drop)]
-pub(crate) struct Names<D: HasName> {
+pub(crate) struct Names {
     /// How many there may be.
     limit: u64,
-    list: BTreeMap<String, D>,
+    list: BTreeMap<String, HubDb>,
     /// How many were made so far: the life of the latest.
     made: u64,
 }
 
-impl<D: HasName> Model for Names<D> {
+impl Model for Names {
     ghost use Rattle.hub_databases.specs.Kept.{AreKept, NamesState, names_of};
 
     ghost Value = { NamesState };
 
     ghost view = { λ a. record { names = names_of a.list.entries; limit = a.limit; made = a.made } };
 
-    ghost invariant = { λ a. AreKept D.name_of a.limit a.list.entries };
+    ghost invariant = { λ a. AreKept a.limit a.list.entries };
 }
 
-impl<D: HasName> Names<D> {
+impl Names {
     /// No names, of which there may be so many. It takes no memory.
-    pub(crate) fn new(alloc: Global, limit: u64) -> Names<D>
+    pub(crate) fn new(alloc: Global, limit: u64) -> Names
         requires limit { limit ≤ most_databases }
         ensures { result ≡ record { names = []; limit = limit; made = 0 } }
     {
@@ -53,17 +46,10 @@ impl<D: HasName> Names<D> {
         }
     }
 
-    /// How many names there are. Constant time.
-    pub(crate) fn len(&self) -> usize
-        ensures { result ≡ length self.now.names }
-    {
-        self.list.len()
-    }
-
-    /// What stands under a name. It costs a search among the names.
-    pub(crate) fn find(&self, name: &str) -> Option<&D>
+    /// The database under a name. It costs a search among the names.
+    pub(crate) fn find(&self, name: &str) -> Option<&HubDb>
         ensures some { IsSome result ↔ Contains self.now.names name.now }
-        ensures own { IfSome result (λ what. D.name_of what.now ≡ name.now) }
+        ensures own { IfSome result (λ db. db.now ≡ name.now) }
     {
         self.list.get(name)
     }
@@ -72,8 +58,7 @@ impl<D: HasName> Names<D> {
     /// more. Else it is the first refusal that holds. The numbers end at 2^64 - 1: the log of updates,
     /// which has a note for each, is full long before. It costs a search among the names.
     pub(crate) fn next_life(&self, name: &str) -> Result<u64, HubFault>
-        ensures new { OnOk result (¬ Contains self.now.names name.now) }
-        ensures room { OnOk result (length self.now.names < self.now.limit) }
+        ensures free { OnOk result (IsFree self.now name.now) }
         ensures ok { IfOk result (λ life. life ≡ self.now.made + 1) }
         ensures err { IfErr result (λ e. IsCreationFault self.now name.now e) }
         ensures last { result ≡ Err HubFault.SequenceFull → self.now.made ≡ 2 ^ 64 - 1 }
@@ -82,7 +67,7 @@ impl<D: HasName> Names<D> {
         if self.find(name).is_some() {
             return Err(HubFault::Exists);
         }
-        if self.len() as u64 >= self.limit {
+        if self.list.len() as u64 >= self.limit {
             return Err(HubFault::TooMany);
         }
         if self.made == u64::MAX {
@@ -91,17 +76,16 @@ impl<D: HasName> Names<D> {
         Ok(self.made + 1)
     }
 
-    /// Puts something under a name that has none, where there is room. It is not counted yet. It costs
+    /// Puts a database under its name, which has none, where there is room. It is not counted yet. It costs
     /// a search among the names.
-    pub(crate) fn put(&mut self, name: String, what: D) -> Result<(), AllocError>
+    pub(crate) fn put(&mut self, name: String, db: HubDb) -> Result<(), AllocError>
         requires name { is_database_name (string_bytes name) ≡ true }
-        requires own { D.name_of what ≡ string_bytes name }
-        requires new { ¬ Contains self.old.names (string_bytes name) }
-        requires room { length self.old.names < self.old.limit }
+        requires own { db ≡ string_bytes name }
+        requires free { IsFree self.old (string_bytes name) }
         ensures ok { OnOk result (self.new ≡ with_name (string_bytes name) self.old) }
         ensures err { OnErr result (self.new ≡ self.old) }
     {
-        match self.list.insert(name, what) {
+        match self.list.insert(name, db) {
             Ok(_) => Ok(()),
             Err(_) => Err(AllocError),
         }
@@ -115,8 +99,8 @@ impl<D: HasName> Names<D> {
         self.made += 1;
     }
 
-    /// Takes out what stands under a name. It takes no memory, and costs a search among the names.
-    pub(crate) fn take(&mut self, name: &str) -> Option<D>
+    /// Takes out the database under a name. It takes no memory, and costs a search among the names.
+    pub(crate) fn take(&mut self, name: &str) -> Option<HubDb>
         ensures some { IsSome result ↔ Contains self.old.names name.now }
         ensures names { self.new ≡ without_name name.now self.old }
     {

@@ -1,7 +1,7 @@
 -- What one edit does, and a batch without receipts.
-use Rattle.std.proofs.Common.{◌≡◌, ◌⊎◌, ◌+◌, ◌<◌, ◌≤◌, ◌^◌, ℕ, List, [], ◌∷◌, ◌++◌, length, map, take, Bool}
+use Rattle.std.proofs.Common.{◌≡◌, ◌⊎◌, ◌+◌, ◌<◌, ◌≤◌, ◌^◌, ℕ, List, [], ◌∷◌, ◌++◌, length, take, Bool}
 use Rattle.std.proofs.Common.{true, false, ap, refl, sym, ◌∙◌, subst, inl, inr, length-append, arith}
-use Rattle.std.specs.Prelude.{cond, Result, Ok, Err, IfOk, IfErr, OnOk, OnErr, count_by}
+use Rattle.std.specs.Prelude.{cond, Result, Ok, Err, IfOk, IfErr, OnOk}
 use Rattle.std.proofs.lemmas.List.{length-map}
 use Rattle.std.proofs.lemmas.List.Sums.{sum_by-cons}
 use Rattle.hub_document.specs.declared.doc.Doc.{Doc}
@@ -21,10 +21,10 @@ use Rattle.hub_database.specs.declared.batch.Batch.{Batch}
 use Rattle.hub_database.specs.declared.batch.DbFault.{DbFault}
 use Rattle.hub_database.specs.declared.batch.DbFault.TheVariants as db_fault
 use Rattle.hub_shared.specs.Edits.{IsEditAnswer}
-use Rattle.hub_shared.specs.Handles.{HandleState, IsEditedBy, IsFoundBy, IsStoredBy}
+use Rattle.hub_shared.specs.Handles.{HandleState, IsFoundBy, IsStoredBy}
 use Rattle.hub_shared.specs.Label.{Label}
 use Rattle.hub_shared.specs.Locked.{AreSendersOf, IsBookOf}
-use Rattle.hub_database.specs.Receipts.{ids_of, receipts_from, behind_reply}
+use Rattle.hub_database.specs.Receipts.{ids_of, receipts_from}
 use Rattle.hub_shared.specs.Stored.{Adds, StoresBatch, is_stored, stored_count}
 use Rattle.hub_shared.proofs.Booking.{book_grows}
 use Rattle.hub_shared.proofs.Storing.{StoredAs, as_many, make_stored, senders_stay, writes_added}

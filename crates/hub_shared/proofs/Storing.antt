@@ -14,7 +14,6 @@ use Rattle.hub_model.specs.Leaves.{leaves_of}
 use Rattle.hub_model.specs.Outcome.{Stores, StoresAll, adds, merges, stores_all}
 use Rattle.hub_model.specs.Path.{is_history}
 use Rattle.hub_model.specs.Revision.{Revision}
-use Rattle.hub_model.specs.Row.{ChangeRow}
 use Rattle.hub_model.specs.RightlyHanded.{ChangeItem, Fits}
 use Rattle.hub_model.specs.RowKind.{change_rows}
 use Rattle.hub_model.specs.declared.outcomes.Outcome.{Outcome}

@@ -8,11 +8,10 @@ use Rattle.hub_database.specs.Database.{Database}
 use Rattle.hub_database.specs.Handing.{IsFitting}
 use Rattle.hub_database.specs.Hosting.{hosted_of}
 use Rattle.hub_database.specs.declared.batch.DbFault.{DbFault}
-use Rattle.hub_database.specs.declared.batch.DbFault.TheVariants.{NoMemory}
 use Rattle.hub_shared.specs.Handles.{HandleState, IsFoundBy, IsWrittenBy}
 use Rattle.hub_shared.specs.Label.{Label}
 use Rattle.hub_shared.specs.Locked.{AreSendersOf}
-use Rattle.hub_shared.specs.Stored.{stored_count}
+use Rattle.hub_shared.specs.Stored.{IsOutOfMemoryFor, stored_count}
 use Rattle.hub_shared.specs.Writes.{Stores}
 use Rattle.hub_shared.specs.declared.write.Accepted.{Accepted}
 use Rattle.hub_shared.proofs.Editing.{senders_added, stored_by}
@@ -43,7 +42,7 @@ module _ {K : Type 0} (label : K → Label) (sent : K → List ChangeItem) (new_
 
   -- also where it was not done
   pub still_served : (senders : List (ℕ × K)) (r : Result Accepted DbFault)
-      → IfOk r (λ a. Stores new_edits docs old a new) → IfErr r (λ e. (e ≡ NoMemory) × (new ≡ old))
+      → IfOk r (λ a. Stores new_edits docs old a new) → IfErr r (λ e. IsOutOfMemoryFor docs e × (new ≡ old))
       → Serves old senders → Serves new senders
   still_served senders (Ok a) done err serves = stored_served senders a done serves
   still_served senders (Err e) done err serves =
@@ -52,7 +51,7 @@ module _ {K : Type 0} (label : K → Label) (sent : K → List ChangeItem) (new_
 -- the journal of either is legal
 module _ (new_edits : Bool) (docs : List Doc) (old new : Database) where
   pub still_legal : (r : Result Accepted DbFault)
-      → IfOk r (λ a. Stores new_edits docs old a new) → IfErr r (λ e. (e ≡ NoMemory) × (new ≡ old))
+      → IfOk r (λ a. Stores new_edits docs old a new) → IfErr r (λ e. IsOutOfMemoryFor docs e × (new ≡ old))
       → IsLegal old.journal → IsLegal new.journal
   still_legal (Ok a) done err legal = done.batch.adds.legal
   still_legal (Err e) done err legal = subst (λ (db : Database). IsLegal db.journal) (sym err.1) legal

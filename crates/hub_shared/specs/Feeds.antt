@@ -1,9 +1,11 @@
 -- A feed, as the connection that shows it has it (own; CouchDB API reference, _changes).
-use Rattle.std.specs.Prelude.{◌≡◌, ℕ, List, [], ◌∷◌, ◌++◌, None}
+use Rattle.std.specs.Prelude.{◌≡◌, ℕ, List, [], ◌∷◌, ◌++◌, Option, None, IfSome, IfNone}
 use Rattle.hub_model.specs.Entries.{entry_in}
+use Rattle.hub_model.specs.Feed.{Params}
 use Rattle.hub_model.specs.declared.feeds.Item.{Item}
 use Rattle.hub_feed.specs.Host.{Hosted, refuses}
-use Rattle.hub_lane.specs.Ends.{LaneId, ReceiverState}
+use Rattle.hub_lane.specs.Ends.{IsAllowedBeginning, LaneId, ReceiverState}
+use Rattle.hub_params.specs.FeedModel.{params_in}
 use Rattle.hub_params.specs.FeedParams.{FeedAsked}
 use Rattle.hub_shared.specs.Label.{Label, label_of}
 
@@ -27,6 +29,16 @@ module _ {R : Type 0} where
   -- a feed behind an item that was taken
   abbrev pub behind_item : FeedState R → Item R → FeedState R
   behind_item feed item = record feed { taken = feed.taken ++ item ∷ [] }
+
+  -- What a call that looks for an item did to a feed: an item that was found stands behind those that were
+  -- taken, and where there is none the feed is as it was.
+  abbrev pub Takes : FeedState R → Option (Item R) → FeedState R → Type 0
+  Takes old found new = IfSome found (λ item. new ≡ behind_item old item) × IfNone found (new ≡ old)
+
+  -- what was taken of a feed is the beginning of a list that is right for its parameters and its since
+  abbrev pub IsRightSoFar : (Params → ℕ → List (Item R) → Type 0) → FeedState R → Type 0
+  IsRightSoFar right feed =
+      IsAllowedBeginning (λ (l : Label) items. right (params_in l.asked) l.since items) (receiver_of feed)
 
   -- The host opened the feed, of which this was asked. The host refused none, no feed of it had the number,
   -- the label tells where a feed begins that is opened then, and nothing was taken yet.

@@ -1,5 +1,5 @@
 -- What a handle on a database knows of it (own).
-use Rattle.std.specs.Prelude.{◌≡◌, ℕ, ◌≤◌, ◌<◌, List, length, take, min, Bool, true, false, IsTrue, Result}
+use Rattle.std.specs.Prelude.{◌≡◌, ℕ, ◌+◌, ◌≤◌, ◌<◌, List, length, take, min, Bool, true, false, IsTrue, Result}
 use Rattle.hub_model.specs.Feed.{counted_in}
 use Rattle.hub_model.specs.Journal.{IsLegal}
 use Rattle.hub_model.specs.Revision.{Revision}
@@ -22,6 +22,16 @@ use Rattle.hub_database.specs.declared.question.Question.{Question}
 pub record HandleState : Type 0 where
   pub parts : ℕ  -- of the right to know how many edits were accepted through all handles
   pub count : ℕ  -- how many were accepted through this one, and those joined to it
+
+-- what is seen of a handle that has this share, where these say how many parts a share has, and what it counted
+abbrev pub handle_of : {S : Type 0} → (parts amount : S → ℕ) → S → HandleState
+handle_of parts amount share = record { parts = parts share; count = amount share }
+
+-- a handle behind a call through which so many edits were accepted: it counted these, where it counts at all,
+-- and has the parts that it had
+abbrev pub HasCounted : (counts : Bool) → (edits : ℕ) → (old new : HandleState) → Type 0
+HasCounted counts edits old new =
+    (counts ≡ true → new.count ≡ old.count + edits) × (new.parts ≡ old.parts)
 
 -- a database as a call through the handle finds it: its journal is legal, and has at least the edits that the
 -- handle counted; just these, where the handle has every part

@@ -1,5 +1,5 @@
 -- What lies under a lock: a host of feeds, and the outbox of each of its feeds (own).
-use Rattle.std.specs.Prelude.{◌≡◌, ℕ, ◌<◌, ◌≤◌, List, All, Bool, true, false, Option, Some, None, ⊤}
+use Rattle.std.specs.Prelude.{◌≡◌, ℕ, ◌<◌, ◌≤◌, List, [], All, Bool, true, false, Option, Some, None, ⊤}
 use Rattle.hub_model.specs.Entries.{entry_in, AreRising}
 use Rattle.hub_model.specs.Feed.{Feed}
 use Rattle.hub_model.specs.declared.feeds.Item.{Item}
@@ -49,6 +49,10 @@ module _ {R K : Type 0} (label : K → Label) (sent : K → List (Item R)) (fits
 -- a book that counts has counted 5 behind 5 edits, and one that counts nothing 0
 abbrev pub IsBookOf : (counts : Bool) → (total edits : ℕ) → Type 0
 IsBookOf counts total edits = (total ≤ edits) × (counts ≡ true → total ≡ edits)
+
+-- a host that has no feed, with a book that has counted nothing: where there is a count, the host has no edit
+abbrev pub IsUnused : {R : Type 0} → (counts : Bool) → (total : ℕ) → Hosted R → Type 0
+IsUnused counts total h = (h.feeds ≡ []) × (total ≡ 0) × (counts ≡ true → h.length ≡ 0)
 
 module _ {S R K : Type 0} (hosted : S → Hosted R) (with_hosted : S → Hosted R → S) where
   -- a step of the feeds, with no outbox

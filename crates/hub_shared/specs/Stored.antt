@@ -10,6 +10,8 @@ use Rattle.hub_document.specs.declared.doc.Doc.{Doc}
 use Rattle.hub_database.specs.Database.{Database}
 use Rattle.hub_database.specs.Edits.{StopsAt, writes}
 use Rattle.hub_database.specs.declared.batch.Batch.{Batch}
+use Rattle.hub_database.specs.declared.batch.DbFault.{DbFault}
+use Rattle.hub_database.specs.declared.batch.DbFault.TheVariants.{NoMemory}
 
 -- whether a document was stored that was answered so
 abbrev pub is_stored : Outcome Revision → Bool
@@ -24,6 +26,10 @@ stored_count replies = count_by is_stored replies
 -- one of the documents was stored
 abbrev pub HasStored : List (Outcome Revision) → Type 0
 HasStored replies = (rev : Revision) × Contains replies (Stored rev)
+
+-- a write of these documents found no memory: of none it is never told
+abbrev pub IsOutOfMemoryFor : List Doc → DbFault → Type 0
+IsOutOfMemoryFor docs fault = (fault ≡ NoMemory) × (0 < length docs)
 
 -- so many edits were added to the journal, which is legal, and nothing else changed
 pub record Adds (count : ℕ) (old new : Database) : Type 0 where

@@ -1,11 +1,8 @@
 //! A database that lies under a lock.
 
-ghost use Rattle.std.specs.Prelude.{◌≡◌, ◌<◌, ◌^◌, [], true, false, ℕ, length, Some, IfOk, IfErr, OnOk};
-ghost use Rattle.std.specs.Fn.{FnOnceReturnsAt};
+ghost use Rattle.std.specs.Prelude.{◌≡◌, ◌<◌, ◌^◌, true, false, ℕ, length, Some, IfOk, IfErr, OnOk};
 ghost use Rattle.hub_database.specs.Feeds.{deleted};
-ghost use Rattle.hub_database.specs.Hosting.{hosted_of};
 ghost use Rattle.hub_database.specs.Locals.{put_local, written};
-ghost use Rattle.hub_feed.specs.Host.{opening_fault};
 ghost use Rattle.hub_model.specs.Entries.{entry_in};
 ghost use Rattle.hub_model.specs.Feed.{Feed};
 ghost use Rattle.hub_model.specs.Journal.{IsLegal};
@@ -13,20 +10,14 @@ ghost use Rattle.hub_model.specs.RightlyHanded.{RightlyHanded};
 ghost use Rattle.hub_model.specs.RowKind.{change_rows};
 ghost use Rattle.hub_model.specs.declared.outcomes.Fault.TheVariants.{Deleted};
 ghost use Rattle.hub_params.specs.FeedModel.{params_in};
-ghost use Rattle.hub_params.specs.FeedShown.{params_asked};
-ghost use Rattle.hub_shared.specs.Feeds.{IsOpened, feed_of};
-ghost use Rattle.hub_shared.specs.Handles.{IsBeginningFor, IsFoundBy};
+ghost use Rattle.hub_shared.specs.Handles.{IsFoundBy, handle_of};
 ghost use Rattle.hub_shared.specs.Locals.{IsLocalFault};
-ghost use Rattle.hub_database.specs.Receipts.{IsAudit};
 
 use crate::count::Count;
-use crate::locked::{Locked, OpenedFeed};
+use crate::locked::Locked;
 use crate::outbox::Outbox;
-use crate::subscriber::FeedTaker;
-use hub_database::{AuditFault, DbFault, DbState, Receipt, audit_of};
+use hub_database::{DbFault, DbState};
 use hub_document::LocalDoc;
-use hub_feed::{FeedHost, OpenFault};
-use hub_params::FeedParams;
 
 impl<C: Count, K: Outbox<DbState>> Locked<DbState, C, K> {
     /// Whenever a database is got from a lock, its journal is legal, and what was sent for each feed
@@ -50,31 +41,13 @@ impl<C: Count, K: Outbox<DbState>> Locked<DbState, C, K> {
     /// How many edits there are, and how a share stands to them. Nothing changes.
     pub(crate) fn audit_share(&mut self, share: &mut C::Share) -> u64
         ensures edits { (result ≡ length self.old.state.journal) × (result < 2 ^ 32) }
-        ensures found { IsFoundBy C.counts C.all_parts
-            (record { parts = C.parts share.old; count = C.amount share.old }) self.old.state }
+        ensures found { IsFoundBy C.counts C.all_parts (handle_of C.parts C.amount share.old) self.old.state }
         ensures within { C.amount share.old < 2 ^ 32 }
         ensures same { (self.new ≡ self.old) × (C.amount share.new ≡ C.amount share.old)
             × (C.parts share.new ≡ C.parts share.old) }
     {
         C::audit(&mut self.book, share);
         self.state.update_seq()
-    }
-
-    /// Asks the database, as it lies here: `ask` is called once. It costs what `ask` does.
-    pub(crate) fn look<T, F: FnOnce(&DbState) -> Result<T, DbFault>>(
-        &mut self,
-        share: &mut C::Share,
-        ask: F,
-    ) -> Result<T, DbFault>
-        requires { F.IsAlwaysCallable ask }
-        ensures asked { FnOnceReturnsAt F.FnOnce ask self.old.state result }
-        ensures found { IsFoundBy C.counts C.all_parts
-            (record { parts = C.parts share.old; count = C.amount share.old }) self.old.state }
-        ensures same { (self.new ≡ self.old) × (C.amount share.new ≡ C.amount share.old)
-            × (C.parts share.new ≡ C.parts share.old) }
-    {
-        self.audit_share(share);
-        ask(&self.state)
     }
 
     /// Stores a local document, as `DbState::local_put`: feeds do not show it.
@@ -91,34 +64,6 @@ impl<C: Count, K: Outbox<DbState>> Locked<DbState, C, K> {
         self.state.local_put(doc)
     }
 
-    /// Why no feed is opened for which there is no memory: a refusal of the database is told first.
-    pub(crate) fn opening_fault(&mut self, share: &mut C::Share) -> OpenFault
-        ensures fault { result ≡ opening_fault (hosted_of self.old.state) }
-        ensures found { IsFoundBy C.counts C.all_parts
-            (record { parts = C.parts share.old; count = C.amount share.old }) self.old.state }
-        ensures same { (self.new ≡ self.old) × (C.amount share.new ≡ C.amount share.old)
-            × (C.parts share.new ≡ C.parts share.old) }
-    {
-        self.audit_share(share);
-        self.state.refusal().unwrap_or(OpenFault::NoMemory)
-    }
-
-    /// Compares receipts with the journal, by `audit_of`.
-    pub(crate) fn audit(
-        &mut self,
-        share: &mut C::Share,
-        receipts: &[Receipt],
-    ) -> Result<(), AuditFault>
-        ensures audit { IsAudit self.old.state.journal receipts.now result }
-        ensures found { IsFoundBy C.counts C.all_parts
-            (record { parts = C.parts share.old; count = C.amount share.old }) self.old.state }
-        ensures same { (self.new ≡ self.old) × (C.amount share.new ≡ C.amount share.old)
-            × (C.parts share.new ≡ C.parts share.old) }
-    {
-        self.audit_share(share);
-        audit_of(&self.state, receipts)
-    }
-
     /// Deletes the database, ends its open feeds, and gives news of it: what is left of each feed is its
     /// end. It takes no memory, and costs a step for each feed.
     pub fn delete(&mut self) -> Result<(), DbFault>
@@ -129,28 +74,5 @@ impl<C: Count, K: Outbox<DbState>> Locked<DbState, C, K> {
     {
         self.tell();
         self.state.delete()
-    }
-}
-
-impl<C: Count> Locked<DbState, C> {
-    /// Opens a feed, as `begin`, whose label the share knows.
-    pub(crate) fn open_feed(
-        &mut self,
-        share: &mut C::Share,
-        params: FeedParams,
-    ) -> Result<OpenedFeed<FeedTaker<DbState>>, OpenFault>
-        ensures asks { IfOk result (λ opened. opened.taker.end.label.asked ≡ params_asked params) }
-        ensures begins { IfOk result (λ opened.
-            IsBeginningFor params.since (C.amount share.old) opened.taker.end.label) }
-        ensures none { IfOk result (λ opened. opened.taker.end.taken ≡ []) }
-        ensures opened { IfOk result (λ opened. IsOpened (hosted_of self.old.state) (params_asked params)
-            (feed_of opened.id.number opened.taker.end)) }
-        ensures err { IfErr result (λ e. e ≡ opening_fault (hosted_of self.old.state)) }
-        ensures found { IsFoundBy C.counts C.all_parts
-            (record { parts = C.parts share.old; count = C.amount share.old }) self.old.state }
-        ensures same { (C.amount share.new ≡ C.amount share.old) × (C.parts share.new ≡ C.parts share.old) }
-    {
-        self.audit_share(share);
-        self.begin(params)
     }
 }

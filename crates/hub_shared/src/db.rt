@@ -24,13 +24,8 @@ impl<C: Count> Host<DbState, C> {
         ensures parts { IfOk result (λ made. C.counts ≡ true → made.1.parts ≡ C.all_parts) }
     {
         let (book, share) = count.open();
-        let db = Host::of(
-            alloc,
-            DbState::new(alloc, limits, life),
-            limits.lane as usize,
-            limits.hold,
-            book,
-        )?;
+        let state = DbState::new(alloc, limits, life);
+        let db = Host::of(alloc, state, limits.lane as usize, limits.hold, book)?;
         let handle = Handle::new(db.again()?, share);
         Ok((db, handle))
     }

@@ -1,10 +1,8 @@
 //! Feeds of what threads share.
 
-ghost use Rattle.std.specs.Prelude.{◌≡◌, IfSome, IfNone};
-ghost use Rattle.hub_lane.specs.Ends.{IsAllowedBeginning};
-ghost use Rattle.hub_params.specs.FeedModel.{params_in};
+ghost use Rattle.std.specs.Prelude.{◌≡◌, IfNone};
 ghost use Rattle.hub_shared.specs.Blocks.{IsDrained};
-ghost use Rattle.hub_shared.specs.Feeds.{behind_item, feed_of, receiver_of};
+ghost use Rattle.hub_shared.specs.Feeds.{IsRightSoFar, Takes, feed_of, receiver_of};
 
 use crate::block::Block;
 use crate::count::{Count, Plain};
@@ -106,11 +104,9 @@ impl<S: FeedHost, C: Count> HostFeed<S, C> {
     /// the lane was empty at a moment of the call, and no item was left of its blocks: then a pump that waits
     /// for room is woken. It waits for nobody, and takes no memory.
     pub fn take<R: Asks<FeedLabel<S>, Block<S::Row>>>(&mut self, rt: &R) -> Option<Item<S::Row>>
-        ensures taken { IfSome result (λ item. self.new ≡ behind_item self.old item) }
-        ensures same { IfNone result (self.new ≡ self.old) }
+        ensures taken { Takes self.old result self.new }
         ensures none { IfNone result (IsDrained (R.lacks rt.now) (receiver_of self.old)) }
-        ensures allowed { IsAllowedBeginning
-            (λ l items. S.right (params_in l.asked) l.since items) (receiver_of self.new) }
+        ensures allowed { IsRightSoFar S.right self.new }
     {
         let item = self.end.take(rt);
         if item.is_none() {
@@ -126,7 +122,7 @@ impl<S: FeedHost, C: Count> HostFeed<S, C> {
     }
 
     /// Whether nothing more is handed, as the feed's pump has ended, or `poll` found the feed gone or no
-    /// memory for a row: what can be taken then is all that will come. Constant time.
+    /// memory for an item: what can be taken then is all that will come. Constant time.
     pub fn is_over(&self) -> bool {
         self.signals.is_over()
     }
@@ -143,8 +139,8 @@ impl<S: FeedHost, C: Count> HostFeed<S, C> {
 
 impl<S: FeedHost + Drop, C: Count> HostFeed<S, C> {
     /// Takes the feed out of the lock, drops its subscriber, and hands back the end that takes, from which
-    /// what the lane got can be taken until None: items that still wait for room in the lane go with the
-    /// subscriber. A pump of the feed ends. It takes no memory.
+    /// the items of the blocks that the lane got can be taken until None: items that still wait for room in the
+    /// lane go with the subscriber. A pump of the feed ends. It takes no memory.
     pub fn finish<R: Wait>(self, rt: &R) -> FeedEnd<S>
         ensures { result ≡ receiver_of self }
     {

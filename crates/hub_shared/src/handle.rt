@@ -1,6 +1,6 @@
 //! Handles on a database.
 
-ghost use Rattle.std.specs.Prelude.{◌≡◌, ◌⊎◌, ℕ, [], ◌+◌, ◌≤◌, ◌<◌, true, false, length};
+ghost use Rattle.std.specs.Prelude.{◌≡◌, ◌⊎◌, [], ◌+◌, ◌<◌, true, false};
 ghost use Rattle.std.specs.Prelude.{IfOk, IfErr, OnErr, OnOk, vec_len};
 ghost use Rattle.std.specs.Fn.{FnOnceReturnsAt};
 ghost use Rattle.hub_model.specs.declared.outcomes.Fault.TheVariants.{Deleted, SequenceFull};
@@ -12,19 +12,21 @@ ghost use Rattle.hub_feed.specs.Host.{opening_fault};
 ghost use Rattle.hub_shared.specs.Feeds.{IsOpened};
 ghost use Rattle.hub_database.specs.Receipts.{IsAudit};
 ghost use Rattle.hub_database.specs.Answers.{TakesMemory};
-ghost use Rattle.hub_shared.specs.Handles.{IsBeginningFor, IsEditedBy, IsFoundBy, IsReadBy, IsStoredBy};
-ghost use Rattle.hub_shared.specs.Handles.{IsWrittenBy};
+ghost use Rattle.hub_shared.specs.Handles.{HasCounted, IsBeginningFor, IsEditedBy, IsFoundBy, IsReadBy};
+ghost use Rattle.hub_shared.specs.Handles.{IsStoredBy, IsWrittenBy};
 ghost use Rattle.hub_shared.specs.Locals.{IsLocalFault};
-ghost use Rattle.hub_shared.specs.Stored.{stored_count};
+ghost use Rattle.hub_shared.specs.Stored.{IsOutOfMemoryFor, stored_count};
 
 use crate::count::Count;
 use crate::db::Db;
 use crate::feed::{Feed, HostFeed};
 use crate::locked::OpenedFeed;
 use crate::write::Accepted;
-use hub_database::{Answer, AuditFault, Batch, DbFault, DbState, Question, Receipt, ReceiptRoom};
+use hub_database::{
+    Answer, AuditFault, Batch, DbFault, DbState, Question, Receipt, ReceiptRoom, audit_of,
+};
 use hub_document::{Doc, LocalDoc, RevId};
-use hub_feed::OpenFault;
+use hub_feed::{FeedHost, OpenFault};
 use hub_params::FeedParams;
 use std::alloc::AllocError;
 use std::marker::Model;
@@ -94,11 +96,8 @@ impl<C: Count> Handle<C> {
     ) -> Result<Accepted, DbFault>
         ensures written { IfOk result (λ a.
             IsWrittenBy C.counts C.all_parts self.old new_edits docs.items a) }
-        ensures counted { IfOk result (λ a. C.counts ≡ true
-            → self.new.count ≡ self.old.count + vec_len a.receipts) }
-        ensures parts { self.new.parts ≡ self.old.parts }
-        ensures err { IfErr result (λ e. (e ≡ DbFault.NoMemory) × (self.new ≡ self.old)) }
-        ensures memory { OnErr result (0 < length docs.items) }
+        ensures counted { IfOk result (λ a. HasCounted C.counts (vec_len a.receipts) self.old self.new) }
+        ensures err { IfErr result (λ e. IsOutOfMemoryFor docs.items e × (self.new ≡ self.old)) }
     {
         let room = ReceiptRoom::of(self.db.alloc, docs.as_slice())?;
         let (accepted, rise) = self
@@ -123,7 +122,9 @@ impl<C: Count> Handle<C> {
             × FnOnceReturnsAt F.FnOnce ask db result }
         ensures same { self.new ≡ self.old }
     {
-        self.db.locked().lock(rt).look(&mut self.share, ask)
+        let mut locked = self.db.locked().lock(rt);
+        locked.audit_share(&mut self.share);
+        ask(locked.state())
     }
 
     /// Stores documents, as `write`, without receipts: their ids are not copied. It costs the wait for the
@@ -136,11 +137,9 @@ impl<C: Count> Handle<C> {
     ) -> Result<Batch, DbFault>
         ensures stored { IfOk result (λ batch.
             IsStoredBy C.counts C.all_parts self.old new_edits docs.items batch) }
-        ensures counted { IfOk result (λ batch. C.counts ≡ true
-            → self.new.count ≡ self.old.count + stored_count batch.replies) }
-        ensures parts { self.new.parts ≡ self.old.parts }
-        ensures err { IfErr result (λ e. (e ≡ DbFault.NoMemory) × (self.new ≡ self.old)) }
-        ensures memory { OnErr result (0 < length docs.items) }
+        ensures counted { IfOk result (λ batch.
+            HasCounted C.counts (stored_count batch.replies) self.old self.new) }
+        ensures err { IfErr result (λ e. IsOutOfMemoryFor docs.items e × (self.new ≡ self.old)) }
     {
         let (batch, rise) = self
             .db
@@ -158,8 +157,7 @@ impl<C: Count> Handle<C> {
     /// takes no memory beside that.
     pub fn write_one<R: Wait>(&mut self, rt: &R, doc: Doc) -> Result<RevId, DbFault>
         ensures edited { IsEditedBy C.counts C.all_parts self.old doc result }
-        ensures counted { OnOk result (C.counts ≡ true → self.new.count ≡ self.old.count + 1) }
-        ensures parts { self.new.parts ≡ self.old.parts }
+        ensures counted { OnOk result (HasCounted C.counts 1 self.old self.new) }
         ensures err { OnErr result (self.new ≡ self.old) }
     {
         let (rev, rise) = self.db.locked().lock(rt).write_one(&mut self.share, doc)?;
@@ -210,14 +208,13 @@ impl<C: Count> Handle<C> {
             × IsFoundBy C.counts C.all_parts self.old db × (e ≡ opening_fault (hosted_of db))) }
         ensures same { self.new ≡ self.old }
     {
-        let Ok(db) = self.db.again() else {
-            return Err(self.db.locked().lock(rt).opening_fault(&mut self.share));
+        let own = self.db.again();
+        let mut locked = self.db.locked().lock(rt);
+        locked.audit_share(&mut self.share);
+        let Ok(db) = own else {
+            return Err(locked.state().refusal().unwrap_or(OpenFault::NoMemory));
         };
-        let OpenedFeed { id, taker } = self
-            .db
-            .locked()
-            .lock(rt)
-            .open_feed(&mut self.share, params)?;
+        let OpenedFeed { id, taker } = locked.begin(params)?;
         Ok(HostFeed::new(db, id, taker))
     }
 
@@ -239,7 +236,9 @@ impl<C: Count> Handle<C> {
             × IsAudit db.journal receipts.now result }
         ensures same { self.new ≡ self.old }
     {
-        self.db.locked().lock(rt).audit(&mut self.share, receipts)
+        let mut locked = self.db.locked().lock(rt);
+        locked.audit_share(&mut self.share);
+        audit_of(locked.state(), receipts)
     }
 
     /// Cuts a handle off, with so many of the parts of this one. It has counted nothing yet. It takes

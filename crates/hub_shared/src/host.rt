@@ -1,6 +1,7 @@
 //! What threads share that keeps feeds: a lock, and news.
 
-ghost use Rattle.std.specs.Prelude.{◌≡◌, ◌<◌, [], true};
+ghost use Rattle.std.specs.Prelude.{◌<◌};
+ghost use Rattle.hub_shared.specs.Locked.{IsUnused};
 
 use crate::count::{Count, Plain};
 use crate::locked::Locked;
@@ -12,25 +13,14 @@ use std::time::{self, Duration};
 /// The longest wait, in milliseconds.
 const MINUTE: u64 = 60_000;
 
-/// What the threads share of it.
-struct Shared<S: HostView, C: Count> {
-    /// The only lock: it guards what keeps the feeds, and their subscribers. It is held for one call;
-    /// nothing is waited for while it is held, and no other lock is taken under it.
-    locked: Mutex<Locked<S, C>>,
-    /// Told of each change that a pump may wait for, and each end of a feed, once the lock is free
-    /// again. Pumps wait here that have nothing to hand.
-    news: Condvar,
-}
-
-impl<S: HostView + Drop, C: Count> Drop for Shared<S, C> {
-    fn drop(self) {
-        let Self { locked, news } = self;
-    }
-}
-
-/// What keeps feeds and is shared by threads. Each copy keeps it; it goes with the last of them.
+/// What keeps feeds and is shared by threads, behind its lock. Each copy keeps it; it goes with the last of
+/// them.
 pub struct Host<S: HostView, C: Count = Plain> {
-    shared: Arc<Shared<S, C>, Global>,
+    /// The only lock, and the news. The lock guards what keeps the feeds, and their subscribers. It is held for
+    /// one call; nothing is waited for while it is held, and no other lock is taken under it. The news are
+    /// told of each change that a pump may wait for, and each end of a feed, once the lock is free again.
+    /// Pumps wait there that have nothing to hand.
+    shared: Arc<(Mutex<Locked<S, C>>, Condvar), Global>,
     pub(crate) alloc: Global,
 }
 
@@ -50,18 +40,10 @@ impl<S: FeedHost + Drop, C: Count> Host<S, C> {
         book: C::Book,
     ) -> Result<Host<S, C>, AllocError>
         requires room { 0 < lane }
-        requires no_feed { (S.hosted state).feeds ≡ [] }
-        requires nothing_counted { C.total book ≡ 0 }
-        requires no_edit { C.counts ≡ true → (S.hosted state).length ≡ 0 }
+        requires unused { IsUnused C.counts (C.total book) (S.hosted state) }
     {
         let locked = Locked::new(alloc, state, lane, hold, book);
-        let shared = Arc::new(
-            alloc,
-            Shared {
-                locked: Mutex::new(locked),
-                news: Condvar::new(),
-            },
-        )?;
+        let shared = Arc::new(alloc, (Mutex::new(locked), Condvar::new()))?;
         Ok(Host { shared, alloc })
     }
 }
@@ -69,16 +51,16 @@ impl<S: FeedHost + Drop, C: Count> Host<S, C> {
 impl<S: HostView, C: Count> Host<S, C> {
     /// The lock. Nothing is known of what lies under it but what its type says.
     pub(crate) fn locked(&self) -> &Mutex<Locked<S, C>> {
-        &self.shared.locked
+        &self.shared.0
     }
 
     /// Tells the pumps that wait that there are news, once the lock is free.
     pub(crate) fn tell(&self) {
-        self.shared.news.notify_all();
+        self.shared.1.notify_all();
     }
 
     /// The same once more. Constant time.
-    pub(crate) fn again(&self) -> Result<Host<S, C>, AllocError> {
+    pub fn again(&self) -> Result<Host<S, C>, AllocError> {
         Ok(Host {
             shared: Arc::try_clone(&self.shared)?,
             alloc: self.alloc,
@@ -94,6 +76,6 @@ impl<S: HostView, C: Count> Host<S, C> {
             return;
         }
         let most = Duration::from_millis(most.min(MINUTE));
-        let _waited = self.shared.news.wait_timeout(rt, locked, most);
+        let _waited = self.shared.1.wait_timeout(rt, locked, most);
     }
 }

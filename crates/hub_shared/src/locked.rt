@@ -1,6 +1,6 @@
 //! A host of feeds and the outboxes of its feeds, as they lie under a lock.
 
-ghost use Rattle.std.specs.Prelude.{◌≡◌, ◌<◌, [], true, Some, None, option_and_then};
+ghost use Rattle.std.specs.Prelude.{◌≡◌, ◌<◌, [], Some, None, option_and_then};
 ghost use Rattle.std.specs.Prelude.{IfErr, IfNone, IfOk, IfSome, IsSome, OnErr, OnOk, length};
 ghost use Rattle.hub_model.specs.Entries.{entry_in, changed, without};
 ghost use Rattle.hub_model.specs.Feed.{Feed, Params, begin};
@@ -10,7 +10,7 @@ ghost use Rattle.hub_feed.specs.Next.{IsRowDue};
 ghost use Rattle.hub_params.specs.FeedShown.{params_asked};
 ghost use Rattle.hub_shared.specs.Blocks.{IsHeldUp, handed_over, waiting_of, with_room};
 ghost use Rattle.hub_shared.specs.Label.{label_of};
-ghost use Rattle.hub_shared.specs.Locked.{AreSendersOf, Beats, Hands, IsSenderOf, stepped};
+ghost use Rattle.hub_shared.specs.Locked.{AreSendersOf, Beats, Hands, IsSenderOf, IsUnused, stepped};
 ghost use Rattle.hub_shared.specs.Opening.{Begins};
 
 use crate::block::Block;
@@ -174,9 +174,7 @@ impl<S: FeedHost, C: Count, K: Outbox<S>> Locked<S, C, K> {
     /// and a book that has counted nothing. It takes no memory.
     pub fn new(alloc: Global, state: S, lane: usize, hold: u64, book: C::Book) -> Locked<S, C, K>
         requires room { 0 < lane }
-        requires no_feed { (S.hosted state).feeds ≡ [] }
-        requires nothing_counted { C.total book ≡ 0 }
-        requires no_edit { C.counts ≡ true → (S.hosted state).length ≡ 0 }
+        requires unused { IsUnused C.counts (C.total book) (S.hosted state) }
         ensures { result ≡ record { state = state; senders = []; lane = lane } }
     {
         Locked {

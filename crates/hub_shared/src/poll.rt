@@ -1,9 +1,7 @@
 //! How one thread sends many feeds: each is asked for its next item, and none is waited for.
 
-ghost use Rattle.std.specs.Prelude.{◌≡◌, IfSome, IfNone};
-ghost use Rattle.hub_lane.specs.Ends.{IsAllowedBeginning};
-ghost use Rattle.hub_params.specs.FeedModel.{params_in};
-ghost use Rattle.hub_shared.specs.Feeds.{behind_item, receiver_of};
+ghost use Rattle.std.specs.Prelude.{◌≡◌};
+ghost use Rattle.hub_shared.specs.Feeds.{IsRightSoFar, Takes};
 
 use crate::block::Block;
 use crate::count::Count;
@@ -20,7 +18,7 @@ use std::alloc::Global;
 use std::sync::{Arc, Wait};
 
 impl<S: FeedHost, C: Count> HostFeed<S, C> {
-    // One holding of the lock for this feed. It is over without memory for a row, and behind its end.
+    // One holding of the lock for this feed. It is over without memory for an item, and behind its end.
     fn hold_own<R, G>(&mut self, rt: &R, turn: Turn, gate: &G)
     where
         R: Asks<FeedLabel<S>, Block<S::Row>>,
@@ -43,10 +41,8 @@ impl<S: FeedHost, C: Count> HostFeed<S, C> {
     where
         R: Asks<FeedLabel<S>, Block<S::Row>>,
         G: Gate,
-        ensures taken { IfSome result (λ item. self.new ≡ behind_item self.old item) }
-        ensures same { IfNone result (self.new ≡ self.old) }
-        ensures allowed { IsAllowedBeginning
-            (λ l items. S.right (params_in l.asked) l.since items) (receiver_of self.new) }
+        ensures taken { Takes self.old result self.new }
+        ensures allowed { IsRightSoFar S.right self.new }
     {
         let item = self.end.take(rt);
         if item.is_some() || !self.is_behind || self.signals.is_over() {
@@ -63,10 +59,8 @@ impl<S: FeedHost, C: Count> HostFeed<S, C> {
         R: Asks<FeedLabel<S>, Block<S::Row>>,
         G: Gate,
         K: Clock,
-        ensures taken { IfSome result (λ item. self.new ≡ behind_item self.old item) }
-        ensures same { IfNone result (self.new ≡ self.old) }
-        ensures allowed { IsAllowedBeginning
-            (λ l items. S.right (params_in l.asked) l.since items) (receiver_of self.new) }
+        ensures taken { Takes self.old result self.new }
+        ensures allowed { IsRightSoFar S.right self.new }
     {
         let now = clock.now_ms();
         let since = self.idle_since.unwrap_or(now);
@@ -75,7 +69,7 @@ impl<S: FeedHost, C: Count> HostFeed<S, C> {
             Due::Beat => {
                 self.idle_since = Some(now);
                 self.hold_own(rt, Turn::Beat, gate);
-                // Rows go before the next heartbeat, however soon that is due.
+                // Items go before the next heartbeat, however soon that is due.
                 self.is_behind = true;
             }
             Due::Expire => {
@@ -90,21 +84,20 @@ impl<S: FeedHost, C: Count> HostFeed<S, C> {
         self.end.take(rt)
     }
 
-    /// The next item, for one who sends many feeds and waits for none. Where none lies in the lane, one
-    /// holding of the lock hands as many as it may. Where none is due either, a heartbeat or the end of the
-    /// feed's time comes as the clock says. `None` says that the feed waits, or that it is over (`is_over`):
-    /// it finds no memory for a row, or it handed its end. A feed that waits is to be asked again when its
-    /// host has news (`watch`), and at the reading `due` of the clock at the latest. It costs a holding where
-    /// the lane is empty, and none where the last one found nothing more to hand.
+    /// The next item, for one who sends many feeds and waits for none. Where no item is left of the lane's
+    /// blocks, one holding of the lock hands a block of as many items as it may. Where no item is due either,
+    /// a heartbeat or the end of the feed's time comes as the clock says. `None` says that the feed waits, or
+    /// that it is over (`is_over`): it finds no memory for an item, or it handed its end. A feed that waits is
+    /// to be asked again when its host has news (`watch`), and at the reading `due` of the clock at the
+    /// latest. It costs a holding where no item is left, and none where the last one found nothing more to
+    /// hand.
     pub fn poll<R, G, K>(&mut self, rt: &R, gate: &G, clock: &K) -> Option<Item<S::Row>>
     where
         R: Asks<FeedLabel<S>, Block<S::Row>>,
         G: Gate,
         K: Clock,
-        ensures taken { IfSome result (λ item. self.new ≡ behind_item self.old item) }
-        ensures same { IfNone result (self.new ≡ self.old) }
-        ensures allowed { IsAllowedBeginning
-            (λ l items. S.right (params_in l.asked) l.since items) (receiver_of self.new) }
+        ensures taken { Takes self.old result self.new }
+        ensures allowed { IsRightSoFar S.right self.new }
     {
         let item = self.take_handed(rt, gate);
         if item.is_some() {

@@ -11,8 +11,8 @@ use crate::subscriber::Directly;
 use crate::times::Due;
 use hub_feed::{FeedHost, FeedId, Handed};
 use hub_lane::Asks;
-use std::alloc::{AllocError, Global};
-use std::sync::{Arc, Wait};
+use std::alloc::AllocError;
+use std::sync::Wait;
 use std::time;
 
 /// What one holding of the lock does for a feed.
@@ -54,9 +54,9 @@ fn hand_on<S: FeedHost, C: Count>(
     Ok((Handed::Row, most))
 }
 
-// The steps of one holding, between what waits before and what waits behind them: the last answer, and how
-// many items were sent.
-fn turned<S: FeedHost, C: Count>(
+// The steps of one holding, between the items that wait before them and those that wait behind them: the last
+// answer, and how many items were sent.
+fn steps_of<S: FeedHost, C: Count>(
     locked: &mut Locked<S, C>,
     feed: FeedId,
     turn: Turn,
@@ -73,10 +73,10 @@ fn turned<S: FeedHost, C: Count>(
     hand_on(locked, feed, most)
 }
 
-// One holding: what waits goes into the lane, then come the steps, and what they sent goes into the lane,
-// also where they found no memory. Items that wait behind a turn that hands are told as `Full`: once there
-// is room the feed is to be held again.
-fn held<S, C, R>(
+// One holding: the items that wait go into the lane as one block, then come the steps, and the items that they
+// sent go into the lane as another, also where the steps found no memory. Items that wait behind a turn that
+// hands are told as `Full`: once there is room the feed is to be held again.
+fn holding_of<S, C, R>(
     locked: &mut Locked<S, C>,
     rt: &R,
     feed: FeedId,
@@ -88,7 +88,7 @@ where
     R: Asks<FeedLabel<S>, Block<S::Row>>,
 {
     let before = locked.hand_over(rt, feed);
-    let done = turned(locked, feed, turn);
+    let done = steps_of(locked, feed, turn);
     let behind = locked.hand_over(rt, feed);
     let (last, sent) = done?;
     let has_sent = sent > 0 || before.unwrap_or(0) > 0 || behind.unwrap_or(0) > 0;
@@ -113,26 +113,18 @@ impl<S: FeedHost, C: Count> Host<S, C> {
     {
         let mut locked = self.locked().lock(rt);
         gate.pass(Point::PumpHolding);
-        let (last, has_sent) = held(&mut *locked, rt, feed, turn)?;
+        let (last, has_sent) = holding_of(&mut *locked, rt, feed, turn)?;
         Ok(Holding {
             last,
             has_sent,
             news: locked.news(),
         })
     }
-
-    // The signals of a feed, unless it is finished.
-    fn signals<R>(&self, rt: &R, feed: FeedId) -> Result<Option<Arc<Signals, Global>>, AllocError>
-    where
-        R: Wait,
-    {
-        self.locked().lock(rt).signals(feed)
-    }
 }
 
 /// Takes the lock once. `Turn::Hand` hands until an answer is not `Row`, or as many items were handed as
-/// one holding may, and answers the last; without memory for a row what was handed before it stays handed.
-/// What was handed goes into the feed's lane as one block; where the lane was full it waits, and the answer
+/// one holding may, and answers the last; without memory for a row the items before it stay handed. The items
+/// that were handed go into the feed's lane as one block; where the lane was full they wait, and the answer
 /// is `Full`, as it is where as many items wait as may. The other turns make one step: both answer
 /// `Nothing`, also where there is nothing to do, and `Turn::Beat` answers `Full` where as many wait as may.
 pub fn hold<S, C, R, G>(
@@ -217,7 +209,7 @@ impl<'a, S: FeedHost, C: Count, K: Clock> PumpState<'a, S, C, K> {
     }
 }
 
-/// Hands a feed's items into its lane as they come, until the feed is finished or has handed its end:
+/// Hands a feed's items into its lane as they come, a block for each holding of the lock, until the feed is finished or has handed its end:
 /// then it ends with Ok. Without memory for a row it ends with that error, and the feed stays as it
 /// is. It takes the lock for at most as many items as one holding may hand. Where the lane is full it
 /// sleeps until `Feed::take` finds it empty; where there is nothing to hand it sleeps until a write, a
@@ -236,7 +228,7 @@ where
     G: Gate,
     K: Clock,
 {
-    let Some(signals) = host.signals(rt, feed)? else {
+    let Some(signals) = host.locked().lock(rt).signals(feed)? else {
         return Ok(());
     };
     let mut state = PumpState {

@@ -2,8 +2,8 @@
 
 ghost use Rattle.std.specs.Prelude.{◌≡◌, ◌+◌, ◌<◌, ◌^◌, true, length, Ok, Err, IfOk, IfErr, OnErr, OnOk};
 ghost use Rattle.hub_shared.specs.Edits.{IsEditAnswer};
-ghost use Rattle.hub_shared.specs.Handles.{IsEditedBy, IsStoredBy};
-ghost use Rattle.hub_shared.specs.Stored.{Adds, StoresBatch, stored_count};
+ghost use Rattle.hub_shared.specs.Handles.{IsEditedBy, IsStoredBy, handle_of};
+ghost use Rattle.hub_shared.specs.Stored.{Adds, IsOutOfMemoryFor, StoresBatch, stored_count};
 
 use crate::count::Count;
 use crate::locked::Locked;
@@ -33,8 +33,7 @@ pub(crate) fn store_batch(
     ensures ok { IfOk result (λ w. StoresBatch new_edits docs.items state.old w.0 state.new) }
     ensures more { IfOk result (λ w. w.1 ≡ stored_count w.0.replies) }
     ensures within { OnOk result (length state.new.journal < 2 ^ 32) }
-    ensures err { IfErr result (λ e. (e ≡ DbFault.NoMemory) × (state.new ≡ state.old)) }
-    ensures memory { OnErr result (0 < length docs.items) }
+    ensures err { IfErr result (λ e. IsOutOfMemoryFor docs.items e × (state.new ≡ state.old)) }
 {
     let before = state.update_seq();
     let batch = state.write_edits(docs, new_edits)?;
@@ -52,9 +51,9 @@ impl<C: Count, K: Outbox<DbState>> Locked<DbState, C, K> {
     ) -> Result<(RevId, u64), DbFault>
         requires part { C.counts ≡ true → 0 < C.parts share.old }
         ensures edited { IfOk result (λ w. IsEditedBy C.counts C.all_parts
-            (record { parts = C.parts share.old; count = C.amount share.old }) doc (Ok w.0)) }
+            (handle_of C.parts C.amount share.old) doc (Ok w.0)) }
         ensures refused { IfErr result (λ e. IsEditedBy C.counts C.all_parts
-            (record { parts = C.parts share.old; count = C.amount share.old }) doc (Err e)) }
+            (handle_of C.parts C.amount share.old) doc (Err e)) }
         ensures adds { OnOk result (Adds 1 self.old.state self.new.state) }
         ensures rest { self.new ≡ record self.old { state = self.new.state } }
         ensures raised { IfOk result (λ w. C.amount share.new ≡ C.amount share.old + w.1) }
@@ -83,15 +82,15 @@ impl<C: Count, K: Outbox<DbState>> Locked<DbState, C, K> {
         ensures batch { IfOk result (λ w.
             StoresBatch new_edits docs.items self.old.state w.0 self.new.state) }
         ensures stored { IfOk result (λ w. IsStoredBy C.counts C.all_parts
-            (record { parts = C.parts share.old; count = C.amount share.old }) new_edits docs.items w.0) }
+            (handle_of C.parts C.amount share.old) new_edits docs.items w.0) }
         ensures adds { IfOk result (λ w. Adds (stored_count w.0.replies) self.old.state self.new.state) }
         ensures rest { self.new ≡ record self.old { state = self.new.state } }
         ensures raised { IfOk result (λ w. C.amount share.new ≡ C.amount share.old + w.1) }
         ensures counted { IfOk result (λ w. C.counts ≡ true → w.1 ≡ stored_count w.0.replies) }
         ensures within { OnOk result (C.amount share.new < 2 ^ 32) }
         ensures parts { C.parts share.new ≡ C.parts share.old }
-        ensures err { IfErr result (λ e. (e ≡ DbFault.NoMemory) × (self.new ≡ self.old)
-            × (C.amount share.new ≡ C.amount share.old) × (0 < length docs.items)) }
+        ensures err { IfErr result (λ e. IsOutOfMemoryFor docs.items e × (self.new ≡ self.old)
+            × (C.amount share.new ≡ C.amount share.old)) }
     {
         self.audit_share(share);
         let (batch, edits) = store_batch(&mut self.state, docs, new_edits)?;

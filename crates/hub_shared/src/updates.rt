@@ -46,13 +46,8 @@ impl Locked<UpdatesState> {
 impl Host<UpdatesState> {
     /// A log of nothing. Its life is 0, which no database has.
     pub fn of_updates(alloc: Global, limits: Limits) -> Result<Updates, AllocError> {
-        Host::of(
-            alloc,
-            UpdatesState::new(alloc, limits, 0),
-            limits.lane as usize,
-            limits.hold,
-            NoCount,
-        )
+        let state = UpdatesState::new(alloc, limits, 0);
+        Host::of(alloc, state, limits.lane as usize, limits.hold, NoCount)
     }
 
     /// Adds a notice at the end of the log, or hands it back, as `UpdatesState::note`, and tells the

@@ -1,9 +1,10 @@
 //! Writes to a database that lies under a lock.
 
-ghost use Rattle.std.specs.Prelude.{◌≡◌, ◌+◌, ◌<◌, ◌^◌, true, length, IfOk, IfErr, OnErr, OnOk};
+ghost use Rattle.std.specs.Prelude.{◌≡◌, ◌+◌, ◌<◌, ◌^◌, true, length, IfOk, IfErr, OnOk};
 ghost use Rattle.hub_model.specs.Journal.{IsLegal};
-ghost use Rattle.hub_shared.specs.Handles.{IsWrittenBy};
+ghost use Rattle.hub_shared.specs.Handles.{IsWrittenBy, handle_of};
 ghost use Rattle.hub_database.specs.Receipts.{ids_of};
+ghost use Rattle.hub_shared.specs.Stored.{IsOutOfMemoryFor};
 ghost use Rattle.hub_shared.specs.Writes.{Stores};
 
 use crate::count::Count;
@@ -36,8 +37,7 @@ fn store(
     requires room { room ≡ ids_of docs.items }
     ensures ok { IfOk result (λ a. Stores new_edits docs.items state.old a state.new) }
     ensures within { OnOk result (length state.new.journal < 2 ^ 32) }
-    ensures err { IfErr result (λ e. (e ≡ DbFault.NoMemory) × (state.new ≡ state.old)) }
-    ensures memory { OnErr result (0 < length docs.items) }
+    ensures err { IfErr result (λ e. IsOutOfMemoryFor docs.items e × (state.new ≡ state.old)) }
 {
     let (batch, _count) = store_batch(state, docs, new_edits)?;
     let receipts = room.fill(edits, batch.replies.as_slice());
@@ -57,8 +57,7 @@ impl Locked<DbState> {
         ensures ok { IfOk result (λ a. Stores new_edits docs.items self.old.state a self.new.state) }
         ensures legal { IsLegal self.new.state.journal }
         ensures rest { self.new ≡ record self.old { state = self.new.state } }
-        ensures err { IfErr result (λ e. (e ≡ DbFault.NoMemory) × (self.new ≡ self.old)) }
-        ensures memory { OnErr result (0 < length docs.items) }
+        ensures err { IfErr result (λ e. IsOutOfMemoryFor docs.items e × (self.new ≡ self.old)) }
     {
         // Without memory for the receipts only the proof needs this call, for `legal`.
         let edits = self.state.update_seq();
@@ -80,13 +79,13 @@ impl<C: Count, K: Outbox<DbState>> Locked<DbState, C, K> {
         requires part { C.counts ≡ true → 0 < C.parts share.old }
         requires room { room ≡ ids_of docs.items }
         ensures written { IfOk result (λ w. IsWrittenBy C.counts C.all_parts
-            (record { parts = C.parts share.old; count = C.amount share.old }) new_edits docs.items w.0) }
+            (handle_of C.parts C.amount share.old) new_edits docs.items w.0) }
         ensures raised { IfOk result (λ w. C.amount share.new ≡ C.amount share.old + w.1) }
         ensures counted { IfOk result (λ w. C.counts ≡ true → w.1 ≡ length w.0.receipts.items) }
         ensures within { OnOk result (C.amount share.new < 2 ^ 32) }
         ensures parts { C.parts share.new ≡ C.parts share.old }
-        ensures err { IfErr result (λ e. (e ≡ DbFault.NoMemory) × (self.new ≡ self.old)
-            × (C.amount share.new ≡ C.amount share.old) × (0 < length docs.items)) }
+        ensures err { IfErr result (λ e. IsOutOfMemoryFor docs.items e × (self.new ≡ self.old)
+            × (C.amount share.new ≡ C.amount share.old)) }
     {
         let edits = self.audit_share(share);
         let accepted = store(&mut self.state, edits, room, docs, new_edits)?;

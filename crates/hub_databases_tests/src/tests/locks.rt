@@ -51,7 +51,7 @@ impl<R: time::Clock> Gate for Held<R> {
 
 // A clock that stands.
 #[derive(Drop)]
-pub(crate) struct Still;
+struct Still;
 
 impl Clock for Still {
     fn now_ms(&self) -> u64 {

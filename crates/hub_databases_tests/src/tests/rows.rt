@@ -1,7 +1,6 @@
 //! What feeds of the log of updates show, and what a feed of a database shows that is removed, or made
 //! again.
 
-use crate::tests::locks::Still;
 use crate::tests::rows::Told::{End, Row};
 use crate::tests::{FIRST, Open, again, created, found, hub, params, remove, stored, write};
 use hub_databases::{Hub, HubDb};
@@ -76,8 +75,7 @@ pub(crate) fn shows<R: Wait>(
     told: &[Told],
 ) -> Result<bool, Fail> {
     let feed = open(rt, alloc, hub, query)?;
-    let id = feed.id();
-    if again!(hub.hold_updates(rt, id, Turn::Hand, &Open))? != Handed::End {
+    if again!(feed.hold(rt, Turn::Hand, &Open))? != Handed::End {
         return Ok(false);
     }
     Ok(has_handed(rt, feed, told))
@@ -124,19 +122,6 @@ fn the_log_has_a_row_for_each_kind(rt: HostRuntime) -> Result<(), Fail> {
         End(4, 0),
     ];
     assert!(rt; shows(&rt, alloc, &hub, "", &again)?);
-    Ok(())
-}
-
-// A pump of a normal feed ends behind its end.
-#[test]
-fn a_pump_hands_the_log(rt: HostRuntime) -> Result<(), Fail> {
-    let alloc = rt.alloc();
-    let hub = noted(&rt, alloc)?;
-    let feed = open(&rt, alloc, &hub, "since=1")?;
-    let id = feed.id();
-    again!(hub.pump_updates(&rt, id, &Open, &Still))?;
-    assert!(rt; feed.is_over());
-    assert!(rt; has_handed(&rt, feed, &[Row(Updated, "d", 2), End(2, 0)]));
     Ok(())
 }
 

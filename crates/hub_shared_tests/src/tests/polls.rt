@@ -5,15 +5,15 @@ use crate::tests::{LIFE, THREE, again, docs};
 use hub_document::Limits;
 use hub_feed::FeedHost;
 use hub_lane::Asks;
-use hub_model::Item;
+use hub_model::{Item, UpdateKind};
 use hub_shared::{Bell, Block, Clock, Count, Db, Feed, FeedLabel, HostFeed, Plain, Watch};
 use std::alloc::{AllocError, Global};
 use std::sync::{Arc, Wait};
 use std::test::Fail;
 
-// A clock that stands.
+/// A clock that stands.
 #[derive(Drop)]
-struct Still;
+pub(crate) struct Still;
 
 impl Clock for Still {
     fn now_ms(&self) -> u64 {
@@ -96,7 +96,7 @@ fn a_note_tells<R: Wait>(rt: &R, alloc: Global) -> Result<bool, AllocError> {
     let (log, mut feed) = of_log(rt, alloc, "feed=continuous")?;
     let (bell, watch) = watched(rt, alloc, &feed)?;
     let waits = gets_one_row(rt, &mut feed)? && is_still(&bell, &watch);
-    note(rt, alloc, &log)?;
+    note(rt, alloc, &log, UpdateKind::Created)?;
     Ok(waits && tells(&bell, &watch) && gets_one_row(rt, &mut feed)?)
 }
 

@@ -1,5 +1,6 @@
 //! Questions to a database that is lent, a log of updates under a lock, and feeds of any host.
 
+use crate::tests::polls::Still;
 use crate::tests::{Database, LIFE, THREE, again, holds, write};
 use hub_database::{DbFault, DbState};
 use hub_document::{Limits, RevId};
@@ -9,12 +10,13 @@ use hub_model::{Fault, Item, UpdateKind};
 use hub_params::FeedParams;
 use hub_shared::{
     Answer, Block, Count, Db, Directly, Feed, FeedLabel, Gate, Handed, Host, HostFeed, Locked,
-    NoCount, Plain, Point, Question, Turn, Updates, UpdatesFeed, hold,
+    NoCount, Plain, Point, Question, Turn, Updates, UpdatesFeed, hold, pump,
 };
 use hub_updates::{Notice, UpdatesState};
 use std::alloc::{AllocError, Global};
 use std::sync::Wait;
 use std::test::Fail;
+use std::time;
 
 // The winner of a document; an error where no memory is found, and each time where there is no answer.
 fn winner(alloc: Global, state: &DbState, id: &str) -> Result<Option<RevId>, AllocError> {
@@ -126,9 +128,14 @@ pub(crate) fn of_database<R: Wait>(
     }
 }
 
-/// Notes something in a log; an error where it finds no memory.
-pub(crate) fn note<R: Wait>(rt: &R, alloc: Global, log: &Updates) -> Result<(), AllocError> {
-    let notice = Notice::new(alloc, UpdateKind::Created, "d")?;
+/// Notes in a log that this happened to a database d; an error where it finds no memory.
+pub(crate) fn note<R: Wait>(
+    rt: &R,
+    alloc: Global,
+    log: &Updates,
+    kind: UpdateKind,
+) -> Result<(), AllocError> {
+    let notice = Notice::new(alloc, kind, "d")?;
     match log.note(rt, notice) {
         Ok(()) => Ok(()),
         Err((notice, _fault)) => {
@@ -145,7 +152,7 @@ pub(crate) fn of_log<R: Wait>(
     query: &str,
 ) -> Result<(Updates, UpdatesFeed), AllocError> {
     let log = Updates::of_updates(alloc, Limits::full())?;
-    note(rt, alloc, &log)?;
+    note(rt, alloc, &log, UpdateKind::Created)?;
     match log.open_feed(rt, params(alloc, query)?) {
         Ok(feed) => Ok((log, feed)),
         Err(_) => Err(AllocError),
@@ -185,5 +192,36 @@ fn both_hand<R: Wait>(rt: &R, alloc: Global) -> Result<bool, AllocError> {
 #[test]
 fn feeds_of_any_host_are_handed(rt: HostRuntime) -> Result<(), Fail> {
     assert!(rt; again!(both_hand(&rt, rt.alloc()))?);
+    Ok(())
+}
+
+// Whether a pump of a normal feed of a log ends behind the feed's end, and hands the row above its since.
+fn is_pumped<R: Wait + time::Clock>(rt: &R, alloc: Global) -> Result<bool, AllocError> {
+    let log = Updates::of_updates(alloc, Limits::full())?;
+    note(rt, alloc, &log, UpdateKind::Created)?;
+    note(rt, alloc, &log, UpdateKind::Updated)?;
+    let Ok(mut feed) = log.open_feed(rt, params(alloc, "since=1")?) else {
+        return Err(AllocError);
+    };
+    pump(rt, &log, feed.id(), &Open, &Still)?;
+    let is_row = match feed.take(rt) {
+        Some(Item::Row(row)) => {
+            row.kind == UpdateKind::Updated && row.db_name.as_str() == "d" && row.seq == 2
+        }
+        _ => false,
+    };
+    let is_end = matches!(
+        feed.take(rt),
+        Some(Item::End {
+            last_seq: 2,
+            pending: 0
+        })
+    );
+    Ok(feed.is_over() && is_row && is_end && feed.finish(rt).take(rt).is_none())
+}
+
+#[test]
+fn a_pump_hands_the_log(rt: HostRuntime) -> Result<(), Fail> {
+    assert!(rt; again!(is_pumped(&rt, rt.alloc()))?);
     Ok(())
 }

@@ -1,8 +1,8 @@
 use Rattle.std.proofs.Common.{◌≡◌, ◌∙◌, ap, refl, sym, Some, None, length}
-use Rattle.std.specs.Prelude.{position, IsSome, IfSome, IfNone}
-use Rattle.hub_model.specs.Entries.{entry_in, is_of}
+use Rattle.std.specs.Prelude.{position}
+use Rattle.hub_model.specs.Entries.{is_of}
 use Rattle.hub_model.proofs.Entries.{changed_absent, changed_here, entry_here, no_entry}
-use Rattle.hub_shared.specs.Blocks.{IsHeldUp, handed_over, waiting_of, with_room}
+use Rattle.hub_shared.specs.Blocks.{handed_over, waiting_of, with_room}
 use Rattle.hub_shared.proofs.Blocks.{some_then, none_then}
 use Rattle.hub_shared.proofs.subscriber.hand_over.Goals as goal
 

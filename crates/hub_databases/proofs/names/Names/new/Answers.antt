@@ -4,6 +4,6 @@ use Rattle.hub_databases.proofs.NameLemmas.{kept_none}
 use Rattle.hub_databases.proofs.names.Names.new.Goals as goal
 
 pub invariant_of-result : goal.invariant_of-result
-invariant_of-result g c =
-    subst (λ es. AreKept g.D.HasName.name_of c.args.limit es) (sym c.new.ensures.empty)
-    (kept_none g.D.HasName.name_of c.args.limit c.requires.limit)
+invariant_of-result c =
+    subst (λ es. AreKept c.args.limit es) (sym c.new.ensures.empty)
+    (kept_none c.args.limit c.requires.limit)

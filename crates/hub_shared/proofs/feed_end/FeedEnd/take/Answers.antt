@@ -1,7 +1,7 @@
 -- What was taken grows by the item, and stays a front of the items of the blocks.
-use Rattle.std.proofs.Common.{◌≡◌, ◌∙◌, sym, ap, subst, List, [], ◌∷◌, ◌++◌, append_assoc, append-nil}
+use Rattle.std.proofs.Common.{◌∙◌, sym, ap, subst, ◌++◌, append_assoc}
 use Rattle.std.proofs.lemmas.List.{nil_from_length}
-use Rattle.std.specs.Prelude.{Option, Some, None, IfSome, option_to_list}
+use Rattle.std.specs.Prelude.{option_to_list}
 use Rattle.std.specs.Vec.Iter.{into_iter_items, into_iter_steps}
 use Rattle.hub_lane.specs.Ends.{behind_take}
 use Rattle.hub_params.specs.FeedModel.{params_in}

@@ -1,5 +1,6 @@
-use Rattle.std.proofs.Common.{◌≡◌, ◌∙◌, ap, subst, ℕ}
+use Rattle.std.proofs.Common.{◌≡◌, ◌∙◌, ap, subst, ℕ, rules}
 use Rattle.hub_database.specs.Database.{Database}
+use Rattle.hub_database.specs.Receipts.{IsAudit}
 use Rattle.hub_shared.specs.Handles.{HandleState, IsFoundBy}
 use Rattle.hub_shared.proofs.handle.Handle.audit.Goals as goal
 
@@ -12,9 +13,10 @@ returns-clause-audit g c =
     }
     ≡ c.args.self.now =
     ap (λ (n : ℕ). record { parts = g.C.Count.parts c.self.inside.share; count = n }) c.self.invariant.1
-    ∙ c.self.view_is in (
+    ∙ c.self.view_is in
+    let told : IsAudit db.journal c.args.receipts.now c.audit_of.result = search rules in (
       db,
       subst (λ (state : HandleState). IsFoundBy g.C.Count.counts g.C.Count.all_parts state db)
-          counted c.audit.ensures.found,
-      c.audit.ensures.audit,
+          counted c.audit_share.ensures.found,
+      told,
     )

@@ -1,4 +1,4 @@
-use Rattle.std.proofs.Common.{◌≡◌, ◌∙◌, ap, subst, ℕ}
+use Rattle.std.proofs.Common.{◌≡◌, ◌∙◌, ap, subst, ℕ, rules}
 use Rattle.hub_database.specs.Database.{Database}
 use Rattle.hub_shared.specs.Handles.{HandleState, IsFoundBy}
 use Rattle.hub_shared.proofs.handle.Handle.look.Goals as goal
@@ -15,6 +15,6 @@ returns-clause-asked g c =
     ∙ c.self.view_is in (
       db,
       subst (λ (state : HandleState). IsFoundBy g.C.Count.counts g.C.Count.all_parts state db)
-          counted c.look.ensures.found,
-      c.look.ensures.asked,
+          counted c.audit_share.ensures.found,
+      (_, c.ask.ensures, search rules),
     )
