@@ -6,4 +6,5 @@ pub mod PathLemmas
 pub mod PlaceLemmas
 mod RevisionLemmas
 pub mod TextLemmas
+mod ValueLemmas
 pub mod WriteLemmas

@@ -48,7 +48,10 @@ put_of id rev new_edits content members =
       body = body_text members;
     }))))))
 
+-- the document that a value is under the id, or the first fault
+abbrev pub put_doc : List ℕ → Option (List ℕ) → Bool → Data → Result Doc DocFault
+put_doc id rev new_edits content = or_fault (as_object content) NotObject (put_of id rev new_edits content)
+
 -- the document that a text is under the id, or the first fault
 abbrev pub put_in : List ℕ → Option (List ℕ) → Bool → List ℕ → Result Doc DocFault
-put_in id rev new_edits text =
-    or_fault (json_of text) NotJson (λ d. or_fault (as_object d) NotObject (put_of id rev new_edits d))
+put_in id rev new_edits text = or_fault (json_of text) NotJson (put_doc id rev new_edits)

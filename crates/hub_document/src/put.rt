@@ -5,6 +5,7 @@ ghost use Rattle.serde_json.specs.View.{view, members_view};
 ghost use Rattle.serde_json.specs.Written.{members_have_float as members_have_float_in};
 ghost use Rattle.hub_document.specs.Ids.{is_id as is_id_text};
 ghost use Rattle.hub_document.specs.Put.{unless_other as unless_other_in, rev_put, put_of, put_in};
+ghost use Rattle.hub_document.specs.Put.{put_doc};
 
 use crate::doc::{Doc, DocFault};
 use crate::doc_id::{is_id, is_named_so};
@@ -76,6 +77,26 @@ fn put_from(
     with_path(alloc, value, members, id, named, None)
 }
 
+/// The document that a JSON value is under the id that a request names, as `Doc::read_put`. It costs the
+/// value's size.
+pub fn put_doc(
+    alloc: Global,
+    id: &str,
+    rev: Option<&str>,
+    new_edits: bool,
+    value: &Value,
+) -> Result<Doc, DocFault>
+    ensures ok { IfOk result (λ d. put_doc id.now (option_map (λ s. s.now) rev.entry) new_edits
+        (view value.now) ≡ Ok d) }
+    ensures err { IfErr result (λ e. (e ≡ DocFault.NoMemory) ⊎ (put_doc id.now
+        (option_map (λ s. s.now) rev.entry) new_edits (view value.now) ≡ Err e)) }
+{
+    let Some(members) = value.as_object() else {
+        return Err(DocFault::NotObject);
+    };
+    put_from(alloc, id, rev, new_edits, value, members)
+}
+
 impl Doc {
     /// The document that a JSON text is under the id that a request names, or the first fault. The
     /// leaf that it edits may be named by the request too, by `rev`; an edit that was not made here
@@ -94,9 +115,6 @@ impl Doc {
             ⊎ (put_in id.now (option_map (λ s. s.now) rev.entry) new_edits bytes.now ≡ Err e)) }
     {
         let value = read_value(alloc, bytes)?;
-        let Some(members) = value.as_object() else {
-            return Err(DocFault::NotObject);
-        };
-        put_from(alloc, id, rev, new_edits, &value, members)
+        put_doc(alloc, id, rev, new_edits, &value)
     }
 }

@@ -4,6 +4,7 @@ use crate::services::HubServices;
 use hub_databases::Hub;
 use hub_document::Limits;
 use hub_routes::Routes;
+use hub_service::JsonRooms;
 use hub_shared::{Clock, Gate};
 use hub_workers::serve_all;
 use std::alloc::Global;
@@ -38,11 +39,13 @@ where
 {
     let hub = Hub::new(alloc, limits)?;
     let routes = Routes::new(alloc)?;
+    let rooms = JsonRooms::new(alloc);
     let services = HubServices {
         rt,
         alloc,
         hub: &hub,
         routes: &routes,
+        rooms: &rooms,
         gate: &gate,
         clock: &clock,
     };

@@ -3,7 +3,7 @@
 use crate::pumping::ByWorkers;
 use hub_databases::Hub;
 use hub_routes::Routes;
-use hub_service::Connection;
+use hub_service::{Connection, JsonRooms};
 use hub_shared::{Clock, Gate};
 use hub_workers::MakeService;
 use std::alloc::Global;
@@ -16,6 +16,7 @@ pub(crate) struct HubServices<'h, R, G, K> {
     pub(crate) alloc: Global,
     pub(crate) hub: &'h Hub,
     pub(crate) routes: &'h Routes,
+    pub(crate) rooms: &'h JsonRooms,
     pub(crate) gate: &'h G,
     pub(crate) clock: &'h K,
 }
@@ -29,6 +30,13 @@ where
 {
     fn make(&self, number: u64) -> Connection<'h, R, ByWorkers<'h, R, G, K>> {
         let pumping = ByWorkers::new(self.rt, self.gate, self.clock, number);
-        Connection::new(self.rt, self.alloc, self.hub, self.routes, pumping)
+        Connection::new(
+            self.rt,
+            self.alloc,
+            self.hub,
+            self.routes,
+            self.rooms,
+            pumping,
+        )
     }
 }

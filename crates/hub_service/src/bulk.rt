@@ -14,7 +14,7 @@ use crate::context::Context;
 use crate::refusal::unnoted;
 use crate::response::{Response, created};
 use hub_databases::{HubDb, Written};
-use hub_document::{Doc, DocFault, RevId, read_doc, read_value};
+use hub_document::{Doc, DocFault, RevId, read_doc};
 use hub_http::Refusal;
 use hub_model::Outcome;
 use hub_replies::{BatchReply, batch_body};
@@ -203,7 +203,7 @@ pub(crate) fn store<N: Wait>(
 ) -> Result<Response, Refusal>
     ensures { IsWritten (λ db. stores db (batch_in body.now)) result }
 {
-    match read_value(context.alloc, body) {
+    match context.rooms.read(context.rt, body) {
         Ok(request) => store_batch(context, db, &request),
         Err(fault) => Err(Refusal::from(fault)),
     }

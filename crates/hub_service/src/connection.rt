@@ -15,6 +15,7 @@ use crate::feeds::begin_updates;
 use crate::pumping::Pumping;
 use crate::refusal::unnamed;
 use crate::response::{Response, ok};
+use crate::rooms::JsonRooms;
 use crate::sent::Sent;
 use hub_databases::{Hub, is_name};
 use hub_http::{Refusal, Reply, Request, StatusCode};
@@ -48,18 +49,25 @@ impl<'h, N: Wait, P: Pumping> Model for Connection<'h, N, P> {
 }
 
 impl<'h, N: Wait, P: Pumping> Connection<'h, N, P> {
-    /// A connection that sends nothing. The table of routes may serve every connection.
+    /// A connection that sends nothing. The table of routes and the room for bodies may
+    /// serve every connection.
     pub fn new(
         rt: &'h N,
         alloc: Global,
         hub: &'h Hub,
         routes: &'h Routes,
+        rooms: &'h JsonRooms,
         pumping: P,
     ) -> Connection<'h, N, P>
         ensures { result ≡ None }
     {
         Connection {
-            context: Context { rt, alloc, hub },
+            context: Context {
+                rt,
+                alloc,
+                hub,
+                rooms,
+            },
             routes,
             pumping,
             sent: None,

@@ -10,6 +10,7 @@ ghost use Rattle.hub_service.specs.Feeds.{IsNew};
 ghost use Rattle.hub_service.specs.Moments.{HasDatabase, IsEdited, IsFound, IsKept, IsLooked, IsStored};
 
 use crate::refusal::with_refusal;
+use crate::rooms::JsonRooms;
 use hub_database::{DbFault, DbState};
 use hub_databases::{Edited, Hub, HubDb, Written};
 use hub_document::{Doc, LocalDoc};
@@ -29,6 +30,8 @@ pub(crate) struct Context<'h, N: Wait> {
     pub(crate) alloc: Global,
     /// The databases, and the log of what happens to them.
     pub(crate) hub: &'h Hub,
+    /// What bodies are read with.
+    pub(crate) rooms: &'h JsonRooms,
 }
 
 impl<'h, N: Wait> Context<'h, N> {

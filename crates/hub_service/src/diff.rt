@@ -7,19 +7,18 @@ ghost use Rattle.hub_service.specs.Moments.{IsRead};
 use crate::context::Context;
 use crate::response::{Response, ok};
 use hub_databases::HubDb;
-use hub_document::{Asked, DocFault, read_asked, read_value};
+use hub_document::{Asked, DocFault, read_asked};
 use hub_http::Refusal;
 use hub_replies::diffs_body;
-use std::alloc::Global;
 use std::sync::Wait;
 
 // The revisions that a body asks for.
-fn read_body(alloc: Global, body: &[u8]) -> Result<Vec<Asked>, DocFault>
+fn read_body<N: Wait>(context: &Context<'_, N>, body: &[u8]) -> Result<Vec<Asked>, DocFault>
     ensures ok { IfOk result (λ v. asked_by body.now ≡ Ok v.items) }
     ensures err { IfErr result (λ e. (e ≡ DocFault.NoMemory) ⊎ (asked_by body.now ≡ Err e)) }
 {
-    let value = read_value(alloc, body)?;
-    read_asked(alloc, &value)
+    let value = context.rooms.read(context.rt, body)?;
+    read_asked(context.alloc, &value)
 }
 
 // Which of these revisions are missing.
@@ -43,7 +42,7 @@ pub(crate) fn revs_diff<N: Wait>(
 ) -> Result<Response, Refusal>
     ensures { IsRead (λ db. says_diffs db.journal (asked_by body.now)) result }
 {
-    match read_body(context.alloc, body) {
+    match read_body(context, body) {
         Ok(asked) => diff(context, db, asked),
         Err(fault) => Err(Refusal::from(fault)),
     }

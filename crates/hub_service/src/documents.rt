@@ -17,7 +17,7 @@ use crate::refusal::unnoted;
 use crate::response::{Response, ok};
 use hub_database::{Lookup, OpenRev};
 use hub_databases::{Edited, HubDb};
-use hub_document::{Body, Doc, DocFault, DocId, OpenRevs, RevId};
+use hub_document::{Body, Doc, DocFault, DocId, OpenRevs, RevId, put_doc};
 use hub_http::{Refusal, StatusCode};
 use hub_params::DocParams;
 use hub_replies::{doc_body, edit_body, edit_front, open_revs_body};
@@ -117,15 +117,21 @@ fn edit<N: Wait>(
 }
 
 // The document that a body is, which a query may name a leaf of.
-fn read_put(alloc: Global, id: &str, query: &[u8], body: &[u8]) -> Result<Doc, DocFault>
+fn read_put<N: Wait>(
+    context: &Context<'_, N>,
+    id: &str,
+    query: &[u8],
+    body: &[u8],
+) -> Result<Doc, DocFault>
     ensures ok { IfOk result (λ doc.
         put_in id.now (doc_asked query.now).rev (doc_asked query.now).new_edits body.now ≡ Ok doc) }
     ensures err { IfErr result (λ e. (e ≡ DocFault.NoMemory)
         ⊎ (put_in id.now (doc_asked query.now).rev (doc_asked query.now).new_edits body.now ≡ Err e)) }
 {
-    let params = DocParams::read(alloc, query)?;
+    let params = DocParams::read(context.alloc, query)?;
     let rev = params.rev.as_deref();
-    Doc::read_put(alloc, id, rev, params.new_edits, body)
+    let value = context.rooms.read(context.rt, body)?;
+    put_doc(context.alloc, id, rev, params.new_edits, &value)
 }
 
 /// Puts a document: an edit of the leaf that the query or the body names. It costs the body's length,
@@ -142,7 +148,7 @@ pub(crate) fn put<N: Wait>(
     ensures { IsWritten (λ db. puts_doc db
         (put_in id.now (doc_asked query.now).rev (doc_asked query.now).new_edits body.now)) result }
 {
-    match read_put(context.alloc, id, query, body) {
+    match read_put(context, id, query, body) {
         Ok(doc) => edit(context, db, StatusCode::CREATED, doc),
         Err(fault) => Err(Refusal::from(fault)),
     }

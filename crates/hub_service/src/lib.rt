@@ -15,10 +15,12 @@ mod next;
 mod pumping;
 mod refusal;
 mod response;
+mod rooms;
 mod sent;
 mod stream;
 
 pub use connection::Connection;
 pub use laws::streams_are_right;
 pub use pumping::{ByTurns, Pumping};
+pub use rooms::JsonRooms;
 pub use stream::answer_stream;

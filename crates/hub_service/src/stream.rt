@@ -11,6 +11,7 @@ ghost use Rattle.hub_service.specs.declared.sent.Sent.{Sent};
 
 use crate::connection::Connection;
 use crate::pumping::ByTurns;
+use crate::rooms::JsonRooms;
 use hub_databases::Hub;
 use hub_document::Limits;
 use hub_http::{Input, Output, Requests};
@@ -52,6 +53,7 @@ pub fn answer_stream<N: Wait, R: Input, W: Output>(
 {
     let hub = Hub::new(alloc, limits)?;
     let routes = Routes::new(alloc)?;
-    let mut connection = Connection::new(rt, alloc, &hub, &routes, ByTurns::new(rt));
+    let rooms = JsonRooms::new(alloc);
+    let mut connection = Connection::new(rt, alloc, &hub, &routes, &rooms, ByTurns::new(rt));
     Ok(serve(alloc, requests, writer, &mut connection))
 }

@@ -3,7 +3,7 @@ use hub_document::{Doc, DocFault};
 use std::alloc::Global;
 use std::test::Fail;
 
-const READ: &str = r#"{"_id":"a","s":"\u00e9"} | {"s":"é"}
+pub(super) const READ: &str = r#"{"_id":"a","s":"\u00e9"} | {"s":"é"}
 {"_id":"a","s":"\ud83d\ude00"} | {"s":"😀"}
 {"_id":"a","s":"\/\b\f"} | {"s":"/\b\f"}
 {"_id":"a","v":1,"v":2} | {"v":2}
@@ -37,7 +37,7 @@ fn values_that_are_read(rt: HostRuntime) -> Result<(), Fail> {
     Ok(())
 }
 
-const REFUSED: &str = r#"{"_id":"a","s":"\ud83d"} | NotJson
+pub(super) const REFUSED: &str = r#"{"_id":"a","s":"\ud83d"} | NotJson
 {"_id":"a","s":"\ude00\ud83d"} | NotJson
 {"_id":"a","s":"\x"} | NotJson
 {"_id":"a","v":01} | NotJson

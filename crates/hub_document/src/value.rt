@@ -1,0 +1,183 @@
+//! Values that are read with room that is used again.
+//!
+//! `serde_json` clears 16 kB for each text that it reads. The kit's `json` reads into a tree that borrows from
+//! its text, with room of its caller's. The tree is then made into a value of `serde_json`.
+
+ghost use Rattle.std.specs.Prelude.{◌≡◌, ◌⊎◌, ◌<◌, ◌==◌, length, None, Some, true, false, IfErr, IfOk, IsTrue};
+ghost use Rattle.std.specs.Prelude.{option_map, slice_index};
+ghost use Rattle.fast_float.specs.Text.{minus};
+ghost use Rattle.json.specs.Value.{value_view, items_view as trees_view, members_view as tree_members_view};
+ghost use Rattle.serde_json.specs.Data.{no_members};
+ghost use Rattle.serde_json.specs.Read.{number_of, number_from, float_of, of_json, of_items, of_members};
+ghost use Rattle.serde_json.specs.View.{view, number_view, items_view, members_view};
+ghost use Rattle.hub_document.specs.Read.{json_of};
+
+use crate::doc::DocFault;
+use crate::read::read_value;
+use fast_float::Numeral;
+use json::{Error, Reader, Scratch, Value as Tree};
+use serde_json::{Map, Number, Value};
+use std::alloc::Global;
+
+/// How deep arrays and objects may nest, as `serde_json` takes them.
+const MAX_DEPTH: usize = 127;
+
+/// The longest text that is read with room of its caller's. To clear 16 kB costs little beside a longer one, and
+/// less than its tree.
+const SHORT: usize = 4_096;
+
+/// The float that is nearest; None where it is not finite.
+fn float_of(negative: bool, numeral: &Numeral<'_>) -> Option<Number>
+    ensures { option_map number_view result ≡ float_of negative numeral.now }
+{
+    Number::from_f64(numeral.to_float::<f64>(negative))
+}
+
+/// The number of a numeral without a sign.
+fn unsigned_of(numeral: &Numeral<'_>) -> Option<Number>
+    ensures { option_map number_view result ≡ number_from false numeral.now }
+{
+    match numeral.to_u64() {
+        Some(n) => Some(Number::from(n)),
+        None => float_of(false, numeral),
+    }
+}
+
+/// The number of a numeral behind a minus sign: `-0` is a float.
+fn negative_of(numeral: &Numeral<'_>) -> Option<Number>
+    ensures { option_map number_view result ≡ number_from true numeral.now }
+{
+    match numeral.to_i64(true) {
+        Some(n) if n < 0 => Some(Number::from(n)),
+        _ => float_of(true, numeral),
+    }
+}
+
+fn has_minus(bytes: &[u8]) -> bool
+    ensures sign { result ≡ (slice_index bytes.now 0 == minus) }
+    ensures some { IsTrue result → 0 < length bytes.now }
+{
+    !bytes.is_empty() && bytes[0] == b'-'
+}
+
+/// The number that a token of JSON writes; None where it is too large for a float.
+fn number_of(text: &str) -> Option<Number>
+    ensures { option_map number_view result ≡ number_of text.now }
+{
+    let bytes = text.as_bytes();
+    if has_minus(bytes) {
+        negative_of(&Numeral::scan(&bytes[1..]))
+    } else {
+        unsigned_of(&Numeral::scan(bytes))
+    }
+}
+
+/// The value that a tree is.
+#[cycle(value)]
+fn value_of(alloc: Global, tree: &Tree<'_>) -> Result<Value, DocFault>
+    ensures ok { IfOk result (λ v. of_json (value_view tree.now) ≡ Some (view v)) }
+    ensures err { IfErr result (λ e. (e ≡ DocFault.NoMemory)
+        ⊎ ((e ≡ DocFault.NotJson) × (of_json (value_view tree.now) ≡ None))) }
+{
+    match tree {
+        Tree::Null => Ok(Value::Null),
+        Tree::Bool(b) => Ok(Value::Bool(*b)),
+        Tree::Number(text) => match number_of(text) {
+            Some(number) => Ok(Value::Number(number)),
+            None => Err(DocFault::NotJson),
+        },
+        Tree::String(text) => Ok(Value::String(String::from_str(alloc, text)?)),
+        Tree::Array(trees) => Ok(Value::Array(items_of(alloc, trees)?)),
+        Tree::Object(trees) => Ok(Value::Object(members_of(alloc, trees)?)),
+    }
+}
+
+#[cycle(value)]
+fn items_of(alloc: Global, trees: &Vec<Tree<'_>>) -> Result<Vec<Value>, DocFault>
+    ensures ok { IfOk result (λ v. of_items (trees_view trees.now.items) ≡ Some (items_view v.items)) }
+    ensures err { IfErr result (λ e. (e ≡ DocFault.NoMemory)
+        ⊎ ((e ≡ DocFault.NotJson) × (of_items (trees_view trees.now.items) ≡ None))) }
+{
+    let mut items = Vec::with_capacity(alloc, trees.len())?;
+    for tree in trees {
+        let item = value_of(alloc, tree)?;
+        match items.push(item) {
+            Ok(()) => {}
+            Err(_) => return Err(DocFault::NoMemory),
+        }
+    }
+    Ok(items)
+}
+
+/// The members of an object: of those of one name the last.
+#[cycle(value)]
+fn members_of(alloc: Global, trees: &Vec<(&str, Tree<'_>)>) -> Result<Map<String, Value>, DocFault>
+    ensures ok { IfOk result (λ m. of_members (tree_members_view trees.now.items) no_members
+        ≡ Some (members_view m.entries)) }
+    ensures err { IfErr result (λ e. (e ≡ DocFault.NoMemory) ⊎ ((e ≡ DocFault.NotJson)
+        × (of_members (tree_members_view trees.now.items) no_members ≡ None))) }
+{
+    let mut members = Map::new(alloc);
+    for tree in trees {
+        let name = String::from_str(alloc, tree.0)?;
+        let member = value_of(alloc, &tree.1)?;
+        match members.insert(name, member) {
+            Ok(_) => {}
+            Err(_) => return Err(DocFault::NoMemory),
+        }
+    }
+    Ok(members)
+}
+
+/// Room for reading short JSON texts: some 16 kB, and as much as the longest of them.
+#[derive(Drop)]
+pub struct JsonRoom {
+    scratch: Scratch,
+}
+
+impl JsonRoom {
+    /// Room that was not used yet. It takes no memory beside its own 16 kB.
+    pub fn new(alloc: Global) -> JsonRoom {
+        JsonRoom {
+            scratch: Scratch::new(alloc),
+        }
+    }
+
+    /// The JSON value that a text is, as `read_value`. It costs the text's length. A text of 4 KiB at most is
+    /// read with this room, and clears no other.
+    pub fn read(&mut self, alloc: Global, bytes: &[u8]) -> Result<Value, DocFault>
+        ensures ok { IfOk result (λ v. json_of bytes.now ≡ Some (view v)) }
+        ensures err { IfErr result (λ e. (e ≡ DocFault.NoMemory)
+            ⊎ ((e ≡ DocFault.NotJson) × (json_of bytes.now ≡ None))) }
+        ensures memory { IfErr result (λ e. e ≡ DocFault.NoMemory → 0 < length bytes.now) }
+    {
+        if bytes.len() > SHORT {
+            return read_value(alloc, bytes);
+        }
+        read_with(alloc, bytes, &mut self.scratch)
+    }
+}
+
+/// The JSON value that a text is.
+fn read_with(alloc: Global, bytes: &[u8], scratch: &mut Scratch) -> Result<Value, DocFault>
+    ensures ok { IfOk result (λ v. json_of bytes.now ≡ Some (view v)) }
+    ensures err { IfErr result (λ e. (e ≡ DocFault.NoMemory)
+        ⊎ ((e ≡ DocFault.NotJson) × (json_of bytes.now ≡ None))) }
+    ensures memory { IfErr result (λ e. e ≡ DocFault.NoMemory → 0 < length bytes.now) }
+{
+    let Ok(text) = simdutf8::compat::from_utf8(bytes) else {
+        return Err(DocFault::NotJson);
+    };
+    let Ok(mut reader) = Reader::new(text, scratch) else {
+        return Err(DocFault::NoMemory);
+    };
+    let tree = match Tree::read(alloc, &mut reader, MAX_DEPTH) {
+        Ok(tree) => tree,
+        Err(Error::OutOfMemory) => return Err(DocFault::NoMemory),
+        Err(_) => return Err(DocFault::NotJson),
+    };
+    if reader.next().is_some() {
+        return Err(DocFault::NotJson);
+    }
+    value_of(alloc, &tree)
+}
