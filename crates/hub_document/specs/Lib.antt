@@ -15,6 +15,7 @@ pub mod Local
 pub mod Profile
 pub mod Put
 pub mod Read
+pub mod Reading
 pub mod RevisionLaws
 pub mod RevisionText
 pub mod SequenceText

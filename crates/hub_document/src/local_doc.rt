@@ -1,10 +1,11 @@
 //! Local documents.
 
-ghost use Rattle.std.specs.Prelude.{◌≡◌, ◌⊎◌, ◌++◌, length, take, IfOk, IfErr, IsOk};
+ghost use Rattle.std.specs.Prelude.{◌≡◌, ◌⊎◌, ◌++◌, length, take, IfOk, IfErr};
 ghost use Rattle.std.specs.Prelude.{IsSome, OnOk, OnErr, Ok, Err, string_bytes};
 ghost use Rattle.hub_document.specs.DocText.{local_text};
 ghost use Rattle.serde_json.specs.View.{view, members_view};
 ghost use Rattle.hub_document.specs.Local.{IsLocalId, is_local_id as is_local};
+ghost use Rattle.hub_document.specs.Reading.{Reads};
 ghost use Rattle.hub_document.specs.Local.{short_local_id, local_of, local_in};
 
 use crate::body::{Body, body_of};
@@ -96,12 +97,7 @@ fn local_from(
     value: &Value,
     members: &Map<String, Value>,
 ) -> Result<LocalDoc, DocFault>
-    ensures ok { IfOk result
-        (λ d. local_of id.now (view value.now) (members_view members.now.entries) ≡ Ok d) }
-    ensures err { IfErr result (λ e. (e ≡ DocFault.NoMemory)
-        ⊎ (local_of id.now (view value.now) (members_view members.now.entries) ≡ Err e)) }
-    ensures memory { IfErr result (λ e.
-        e ≡ DocFault.NoMemory → IsOk (local_of id.now (view value.now) (members_view members.now.entries))) }
+    ensures { Reads (local_of id.now (view value.now) (members_view members.now.entries)) result }
 {
     if members_have_float(members) {
         return Err(DocFault::BadNumber);

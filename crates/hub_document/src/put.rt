@@ -1,9 +1,10 @@
 //! Documents that are put under an id.
 
-ghost use Rattle.std.specs.Prelude.{◌≡◌, ◌⊎◌, IfOk, IfErr, IsOk, Ok, Err, option_map, false, true};
+ghost use Rattle.std.specs.Prelude.{◌≡◌, ◌⊎◌, IfOk, IfErr, Ok, Err, option_map, false, true};
 ghost use Rattle.serde_json.specs.View.{view, members_view};
 ghost use Rattle.serde_json.specs.Written.{members_have_float as members_have_float_in};
 ghost use Rattle.hub_document.specs.Ids.{is_id as is_id_text};
+ghost use Rattle.hub_document.specs.Reading.{Reads};
 ghost use Rattle.hub_document.specs.Put.{unless_other as unless_other_in, rev_put, put_of, put_in};
 ghost use Rattle.hub_document.specs.Put.{put_doc};
 
@@ -51,16 +52,9 @@ fn put_from(
     value: &Value,
     members: &Map<String, Value>,
 ) -> Result<Doc, DocFault>
-    ensures ok { IfOk result (λ d. put_of id.now (option_map (λ s. s.now) rev.entry) new_edits
-        (view value.now) (members_view members.now.entries)
-        ≡ Ok d) }
-    ensures err { IfErr result (λ e. (e ≡ DocFault.NoMemory)
-        ⊎ (put_of id.now (option_map (λ s. s.now) rev.entry) new_edits (view value.now)
-        (members_view members.now.entries)
-        ≡ Err e)) }
-    ensures memory { IfErr result (λ e. e ≡ DocFault.NoMemory
-        → IsOk (put_of id.now (option_map (λ s. s.now) rev.entry) new_edits (view value.now)
-        (members_view members.now.entries))) }
+    ensures { Reads
+        (put_of id.now (option_map (λ s. s.now) rev.entry) new_edits (view value.now)
+        (members_view members.now.entries)) result }
 {
     if members_have_float(members) {
         return Err(DocFault::BadNumber);

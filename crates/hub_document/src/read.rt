@@ -7,6 +7,7 @@ ghost use Rattle.serde_json.specs.View.{view, members_view};
 ghost use Rattle.hub_document.specs.Read.{with_path as path_gives, with_rev as rev_gives};
 ghost use Rattle.hub_document.specs.Read.{with_id as id_gives, document_of};
 ghost use Rattle.hub_document.specs.Read.{history_of as history_in, doc_of, doc_in, json_of};
+ghost use Rattle.hub_document.specs.Reading.{Reads};
 ghost use Rattle.hub_document.specs.SpecialMembers.{are_good_members as are_good};
 ghost use Rattle.serde_json.specs.Written.{members_have_float as members_have_float_in};
 
@@ -71,12 +72,8 @@ pub(crate) fn with_path(
 ) -> Result<Doc, DocFault>
     requires whole { members_have_float_in (members_view members.now.entries) ≡ false }
     requires id { is_id id.now ≡ true }
-    ensures ok { IfOk result
-        (λ d. path_gives (view value.now) (members_view members.now.entries) id.now rev path ≡ Ok d) }
-    ensures err { IfErr result (λ e. (e ≡ DocFault.NoMemory)
-        ⊎ (path_gives (view value.now) (members_view members.now.entries) id.now rev path ≡ Err e)) }
-    ensures memory { IfErr result (λ e. e ≡ DocFault.NoMemory
-        → IsOk (path_gives (view value.now) (members_view members.now.entries) id.now rev path)) }
+    ensures reads { Reads
+        (path_gives (view value.now) (members_view members.now.entries) id.now rev path) result }
     ensures history { IfOk result (λ d. d.path ≡ path) }
 {
     if let Some(fault) = last_fault(members, id) {
@@ -127,12 +124,8 @@ fn with_rev(
 ) -> Result<Doc, DocFault>
     requires whole { members_have_float_in (members_view members.now.entries) ≡ false }
     requires id { is_id id.now ≡ true }
-    ensures ok { IfOk result
-        (λ d. rev_gives new_edits (view value.now) (members_view members.now.entries) id.now rev ≡ Ok d) }
-    ensures err { IfErr result (λ e. (e ≡ DocFault.NoMemory)
-        ⊎ (rev_gives new_edits (view value.now) (members_view members.now.entries) id.now rev ≡ Err e)) }
-    ensures memory { IfErr result (λ e. e ≡ DocFault.NoMemory
-        → IsOk (rev_gives new_edits (view value.now) (members_view members.now.entries) id.now rev)) }
+    ensures reads { Reads
+        (rev_gives new_edits (view value.now) (members_view members.now.entries) id.now rev) result }
     ensures history { IfOk result (λ d. is_some d.path ≡ not new_edits) }
 {
     let history = match history_of(alloc, new_edits, rev, value) {
@@ -155,12 +148,8 @@ fn with_id(
 ) -> Result<Doc, DocFault>
     requires whole { members_have_float_in (members_view members.now.entries) ≡ false }
     requires id { is_id id.now ≡ true }
-    ensures ok { IfOk result
-        (λ d. id_gives new_edits (view value.now) (members_view members.now.entries) id.now ≡ Ok d) }
-    ensures err { IfErr result (λ e. (e ≡ DocFault.NoMemory)
-        ⊎ (id_gives new_edits (view value.now) (members_view members.now.entries) id.now ≡ Err e)) }
-    ensures memory { IfErr result (λ e. e ≡ DocFault.NoMemory
-        → IsOk (id_gives new_edits (view value.now) (members_view members.now.entries) id.now)) }
+    ensures reads { Reads
+        (id_gives new_edits (view value.now) (members_view members.now.entries) id.now) result }
     ensures history { IfOk result (λ d. is_some d.path ≡ not new_edits) }
 {
     let Some(rev) = rev_of(value, new_edits) else {
@@ -176,12 +165,8 @@ fn document_from(
     value: &Value,
     members: &Map<String, Value>,
 ) -> Result<Doc, DocFault>
-    ensures ok { IfOk result
-        (λ d. document_of new_edits (view value.now) (members_view members.now.entries) ≡ Ok d) }
-    ensures err { IfErr result (λ e. (e ≡ DocFault.NoMemory)
-        ⊎ (document_of new_edits (view value.now) (members_view members.now.entries) ≡ Err e)) }
-    ensures memory { IfErr result (λ e. e ≡ DocFault.NoMemory
-        → IsOk (document_of new_edits (view value.now) (members_view members.now.entries))) }
+    ensures reads { Reads
+        (document_of new_edits (view value.now) (members_view members.now.entries)) result }
     ensures history { IfOk result (λ d. is_some d.path ≡ not new_edits) }
 {
     if members_have_float(members) {
