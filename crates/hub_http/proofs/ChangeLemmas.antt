@@ -64,7 +64,8 @@ plain_row held life row revision plain only = simp (append_assoc, plain, only)
 
 -- the end of a row that brings a document, behind its only revision
 pub doc_ended : (held : List ℕ) (row : ChangeRow) (body : List ℕ) → row.doc ≡ Some body
-    → ((held ++ 125 ∷ (row_mark row.deleted ++ codes ",\"doc\":")) ++ doc_text (row_doc row body)) ++ codes "}"
+    → ((held ++ 125 ∷ (row_mark row.deleted ++ codes ",\"doc\":")) ++ doc_text (row_doc row body))
+    ++ codes "}"
     ≡ held ++ 125 ∷ row_end row
 unfolding row_end doc_member
 doc_ended held row body brought = simp (append_assoc, brought)

@@ -16,8 +16,8 @@ enum Kept {
     Other(Vec<u8>),
 }
 
-/// The name of a request's method, as `GET` (RFC 9110, section 9.1). One of the five that the hub takes needs no
-/// memory.
+/// The name of a request's method, as `GET` (RFC 9110, section 9.1). One of the five that the hub takes needs
+/// no memory.
 #[derive(Debug, Drop)]
 pub struct MethodName {
     kept: Kept,
