@@ -1,11 +1,14 @@
 -- The texts of rows of changes.
 use Rattle.std.proofs.Common.{◌≡◌, ℕ, ◌≤◌, List, [], ◌∷◌, ◌++◌, length, map, take, take_all}
-use Rattle.std.proofs.Common.{sym, ap, ◌∙◌, arith, append_assoc, append-nil, codes}
+use Rattle.std.proofs.Common.{sym, ap, ◌∙◌, arith, append_assoc, append-nil, codes, decimal, Some}
 use Rattle.std.specs.List.{flat_map, join_with_byte}
-use Rattle.hub_model.specs.Revision.{Revision}
+use Rattle.hub_model.specs.Revision.{Revision, text_of}
 use Rattle.json.specs.Print.{escape, quoted}
-use Rattle.hub_document.proofs.WriteLemmas.{three_parts}
-use Rattle.hub_http.specs.ChangeTexts.{revision_text, revisions_text}
+use Rattle.hub_model.specs.Row.{ChangeRow}
+use Rattle.hub_document.specs.DocText.{doc_text, row_doc}
+use Rattle.hub_document.specs.SequenceText.{sequence_text}
+use Rattle.hub_http.specs.ChangeTexts.{revision_text, revisions_text, row_mark, doc_member, row_end}
+use Rattle.hub_http.specs.ChangeTexts.{id_member, row_head, plain_front}
 
 -- the later ones have a comma before each
 joined : (p : List ℕ) (revisions : List Revision)
@@ -43,11 +46,26 @@ revisions_written held mid new revision revisions all i e first later end =
     ∙ append_assoc held (revision_text revision) (flat_map (λ s. 44 ∷ revision_text s) revisions)
     ∙ ap (λ l. held ++ l) (sym (ap revisions_text e ∙ all_revisions revision revisions))
 
--- an id that needs no escape: its quotes go with what stands round them
-pub plain_id : (held id : List ℕ) → escape id ≡ id
-    → ((held ++ codes ",\"id\":\"") ++ id) ++ codes "\",\"changes\":["
-    ≡ held ++ (codes ",\"id\":" ++ (quoted id ++ codes ",\"changes\":["))
-plain_id held id e =
-    three_parts held (codes ",\"id\":\"") id (codes "\",\"changes\":[")
-    ∙ ap (λ l. held ++ (codes ",\"id\":\"" ++ l)) (sym (append_assoc id (34 ∷ []) (codes ",\"changes\":[")))
-    ∙ ap (λ l. held ++ (codes ",\"id\":\"" ++ ((l ++ 34 ∷ []) ++ codes ",\"changes\":["))) (sym e)
+-- the parts of the front of a row whose id needs no escape
+pub plain_parts : (held : List ℕ) (life seq : ℕ) (id : List ℕ)
+    → ((((held ++ codes "{\"seq\":\"") ++ decimal seq) ++ 45 ∷ (decimal life ++ codes "\",\"id\":\"")) ++ id)
+    ++ codes "\",\"changes\":[{\"rev\":"
+    ≡ held ++ plain_front life seq id
+unfolding plain_front
+plain_parts held life seq id = simp append_assoc
+
+-- a row whose id needs no escape and whose only revision is this one
+pub plain_row : (held : List ℕ) (life : ℕ) (row : ChangeRow) (revision : Revision) → escape row.id ≡ row.id
+    → row.changes ≡ revision ∷ []
+    → ((held ++ plain_front life row.seq row.id) ++ quoted (text_of revision)) ++ (125 ∷ row_end row)
+    ≡ held ++ (row_head life row.seq row.id ++ (revisions_text row.changes ++ row_end row))
+unfolding plain_front row_head id_member sequence_text revision_text revisions_text
+plain_row held life row revision plain only = simp (append_assoc, plain, only)
+
+-- the end of a row that brings a document, behind its only revision
+pub doc_ended : (held : List ℕ) (row : ChangeRow) (body : List ℕ) → row.doc ≡ Some body
+    → ((held ++ 125 ∷ (row_mark row.deleted ++ codes ",\"doc\":")) ++ doc_text (row_doc row body))
+    ++ codes "}"
+    ≡ held ++ 125 ∷ row_end row
+unfolding row_end doc_member
+doc_ended held row body brought = simp (append_assoc, brought)

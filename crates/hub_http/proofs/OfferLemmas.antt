@@ -69,7 +69,7 @@ pub whole : (bytes rest : List ℕ) (head : Head) (request : Request)
     (n : ℕ) (x : (other : RequestHead) × IsHeadAt bytes head other)
     → head.len + n ≤ length bytes → n ≡ unwrap_or head.length 0
     → request.body.items ≡ take n (drop head.len bytes) → rest ≡ drop (head.len + n) bytes
-    → request.method.items ≡ head.method.items → request.target.items ≡ head.target.items
+    → request.method ≡ head.method → request.target.items ≡ head.target.items
     → request.has_length ≡ is_some head.length → request.close ≡ head.close
     → Spells bytes (asked_by request) rest
 whole bytes rest head request n x room size body left method target has close =

@@ -109,7 +109,7 @@ pub spelled : (held1 held2 held3 y : List ℕ) (head : Head) (request : Request)
     (n : ℕ) (x : (other : RequestHead) × IsHeadAt held1 head other)
     → ((more : List ℕ) × (held2 ≡ held1 ++ more)) → head.len + n ≤ length held2 → n ≡ unwrap_or head.length 0
     → request.body.items ≡ take n (drop head.len held2) → held3 ≡ drop (head.len + n) held2
-    → request.method.items ≡ head.method.items → request.target.items ≡ head.target.items
+    → request.method ≡ head.method → request.target.items ≡ head.target.items
     → request.has_length ≡ is_some head.length → request.close ≡ head.close
     → Spells (held2 ++ y) (asked_by request) (held3 ++ y)
 spelled held1 held2 held3 y head request n x grown room size body left method target has close =
@@ -154,7 +154,7 @@ pub told_request : (a0 left1 left2 : Option (List ℕ)) (held1 held2 held3 : Lis
     → ((more : List ℕ) × (held2 ≡ held1 ++ more))
     → head.len + n ≤ length held2 → n ≡ unwrap_or head.length 0
     → request.body.items ≡ take n (drop head.len held2) → held3 ≡ drop (head.len + n) held2
-    → request.method.items ≡ head.method.items → request.target.items ≡ head.target.items
+    → request.method ≡ head.method → request.target.items ≡ head.target.items
     → request.has_length ≡ is_some head.length → request.close ≡ head.close
     → IfSome a0 (λ bytes. Leaves bytes (Ok (Some request)) (prepend_known held3 left2))
 told_request a0 left1 None held1 held2 held3 head request n k1 x k2 grown room size body left method target

@@ -29,7 +29,7 @@ length_in v =
 pub record IsHeadAt (buf : List ℕ) (head : Head) (other : RequestHead) : Type 0 where
   pub begins : Begins buf other (drop head.len buf)
   pub len : head.len ≡ length (print_request other)
-  pub method : head.method.items ≡ other.method
+  pub method : head.method ≡ other.method
   pub target : head.target.items ≡ other.target
   pub length : length_by other ≡ Ok head.length
   pub close : head.close ≡ close_by other

@@ -19,7 +19,7 @@ pub record Asked : Type 0 where
 -- what a request asks
 abbrev pub asked_by : Request → Asked
 asked_by request = record {
-  method = request.method.items;
+  method = request.method;
   target = request.target.items;
   has_length = request.has_length;
   close = request.close;

@@ -1,14 +1,15 @@
 //! The texts of rows of changes.
 
-ghost use Rattle.std.specs.Prelude.{◌≡◌, [], ◌∷◌, ◌++◌};
+ghost use Rattle.std.specs.Prelude.{◌≡◌, ◌<◌, [], ◌∷◌, ◌++◌, Some, codes, decimal};
 ghost use Rattle.hub_http.specs.Appends.{Appends};
 ghost use Rattle.json.specs.Print.{escape};
 ghost use Rattle.hub_http.specs.ChangeTexts.{revision_text, revisions_text, row_mark, doc_member, row_end};
 ghost use Rattle.hub_http.specs.ChangeTexts.{id_member, row_head, change_row_text, change_end_text};
+ghost use Rattle.hub_http.specs.ChangeTexts.{plain_front};
 
 use crate::row_text::RowText;
 use hub_document::{
-    ChangeRow, Changes, DigestRev, LentChanges, RevId, is_plain, put_quoted, put_sequence,
+    Body, ChangeRow, Changes, DigestRev, LentChanges, RevId, is_plain, put_quoted, put_sequence,
 };
 use itoa::Buffer;
 use std::alloc::AllocError;
@@ -58,34 +59,13 @@ fn put_revisions(out: &mut Vec<u8>, revs: &[RevId]) -> Result<(), AllocError>
     Ok(())
 }
 
-// Appends a member of an id that needs no escape, and of what stands behind it.
-fn put_plain_id(out: &mut Vec<u8>, id: &str) -> Result<(), AllocError>
-    requires { escape id.now ≡ id.now }
-    ensures { Appends (id_member id.now) result out.old.items out.new.items }
-{
-    out.extend_from_slice(b",\"id\":\"")?;
-    out.extend_from_slice(id.as_bytes())?;
-    out.extend_from_slice(b"\",\"changes\":[")?;
-    Ok(())
-}
-
-fn put_quoted_id(out: &mut Vec<u8>, id: &str) -> Result<(), AllocError>
+fn put_id(out: &mut Vec<u8>, id: &str) -> Result<(), AllocError>
     ensures { Appends (id_member id.now) result out.old.items out.new.items }
 {
     out.extend_from_slice(b",\"id\":")?;
     put_quoted(out, id)?;
     out.extend_from_slice(b",\"changes\":[")?;
     Ok(())
-}
-
-fn put_id(out: &mut Vec<u8>, id: &str) -> Result<(), AllocError>
-    ensures { Appends (id_member id.now) result out.old.items out.new.items }
-{
-    if is_plain(id.as_bytes()) {
-        put_plain_id(out, id)
-    } else {
-        put_quoted_id(out, id)
-    }
 }
 
 #[tactic(auto, unfolding(crate::specs::ChangeTexts::row_head))]
@@ -109,18 +89,6 @@ fn put_mark(out: &mut Vec<u8>, deleted: bool) -> Result<(), AllocError>
     }
 }
 
-// Appends the end of a row that brings no document.
-#[tactic(auto, unfolding(crate::specs::ChangeTexts::row_mark))]
-fn put_short_end(out: &mut Vec<u8>, deleted: bool) -> Result<(), AllocError>
-    ensures { Appends (row_mark deleted ++ 125 ∷ []) result out.old.items out.new.items }
-{
-    if deleted {
-        out.extend_from_slice(b"],\"deleted\":true}")
-    } else {
-        out.extend_from_slice(b"]}")
-    }
-}
-
 fn put_doc(out: &mut Vec<u8>, row: &ChangeRow) -> Result<(), AllocError>
     ensures { Appends (doc_member row.now row.now.doc) result out.old.items out.new.items }
 {
@@ -132,7 +100,7 @@ fn put_doc(out: &mut Vec<u8>, row: &ChangeRow) -> Result<(), AllocError>
     Ok(())
 }
 
-fn put_long_end(out: &mut Vec<u8>, row: &ChangeRow) -> Result<(), AllocError>
+fn put_row_end(out: &mut Vec<u8>, row: &ChangeRow) -> Result<(), AllocError>
     ensures { Appends (row_end row.now) result out.old.items out.new.items }
 {
     put_mark(out, row.deleted)?;
@@ -141,13 +109,110 @@ fn put_long_end(out: &mut Vec<u8>, row: &ChangeRow) -> Result<(), AllocError>
     Ok(())
 }
 
-fn put_row_end(out: &mut Vec<u8>, row: &ChangeRow) -> Result<(), AllocError>
-    ensures { Appends (row_end row.now) result out.old.items out.new.items }
+// Appends any row, a member at a time.
+fn put_any_row(out: &mut Vec<u8>, life: u64, row: &ChangeRow) -> Result<(), AllocError>
+    ensures { Appends (change_row_text life row.now) result out.old.items out.new.items }
+{
+    put_row_head(out, life, row.seq, row.id.as_str())?;
+    put_changes(out, &row.changes)?;
+    put_row_end(out, row)?;
+    Ok(())
+}
+
+// What stands between the number of a sequence and an id, where the number of the life has one digit.
+fn short_middle(life: u64) -> [u8; 10]
+    requires { life < 10 }
+    ensures { result ≡ 45 ∷ (decimal life ++ codes "\",\"id\":\"") }
+{
+    [
+        b'-',
+        b'0' + life as u8,
+        b'"',
+        b',',
+        b'"',
+        b'i',
+        b'd',
+        b'"',
+        b':',
+        b'"',
+    ]
+}
+
+// Appends the front of a row whose id needs no escape, as far as its first revision, in few parts.
+fn put_plain_front(out: &mut Vec<u8>, life: u64, seq: u64, id: &str) -> Result<(), AllocError>
+    requires { life < 10 }
+    ensures { Appends (plain_front life seq id.now) result out.old.items out.new.items }
+{
+    let mut number = Buffer::new();
+    out.extend_from_slice(b"{\"seq\":\"")?;
+    out.extend_from_slice(number.format(seq).as_bytes())?;
+    out.extend_from_slice(short_middle(life).as_slice())?;
+    out.extend_from_slice(id.as_bytes())?;
+    out.extend_from_slice(b"\",\"changes\":[{\"rev\":")?;
+    Ok(())
+}
+
+// Appends what stands behind the only revision of a row that brings no document.
+#[tactic(auto, unfolding(crate::specs::ChangeTexts::row_mark))]
+fn put_short_end(out: &mut Vec<u8>, deleted: bool) -> Result<(), AllocError>
+    ensures { Appends (125 ∷ (row_mark deleted ++ 125 ∷ [])) result out.old.items out.new.items }
+{
+    if deleted {
+        out.extend_from_slice(b"}],\"deleted\":true}")
+    } else {
+        out.extend_from_slice(b"}]}")
+    }
+}
+
+// What stands between the only revision of a row and its document.
+#[tactic(auto, unfolding(crate::specs::ChangeTexts::row_mark))]
+fn doc_front(deleted: bool) -> &'static str
+    ensures { result.now ≡ 125 ∷ (row_mark deleted ++ codes ",\"doc\":") }
+{
+    if deleted {
+        "}],\"deleted\":true,\"doc\":"
+    } else {
+        "}],\"doc\":"
+    }
+}
+
+// Appends the end of a row that brings a document, behind its only revision.
+fn put_doc_end(out: &mut Vec<u8>, row: &ChangeRow, body: &Body) -> Result<(), AllocError>
+    requires { row.now.doc ≡ Some body.now }
+    ensures { Appends (125 ∷ row_end row.now) result out.old.items out.new.items }
+{
+    out.extend_from_slice(doc_front(row.deleted).as_bytes())?;
+    row.write_doc(out, body)?;
+    out.extend_from_slice(b"}")?;
+    Ok(())
+}
+
+// Appends the end of a row behind its only revision.
+fn put_only_end(out: &mut Vec<u8>, row: &ChangeRow) -> Result<(), AllocError>
+    ensures { Appends (125 ∷ row_end row.now) result out.old.items out.new.items }
 {
     match &row.doc {
         None => put_short_end(out, row.deleted),
-        Some(_) => put_long_end(out, row),
+        Some(body) => put_doc_end(out, row, body),
     }
+}
+
+// Appends a row of one revision whose id needs no escape, in few parts.
+fn put_plain_row(
+    out: &mut Vec<u8>,
+    life: u64,
+    row: &ChangeRow,
+    rev: &DigestRev,
+) -> Result<(), AllocError>
+    requires short { life < 10 }
+    requires plain { escape row.now.id ≡ row.now.id }
+    requires only { row.now.changes ≡ rev.now ∷ [] }
+    ensures { Appends (change_row_text life row.now) result out.old.items out.new.items }
+{
+    put_plain_front(out, life, row.seq, row.id.as_str())?;
+    rev.print_quoted(out)?;
+    put_only_end(out, row)?;
+    Ok(())
 }
 
 impl RowText for ChangeRow {
@@ -156,10 +221,13 @@ impl RowText for ChangeRow {
     ghost end_text = { change_end_text };
 
     fn put_row(&self, out: &mut Vec<u8>, life: u64) -> Result<(), AllocError> {
-        put_row_head(out, life, self.seq, self.id.as_str())?;
-        put_changes(out, &self.changes)?;
-        put_row_end(out, self)?;
-        Ok(())
+        if life >= 10 || !is_plain(self.id.as_str().as_bytes()) {
+            return put_any_row(out, life, self);
+        }
+        match self.changes.lent() {
+            LentChanges::One(rev) => put_plain_row(out, life, self, rev),
+            LentChanges::Many(_) => put_any_row(out, life, self),
+        }
     }
 
     fn put_end(

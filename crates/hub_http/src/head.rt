@@ -8,6 +8,7 @@ ghost use Rattle.hub_http.specs.Looking.{Looks};
 use crate::connection::has_close;
 use crate::fault::HttpFault;
 use crate::length::length_of;
+use crate::method_name::MethodName;
 use httparse::spans::{EMPTY_HEADER_SPAN, HeaderSpan, parse_request};
 use httparse::{Error, Status};
 use std::alloc::Global;
@@ -15,7 +16,7 @@ use std::alloc::Global;
 /// What a head asks for.
 #[derive(Debug, Drop)]
 pub(crate) struct Head {
-    pub method: Vec<u8>,
+    pub method: MethodName,
     pub target: Vec<u8>,
     pub length: Option<u64>,
     pub close: bool,
@@ -91,7 +92,7 @@ pub(crate) fn look(alloc: Global, buf: &[u8]) -> Result<Option<Head>, HttpFault>
                 Ok(length) => length,
                 Err(e) => return Err(e),
             };
-            let Ok(method) = Vec::from_slice(alloc, spans.method.of(buf)) else {
+            let Ok(method) = MethodName::new(alloc, spans.method.of(buf)) else {
                 return Err(HttpFault::NoMemory);
             };
             let Ok(target) = Vec::from_slice(alloc, target) else {

@@ -5,7 +5,7 @@ ghost use Rattle.std.specs.Io.{WritesAtMost};
 ghost use Rattle.std.specs.IoError.{error_kind};
 ghost use Rattle.std.specs.Io.KnownBytes.{Keeps, Appends, WriteAppends};
 ghost use Rattle.hub_http.specs.Counts.{bumped_if, write_faulted, write_failed, call_failed};
-ghost use Rattle.hub_http.specs.Counts.{is_interruption, CallCounts, AppendsFront, Sends};
+ghost use Rattle.hub_http.specs.Counts.{is_interruption, CallCounts, AppendsFront, SendsTo};
 
 use std::io;
 use std::io::ErrorKind;
@@ -129,8 +129,7 @@ pub fn write_all<W: Output>(writer: &mut W, bytes: &[u8]) -> Result<(), IoFault>
 
 /// Writes all of a vector, whose memory the writer may keep, and does not flush, as `write_all` does.
 pub fn write_vec<W: Output>(writer: &mut W, bytes: Vec<u8>) -> Result<(), IoFault>
-    ensures sent { Sends (is_err result) (W.written writer.old) (W.written writer.new) bytes.items }
-    ensures counts { CallCounts (IsErr result) W.fault_count W.failure_count writer.old writer.new }
+    ensures { SendsTo W.written W.fault_count W.failure_count result writer.old writer.new bytes.items }
 {
     match writer.keep(bytes) {
         None => Ok(()),
@@ -141,8 +140,7 @@ pub fn write_vec<W: Output>(writer: &mut W, bytes: Vec<u8>) -> Result<(), IoFaul
 /// Writes all the bytes, mostly by one write, and flushes. After a fault a front of them was
 /// written. A write or a flush that is interrupted is made again; 1,000,000 in a row are a fault.
 pub fn send<W: Output>(writer: &mut W, bytes: &[u8]) -> Result<(), IoFault>
-    ensures sent { Sends (is_err result) (W.written writer.old) (W.written writer.new) bytes.now }
-    ensures counts { CallCounts (IsErr result) W.fault_count W.failure_count writer.old writer.new }
+    ensures { SendsTo W.written W.fault_count W.failure_count result writer.old writer.new bytes.now }
 {
     write_all(writer, bytes)?;
     flush(writer)

@@ -1,10 +1,12 @@
 //! Requests.
 
+use crate::method_name::MethodName;
+
 /// A whole request (RFC 9112). Its fields but `Content-Length` and `Connection` are not kept.
 #[derive(Debug, Drop)]
 pub struct Request {
     /// The method, as `GET`.
-    pub method: Vec<u8>,
+    pub method: MethodName,
     /// The target as it was sent: it begins with `/`, is UTF-8, and is not decoded.
     pub target: Vec<u8>,
     /// The head had a `Content-Length`.

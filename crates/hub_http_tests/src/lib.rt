@@ -10,6 +10,8 @@ mod offer_tests;
 #[cfg(test)]
 mod outbox_tests;
 #[cfg(test)]
+mod plain_row_tests;
+#[cfg(test)]
 mod request_tests;
 #[cfg(test)]
 mod tally_tests;

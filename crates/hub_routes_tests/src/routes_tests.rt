@@ -4,7 +4,7 @@
 //! has the answer that it has with ample memory. A request whose path is ASCII without an escape is asked
 //! once: its route takes no memory, so no growth of it can be refused.
 
-use hub_http::{Refusal, Request};
+use hub_http::{MethodName, Refusal, Request};
 use hub_routes::{Call, Route, RouteFault, Routes};
 use std::alloc::{AllocError, Global};
 use std::borrow::CowStr;
@@ -251,7 +251,7 @@ fn asking(
     has_length: bool,
 ) -> Result<Request, AllocError> {
     Ok(Request {
-        method: Vec::from_slice(alloc, method.as_bytes())?,
+        method: MethodName::new(alloc, method.as_bytes())?,
         target: Vec::from_slice(alloc, target)?,
         has_length,
         close: false,

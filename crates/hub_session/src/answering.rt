@@ -1,6 +1,6 @@
 //! Answers to single requests.
-ghost use Rattle.std.specs.Prelude.{◌≡◌, ◌≤◌, ◌⊎◌, Some, is_err, OnErr};
-ghost use Rattle.hub_http.specs.Counts.{GaveUp, Rose, Sends};
+ghost use Rattle.std.specs.Prelude.{◌≡◌, ◌⊎◌, Some, is_err};
+ghost use Rattle.hub_http.specs.Counts.{CallCounts, Sends, SendsTo};
 ghost use Rattle.hub_http.specs.Stream.{asked_by};
 ghost use Rattle.hub_session.specs.Replies.{fault_text};
 ghost use Rattle.hub_session.specs.Rules.{moment};
@@ -68,13 +68,8 @@ fn write_head<W: Output, S: Service>(
     mode: Mode,
     close: bool,
 ) -> Result<(), IoFault>
-    ensures sent { Sends (is_err result) (W.written writer.old) (W.written writer.new)
+    ensures { SendsTo W.written W.fault_count W.failure_count result writer.old writer.new
         (stream_head close mode) }
-    ensures monotone { W.fault_count writer.old ≤ W.fault_count writer.new }
-    ensures failures_monotone { W.failure_count writer.old ≤ W.failure_count writer.new }
-    ensures fault { OnErr result (Rose (W.fault_count writer.old) (W.fault_count writer.new)) }
-    ensures tried { OnErr result (GaveUp (W.failure_count writer.old) (W.failure_count writer.new)
-        (W.fault_count writer.old) (W.fault_count writer.new)) }
 {
     write_all(writer, stream_head_text(close).as_bytes())?;
     begin_items(writer, service, mode)
@@ -89,12 +84,8 @@ pub(crate) fn begin_answer<W: Output, S: Service>(
 ) -> Begun
     ensures told { HasBegun S.rules (asked_by request.now) result
         (moment service.old (W.written writer.old)) (moment service.new (W.written writer.new)) }
-    ensures monotone { W.fault_count writer.old ≤ W.fault_count writer.new }
-    ensures failures_monotone { W.failure_count writer.old ≤ W.failure_count writer.new }
-    ensures fault { result ≡ Begun.Answered (Some Closing.Broken)
-        → Rose (W.fault_count writer.old) (W.fault_count writer.new) }
-    ensures tried { result ≡ Begun.Answered (Some Closing.Broken) → GaveUp (W.failure_count writer.old)
-        (W.failure_count writer.new) (W.fault_count writer.old) (W.fault_count writer.new) }
+    ensures counts { CallCounts (result ≡ Begun.Answered (Some Closing.Broken)) W.fault_count
+        W.failure_count writer.old writer.new }
 {
     let head_only = is_head(request);
     let close = request.close;
@@ -129,12 +120,8 @@ pub(crate) fn answer_one<W: Output, S: Service>(
 ) -> Option<Closing>
     ensures told { HasAnswer S.rules (asked_by request.now) result
         (moment service.old (W.written writer.old)) (moment service.new (W.written writer.new)) }
-    ensures monotone { W.fault_count writer.old ≤ W.fault_count writer.new }
-    ensures failures_monotone { W.failure_count writer.old ≤ W.failure_count writer.new }
-    ensures fault { result ≡ Some Closing.Broken
-        → Rose (W.fault_count writer.old) (W.fault_count writer.new) }
-    ensures tried { result ≡ Some Closing.Broken → GaveUp (W.failure_count writer.old)
-        (W.failure_count writer.new) (W.fault_count writer.old) (W.fault_count writer.new) }
+    ensures counts { CallCounts (result ≡ Some Closing.Broken) W.fault_count
+        W.failure_count writer.old writer.new }
 {
     match begin_answer(alloc, writer, service, request) {
         Begun::Answered(next) => next,
@@ -149,11 +136,8 @@ pub(crate) fn answer_one<W: Output, S: Service>(
 pub(crate) fn answer_fault<W: Output>(writer: &mut W, fault: HttpFault) -> Closing
     ensures sent { Sends (is_broken result) (W.written writer.old) (W.written writer.new) (fault_text fault) }
     ensures closes { (result ≡ Closing.Fault fault) ⊎ (result ≡ Closing.Broken) }
-    ensures monotone { W.fault_count writer.old ≤ W.fault_count writer.new }
-    ensures failures_monotone { W.failure_count writer.old ≤ W.failure_count writer.new }
-    ensures broken { result ≡ Closing.Broken → Rose (W.fault_count writer.old) (W.fault_count writer.new) }
-    ensures tried { result ≡ Closing.Broken → GaveUp (W.failure_count writer.old)
-        (W.failure_count writer.new) (W.fault_count writer.old) (W.fault_count writer.new) }
+    ensures counts { CallCounts (result ≡ Closing.Broken) W.fault_count
+        W.failure_count writer.old writer.new }
 {
     match send(writer, fault_text(fault).as_bytes()) {
         Ok(()) => Closing::Fault(fault),

@@ -1,7 +1,7 @@
 //! Streams to a writer.
-ghost use Rattle.std.specs.Prelude.{◌≡◌, ◌<◌, ◌≤◌, ◌+◌, ◌^◌, ℕ, is_err, IfOk, OnErr, IsErrOf};
+ghost use Rattle.std.specs.Prelude.{◌≡◌, ◌<◌, ◌≤◌, ◌+◌, ◌^◌, ℕ, IfOk, IsErrOf};
 ghost use Rattle.std.specs.Io.KnownBytes.{Keeps};
-ghost use Rattle.hub_http.specs.Counts.{GaveUp, Rose, Sends};
+ghost use Rattle.hub_http.specs.Counts.{CallCounts, SendsTo};
 ghost use Rattle.hub_http.specs.Items.{feed_head};
 ghost use Rattle.hub_http.specs.Chunks.{Writes, text_chunks};
 ghost use Rattle.hub_session.specs.Items.{rows_after};
@@ -53,12 +53,8 @@ fn send_item<W: Output, S: Service>(
 ) -> Result<(), ChunkFault>
     ensures bytes { Writes (sent_text text.now.mode text.now.life text.now.rows text.now.item.now) result
         (W.written writer.old) (W.written writer.new) }
-    ensures monotone { W.fault_count writer.old ≤ W.fault_count writer.new }
-    ensures failures_monotone { W.failure_count writer.old ≤ W.failure_count writer.new }
-    ensures fault { IsErrOf result ChunkFault.IoFault
-        → Rose (W.fault_count writer.old) (W.fault_count writer.new) }
-    ensures tried { IsErrOf result ChunkFault.IoFault → GaveUp (W.failure_count writer.old)
-        (W.failure_count writer.new) (W.fault_count writer.old) (W.fault_count writer.new) }
+    ensures counts { CallCounts (IsErrOf result ChunkFault.IoFault) W.fault_count
+        W.failure_count writer.old writer.new }
 {
     match chunks.write(writer, text) {
         Ok(()) => {}
@@ -77,8 +73,7 @@ fn send_item<W: Output, S: Service>(
 /// all the same.
 fn flush_cut<W: Output>(writer: &mut W)
     ensures kept { Keeps (W.written writer.old) (W.written writer.new) }
-    ensures monotone { W.fault_count writer.old ≤ W.fault_count writer.new }
-    ensures failures_monotone { W.failure_count writer.old ≤ W.failure_count writer.new }
+    ensures counts { CallCounts ⊥ W.fault_count W.failure_count writer.old writer.new }
 {
     let _ = send(writer, b"");
 }
@@ -116,12 +111,8 @@ pub(crate) fn send_given<W: Output, S: Service>(
         → IsStreamed S.rules sending.mode sending.life count sending.rows result
         (moment from (W.written writer.old)) (moment service.new (W.written writer.new)) }
     ensures bound { IfOk result (λ rows. rows ≤ sending.rows + 1) }
-    ensures monotone { W.fault_count writer.old ≤ W.fault_count writer.new }
-    ensures failures_monotone { W.failure_count writer.old ≤ W.failure_count writer.new }
-    ensures fault { IsErrOf result StreamEnd.Broken
-        → Rose (W.fault_count writer.old) (W.fault_count writer.new) }
-    ensures tried { IsErrOf result StreamEnd.Broken → GaveUp (W.failure_count writer.old)
-        (W.failure_count writer.new) (W.fault_count writer.old) (W.fault_count writer.new) }
+    ensures counts { CallCounts (IsErrOf result StreamEnd.Broken) W.fault_count
+        W.failure_count writer.old writer.new }
 {
     let Some(item) = given else {
         flush_cut(writer);
@@ -162,11 +153,8 @@ pub(crate) fn send_items<W: Output, S: Service>(
 ) -> StreamEnd
     ensures fed { IsFed S.rules (items_text mode life 0) result
         (moment service.old (W.written writer.old)) (moment service.new (W.written writer.new)) }
-    ensures monotone { W.fault_count writer.old ≤ W.fault_count writer.new }
-    ensures failures_monotone { W.failure_count writer.old ≤ W.failure_count writer.new }
-    ensures fault { result ≡ StreamEnd.Broken → Rose (W.fault_count writer.old) (W.fault_count writer.new) }
-    ensures tried { result ≡ StreamEnd.Broken → GaveUp (W.failure_count writer.old)
-        (W.failure_count writer.new) (W.fault_count writer.old) (W.fault_count writer.new) }
+    ensures counts { CallCounts (result ≡ StreamEnd.Broken) W.fault_count
+        W.failure_count writer.old writer.new }
 {
     let mut chunks = ChunkWriter::new(alloc);
     let mut rows = 0;
@@ -188,13 +176,8 @@ pub(crate) fn begin_items<W: Output, S: Service>(
     service: &S,
     mode: Mode,
 ) -> Result<(), IoFault>
-    ensures sent { Sends (is_err result) (W.written writer.old) (W.written writer.new)
+    ensures { SendsTo W.written W.fault_count W.failure_count result writer.old writer.new
         (text_chunks (feed_head mode)) }
-    ensures monotone { W.fault_count writer.old ≤ W.fault_count writer.new }
-    ensures failures_monotone { W.failure_count writer.old ≤ W.failure_count writer.new }
-    ensures fault { OnErr result (Rose (W.fault_count writer.old) (W.fault_count writer.new)) }
-    ensures tried { OnErr result (GaveUp (W.failure_count writer.old) (W.failure_count writer.new)
-        (W.fault_count writer.old) (W.fault_count writer.new)) }
 {
     let bytes = head_chunk(mode).as_bytes();
     if service.is_ready() {
@@ -221,11 +204,8 @@ pub fn stream_feed<W: Output, S: Service>(
 ) -> StreamEnd
     ensures fed { IsFed S.rules (feed_text mode life) result
         (moment service.old (W.written writer.old)) (moment service.new (W.written writer.new)) }
-    ensures monotone { W.fault_count writer.old ≤ W.fault_count writer.new }
-    ensures failures_monotone { W.failure_count writer.old ≤ W.failure_count writer.new }
-    ensures fault { result ≡ StreamEnd.Broken → Rose (W.fault_count writer.old) (W.fault_count writer.new) }
-    ensures tried { result ≡ StreamEnd.Broken → GaveUp (W.failure_count writer.old)
-        (W.failure_count writer.new) (W.fault_count writer.old) (W.fault_count writer.new) }
+    ensures counts { CallCounts (result ≡ StreamEnd.Broken) W.fault_count
+        W.failure_count writer.old writer.new }
 {
     match begin_items(writer, service, mode) {
         Ok(()) => send_items(alloc, writer, service, mode, life),

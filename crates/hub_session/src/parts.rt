@@ -1,6 +1,6 @@
 //! Whole answers to a writer in parts, which take no memory.
-ghost use Rattle.std.specs.Prelude.{◌≡◌, ◌≤◌, is_err, length, OnErr};
-ghost use Rattle.hub_http.specs.Counts.{GaveUp, Rose, Sends};
+ghost use Rattle.std.specs.Prelude.{◌≡◌, length};
+ghost use Rattle.hub_http.specs.Counts.{SendsTo};
 ghost use Rattle.hub_http.specs.Texts.{close_line, head_text, length_line};
 ghost use Rattle.hub_http.specs.Texts.{refusal_body, reply_text};
 ghost use Rattle.hub_session.specs.Replies.{body_in, parts_text, status_in};
@@ -16,13 +16,8 @@ fn close_line(close: bool) -> &'static str
 
 /// Writes parts, one behind the other, each mostly by one write, and does not flush.
 fn write_parts<W: Output>(writer: &mut W, parts: &[&[u8]]) -> Result<(), IoFault>
-    ensures sent { Sends (is_err result) (W.written writer.old) (W.written writer.new)
+    ensures { SendsTo W.written W.fault_count W.failure_count result writer.old writer.new
         (parts_text parts.now) }
-    ensures monotone { W.fault_count writer.old ≤ W.fault_count writer.new }
-    ensures failures_monotone { W.failure_count writer.old ≤ W.failure_count writer.new }
-    ensures fault { OnErr result (Rose (W.fault_count writer.old) (W.fault_count writer.new)) }
-    ensures tried { OnErr result (GaveUp (W.failure_count writer.old) (W.failure_count writer.new)
-        (W.fault_count writer.old) (W.fault_count writer.new)) }
 {
     for part in parts {
         write_all(writer, part)?;
@@ -37,13 +32,8 @@ fn write_head<W: Output>(
     len: usize,
     close: bool,
 ) -> Result<(), IoFault>
-    ensures sent { Sends (is_err result) (W.written writer.old) (W.written writer.new)
+    ensures { SendsTo W.written W.fault_count W.failure_count result writer.old writer.new
         (head_text status (length_line len) close) }
-    ensures monotone { W.fault_count writer.old ≤ W.fault_count writer.new }
-    ensures failures_monotone { W.failure_count writer.old ≤ W.failure_count writer.new }
-    ensures fault { OnErr result (Rose (W.fault_count writer.old) (W.fault_count writer.new)) }
-    ensures tried { OnErr result (GaveUp (W.failure_count writer.old) (W.failure_count writer.new)
-        (W.fault_count writer.old) (W.fault_count writer.new)) }
 {
     let mut number = Buffer::new();
     let mut length = Buffer::new();
@@ -67,13 +57,8 @@ fn write_head<W: Output>(
 
 /// Writes the body of a refusal.
 fn write_refusal<W: Output>(writer: &mut W, refusal: Refusal) -> Result<(), IoFault>
-    ensures sent { Sends (is_err result) (W.written writer.old) (W.written writer.new)
+    ensures { SendsTo W.written W.fault_count W.failure_count result writer.old writer.new
         (refusal_body refusal) }
-    ensures monotone { W.fault_count writer.old ≤ W.fault_count writer.new }
-    ensures failures_monotone { W.failure_count writer.old ≤ W.failure_count writer.new }
-    ensures fault { OnErr result (Rose (W.fault_count writer.old) (W.fault_count writer.new)) }
-    ensures tried { OnErr result (GaveUp (W.failure_count writer.old) (W.failure_count writer.new)
-        (W.fault_count writer.old) (W.fault_count writer.new)) }
 {
     write_parts(
         writer,
@@ -107,12 +92,8 @@ fn framing(reply: &Reply) -> (StatusCode, usize)
 
 /// Writes the body of an answer, which the writer may keep.
 fn write_body<W: Output>(writer: &mut W, reply: Reply) -> Result<(), IoFault>
-    ensures sent { Sends (is_err result) (W.written writer.old) (W.written writer.new) (body_in reply) }
-    ensures monotone { W.fault_count writer.old ≤ W.fault_count writer.new }
-    ensures failures_monotone { W.failure_count writer.old ≤ W.failure_count writer.new }
-    ensures fault { OnErr result (Rose (W.fault_count writer.old) (W.fault_count writer.new)) }
-    ensures tried { OnErr result (GaveUp (W.failure_count writer.old) (W.failure_count writer.new)
-        (W.fault_count writer.old) (W.fault_count writer.new)) }
+    ensures { SendsTo W.written W.fault_count W.failure_count result writer.old writer.new
+        (body_in reply) }
 {
     match reply {
         Reply::Done { body, .. } => write_vec(writer, body),
@@ -128,13 +109,8 @@ pub(crate) fn send_in_parts<W: Output>(
     head_only: bool,
     close: bool,
 ) -> Result<(), IoFault>
-    ensures sent { Sends (is_err result) (W.written writer.old) (W.written writer.new)
+    ensures { SendsTo W.written W.fault_count W.failure_count result writer.old writer.new
         (reply_text reply head_only close) }
-    ensures monotone { W.fault_count writer.old ≤ W.fault_count writer.new }
-    ensures failures_monotone { W.failure_count writer.old ≤ W.failure_count writer.new }
-    ensures fault { OnErr result (Rose (W.fault_count writer.old) (W.fault_count writer.new)) }
-    ensures tried { OnErr result (GaveUp (W.failure_count writer.old) (W.failure_count writer.new)
-        (W.fault_count writer.old) (W.fault_count writer.new)) }
 {
     let (status, len) = framing(&reply);
     write_head(writer, status, len, close)?;

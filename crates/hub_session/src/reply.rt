@@ -1,6 +1,6 @@
 //! Whole answers to a writer.
-ghost use Rattle.std.specs.Prelude.{◌≡◌, ◌≤◌, is_err, OnErr};
-ghost use Rattle.hub_http.specs.Counts.{GaveUp, Rose, Sends};
+ghost use Rattle.std.specs.Prelude.{◌≡◌};
+ghost use Rattle.hub_http.specs.Counts.{SendsTo};
 ghost use Rattle.hub_http.specs.Texts.{reply_text};
 ghost use Rattle.hub_session.specs.Replies.{fault_text};
 
@@ -45,12 +45,7 @@ pub(crate) fn fault_text(fault: HttpFault) -> &'static str
 
 /// Writes a vector's bytes, which the writer may keep, and flushes them.
 fn send_vec<W: Output>(writer: &mut W, bytes: Vec<u8>) -> Result<(), IoFault>
-    ensures sent { Sends (is_err result) (W.written writer.old) (W.written writer.new) bytes.items }
-    ensures monotone { W.fault_count writer.old ≤ W.fault_count writer.new }
-    ensures failures_monotone { W.failure_count writer.old ≤ W.failure_count writer.new }
-    ensures fault { OnErr result (Rose (W.fault_count writer.old) (W.fault_count writer.new)) }
-    ensures tried { OnErr result (GaveUp (W.failure_count writer.old) (W.failure_count writer.new)
-        (W.fault_count writer.old) (W.fault_count writer.new)) }
+    ensures { SendsTo W.written W.fault_count W.failure_count result writer.old writer.new bytes.items }
 {
     write_vec(writer, bytes)?;
     send(writer, b"")
@@ -65,13 +60,8 @@ pub(crate) fn send_reply<W: Output>(
     head_only: bool,
     close: bool,
 ) -> Result<(), IoFault>
-    ensures sent { Sends (is_err result) (W.written writer.old) (W.written writer.new)
+    ensures { SendsTo W.written W.fault_count W.failure_count result writer.old writer.new
         (reply_text reply head_only close) }
-    ensures monotone { W.fault_count writer.old ≤ W.fault_count writer.new }
-    ensures failures_monotone { W.failure_count writer.old ≤ W.failure_count writer.new }
-    ensures fault { OnErr result (Rose (W.fault_count writer.old) (W.fault_count writer.new)) }
-    ensures tried { OnErr result (GaveUp (W.failure_count writer.old) (W.failure_count writer.new)
-        (W.fault_count writer.old) (W.fault_count writer.new)) }
 {
     match reply_bytes(alloc, &reply, head_only, close) {
         Ok(bytes) => send_vec(writer, bytes),

@@ -1,6 +1,6 @@
 //! Sessions over a reader and a writer.
-ghost use Rattle.std.specs.Prelude.{◌≡◌, ◌≤◌, IfSome, Some};
-ghost use Rattle.hub_http.specs.Counts.{GaveUp, Rose};
+ghost use Rattle.std.specs.Prelude.{◌≡◌, IfSome, Some};
+ghost use Rattle.hub_http.specs.Counts.{CallCounts};
 ghost use Rattle.hub_http.specs.declared.fault.HttpFault.{HttpFault};
 ghost use Rattle.hub_http.specs.Words.{to_come, IsOpen, HasEnded, failures_of, faults_of};
 ghost use Rattle.hub_session.specs.Rules.{moment};
@@ -27,20 +27,10 @@ pub fn serve_one<R: Input, W: Output, S: Service>(
     ensures stays { IsOpen requests.old → result ≡ None → IsOpen requests.new }
     ensures ended { HasEnded requests.old → (result ≡ Some (Closing.Fault HttpFault.Ended))
         × (requests.new ≡ requests.old) × (service.new ≡ service.old) × (writer.new ≡ writer.old) }
-    ensures monotone { W.fault_count writer.old ≤ W.fault_count writer.new }
-    ensures failures_monotone { W.failure_count writer.old ≤ W.failure_count writer.new }
-    ensures reads { faults_of R.fault_count requests.old ≤ faults_of R.fault_count requests.new }
-    ensures failed_reads { failures_of R.failure_count requests.old
-        ≤ failures_of R.failure_count requests.new }
-    ensures broken { result ≡ Some Closing.Broken
-        → Rose (W.fault_count writer.old) (W.fault_count writer.new) }
-    ensures tried { result ≡ Some Closing.Broken → GaveUp (W.failure_count writer.old)
-        (W.failure_count writer.new) (W.fault_count writer.old) (W.fault_count writer.new) }
-    ensures fault { result ≡ Some (Closing.Fault HttpFault.IoFault)
-        → Rose (faults_of R.fault_count requests.old) (faults_of R.fault_count requests.new) }
-    ensures tried_reads { result ≡ Some (Closing.Fault HttpFault.IoFault)
-        → GaveUp (failures_of R.failure_count requests.old) (failures_of R.failure_count requests.new)
-        (faults_of R.fault_count requests.old) (faults_of R.fault_count requests.new) }
+    ensures writes { CallCounts (result ≡ Some Closing.Broken) W.fault_count W.failure_count
+        writer.old writer.new }
+    ensures reads { CallCounts (result ≡ Some (Closing.Fault HttpFault.IoFault)) (faults_of R.fault_count)
+        (failures_of R.failure_count) requests.old requests.new }
 {
     match requests.next() {
         Ok(Some(request)) => answer_one(alloc, writer, service, &request),
@@ -63,19 +53,10 @@ pub fn serve<R: Input, W: Output, S: Service>(
         (moment service.old (W.written writer.old)) (moment service.new (W.written writer.new))) }
     ensures ended { HasEnded requests.old → (result ≡ Closing.Fault HttpFault.Ended)
         × (requests.new ≡ requests.old) × (service.new ≡ service.old) × (writer.new ≡ writer.old) }
-    ensures monotone { W.fault_count writer.old ≤ W.fault_count writer.new }
-    ensures failures_monotone { W.failure_count writer.old ≤ W.failure_count writer.new }
-    ensures reads { faults_of R.fault_count requests.old ≤ faults_of R.fault_count requests.new }
-    ensures failed_reads { failures_of R.failure_count requests.old
-        ≤ failures_of R.failure_count requests.new }
-    ensures broken { result ≡ Closing.Broken → Rose (W.fault_count writer.old) (W.fault_count writer.new) }
-    ensures tried { result ≡ Closing.Broken → GaveUp (W.failure_count writer.old)
-        (W.failure_count writer.new) (W.fault_count writer.old) (W.fault_count writer.new) }
-    ensures fault { result ≡ Closing.Fault HttpFault.IoFault
-        → Rose (faults_of R.fault_count requests.old) (faults_of R.fault_count requests.new) }
-    ensures tried_reads { result ≡ Closing.Fault HttpFault.IoFault
-        → GaveUp (failures_of R.failure_count requests.old) (failures_of R.failure_count requests.new)
-        (faults_of R.fault_count requests.old) (faults_of R.fault_count requests.new) }
+    ensures writes { CallCounts (result ≡ Closing.Broken) W.fault_count W.failure_count
+        writer.old writer.new }
+    ensures reads { CallCounts (result ≡ Closing.Fault HttpFault.IoFault) (faults_of R.fault_count)
+        (failures_of R.failure_count) requests.old requests.new }
 {
     for _ in 0..u64::MAX {
         if let Some(closing) = serve_one(alloc, requests, writer, service) {

@@ -1,8 +1,8 @@
-use Rattle.std.proofs.Common.{arith, []}
+use Rattle.std.proofs.Common.{[], Err, ap, arith}
 use Rattle.std.proofs.KnownBytes.{Appends-nil}
 use Rattle.hub_session.specs.declared.closing.StreamEnd.TheVariants.{Exhausted}
 use Rattle.hub_session.specs.Feeds.{Streams}
-use Rattle.hub_http.proofs.CountLemmas.{gave_up_since}
+use Rattle.hub_http.proofs.CountLemmas.{counts_for, counts_only, counts_since}
 use Rattle.hub_session.proofs.FeedLemmas.{went_none, went_more, went_ends}
 use Rattle.hub_session.proofs.feed.send_items.Goals as goal
 
@@ -14,17 +14,20 @@ returns-in-Err-clause-fed g c =
     went_ends g.S.Service.rules _ _ _ c.loop.counter c.loop.rows _ _ c.in-Err.end c.loop.invariant.0
     (c.in-Err.ensures.sent c.loop.service c.loop.counter c.item-given.ensures)
 
-pub returns-in-Err-clause-tried : goal.returns-in-Err-clause-tried
-returns-in-Err-clause-tried g c = λ broken.
-    gave_up_since _ _ _ _ _ _ c.loop.invariant.3 c.loop.invariant.1 (c.send_given.ensures.tried (cc))
+pub returns-in-Err-clause-counts : goal.returns-in-Err-clause-counts
+returns-in-Err-clause-counts g c =
+    counts_since c.loop.invariant.1 c.loop.invariant.3 (counts_for (ap Err) c.in-Err.ensures.counts)
+
+pub returns-clause-counts : goal.returns-clause-counts
+returns-clause-counts g c = counts_only c.loop.invariant.1 c.loop.invariant.3 (λ is. cc)
 
 pub loop-preserved : goal.loop-preserved
 loop-preserved g c = (
   went_more g.S.Service.rules _ _ _ c.loop.counter c.loop.rows _ _ _ c.loop.invariant.0
       (c.in-Ok.ensures.sent c.loop.service c.loop.counter c.item-given.ensures),
-  omega (arith, c.loop.invariant.1, c.send_given.ensures.monotone),
+  omega (arith, c.loop.invariant.1, c.send_given.ensures.counts.faults),
   omega (arith, c.loop.invariant.2, c.in-Ok.ensures.bound),
-  omega (arith, c.loop.invariant.3, c.send_given.ensures.failures_monotone),
+  omega (arith, c.loop.invariant.3, c.send_given.ensures.counts.failures),
 )
 
 pub send_given-requires : goal.send_given-requires

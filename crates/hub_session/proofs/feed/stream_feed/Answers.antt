@@ -1,4 +1,4 @@
-use Rattle.hub_http.proofs.CountLemmas.{gave_up_since}
+use Rattle.hub_http.proofs.CountLemmas.{counts_after}
 use Rattle.hub_session.proofs.FeedLemmas.{fed_behind, fed_broken}
 use Rattle.hub_session.proofs.feed.stream_feed.Goals as goal
 
@@ -10,7 +10,5 @@ pub returns-in-Err-clause-fed : goal.returns-in-Err-clause-fed
 returns-in-Err-clause-fed g c =
     fed_broken g.S.Service.rules c.args.mode c.args.life _ _ c.drop_stream.ensures c.in-Err.ensures.sent
 
-pub returns-in-Ok-clause-tried : goal.returns-in-Ok-clause-tried
-returns-in-Ok-clause-tried g c = λ broken.
-    gave_up_since _ _ _ _ _ _ c.begin_items.ensures.failures_monotone c.begin_items.ensures.monotone
-    (c.send_items.ensures.tried broken)
+pub returns-in-Ok-clause-counts : goal.returns-in-Ok-clause-counts
+returns-in-Ok-clause-counts g c = counts_after c.begin_items.ensures.counts c.send_items.ensures.counts

@@ -4,12 +4,14 @@ use Rattle.hub_http.specs.Counts.{Sends}
 use Rattle.hub_session.proofs.PartsLemmas.{head_parts}
 use Rattle.hub_session.proofs.parts.write_head.Goals as goal
 
-pub returns-clause-sent : goal.returns-clause-sent
-returns-clause-sent g c =
-    subst (Sends _ _ _)
-    (head_parts c.args.status c.args.len c.args.close _ _ _ _
-    (c.as_bytes.ensures.value ∙ c.format.ensures.text ∙ ap decimal c.as_u16.ensures)
-    (c.as_bytes-2.ensures.value ∙ c.reason_phrase.ensures)
-    (c.as_bytes-3.ensures.value ∙ c.format-2.ensures.text)
-    (c.as_bytes-4.ensures.value ∙ c.close_line.ensures))
-    c.write_parts.ensures.sent
+pub returns : goal.returns
+returns g c = record {
+  counts = c.write_parts.ensures.counts;
+  sent = subst (Sends _ _ _)
+      (head_parts c.args.status c.args.len c.args.close _ _ _ _
+      (c.as_bytes.ensures.value ∙ c.format.ensures.text ∙ ap decimal c.as_u16.ensures)
+      (c.as_bytes-2.ensures.value ∙ c.reason_phrase.ensures)
+      (c.as_bytes-3.ensures.value ∙ c.format-2.ensures.text)
+      (c.as_bytes-4.ensures.value ∙ c.close_line.ensures))
+      c.write_parts.ensures.sent;
+}

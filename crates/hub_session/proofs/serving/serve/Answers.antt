@@ -1,6 +1,6 @@
-use Rattle.std.proofs.Common.{arith, refl, sym, subst, ◌∙◌}
+use Rattle.std.proofs.Common.{Some, ap, arith, refl, sym, subst, ◌∙◌}
 use Rattle.hub_http.specs.Words.{HasEnded}
-use Rattle.hub_http.proofs.CountLemmas.{gave_up_since}
+use Rattle.hub_http.proofs.CountLemmas.{counts_for, counts_only, counts_since}
 use Rattle.hub_session.proofs.SessionLemmas.{served_none, serves_more, serves_so, serves_all}
 use Rattle.hub_session.proofs.serving.serve.Goals as goal
 
@@ -16,15 +16,21 @@ returns-in-Some-clause-ended g c = λ ended.
     let closing = at.0 in
     (cc, at.1 ∙ same.0, at.2 ∙ same.1, at.3 ∙ same.2)
 
-pub returns-in-Some-clause-tried : goal.returns-in-Some-clause-tried
-returns-in-Some-clause-tried g c = λ broken.
-    gave_up_since _ _ _ _ _ _ c.loop.invariant.failed_writes c.loop.invariant.writes
-    (c.in-Some.ensures.tried (cc))
+pub returns-in-Some-clause-writes : goal.returns-in-Some-clause-writes
+returns-in-Some-clause-writes g c =
+    counts_since c.loop.invariant.writes c.loop.invariant.failed_writes
+    (counts_for (ap Some) c.in-Some.ensures.writes)
 
-pub returns-in-Some-clause-tried_reads : goal.returns-in-Some-clause-tried_reads
-returns-in-Some-clause-tried_reads g c = λ failed.
-    gave_up_since _ _ _ _ _ _ c.loop.invariant.failed_reads c.loop.invariant.reads
-    (c.in-Some.ensures.tried_reads (cc))
+pub returns-in-Some-clause-reads : goal.returns-in-Some-clause-reads
+returns-in-Some-clause-reads g c =
+    counts_since c.loop.invariant.reads c.loop.invariant.failed_reads
+    (counts_for (ap Some) c.in-Some.ensures.reads)
+
+pub returns-clause-writes : goal.returns-clause-writes
+returns-clause-writes g c = counts_only c.loop.invariant.writes c.loop.invariant.failed_writes (λ is. cc)
+
+pub returns-clause-reads : goal.returns-clause-reads
+returns-clause-reads g c = counts_only c.loop.invariant.reads c.loop.invariant.failed_reads (λ is. cc)
 
 pub returns-clause-session : goal.returns-clause-session
 returns-clause-session g c = λ is_open.
@@ -55,8 +61,8 @@ loop-preserved g c = record {
       let same = c.loop.invariant.ended ended in
       let closed = (c.in_default.ensures.ended (subst HasEnded (sym same.0) ended)).0 in
       cc;
-  writes = omega (arith, c.loop.invariant.writes, c.serve_one.ensures.monotone);
-  failed_writes = omega (arith, c.loop.invariant.failed_writes, c.serve_one.ensures.failures_monotone);
-  reads = omega (arith, c.loop.invariant.reads, c.serve_one.ensures.reads);
-  failed_reads = omega (arith, c.loop.invariant.failed_reads, c.serve_one.ensures.failed_reads);
+  writes = omega (arith, c.loop.invariant.writes, c.serve_one.ensures.writes.faults);
+  failed_writes = omega (arith, c.loop.invariant.failed_writes, c.serve_one.ensures.writes.failures);
+  reads = omega (arith, c.loop.invariant.reads, c.serve_one.ensures.reads.faults);
+  failed_reads = omega (arith, c.loop.invariant.failed_reads, c.serve_one.ensures.reads.failures);
 }

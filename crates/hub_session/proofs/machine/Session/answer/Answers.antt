@@ -25,5 +25,5 @@ returns-in-Streaming-clause-told g c =
 pub returns-in-Answered-clause-broken : goal.returns-in-Answered-clause-broken
 returns-in-Answered-clause-broken g c = λ broken.
     rw c.go_behind.ensures.outbox
-    (c.begin_answer.ensures.fault
+    (c.begin_answer.ensures.counts.fault
     (c.in-Answered.is ∙ ap Answered (step_broken c.in-Answered.next (sym c.go_behind.ensures.step ∙ broken))))

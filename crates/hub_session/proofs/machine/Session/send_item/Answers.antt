@@ -49,4 +49,4 @@ pub returns-clause-broken : goal.returns-clause-broken
 returns-clause-broken g c = λ broken.
     let next = step_broken c.after_stream-in-Err.result (sym c.go_behind-in-Err.ensures.step ∙ broken) in
     let end = broken_stream c.args.close c.in-Err.end (sym c.after_stream-in-Err.ensures ∙ next) in
-    rw c.go_behind-in-Err.ensures.outbox (c.send_given.ensures.fault (cc))
+    rw c.go_behind-in-Err.ensures.outbox (c.send_given.ensures.counts.fault (cc))

@@ -46,4 +46,4 @@ pub returns-in-Err-clause-broken : goal.returns-in-Err-clause-broken
 returns-in-Err-clause-broken g c = λ broken.
     let closing =
     step_broken (Some c.answer_fault-closing.result) (sym c.go_behind-in-Err.ensures.step ∙ broken) in
-    rw c.go_behind-in-Err.ensures.outbox (c.answer_fault-closing.ensures.broken (cc))
+    rw c.go_behind-in-Err.ensures.outbox (c.answer_fault-closing.ensures.counts.fault (cc))

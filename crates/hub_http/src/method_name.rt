@@ -1,0 +1,64 @@
+//! The names of methods.
+
+ghost use Rattle.std.specs.Prelude.{◌≡◌, IfOk};
+
+use std::alloc::{AllocError, Global};
+use std::marker::Model;
+
+// How a name is kept.
+#[derive(Debug, Drop)]
+enum Kept {
+    Get,
+    Head,
+    Put,
+    Post,
+    Delete,
+    Other(Vec<u8>),
+}
+
+/// The name of a request's method, as `GET` (RFC 9110, section 9.1). One of the five that the hub takes needs
+/// no memory.
+#[derive(Debug, Drop)]
+pub struct MethodName {
+    kept: Kept,
+}
+
+impl Model for MethodName {
+    ghost use Rattle.std.specs.Prelude.{ℕ, List};
+    ghost use Rattle.hub_http.specs.MethodNames.{name_in};
+
+    ghost Value = { List ℕ };
+
+    ghost view = { λ a. name_in a.kept };
+}
+
+impl MethodName {
+    /// The name of these bytes. It takes memory where it is none of GET, HEAD, PUT, POST and DELETE.
+    pub fn new(alloc: Global, name: &[u8]) -> Result<MethodName, AllocError>
+        ensures { IfOk result (λ made. made ≡ name.now) }
+    {
+        let kept = match name {
+            [b'G', b'E', b'T'] => Kept::Get,
+            [b'P', b'U', b'T'] => Kept::Put,
+            [b'P', b'O', b'S', b'T'] => Kept::Post,
+            [b'H', b'E', b'A', b'D'] => Kept::Head,
+            [b'D', b'E', b'L', b'E', b'T', b'E'] => Kept::Delete,
+            _ => Kept::Other(Vec::from_slice(alloc, name)?),
+        };
+        Ok(MethodName { kept })
+    }
+
+    /// Its bytes. Constant time.
+    pub fn as_slice(&self) -> &[u8]
+        ensures { result.now ≡ self.now }
+    {
+        match &self.kept {
+            Kept::Get => b"GET",
+            Kept::Head => b"HEAD",
+            Kept::Put => b"PUT",
+            Kept::Post => b"POST",
+            Kept::Delete => b"DELETE",
+            Kept::Other(name) => name.as_slice(),
+        }
+    }
+}
