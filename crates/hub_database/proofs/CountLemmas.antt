@@ -13,7 +13,7 @@ use Rattle.hub_model.specs.Current.{Current, current_from, current, is_edited}
 use Rattle.hub_model.specs.Row.{is_deleted}
 use Rattle.hub_model.proofs.Lists.{same_text}
 use Rattle.hub_model.proofs.Tests.{or_right}
-use Rattle.hub_database.specs.Store.{deleted_in, one_if}
+use Rattle.hub_database.specs.Documents.{deleted_in, one_if}
 use Rattle.hub_index.proofs.ListLemmas.{text_same, text_apart}
 use Rattle.hub_database.proofs.ListLemmas.{or_none}
 

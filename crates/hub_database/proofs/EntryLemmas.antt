@@ -8,7 +8,7 @@ use Rattle.hub_revtree.specs.Tree.{Tip, tip, tip_of}
 use Rattle.hub_database.specs.declared.document.Document.{Document}
 use Rattle.hub_database.specs.declared.entry.Entry.{Entry}
 use Rattle.hub_database.specs.Filed.{Filed, named, no_edit, edit_in, edit_at, journal_of, IsFiled}
-use Rattle.hub_database.specs.Store.{filed, files}
+use Rattle.hub_database.specs.Documents.{filed, files}
 use Rattle.hub_database.specs.Reads.{bare_doc, doc_shown, entry_at}
 use Rattle.hub_database.proofs.RowLemmas.{get_default, document_of}
 

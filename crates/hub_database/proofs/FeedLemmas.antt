@@ -22,8 +22,7 @@ use Rattle.hub_feed.specs.Host.{answer_of, answered, item_due}
 use Rattle.hub_feed.specs.Next.{next_of}
 use Rattle.hub_feed.specs.declared.next.Next.TheVariants.{Give}
 use Rattle.hub_document.specs.declared.doc.Doc.{Doc}
-use Rattle.hub_document.specs.declared.limits.Limits.{Limits}
-use Rattle.hub_database.specs.Database.{Contents, Database, Local}
+use Rattle.hub_database.specs.Database.{Database}
 use Rattle.hub_database.specs.Edits.{draft_of, stores_doc, writes}
 use Rattle.hub_database.specs.Edits as edits
 use Rattle.hub_database.specs.Hosting.{hosted_of}
@@ -79,12 +78,6 @@ write_grows new_edits limit journal doc o other_journal h =
     from true =
         makes_grow limit journal (draft_of doc) (extended journal doc.id (leaves_of journal doc.id) doc.rev)
     from false = merges_grow limit journal (edits.edit_of doc)
-
--- a write changes the journal alone
-pub contents_stay : (journal : List Edit) {l l' : List Local} {m m' : Limits} {n n' : ℕ} → l ≡ l' → m ≡ m'
-    → n ≡ n' → ◌≡◌ {A = Contents} (record { journal = journal; locals = l; limits = m; life = n })
-    (record { journal = journal; locals = l'; limits = m'; life = n' })
-contents_stay journal a d e = rw (a, d, e) refl
 
 -- a deleted database refuses each document
 pub all_refused : {A : Type 0} (store : List Edit → A → Stores) (journal : List Edit) (xs : List A)

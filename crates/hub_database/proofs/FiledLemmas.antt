@@ -14,7 +14,7 @@ use Rattle.hub_model.proofs.Legal.{legal_more}
 use Rattle.hub_model.proofs.Lists.{same_number, same_text}
 use Rattle.hub_database.specs.declared.entry.Entry.{Entry}
 use Rattle.hub_database.specs.Filed.{Filed, named, no_edit, edit_in, edit_at, journal_of, IsFiled}
-use Rattle.hub_database.specs.Store.{one_if}
+use Rattle.hub_database.specs.Documents.{one_if}
 use Rattle.hub_database.proofs.CountLemmas.{edited_none, edited_some, documents_more}
 use Rattle.hub_index.proofs.ListLemmas.{get_push, get_push_other, maps_agree, text_same, text_apart}
 

@@ -25,7 +25,7 @@ use Rattle.hub_database.specs.declared.entry.Entry.{Entry}
 use Rattle.hub_database.specs.declared.document.Document.{Document}
 use Rattle.hub_database.specs.Filed.{Filed, named, edit_at, edit_in, journal_of, IsFiled}
 use Rattle.hub_database.specs.Indexed.{IsIndexed, latest_at, latest_of}
-use Rattle.hub_database.specs.Store.{filed, files}
+use Rattle.hub_database.specs.Documents.{filed, files}
 use Rattle.hub_database.proofs.IndexedLemmas.{document_at}
 use Rattle.hub_database.proofs.NamedLemmas.{renamed, leaves_named, revisions_named, deleted_named}
 

@@ -24,7 +24,7 @@ use Rattle.hub_database.specs.declared.document.Document.{Document}
 use Rattle.hub_database.specs.declared.answers.Lookup.TheVariants as looked
 use Rattle.hub_database.specs.declared.entry.Entry.{Entry}
 use Rattle.hub_database.specs.Filed.{Filed, named, journal_of, IsFiled}
-use Rattle.hub_database.specs.Store.{filed, files}
+use Rattle.hub_database.specs.Documents.{filed, files}
 use Rattle.hub_database.specs.Found.{IsFound, shown_in, history_of}
 use Rattle.hub_database.specs.Reads.{HasDocument, doc_shown, lookup, lookup_of, open_rev_of, open_rev}
 use Rattle.hub_database.specs.Reads.{open_revs}

@@ -1,4 +1,4 @@
--- What storing one edit does to the documents and the journal of a store.
+-- What storing one edit does to the documents and the journal of a database.
 use Rattle.std.proofs.Common.{◌≡◌, ◌≢◌, ℕ, ◌+◌, ◌<◌, ◌≤◌, List, [], ◌∷◌, ◌++◌, length, Bool, true}
 use Rattle.std.proofs.Common.{false, ap, refl, sym, ◌∙◌, subst, arith, inl, inr}
 use Rattle.std.specs.Prelude.{IfOk, OnErr, Result, Ok, Err, Option, Some, None, slice_get, slice_set}
@@ -17,6 +17,7 @@ use Rattle.std.proofs.Math.Seq.{map-set_same}
 use Rattle.std.proofs.Math.ListN.{length-set}
 use Rattle.hub_index.specs.Order.{IsOrder, id_at, number_in, with_number}
 use Rattle.hub_index.specs.Rows.{moved, seq_of}
+use Rattle.hub_document.specs.declared.limits.Limits.{Limits}
 use Rattle.hub_model.specs.Revision.{Revision}
 use Rattle.hub_model.specs.Journal.{Edit, edits_of, head_of}
 use Rattle.hub_model.specs.Leaves.{leaves_of, leaves_among, best_first}
@@ -29,15 +30,17 @@ use Rattle.hub_database.specs.declared.document.Document.{Document}
 use Rattle.hub_database.specs.declared.document.Incoming.{Incoming}
 use Rattle.hub_database.specs.declared.document.Looked.{Looked}
 use Rattle.hub_database.specs.declared.document.Looked.TheVariants.{Known, Refused, Ready}
-use Rattle.hub_database.specs.declared.store.Store.{Store}
-use Rattle.hub_database.specs.Filed.{Filed, named, edit_at, ids_of, journal_of, IsFiled}
+use Rattle.hub_database.specs.declared.contents.Contents.TheInside.{Inside}
+use Rattle.hub_database.specs.Filed.{Filed, HasNumbers, named, edit_at, ids_of, journal_of, IsFiled}
 use Rattle.hub_database.specs.Looked.{Setting, IsWritten, NeedsRoomFor, IsStorable, stores_edit, look_at}
 use Rattle.hub_database.specs.Looked.{look_in, unless_full, outcome_of, document_after, documents_after}
 use Rattle.hub_database.specs.Looked.{entries_after, journal_after, numbers_after, rows_after}
 use Rattle.hub_database.specs.Indexed.{IsIndexed, latest_of}
-use Rattle.hub_database.specs.Store.{filed, files, IsStore, IsCounted, HasRows, IsSameStore, IsInserted}
-use Rattle.hub_database.specs.Store.{edits_of_store, deleted_in, first_setting, one_if, setting_of, unwritten}
-use Rattle.hub_database.specs.Store.{ids_in, number_by}
+use Rattle.hub_database.specs.Documents.{filed, files}
+use Rattle.hub_database.specs.Inside.{IsWhole, HasDocuments, IsCounted, HasRows, ShowsSame, IsInserted}
+use Rattle.hub_database.specs.Documents.{deleted_in, one_if, setting_of, unwritten}
+use Rattle.hub_database.specs.Inside.{edits_inside, first_setting}
+use Rattle.hub_database.specs.Inside.{ids_in, number_by}
 use Rattle.hub_index.proofs.ListLemmas.{at_place, get_push, get_push_other, get_set, get_set_other, text_same}
 use Rattle.hub_index.proofs.ListLemmas.{text_apart}
 use Rattle.hub_index.proofs.OrderLemmas.{number_more}
@@ -135,7 +138,7 @@ module _ (limit : ℕ) (numbers : List ℕ → Option ℕ) (documents : List Doc
   pub filed_at : slice_get (files documents) k ≡ Some (filed document)
   filed_at = slice_get-map filed documents k ∙ ap (option_map filed) at
 
-  same_files : (other : Document) → filed other ≡ filed document
+  pub same_files : (other : Document) → filed other ≡ filed document
       → files (slice_set documents k other) ≡ files documents
   same_files other e =
       map-set_same filed documents k other document
@@ -318,7 +321,7 @@ module _ (limit : ℕ) (numbers : List ℕ → Option ℕ) (documents : List Doc
       id_stays (Ready x) setting g e = ap (λ (z : Filed). z.id) e
 
 -- the first edit of a document
-module _ (old : Store) (st : IsStore old) (ix : HasRows old) (id : List ℕ)
+module _ (old : Inside) (st : HasDocuments old) (ix : HasRows old) (id : List ℕ)
     (absent : number_by old id ≡ None) where
   inserted : (looked : Looked)
       (room : (edit : Edit) → looked ≡ Ready edit → length old.journal.items < old.limits.journal)
@@ -423,7 +426,7 @@ first_counted journal later_journal id (Ready e) setting count count' first same
     (now ∙ ap (λ K. is_deleted (leaves_of K id)) (sym same)) c (omega (arith, h, only))
 
 -- what a new document brings, one by one
-pub first_stored : (id : List ℕ) (edit : Incoming) (old new : Store) (none d : Filed) (look : Looked)
+pub first_stored : (id : List ℕ) (edit : Incoming) (old new : Inside) (none d : Filed) (look : Looked)
     (e : Edit) (revision : Revision) (number : ℕ)
     → none ≡ unwritten id
     → look
@@ -501,14 +504,14 @@ first_stored id edit old new none d look e revision number first looked ready st
     }
 
 -- what storing it leaves
-pub inserted_so : (old new : Store) → IsStore old → IsCounted old → HasRows old → (id : List ℕ)
+pub inserted_so : (old new : Inside) → HasDocuments old → IsCounted old → HasRows old → (id : List ℕ)
     → number_by old id ≡ None → (edit : Incoming) (o : Outcome Revision)
     → IsInserted id (look_in old.limits.journal (first_setting id old) edit) old new o
     → new.limits ≡ old.limits
-    → IsStore new
+    → HasDocuments new
     ×
-    (stores_edit old.limits.journal (edits_of_store old) id edit
-    ≡ record { outcome = o; journal = edits_of_store new })
+    (stores_edit old.limits.journal (edits_inside old) id edit
+    ≡ record { outcome = o; journal = edits_inside new })
     × IsCounted new × HasRows new
 inserted_so old new st counted ix id absent edit o x stay =
     let l : Looked =
@@ -518,28 +521,28 @@ inserted_so old new st counted ix id absent edit o x stay =
     (λ e r. room_in old.limits.journal (length old.journal.items) (look_at id [] edit) e r)
     (number_by new) new.documents.items new.journal.items new.index x.storable x.files x.entries
     x.numbers x.rows in
-    let none : edits_of (edits_of_store old) id ≡ [] = st.filed.others id absent in
-    let full : nat_le old.limits.journal (length (edits_of_store old))
+    let none : edits_of (edits_inside old) id ≡ [] = st.filed.others id absent in
+    let full : nat_le old.limits.journal (length (edits_inside old))
     ≡ nat_le old.limits.journal (length old.journal.items) =
     ap (nat_le old.limits.journal) (length-map old.journal.items (edit_at (files old.documents.items))) in
     let said =
-    stores_by (edits_of_store old) id [] none refl old.limits.journal
+    stores_by (edits_inside old) id [] none refl old.limits.journal
     (nat_le old.limits.journal (length old.journal.items)) full edit in (
       record { filed = rw stay left.0; order = x.order },
       said
           ∙ (ap (λ (a : Outcome Revision).
-          record { outcome = a; journal = journal_after l id (edits_of_store old) }) (sym x.answer)
+          record { outcome = a; journal = journal_after l id (edits_inside old) }) (sym x.answer)
           ∙ ap (λ (journal : List Edit). record { outcome = o; journal = journal }) (sym left.1)),
-      first_counted (edits_of_store old) (edits_of_store new) id l (first_setting id old) old.deleted
+      first_counted (edits_inside old) (edits_inside new) id l (first_setting id old) old.deleted
           new.deleted
           refl left.1 none x.storable counted x.deleted,
       left.2,
     )
 
 -- a call that changed nothing
-pub same_store : (old new : Store) → IsStore old → IsCounted old → HasRows old → IsSameStore old new
+pub same_store : (old new : Inside) → HasDocuments old → IsCounted old → HasRows old → ShowsSame old new
     → new.limits ≡ old.limits
-    → IsStore new × IsCounted new × (edits_of_store new ≡ edits_of_store old) × HasRows new
+    → HasDocuments new × IsCounted new × (edits_inside new ≡ edits_inside old) × HasRows new
 same_store old new st counted ix w stay =
     let same : (q : List ℕ) → number_by new q ≡ number_by old q =
     λ q. ap (λ ds. number_in (ids_of ds) new.numbers q) w.documents
@@ -554,20 +557,42 @@ same_store old new st counted ix w stay =
       rw (w.documents, w.journal, w.index) ix,
     )
 
+-- what is answered to a first edit, and the journal after it
+pub first_said : (old : Inside) → HasDocuments old → (id : List ℕ) → number_by old id ≡ None
+    → (edit : Incoming)
+    → stores_edit old.limits.journal (edits_inside old) id edit
+    ≡ record {
+      outcome = outcome_of (look_in old.limits.journal (first_setting id old) edit);
+      journal = journal_after (look_in old.limits.journal (first_setting id old) edit) id (edits_inside old);
+    }
+first_said old st id absent edit =
+    let full : nat_le old.limits.journal (length (edits_inside old))
+    ≡ nat_le old.limits.journal (length old.journal.items) =
+    ap (nat_le old.limits.journal) (length-map old.journal.items (edit_at (files old.documents.items))) in
+    stores_by (edits_inside old) id [] (st.filed.others id absent) refl old.limits.journal
+    (nat_le old.limits.journal (length old.journal.items)) full edit
+
 -- what the call leaves
-pub inserted_all : (old new : Store) → IsStore old → IsCounted old → HasRows old → (id : List ℕ)
-    → number_by old id ≡ None → (edit : Incoming) (result : Result (Outcome Revision) AllocError)
-    → IfOk result (IsInserted id (look_in old.limits.journal (first_setting id old) edit) old new)
-    → OnErr result (IsSameStore old new) → new.limits ≡ old.limits
-    → IsStore new
-    × IfOk result
-    (λ o. stores_edit old.limits.journal (edits_of_store old) id edit
-    ≡ record { outcome = o; journal = edits_of_store new })
-    × IsCounted new × HasRows new
-inserted_all old new st counted ix id absent edit (Ok o) x w stay =
-    let left = inserted_so old new st counted ix id absent edit o x stay in (left.0, left.1, left.2, left.3)
-inserted_all old new st counted ix id absent edit (Err e) x w stay =
-    let left = same_store old new st counted ix w stay in (left.0, tt, left.1, left.3)
+pub inserted_whole : (old new : Inside) → IsWhole old → (id : List ℕ) → number_by old id ≡ None
+    → (edit : Incoming) (o : Outcome Revision)
+    → IsInserted id (look_in old.limits.journal (first_setting id old) edit) old new o
+    → new.limits ≡ old.limits
+    → IsWhole new
+    × (stores_edit old.limits.journal (edits_inside old) id edit
+    ≡ record { outcome = o; journal = edits_inside new })
+inserted_whole old new w id absent edit o x stay =
+    let left = inserted_so old new w.documents w.counted w.rows id absent edit o x stay in (
+      record { documents = left.0; counted = left.2; rows = left.3 },
+      left.1,
+    )
+
+pub same_whole : (old new : Inside) → IsWhole old → ShowsSame old new → new.limits ≡ old.limits
+    → IsWhole new × (edits_inside new ≡ edits_inside old)
+same_whole old new w same stay =
+    let left = same_store old new w.documents w.counted w.rows same stay in (
+      record { documents = left.0; counted = left.1; rows = left.3 },
+      left.2,
+    )
 
 -- a number that is found is that of a document
 pub number_below : (limit : ℕ) (numbers : List ℕ → Option ℕ) (documents : List Document)
@@ -578,15 +603,15 @@ number_below limit numbers documents entries st id k there =
     omega (arith, slice_get_within (files documents) k f.0 f.1, length-map documents filed)
 
 -- and the document is there
-pub document_there : (store : Store) → IsStore store → (id : List ℕ) (k : ℕ)
-    → number_by store id ≡ Some k
-    → (document : Document) → document ≡ get_or store.documents.items k document
-    → slice_get store.documents.items k ≡ Some document
-document_there store st id k there document is =
-    let numbers = number_by store in
+pub document_there : (inside : Inside) → HasDocuments inside → (id : List ℕ) (k : ℕ)
+    → number_by inside id ≡ Some k
+    → (document : Document) → document ≡ get_or inside.documents.items k document
+    → slice_get inside.documents.items k ≡ Some document
+document_there inside st id k there document is =
+    let numbers = number_by inside in
     let low =
-    number_below store.limits.journal numbers store.documents.items store.journal.items st.filed id k there in
-    at_place store.documents.items k document low is
+    number_below inside.limits.journal numbers inside.documents.items inside.journal.items st.filed id k there in
+    at_place inside.documents.items k document low is
 
 -- what follows from what holds of an error
 pub err_then : {T E P Q : Type 0} (result : Result T E) → (P → Q) → OnErr result P → OnErr result Q
@@ -594,21 +619,21 @@ err_then (Ok x) f p = tt
 err_then (Err e) f p = f p
 
 -- what takes memory of a new document takes it in the journal
-pub needs_first : (store : Store) → IsStore store → (id : List ℕ) → number_by store id ≡ None
-    → (edit : Incoming) → NeedsRoomFor [] [] edit → NeedsRoomFor (edits_of_store store) id edit
-needs_first store st id absent edit n =
-    needs_in (edits_of_store store) id [] (st.filed.others id absent) refl edit.origin edit.deleted edit.body
+pub needs_first : (inside : Inside) → HasDocuments inside → (id : List ℕ) → number_by inside id ≡ None
+    → (edit : Incoming) → NeedsRoomFor [] [] edit → NeedsRoomFor (edits_inside inside) id edit
+needs_first inside st id absent edit n =
+    needs_in (edits_inside inside) id [] (st.filed.others id absent) refl edit.origin edit.deleted edit.body
     st.filed.legal n
 
 -- a number past the documents has no row
-pub no_row : (store : Store) → HasRows store → seq_of (length store.documents.items) store.index ≡ None
-no_row store ix =
-    let n = length store.documents.items in
-    let many : length (files store.documents.items) ≡ n = length-map store.documents.items filed in
+pub no_row : (inside : Inside) → HasRows inside → seq_of (length inside.documents.items) inside.index ≡ None
+no_row inside ix =
+    let n = length inside.documents.items in
+    let many : length (files inside.documents.items) ≡ n = length-map inside.documents.items filed in
     ix.none n
-    (ap (option_map latest_of) (slice_get_past (files store.documents.items) n (omega (arith, many))))
+    (ap (option_map latest_of) (slice_get_past (files inside.documents.items) n (omega (arith, many))))
 
--- ---- the ids of a store
+-- ---- the ids of documents
 
 -- a document that keeps its id
 pub ids_stay : (documents : List Document) (k : ℕ) (document other : Document)
@@ -628,11 +653,11 @@ id_kept Known k document other entries index e = ap (λ (z : Filed). z.id) e
 id_kept (Refused fault) k document other entries index e = ap (λ (z : Filed). z.id) e
 id_kept (Ready x) k document other entries index e = ap (λ (z : Filed). z.id) e
 
--- a store one of whose documents changed, and kept its id
-pub store_stays : (old new : Store) (k : ℕ) (document other : Document) → IsStore old
+-- contents one of whose documents changed, and kept its id
+pub store_stays : (old new : Inside) (k : ℕ) (document other : Document) → HasDocuments old
     → slice_get old.documents.items k ≡ Some document → other.id ≡ document.id
     → new.documents.items ≡ slice_set old.documents.items k other → new.numbers ≡ old.numbers
-    → IsFiled new.limits.journal (number_by old) (files new.documents.items) new.journal.items → IsStore new
+    → IsFiled new.limits.journal (number_by old) (files new.documents.items) new.journal.items → HasDocuments new
 store_stays old new k document other st at same documents numbers filed_now =
     let ids : ids_in new ≡ ids_in old =
     ap (λ ds. ids_of (files ds)) documents ∙ ids_stay old.documents.items k document other at same in
@@ -646,6 +671,68 @@ store_stays old new k document other st at same documents numbers filed_now =
       order = rw (ids, numbers) st.order;
     }
 
+-- what a write leaves that changed nothing of a document that is there
+pub unchanged_whole : (old new : Inside) → IsWhole old → (id : List ℕ) (k : ℕ) → number_by old id ≡ Some k
+    → (document other : Document) → document ≡ get_or old.documents.items k document
+    → filed other ≡ filed document → new.documents.items ≡ slice_set old.documents.items k other
+    → new.numbers ≡ old.numbers → new.journal.items ≡ old.journal.items → new.index ≡ old.index
+    → new.deleted ≡ old.deleted → new.limits ≡ old.limits
+    → IsWhole new × (edits_inside new ≡ edits_inside old)
+unchanged_whole old new w id k there document other is same documents numbers journal index deleted limits =
+    let at = document_there old w.documents id k there document is in
+    same_whole old new w
+    (record {
+      documents =
+          ap files documents
+          ∙ same_files old.limits.journal (number_by old) old.documents.items old.journal.items
+          w.documents.filed k document at other same;
+      numbers = numbers;
+      journal = journal;
+      deleted = deleted;
+      index = index;
+    })
+    limits
+
+-- what the write of an edit of a document that is there leaves
+pub extended_whole : (old new : Inside) → IsWhole old → (id : List ℕ) (k : ℕ) → number_by old id ≡ Some k
+    → (document other : Document) → document ≡ get_or old.documents.items k document
+    → IsRevTree document.tree.edits → IsRevTree other.tree.edits → (edit : Incoming) (o : Outcome Revision)
+    → IsWritten (look_in old.limits.journal (setting_of k document old.journal.items old.index) edit)
+    (setting_of k document old.journal.items old.index)
+    (setting_of k other new.journal.items new.index) o
+    → new.documents.items ≡ slice_set old.documents.items k other → new.numbers ≡ old.numbers
+    → new.deleted + one_if (is_deleted (leaves_of document.tree.edits []))
+    ≡ old.deleted + one_if (is_deleted (leaves_of other.tree.edits []))
+    → new.limits ≡ old.limits
+    → IsWhole new
+    × (stores_edit old.limits.journal (edits_inside old) id edit
+    ≡ record { outcome = o; journal = edits_inside new })
+extended_whole old new w id k there document other is tree tree' edit o x documents numbers count limits =
+    let limit = old.limits.journal in
+    let at = document_there old w.documents id k there document is in
+    let same : other.id ≡ document.id =
+    id_kept (look_in limit (setting_of k document old.journal.items old.index) edit) k document other
+    old.journal.items old.index x.document in
+    let left =
+    extended limit (number_by old) old.documents.items old.journal.items w.documents.filed k document at
+    old.index new.index w.rows id there tree edit other new.journal.items o x tree' old.deleted new.deleted
+    w.counted count in
+    let now =
+    subst (λ (ds : List Document). IsFiled limit (number_by old) (files ds) new.journal.items
+    × (stores_edit limit (edits_inside old) id edit
+    ≡ record { outcome = o; journal = journal_of (files ds) new.journal.items })
+    × (new.deleted ≡ deleted_in (journal_of (files ds) new.journal.items))
+    × IsIndexed (files ds) new.journal.items new.index) (sym documents) left in (
+      record {
+        documents = store_stays old new k document other w.documents at same documents numbers
+            (subst (λ (l : Limits). IsFiled l.journal (number_by old) (files new.documents.items)
+            new.journal.items) (sym limits) now.0);
+        counted = now.2;
+        rows = now.3;
+      },
+      now.1,
+    )
+
 -- the id of the document of a number
 pub id_here : (documents : List Document) (k : ℕ) (document : Document) → k < length documents
     → document ≡ get_or documents k document → document.id ≡ id_at (ids_of (files documents)) k
@@ -657,15 +744,33 @@ id_here documents k document low is =
     ∙ ap (λ (z : Document). z.id) (sym is)))
 
 -- a number whose document has an id is the number of that id
-pub number_has : (store : Store) → IsStore store → (id : List ℕ) (k : ℕ) → k < length (ids_in store)
-    → id_at (ids_in store) k ≡ id → number_by store id ≡ Some k
-number_has store is id k low here =
-    let documents = files store.documents.items in
-    let within : k < length documents = omega (arith, length-map documents (λ (filed : Filed). filed.id)) in
-    let d : Filed = get_or documents k (unwritten []) in
+pub number_has : (documents : List Document) (numbers : List ℕ) → HasNumbers (files documents) numbers
+    → (id : List ℕ) (k : ℕ) → k < length (ids_of (files documents)) → id_at (ids_of (files documents)) k ≡ id
+    → number_in (ids_of (files documents)) numbers id ≡ Some k
+number_has documents numbers own id k low here =
+    let within : k < length (files documents) =
+    omega (arith, length-map (files documents) (λ (filed : Filed). filed.id)) in
+    let d : Filed = get_or (files documents) k (unwritten []) in
     let named : d.id ≡ id =
-    sym (get_or-map (λ (filed : Filed). filed.id) documents k (unwritten []) [] within) ∙ here in
-    ap (number_by store) (sym named) ∙ is.filed.own k d (slice_get-get_or documents k (unwritten []) within)
+    sym (get_or-map (λ (filed : Filed). filed.id) (files documents) k (unwritten []) [] within) ∙ here in
+    ap (number_in (ids_of (files documents)) numbers) (sym named)
+    ∙ own k d (slice_get-get_or (files documents) k (unwritten []) within)
+
+-- an id that the journal has no edit of has no number
+pub no_number : (inside : Inside) → HasDocuments inside → (id : List ℕ)
+    → edits_of (edits_inside inside) id ≡ [] → number_by inside id ≡ None
+no_number inside is id none = from (number_by inside id) refl
+  where
+    from : (number : Option ℕ) → number_by inside id ≡ number → number_by inside id ≡ None
+    from None e = e
+    from (Some k) e =
+        let f = is.filed.found id k e in
+        let d = f.0 in
+        let kept = is.filed.kept k d f.1 in
+        let empty : edits_of (edits_inside inside) d.id ≡ [] =
+        ap (edits_of (edits_inside inside)) f.2 ∙ none in
+        let same : length (map (named d.id) d.edits) ≡ 0 = ap length (sym kept ∙ empty) in
+        absurd (omega (arith, same, length-map d.edits (named d.id), is.filed.some k d f.1))
 
 -- the row of a new document, taken back
 pub row_taken : (rows : List (ℕ × ℕ)) (number seq : ℕ) → seq_of number rows ≡ None

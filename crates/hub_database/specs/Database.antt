@@ -31,11 +31,6 @@ pub record Contents : Type 0 where
   pub limits : Limits
   pub life : ℕ
 
--- what feeds follow: edits, and the number of the life that they are of
-pub record Followed : Type 0 where
-  pub edits : List Edit
-  pub life : ℕ
-
 -- the contents of a database
 abbrev pub contents_of : Database → Contents
 contents_of db =

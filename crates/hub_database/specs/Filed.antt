@@ -1,6 +1,7 @@
 -- The documents of a database with their trees, and the journal that they make up (own).
 use Rattle.std.specs.Prelude.{◌≡◌, ℕ, ◌<◌, ◌≤◌, List, [], length, map, slice_get, get_or, false, Option, Some}
 use Rattle.std.specs.Prelude.{None}
+use Rattle.hub_index.specs.Order.{number_in}
 use Rattle.hub_model.specs.Journal.{Edit, IsLegal, edits_of}
 use Rattle.hub_model.specs.Current.{current}
 use Rattle.hub_database.specs.declared.entry.Entry.{Entry}
@@ -34,6 +35,12 @@ edit_at documents entry = edit_in (slice_get documents entry.document) entry.rev
 -- the journal
 abbrev pub journal_of : List Filed → List Entry → List Edit
 journal_of documents entries = map (edit_at documents) entries
+
+-- each document is found by its id
+abbrev pub HasNumbers : List Filed → List ℕ → Type 0
+HasNumbers documents numbers =
+    (k : ℕ) (filed : Filed) → slice_get documents k ≡ Some filed
+    → number_in (ids_of documents) numbers filed.id ≡ Some k
 
 -- what holds of the documents, of their numbers by id, and of the entries
 pub record IsFiled (limit : ℕ) (numbers : List ℕ

@@ -1,5 +1,6 @@
 pub mod Answers
 pub mod Database
+pub mod Documents
 pub mod Edits
 pub mod Falling
 pub mod Feeds
@@ -8,11 +9,11 @@ pub mod Found
 pub mod Handing
 pub mod Hosting
 pub mod Indexed
+pub mod Inside
 pub mod Kept
 pub mod Laid
 pub mod Listing
 pub mod Locals
 pub mod Looked
 pub mod Reads
-pub mod Store
 pub mod Receipts

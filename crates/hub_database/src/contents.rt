@@ -1,21 +1,30 @@
 //! What a database keeps: its documents with their journal, and its local documents.
 
-ghost use Rattle.std.specs.Prelude.{◌≡◌, ◌⊎◌, ◌<◌, ◌≤◌, [], false, true};
-ghost use Rattle.std.specs.Prelude.{length, take, Err, IfOk, IfErr, IsTrue};
-ghost use Rattle.hub_model.specs.Journal.{IsLegal};
+ghost use Rattle.std.specs.Prelude.{[], ◌∷◌, ◌++◌, false, true, ◌≡◌, ◌⊎◌, ◌+◌, ◌<◌, ◌≤◌, ◌^◌};
+ghost use Rattle.std.specs.Prelude.{length, take, vec_len, vec_capacity, None, Err, IfOk, IfErr, OnOk, OnErr, IsTrue};
+ghost use Rattle.std.specs.List.{All};
+ghost use Rattle.hub_index.specs.Order.{IsOrder, number_in, with_number};
+ghost use Rattle.hub_index.specs.Rows.{seq_of, moved};
+ghost use Rattle.hub_model.specs.Journal.{IsLegal, edits_of};
 ghost use Rattle.hub_model.specs.Draft.{HasNextRevision, makes};
 ghost use Rattle.hub_model.specs.Outcome.{refuses};
 ghost use Rattle.hub_model.specs.declared.outcomes.Fault.{Fault};
 ghost use Rattle.hub_model.specs.declared.outcomes.Outcome.TheVariants.{Stored};
-ghost use Rattle.hub_database.specs.Edits.{StopsAt, draft_of, writes, reply_of};
+ghost use Rattle.hub_database.specs.Documents.{files, one_if};
+ghost use Rattle.hub_database.specs.Edits.{NeedsRoom, StopsAt, draft_of, stores_doc, writes, reply_of};
+ghost use Rattle.hub_database.specs.Filed.{ids_of};
+ghost use Rattle.hub_database.specs.Looked.{NeedsRoomFor, stores_edit};
 ghost use Rattle.hub_database.specs.Reads.{info_of};
 
 use crate::answers::Info;
 use crate::batch::{Batch, DbFault, Replies};
+use crate::document::{Document, Incoming, Looked, Origin, look};
+use crate::entry::Entry;
+use crate::ids::Ids;
 use crate::local::Local;
-use crate::rows::Rows;
-use crate::store::Store;
-use hub_document::{Doc, Limits, RevId};
+use crate::room::reserve_one;
+use hub_document::{Doc, DocId, Limits, RevId};
+use hub_index::{IdHints, IdOrder, PageIndex, SeqIndex};
 use hub_model::{Fault, Outcome};
 use std::alloc::{AllocError, Global};
 use std::collections::BTreeMap;
@@ -26,7 +35,19 @@ use std::marker::Model;
 /// calls ask once whether it was deleted. Its own calls don't ask.
 #[derive(Debug, Drop)]
 pub struct Contents {
-    pub(crate) store: Store,
+    /// The documents by number.
+    pub(crate) documents: Vec<Document>,
+    /// The numbers in the order of the ids.
+    pub(crate) numbers: IdOrder,
+    /// Guesses of the numbers of ids.
+    pub(crate) hints: IdHints,
+    pub(crate) journal: Vec<Entry>,
+    /// The documents' numbers by the sequences of their latest edits.
+    pub(crate) index: PageIndex,
+    /// How many documents have a deleted winner.
+    deleted: u64,
+    limits: Limits,
+    pub(crate) alloc: Global,
     /// The local documents by their ids.
     pub(crate) locals: BTreeMap<String, Local>,
     /// The number of its life.
@@ -39,16 +60,16 @@ impl Model for Contents {
     ghost Value = { Kept };
 
     ghost use Rattle.hub_database.specs.Kept.{kept};
-    ghost use Rattle.hub_database.specs.Store.{IsStore, IsCounted, HasRows, edits_of_store};
+    ghost use Rattle.hub_database.specs.Inside.{IsWhole, edits_inside};
 
     ghost view = { λ a. record {
-      journal = edits_of_store a.store;
+      journal = edits_inside a;
       locals = kept a.locals;
-      limits = a.store.limits;
+      limits = a.limits;
       life = a.life;
     } };
 
-    ghost invariant = { λ a. IsStore a.store × IsCounted a.store × HasRows a.store };
+    ghost invariant = { IsWhole };
 }
 
 // What a call answers whose edit came so. No edit that is made here was known before.
@@ -62,6 +83,64 @@ fn reply(outcome: Outcome<RevId>) -> Result<RevId, DbFault>
     }
 }
 
+// The count of documents with a deleted winner, after a document whose winner was one, or was not,
+// and is one now, or is not.
+fn recounted(count: u64, was: bool, is: bool) -> u64
+    requires some { one_if was ≤ count }
+    requires fits { count < 2 ^ 63 }
+    ensures { result + one_if was ≡ count + one_if is }
+{
+    if was == is {
+        return count;
+    }
+    if is {
+        return count + 1;
+    }
+    count - 1
+}
+
+// Takes in the next document: room for it and for its edit, its number in the order of the ids, and
+// its row. An error leaves all as they were.
+fn enter(
+    documents: &mut Vec<Document>,
+    journal: &mut Vec<Entry>,
+    numbers: &mut IdOrder,
+    index: &mut PageIndex,
+    id: &DocId,
+) -> Result<u32, AllocError>
+    requires order { IsOrder (ids_of (files documents.old.items)) numbers.old }
+    requires new { number_in (ids_of (files documents.old.items)) numbers.old id.now ≡ None }
+    requires own { seq_of (length documents.old.items) index.old ≡ None }
+    requires above { All (λ r. r.0 < length journal.old.items + 1) index.old }
+    requires few { length documents.old.items < 2 ^ 32 }
+    ensures documents { documents.new.items ≡ documents.old.items }
+    ensures journal { journal.new.items ≡ journal.old.items }
+    ensures next { IfOk result (λ number. number ≡ length documents.old.items) }
+    ensures room { OnOk result (vec_len documents.new + 1 ≤ vec_capacity documents.new) }
+    ensures entry { OnOk result (vec_len journal.new + 1 ≤ vec_capacity journal.new) }
+    ensures numbers { OnOk result (numbers.new ≡ with_number (ids_of (files documents.old.items))
+        numbers.old id.now (length documents.old.items)) }
+    ensures order { OnOk result
+        (IsOrder (ids_of (files documents.old.items) ++ id.now ∷ []) numbers.new) }
+    ensures index { OnOk result (index.new
+        ≡ moved index.old (length documents.old.items) (length journal.old.items + 1)) }
+    ensures err { OnErr result ((numbers.new ≡ numbers.old) × (index.new ≡ index.old)) }
+{
+    reserve_one(documents)?;
+    reserve_one(journal)?;
+    let number = documents.len() as u32;
+    let seq = journal.len() as u64 + 1;
+    index.move_to(number, None, seq)?;
+    let ids = Ids {
+        documents: documents.as_slice(),
+    };
+    if let Err(AllocError) = numbers.insert(&ids, number, id.as_str()) {
+        index.remove(seq);
+        return Err(AllocError);
+    }
+    Ok(number)
+}
+
 impl Contents {
     /// Those of a database with no document.
     pub(crate) fn new(alloc: Global, limits: Limits, life: u64) -> Contents
@@ -71,7 +150,14 @@ impl Contents {
         ensures life { result.life ≡ life }
     {
         Contents {
-            store: Store::new(alloc, limits),
+            documents: Vec::new(alloc),
+            numbers: IdOrder::new(alloc),
+            hints: IdHints::new(alloc),
+            journal: Vec::new(alloc),
+            index: PageIndex::new(alloc),
+            deleted: 0,
+            limits,
+            alloc,
             locals: BTreeMap::new(alloc),
             life,
         }
@@ -79,31 +165,14 @@ impl Contents {
 
     /// Where they are kept.
     pub(crate) fn alloc(&self) -> Global {
-        self.store.alloc
+        self.alloc
     }
 
     /// The limits of the database.
     pub(crate) fn limits(&self) -> Limits
         ensures { result ≡ self.now.limits }
     {
-        self.store.limits
-    }
-
-    /// The current rows, as feeds read them.
-    pub(crate) fn rows(&self) -> Rows<'_>
-        ensures { result ≡ record { edits = self.now.journal; life = self.now.life } }
-    {
-        Rows {
-            store: &self.store,
-            life: self.life,
-        }
-    }
-
-    /// The number of the life of the database.
-    pub(crate) fn life(&self) -> u64
-        ensures { result ≡ self.now.life }
-    {
-        self.life
+        self.limits
     }
 
     /// How many edits were accepted: the sequence of the last one.
@@ -112,21 +181,122 @@ impl Contents {
         ensures legal { IsLegal self.now.journal }
         ensures within { result ≤ self.now.limits.journal }
     {
-        self.store.journal.len() as u64
+        self.journal.len() as u64
     }
 
     /// How many documents there are, and how many edits. Constant time: the counts are kept.
     pub fn info(&self) -> Info
         ensures { result ≡ info_of self.now.journal self.now.life }
     {
-        let doc_count = self.store.documents.len() as u64;
-        let doc_del_count = self.store.deleted;
+        let doc_count = self.documents.len() as u64;
+        let doc_del_count = self.deleted;
         Info {
             doc_count: doc_count - doc_del_count,
             doc_del_count,
             update_seq: self.update_seq(),
             life: self.life,
         }
+    }
+
+    // Stores the first edit of a document. It takes in the document last, and nothing behind that takes
+    // memory.
+    fn insert(&mut self, id: DocId, edit: Incoming) -> Result<Outcome<RevId>, AllocError>
+        requires new { edits_of self.old.journal id ≡ [] }
+        ensures ok { IfOk result (λ o. stores_edit self.old.limits.journal self.old.journal id edit
+            ≡ record { outcome = o; journal = self.new.journal }) }
+        ensures rest { self.new ≡ record self.old { journal = self.new.journal } }
+        ensures err { OnErr result (self.new ≡ self.old) }
+        ensures memory { OnErr result (NeedsRoomFor self.old.journal id edit) }
+    {
+        let full = self.journal.len() as u64 >= self.limits.journal;
+        let mut document = Document::new(self.alloc, id);
+        match look(&mut document.tree, &document.id, full, edit)? {
+            Looked::Known => Ok(Outcome::Known),
+            Looked::Refused(fault) => Ok(Outcome::Refused(fault)),
+            Looked::Ready(ready) => {
+                let number = enter(
+                    &mut self.documents,
+                    &mut self.journal,
+                    &mut self.numbers,
+                    &mut self.index,
+                    &document.id,
+                )?;
+                let rev = document.take(&mut self.journal, number, ready);
+                self.deleted = recounted(self.deleted, false, document.tree.is_deleted());
+                self.hints.remember(document.id.as_str(), number);
+                self.documents.push_reserved(document);
+                Ok(Outcome::Stored(rev))
+            }
+        }
+    }
+
+    // Stores an edit of the document with this id.
+    fn store(&mut self, id: DocId, edit: Incoming) -> Result<Outcome<RevId>, AllocError>
+        ensures ok { IfOk result (λ o. stores_edit self.old.limits.journal self.old.journal id edit
+            ≡ record { outcome = o; journal = self.new.journal }) }
+        ensures rest { self.new ≡ record self.old { journal = self.new.journal } }
+        ensures err { OnErr result (self.new ≡ self.old) }
+        ensures memory { OnErr result (NeedsRoomFor self.old.journal id edit) }
+    {
+        let ids = Ids {
+            documents: self.documents.as_slice(),
+        };
+        match ids.number_of(&self.numbers, &self.hints, id.as_str()) {
+            Some(number) => {
+                let document = &mut self.documents[number as usize];
+                let was = document.tree.is_deleted();
+                let outcome = document.extend(
+                    &mut self.journal,
+                    &mut self.index,
+                    number,
+                    self.limits.journal,
+                    edit,
+                )?;
+                self.deleted = recounted(self.deleted, was, document.tree.is_deleted());
+                Ok(outcome)
+            }
+            None => self.insert(id, edit),
+        }
+    }
+
+    // Stores one document: with `new_edits` its revision is made here. It costs a search of the id,
+    // what `RevTree::look_extend` or `RevTree::look_merge` does, what `SeqIndex::move_to` does, and
+    // what `RevTree::best` does.
+    fn write(&mut self, doc: Doc, new_edits: bool) -> Result<Outcome<RevId>, AllocError>
+        ensures ok { IfOk result (λ o. stores_doc new_edits self.old.limits.journal self.old.journal doc
+            ≡ record { outcome = o; journal = self.new.journal }) }
+        ensures rest { self.new ≡ record self.old { journal = self.new.journal } }
+        ensures err { OnErr result (self.new ≡ self.old) }
+        ensures memory { OnErr result (NeedsRoom new_edits self.old.journal doc) }
+    {
+        let Doc {
+            id,
+            rev,
+            path,
+            deleted,
+            body,
+        } = doc;
+        if new_edits {
+            return self.store(
+                id,
+                Incoming {
+                    origin: Origin::Here(rev),
+                    deleted,
+                    body,
+                },
+            );
+        }
+        let Some(path) = path else {
+            return Ok(Outcome::Refused(Fault::Contradicts));
+        };
+        self.store(
+            id,
+            Incoming {
+                origin: Origin::Elsewhere(path),
+                deleted,
+                body,
+            },
+        )
     }
 
     /// Stores documents one after the other, as `DbState::write_edits` says.
@@ -144,10 +314,10 @@ impl Contents {
         ensures grows { length self.old.journal ≤ length self.new.journal }
         ensures err { IfErr result (λ e. (e ≡ DbFault.NoMemory) × (self.new ≡ self.old)) }
     {
-        let mut list = Vec::new(self.store.alloc);
+        let mut list = Vec::new(self.alloc);
         list.try_reserve(docs.len())?;
         for doc in docs {
-            match self.store.write(doc, new_edits) {
+            match self.write(doc, new_edits) {
                 Ok(outcome) => list.push_reserved(outcome),
                 Err(AllocError) => {
                     return Ok(Batch {
@@ -175,7 +345,22 @@ impl Contents {
             ≡ refuses self.old.journal fault)))) }
         ensures memory { result ≡ Err DbFault.NoMemory → HasNextRevision self.old.journal (draft_of doc) }
     {
-        let outcome = self.store.write(doc, true)?;
+        let Doc {
+            id,
+            rev,
+            path,
+            deleted,
+            body,
+        } = doc;
+        let origin = Origin::Here(rev);
+        let outcome = self.store(
+            id,
+            Incoming {
+                origin,
+                deleted,
+                body,
+            },
+        )?;
         reply(outcome)
     }
 }

@@ -27,7 +27,7 @@ use crate::descending::Descending;
 use crate::listing::Listing;
 use crate::local::Local;
 use hub_document::{Asked, Doc, Limits, LocalDoc, OpenRevs, RevId};
-use hub_feed::Feeds;
+use hub_feed::{Feeds, Source};
 use hub_model::{Fault, Outcome};
 use hub_params::FeedParams;
 use hub_revtree::Winner;

@@ -8,7 +8,6 @@ ghost use Rattle.hub_database.specs.Falling.{lowest_row, most_of};
 ghost use Rattle.hub_params.specs.FeedModel.{params_of};
 
 use crate::contents::Contents;
-use crate::rows::Rows;
 use hub_document::ChangeRow;
 use hub_feed::Source;
 use hub_params::FeedParams;
@@ -63,13 +62,13 @@ fn lowest_row(rows: &[ChangeRow], since: u64) -> u64
     }
 }
 
-impl Rows<'_> {
+impl Contents {
     // How many current rows lie above `since` and below `last_seq`, which is no lower.
     fn count_between(&self, since: u64, last_seq: u64) -> u64
         requires { since ≤ last_seq }
         ensures { result
             ≡ count_by (λ (c : Current). nat_lt since c.seq && nat_lt c.seq last_seq)
-            (current self.now.edits) }
+            (current self.now.journal) }
     {
         let above = self.count_after(last_seq.saturating_sub(1));
         self.count_after(since).saturating_sub(above)
@@ -79,12 +78,12 @@ impl Rows<'_> {
     fn falling(&self, params: &FeedParams, since: u64) -> Result<Vec<ChangeRow>, AllocError>
         ensures ok { let asked = params_of params.now in
             IfOk result (λ rows. rows.items
-            ≡ map (row_of self.now.edits asked.style asked.include_docs)
-            (falling_rows self.now.edits asked since)) }
-        ensures memory { OnErr result (¬ (falling_rows self.now.edits (params_of params.now) since ≡ [])) }
+            ≡ map (row_of self.now.journal asked.style asked.include_docs)
+            (falling_rows self.now.journal asked since)) }
+        ensures memory { OnErr result (¬ (falling_rows self.now.journal (params_of params.now) since ≡ [])) }
     {
         let most = most_of(params.limit, self.length());
-        let mut rows = Vec::new(self.store.alloc);
+        let mut rows = Vec::new(self.alloc);
         let mut place = self.length() + 1;
         while (rows.len() as u64) < most {
             let Some((seq, id)) = self.last_before(place) else {
@@ -101,9 +100,7 @@ impl Rows<'_> {
         }
         Ok(rows)
     }
-}
 
-impl Contents {
     /// The current rows that pass, the greatest sequence first, in one answer. Only `since`,
     /// `limit`, `style`, `include_docs` and `filter` are looked at. It costs a step in the index for
     /// each row from the end to the last that is shown, what each shown row costs, and two counts of
@@ -114,17 +111,15 @@ impl Contents {
         ensures memory { OnErr result
             (¬ ((descending self.now.journal self.now.life (params_of params.now)).rows ≡ [])) }
     {
-        let rows = self.rows();
-        let life = rows.life();
-        let since = params.since.within(rows.length(), life);
-        let falling = rows.falling(params, since)?;
-        let last_seq = lowest_row(falling.as_slice(), since);
-        let pending = rows.count_between(since, last_seq);
+        let since = params.since.within(self.length(), self.life);
+        let rows = self.falling(params, since)?;
+        let last_seq = lowest_row(rows.as_slice(), since);
+        let pending = self.count_between(since, last_seq);
         Ok(Descending {
-            rows: falling,
+            rows,
             last_seq,
             pending,
-            life,
+            life: self.life,
         })
     }
 }

@@ -15,9 +15,9 @@ impl Contents {
         ensures ok { IfOk result (λ diff. diff ≡ wanted_diff self.now.journal asked) }
         ensures memory { OnErr result (¬ (wanted_diff self.now.journal asked ≡ None)) }
     {
-        let alloc = self.store.alloc;
+        let alloc = self.alloc;
         let Asked { id, revs } = asked;
-        let Some(document) = self.store.document(id.as_str()) else {
+        let Some(document) = self.document(id.as_str()) else {
             if revs.as_slice().is_empty() {
                 return Ok(None);
             }
@@ -46,7 +46,7 @@ impl Contents {
         ensures ok { IfOk result (λ found. found.items ≡ diffs self.now.journal asked.items) }
         ensures memory { OnErr result (¬ (diffs self.now.journal asked.items ≡ [])) }
     {
-        let mut found = Vec::new(self.store.alloc);
+        let mut found = Vec::new(self.alloc);
         for asked in asked {
             if let Some(diff) = self.diff(asked)? {
                 found.push(diff)?;

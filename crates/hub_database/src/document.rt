@@ -8,7 +8,7 @@ ghost use Rattle.hub_model.specs.Journal.{IsAcceptable, head_of};
 ghost use Rattle.hub_revtree.specs.Tree.{IsRevTree};
 ghost use Rattle.hub_database.specs.Looked.{IsStorable, IsWritten, NeedsRoomFrom, NeedsRoomFor};
 ghost use Rattle.hub_database.specs.Looked.{HasRoom, look_from, look_at, look_in, unless_full};
-ghost use Rattle.hub_database.specs.Store.{filed, setting_of};
+ghost use Rattle.hub_database.specs.Documents.{filed, setting_of};
 ghost use Rattle.hub_database.specs.declared.document.Origin.TheVariants.{Elsewhere, Here};
 
 use crate::entry::Entry;

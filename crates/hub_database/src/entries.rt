@@ -3,35 +3,12 @@
 ghost use Rattle.std.specs.Prelude.{◌≡◌, ◌≤◌, false, Some, IfOk, IfSome, IsSome, OnErr, option_map, take};
 ghost use Rattle.hub_revtree.specs.Extend.{path_to};
 ghost use Rattle.hub_database.specs.Reads.{bare_doc, doc_shown, entry_at, entry_of, entry_doc_of};
-ghost use Rattle.hub_database.specs.Store.{IsStore, edits_of_store};
 
 use crate::contents::Contents;
 use crate::document::Document;
-use crate::store::Store;
 use hub_document::{Doc, Path, RevId};
 use hub_revtree::StoredEdit;
 use std::alloc::AllocError;
-
-impl Store {
-    // The edit of this sequence, with its document. Constant time.
-    fn edit(&self, seq: u64) -> Option<(&Document, StoredEdit<'_>)>
-        requires { IsStore self.now }
-        ensures edit { option_map (λ p. bare_doc p.0.now.id p.1.rev p.1.deleted p.1.body.now) result
-            ≡ option_map (doc_shown false) (entry_at (edits_of_store self.now) seq) }
-        ensures path { option_map (λ p. option_map (take p.1.count) (path_to p.0.now.tree.edits p.1.rev))
-            result
-            ≡ option_map (λ e. Some e.path) (entry_at (edits_of_store self.now) seq) }
-        ensures some { IfSome result (λ p. 1 ≤ p.1.count) }
-    {
-        let at = seq.checked_sub(1)?;
-        let entry = self.journal.get(at as usize)?;
-        let document = &self.documents[entry.document as usize];
-        let Some(edit) = document.tree.edit(entry.revision as usize) else {
-            return None;
-        };
-        Some((document, edit))
-    }
-}
 
 // The first of a path's revisions, so many.
 fn front_of(path: Option<Path>, count: u16) -> Option<Path>
@@ -45,12 +22,30 @@ fn front_of(path: Option<Path>, count: u16) -> Option<Path>
 }
 
 impl Contents {
+    // The edit of this sequence, with its document. Constant time.
+    fn edit(&self, seq: u64) -> Option<(&Document, StoredEdit<'_>)>
+        ensures edit { option_map (λ p. bare_doc p.0.now.id p.1.rev p.1.deleted p.1.body.now) result
+            ≡ option_map (doc_shown false) (entry_at self.now.journal seq) }
+        ensures path { option_map (λ p. option_map (take p.1.count) (path_to p.0.now.tree.edits p.1.rev))
+            result
+            ≡ option_map (λ e. Some e.path) (entry_at self.now.journal seq) }
+        ensures some { IfSome result (λ p. 1 ≤ p.1.count) }
+    {
+        let at = seq.checked_sub(1)?;
+        let entry = self.journal.get(at as usize)?;
+        let document = &self.documents[entry.document as usize];
+        let Some(edit) = document.tree.edit(entry.revision as usize) else {
+            return None;
+        };
+        Some((document, edit))
+    }
+
     /// The id and the revision of the edit of this sequence; None of a sequence that no edit has.
     /// Constant time.
     pub fn entry(&self, seq: u64) -> Option<(&str, RevId)>
         ensures { option_map (λ p. (p.0.now, p.1)) result ≡ entry_of self.now.journal seq }
     {
-        let Some((document, edit)) = self.store.edit(seq) else {
+        let Some((document, edit)) = self.edit(seq) else {
             return None;
         };
         Some((document.id.as_str(), edit.rev))
@@ -62,8 +57,8 @@ impl Contents {
         ensures doc { IfOk result (λ doc. doc ≡ entry_doc_of self.now.journal seq) }
         ensures memory { OnErr result (IsSome (entry_at self.now.journal seq)) }
     {
-        let alloc = self.store.alloc;
-        let Some((document, edit)) = self.store.edit(seq) else {
+        let alloc = self.alloc;
+        let Some((document, edit)) = self.edit(seq) else {
             return Ok(None);
         };
         let path = document.tree.path(alloc, &edit.rev)?;

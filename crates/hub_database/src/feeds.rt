@@ -30,8 +30,7 @@ impl DbState {
         if !state.is_open() || self.contents.update_seq() <= few {
             return None;
         }
-        let rows = self.contents.rows();
-        if !self.listing.holds(feed.number, &rows, ids) {
+        if !self.listing.holds(feed.number, &self.contents, ids) {
             return None;
         }
         Some(self.listing.first_between(state.place(), state.bound()))
@@ -46,10 +45,7 @@ impl DbState {
     {
         match self.first_listed(feed, at) {
             Some(first) => first,
-            None => {
-                let rows = self.contents.rows();
-                self.feeds.first_at(&rows, feed, at)
-            }
+            None => { self.feeds.first_at(&self.contents, feed, at) }
         }
     }
 
@@ -69,8 +65,7 @@ impl DbState {
             return Ok(Next::Gone);
         };
         let first = self.first_at(feed, at);
-        let rows = self.contents.rows();
-        self.feeds.next_at(&rows, feed, at, first)
+        self.feeds.next_at(&self.contents, feed, at, first)
     }
 
     /// Goes on behind the item that `next_item` gives now. It takes no memory, and constant time where
@@ -79,7 +74,6 @@ impl DbState {
         requires due { item_due (hosted_of self.old) feed.number ≡ Some item.now }
         ensures { self.new ≡ with_hosted self.old (handed (hosted_of self.old) feed.number) }
     {
-        let rows = self.contents.rows();
-        self.feeds.accept_item(&rows, feed, item);
+        self.feeds.accept_item(&self.contents, feed, item);
     }
 }

@@ -2,7 +2,7 @@
 
 use crate::database::DbState;
 use hub_document::ChangeRow;
-use hub_feed::{FeedHost, FeedId, Handed, HostView, OpenFault, Pushes, Sink};
+use hub_feed::{FeedHost, FeedId, Handed, HostView, OpenFault, Pushes, Sink, Source};
 use hub_model::Item;
 use hub_params::FeedParams;
 use std::alloc::AllocError;
@@ -106,8 +106,8 @@ impl FeedHost for DbState {
             return Ok(Handed::Gone);
         };
         let first = self.first_at(feed, at);
-        let rows = self.contents.rows();
-        self.feeds.hand_at(&rows, feed, at, first, handle, sink)
+        self.feeds
+            .hand_at(&self.contents, feed, at, first, handle, sink)
     }
 
     /// It costs a binary search among the feeds.

@@ -1,10 +1,12 @@
 //! The ids of documents by number.
 
-ghost use Rattle.hub_database.specs.Filed.{ids_of};
-ghost use Rattle.hub_database.specs.Store.{files};
+ghost use Rattle.std.specs.Prelude.{◌≡◌, Some, slice_get};
+ghost use Rattle.hub_index.specs.Order.{IsOrder, number_in};
+ghost use Rattle.hub_database.specs.Documents.{files};
+ghost use Rattle.hub_database.specs.Filed.{HasNumbers, ids_of};
 
 use crate::document::Document;
-use hub_index::Named;
+use hub_index::{IdHints, IdOrder, Named};
 
 /// Documents, of which each has an id.
 #[derive(Debug, Drop)]
@@ -19,6 +21,21 @@ impl<'a> Named for Ids<'a> {
         match self.documents.get(number as usize) {
             Some(document) => document.id.as_str(),
             None => "",
+        }
+    }
+}
+
+impl Ids<'_> {
+    /// The number of the document with this id. It compares mostly one id, where the number is
+    /// remembered, and else ids logarithmically many times.
+    pub(crate) fn number_of(&self, numbers: &IdOrder, hints: &IdHints, id: &str) -> Option<u32>
+        requires order { IsOrder (ids_of (files self.now.documents.now)) numbers.now }
+        requires own { HasNumbers (files self.now.documents.now) numbers.now }
+        ensures { result ≡ number_in (ids_of (files self.now.documents.now)) numbers.now id.now }
+    {
+        match hints.find(self, id) {
+            Some(number) => Some(number),
+            None => numbers.find(self, id),
         }
     }
 }

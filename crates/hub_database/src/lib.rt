@@ -22,7 +22,6 @@ mod reads;
 mod receipt;
 mod room;
 mod rows;
-mod store;
 
 pub use answers::{Diff, Info, Lookup, OpenRev};
 pub use batch::{Batch, DbFault, Replies};

@@ -7,7 +7,7 @@ ghost use Rattle.hub_model.specs.Feed.{is_within};
 ghost use Rattle.hub_model.specs.Filter.{DocIds};
 ghost use Rattle.hub_database.specs.Listing.{KeepsOrLists, passing, seq_of_row};
 
-use crate::rows::Rows;
+use crate::contents::Contents;
 use hub_feed::{Source, is_ahead};
 use std::alloc::{AllocError, Global};
 
@@ -36,13 +36,13 @@ fn push_some(list: &mut Vec<u64>, seq: Option<u64>) -> Result<(), AllocError>
 
 // The sequences of the current rows of the documents with these ids, in the order of the ids. A search
 // for each.
-fn gather(list: &mut Vec<u64>, rows: &Rows<'_>, ids: &[String]) -> Result<(), AllocError>
+fn gather(list: &mut Vec<u64>, contents: &Contents, ids: &[String]) -> Result<(), AllocError>
     ensures { OnOk result (list.new.items
-        ≡ filter_map (seq_of_row rows.now.edits) (map string_bytes ids.now)) }
+        ≡ filter_map (seq_of_row contents.now.journal) (map string_bytes ids.now)) }
 {
     list.clear();
     for id in ids {
-        push_some(list, rows.next_of(id.as_str(), 0, None))?;
+        push_some(list, contents.next_of(id.as_str(), 0, None))?;
     }
     Ok(())
 }
@@ -79,13 +79,13 @@ impl Listing {
     }
 
     // Finds the rows of the feed of this number, which lists these ids.
-    fn list(&mut self, number: u64, rows: &Rows<'_>, ids: &[String]) -> Result<(), AllocError>
+    fn list(&mut self, number: u64, contents: &Contents, ids: &[String]) -> Result<(), AllocError>
         ensures ok { OnOk result ((self.new.feed ≡ Some number)
-            × (self.new.rows.items ≡ passing (DocIds (map string_bytes ids.now)) rows.now.edits)) }
+            × (self.new.rows.items ≡ passing (DocIds (map string_bytes ids.now)) contents.now.journal)) }
         ensures err { OnErr result (self.new.feed ≡ None) }
     {
         self.feed = None;
-        gather(&mut self.rows, rows, ids)?;
+        gather(&mut self.rows, contents, ids)?;
         arrange(&mut self.rows);
         self.feed = Some(number);
         Ok(())
@@ -95,12 +95,12 @@ impl Listing {
     /// once the feed asks twice with no write and no other such feed between, so that feeds that ask
     /// by turns don't find theirs for one step alone: a search for each id, and a sort of what is
     /// found. Where memory is short they are not kept. Once they are: constant time.
-    pub(crate) fn holds(&mut self, number: u64, rows: &Rows<'_>, ids: &[String]) -> bool
+    pub(crate) fn holds(&mut self, number: u64, contents: &Contents, ids: &[String]) -> bool
         requires kept { self.old.feed ≡ Some number
-            → self.old.rows.items ≡ passing (DocIds (map string_bytes ids.now)) rows.now.edits }
+            → self.old.rows.items ≡ passing (DocIds (map string_bytes ids.now)) contents.now.journal }
         ensures held { IsTrue result
-            → self.new.rows.items ≡ passing (DocIds (map string_bytes ids.now)) rows.now.edits }
-        ensures new { KeepsOrLists number (DocIds (map string_bytes ids.now)) rows.now.edits
+            → self.new.rows.items ≡ passing (DocIds (map string_bytes ids.now)) contents.now.journal }
+        ensures new { KeepsOrLists number (DocIds (map string_bytes ids.now)) contents.now.journal
             self.old self.new }
     {
         let again = self.asked == Some(number);
@@ -108,7 +108,7 @@ impl Listing {
         if self.feed == Some(number) {
             return true;
         }
-        again && self.list(number, rows, ids).is_ok()
+        again && self.list(number, contents, ids).is_ok()
     }
 
     /// The first of the sequences above a place and not above a bound, if there is one. A binary

@@ -100,8 +100,8 @@ impl Contents {
             ≡ open_revs_of self.now.journal id.now which.now revs) }
         ensures memory { OnErr result (¬ (open_revs_of self.now.journal id.now which.now revs ≡ [])) }
     {
-        let alloc = self.store.alloc;
-        match (self.store.document(id), which) {
+        let alloc = self.alloc;
+        match (self.document(id), which) {
             (Some(document), OpenRevs::All) => {
                 let leaves = document.tree.leaves(alloc)?;
                 document.open_revs(alloc, leaves.as_slice(), revs)

@@ -1,40 +1,40 @@
 //! What a database is asked.
 
 ghost use Rattle.std.specs.Prelude.{◌≡◌, [], IfOk, IfSome, IfNone, OnErr};
-ghost use Rattle.hub_model.specs.Journal.{edits_of};
+ghost use Rattle.hub_model.specs.Journal.{IsLegal, edits_of};
 ghost use Rattle.hub_model.specs.Leaves.{leaves_of};
 ghost use Rattle.hub_revtree.specs.Winner.{winner_of};
 ghost use Rattle.hub_database.specs.Found.{IsFound};
 ghost use Rattle.hub_database.specs.Reads.{HasDocument, lookup};
-ghost use Rattle.hub_database.specs.Store.{IsStore, edits_of_store};
 
 use crate::answers::Lookup;
 use crate::contents::Contents;
 use crate::document::Document;
-use crate::store::Store;
+use crate::ids::Ids;
 use hub_revtree::Winner;
 use std::alloc::AllocError;
 
-impl Store {
+impl Contents {
     /// The document with this id. It compares ids logarithmically many times.
     pub(crate) fn document(&self, id: &str) -> Option<&Document>
-        requires { IsStore self.now }
-        ensures found { IfSome result (λ d. IsFound (edits_of_store self.now) id.now d.now) }
-        ensures none { IfNone result (edits_of (edits_of_store self.now) id.now ≡ []) }
+        ensures found { IfSome result (λ d. IsFound self.now.journal id.now d.now) }
+        ensures none { IfNone result (edits_of self.now.journal id.now ≡ []) }
+        ensures legal { IsLegal self.now.journal }
     {
-        let number = self.number_of(id)?;
+        let ids = Ids {
+            documents: self.documents.as_slice(),
+        };
+        let number = ids.number_of(&self.numbers, &self.hints, id)?;
         let document = &self.documents[number as usize];
         Some(document)
     }
-}
 
-impl Contents {
     /// The winner of a document, with its mark; None where there is no such document. A
     /// search of the id, and what `RevTree::best` costs.
     pub fn winner(&self, id: &str) -> Option<Winner>
         ensures { result ≡ winner_of (leaves_of self.now.journal id.now) }
     {
-        let document = self.store.document(id)?;
+        let document = self.document(id)?;
         document.tree.best()
     }
 
@@ -44,7 +44,7 @@ impl Contents {
         ensures found { IfOk result (λ found. found ≡ lookup self.now.journal id.now revs) }
         ensures memory { OnErr result (HasDocument self.now.journal id.now revs) }
     {
-        let Some(document) = self.store.document(id) else {
+        let Some(document) = self.document(id) else {
             return Ok(Lookup::Unknown);
         };
         let Some(winner) = document.tree.best() else {
@@ -53,7 +53,7 @@ impl Contents {
         if winner.deleted {
             return Ok(Lookup::Deleted);
         }
-        match document.shown(self.store.alloc, &winner.rev, revs)? {
+        match document.shown(self.alloc, &winner.rev, revs)? {
             Some(doc) => Ok(Lookup::Found(doc)),
             None => Ok(Lookup::Unknown),
         }

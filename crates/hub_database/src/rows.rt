@@ -3,48 +3,29 @@
 ghost use Rattle.std.specs.Prelude.{◌≡◌, find, nat_lt, reverse, option_map};
 ghost use Rattle.hub_model.specs.Current.{Current, current};
 
-use crate::store::Store;
+use crate::contents::Contents;
+use crate::ids::Ids;
 use hub_document::ChangeRow;
 use hub_feed::{Source, is_ahead};
 use hub_index::SeqIndex;
 use hub_model::Style;
 use std::alloc::AllocError;
-use std::marker::Model;
 
-/// The rows of a store, seen as its journal and the number of its life.
-#[derive(Debug, Drop)]
-pub(crate) struct Rows<'a> {
-    pub(crate) store: &'a Store,
-    pub(crate) life: u64,
-}
-
-impl<'a> Model for Rows<'a> {
-    ghost use Rattle.hub_database.specs.Database.{Followed};
-
-    ghost Value = { Followed };
-
-    ghost use Rattle.hub_database.specs.Store.{IsStore, HasRows, edits_of_store};
-
-    ghost view = { λ a. record { edits = edits_of_store a.store.now; life = a.life } };
-
-    ghost invariant = { λ a. IsStore a.store.now × HasRows a.store.now };
-}
-
-impl Rows<'_> {
+impl Contents {
     /// The last current row below a place: its sequence and its id. It takes no memory.
     pub(crate) fn last_before(&self, place: u64) -> Option<(u64, &str)>
         ensures { option_map (λ p. record { seq = p.0; id = p.1.now }) result
-            ≡ find (λ (c : Current). nat_lt c.seq place) (reverse (current self.now.edits)) }
+            ≡ find (λ (c : Current). nat_lt c.seq place) (reverse (current self.now.journal)) }
     {
-        let Some((seq, number)) = self.store.index.last_before(place) else {
+        let Some((seq, number)) = self.index.last_before(place) else {
             return None;
         };
-        let document = &self.store.documents[number as usize];
+        let document = &self.documents[number as usize];
         Some((seq, document.id.as_str()))
     }
 }
 
-impl Source for Rows<'_> {
+impl Source for Contents {
     ghost use Rattle.std.specs.Prelude.{length};
     ghost use Rattle.hub_model.specs.Current.{current};
     ghost use Rattle.hub_model.specs.Row.{ChangeRow, row_of};
@@ -54,25 +35,25 @@ impl Source for Rows<'_> {
 
     type Row = ChangeRow;
 
-    ghost length = { λ f. length f.edits };
+    ghost length = { λ f. length f.journal };
 
     ghost life = { λ f. f.life };
 
-    ghost current = { λ f. current f.edits };
+    ghost current = { λ f. current f.journal };
 
-    ghost shown = { λ f style include_docs c. row_of f.edits style include_docs c };
+    ghost shown = { λ f style include_docs c. row_of f.journal style include_docs c };
 
     ghost seq_of = { λ (r : ChangeRow). r.seq };
 
-    ghost rise = { λ f. rows_rise f.edits };
+    ghost rise = { λ f. rows_rise f.journal };
 
-    ghost within = { λ f c. rows_below f.edits c };
+    ghost within = { λ f c. rows_below f.journal c };
 
     ghost keeps = { λ f style include_docs c. refl };
 
     /// Constant time.
     fn length(&self) -> u64 {
-        self.store.journal.len() as u64
+        self.journal.len() as u64
     }
 
     /// Constant time.
@@ -82,19 +63,22 @@ impl Source for Rows<'_> {
 
     /// It costs what `SeqIndex::next_after` does.
     fn next_after(&self, place: u64, bound: Option<u64>) -> Option<(u64, &str)> {
-        let Some((seq, number)) = self.store.index.next_after(place, bound) else {
+        let Some((seq, number)) = self.index.next_after(place, bound) else {
             return None;
         };
-        let document = &self.store.documents[number as usize];
+        let document = &self.documents[number as usize];
         Some((seq, document.id.as_str()))
     }
 
     /// It costs a search of the id.
     fn next_of(&self, id: &str, place: u64, bound: Option<u64>) -> Option<u64> {
-        let Some(number) = self.store.number_of(id) else {
+        let ids = Ids {
+            documents: self.documents.as_slice(),
+        };
+        let Some(number) = ids.number_of(&self.numbers, &self.hints, id) else {
             return None;
         };
-        let document = &self.store.documents[number as usize];
+        let document = &self.documents[number as usize];
         let seq = document.latest as u64;
         if is_ahead(place, bound, seq) {
             return Some(seq);
@@ -104,15 +88,15 @@ impl Source for Rows<'_> {
 
     /// It costs what `SeqIndex::count_after` does.
     fn count_after(&self, place: u64) -> u64 {
-        self.store.index.count_after(place)
+        self.index.count_after(place)
     }
 
     /// The document is found in constant time. It costs what `RevTree::best` does, with every leaf
     /// what `RevTree::leaves` does, and with its document a copy of the members.
     fn row(&self, seq: u64, style: Style, include_docs: bool) -> Result<ChangeRow, AllocError> {
-        let entry = self.store.journal[seq as usize - 1];
-        let document = &self.store.documents[entry.document as usize];
-        document.row(self.store.alloc, seq, self.length(), style, include_docs)
+        let entry = self.journal[seq as usize - 1];
+        let document = &self.documents[entry.document as usize];
+        document.row(self.alloc, seq, self.length(), style, include_docs)
     }
 
     fn seq(row: &ChangeRow) -> u64

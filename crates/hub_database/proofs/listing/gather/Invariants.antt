@@ -6,4 +6,4 @@ use Rattle.hub_database.proofs.listing.gather.Given as goal
 
 abbrev pub invariant-loop-id : goal.invariant-loop-id
 invariant-loop-id l =
-    l.list.items ≡ filter_map (seq_of_row l.rows.edits) (map string_bytes (take l.id-index l.ids))
+    l.list.items ≡ filter_map (seq_of_row l.contents.journal) (map string_bytes (take l.id-index l.ids))

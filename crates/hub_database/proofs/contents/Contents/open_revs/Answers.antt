@@ -1,6 +1,5 @@
 use Rattle.std.proofs.Common.{◌≡◌, sym, ◌∙◌, subst}
 use Rattle.std.specs.Prelude.{IfOk}
-use Rattle.hub_database.specs.Store.{edits_of_store}
 use Rattle.hub_database.proofs.ShortLemmas.{edits_open, leaves_open, listed_open}
 use Rattle.hub_database.proofs.ShownLemmas.{all_found, listed_found}
 use Rattle.hub_database.proofs.StoreLemmas.{err_then}
@@ -10,42 +9,42 @@ use Rattle.hub_database.proofs.contents.Contents.open_revs.Goals as goal
 pub returns-in_err-leaves-in-Some-All-clause-memory :
     goal.returns-in_err-leaves-in-Some-All-clause-memory
 returns-in_err-leaves-in-Some-All-clause-memory c =
-    rw (sym c.self.view_is, c.in-Some-All.is-1)
+    rw (c.in-Some-All.is-1)
     (on_err c.from_residual.result _
-    (edits_open (edits_of_store c.self.inside.store) c.args.id.now
-    c.in-Some-All.document.now c.in-Some-All.ensures.found c.args.revs c.self.invariant.0.filed.legal
+    (edits_open c.args.self.now.journal c.args.id.now
+    c.in-Some-All.document.now c.in-Some-All.ensures.found c.args.revs c.document.ensures.legal
     c.in_err-leaves-in-Some-All.ensures.memory))
 
 pub returns-in_ok-leaves-in-Some-All-clause-ok : goal.returns-in_ok-leaves-in-Some-All-clause-ok
 returns-in_ok-leaves-in-Some-All-clause-ok c =
-    rw (sym c.self.view_is, c.in-Some-All.is-1)
+    rw (c.in-Some-All.is-1)
     (subst (λ os. IfOk c.open_revs.result (λ found. found.items ≡ os))
-    (all_found (edits_of_store c.self.inside.store)
+    (all_found c.args.self.now.journal
     c.args.id.now c.in-Some-All.document.now c.in-Some-All.ensures.found c.args.revs c.as_slice.result.now
     (c.as_slice.ensures ∙ c.in_ok-leaves-in-Some-All.ensures.ok)) c.open_revs.ensures.ok)
 
 pub returns-in_ok-leaves-in-Some-All-clause-memory :
     goal.returns-in_ok-leaves-in-Some-All-clause-memory
 returns-in_ok-leaves-in-Some-All-clause-memory c =
-    rw (sym c.self.view_is, c.in-Some-All.is-1)
+    rw (c.in-Some-All.is-1)
     (err_then c.open_revs.result
-    (leaves_open (edits_of_store c.self.inside.store) c.args.id.now
+    (leaves_open c.args.self.now.journal c.args.id.now
     c.in-Some-All.document.now c.in-Some-All.ensures.found c.args.revs c.as_slice.result.now
     (c.as_slice.ensures ∙ c.in_ok-leaves-in-Some-All.ensures.ok))
     c.open_revs.ensures.memory)
 
 pub returns-in-Some-Listed-clause-ok : goal.returns-in-Some-Listed-clause-ok
 returns-in-Some-Listed-clause-ok c =
-    rw (sym c.self.view_is, c.in-Some-Listed.is-1, sym c.as_slice-in-Some-Listed.ensures)
+    rw (c.in-Some-Listed.is-1, sym c.as_slice-in-Some-Listed.ensures)
     (subst (λ os. IfOk c.open_revs-in-Some-Listed.result (λ found. found.items ≡ os))
-    (listed_found (edits_of_store c.self.inside.store) c.args.id.now c.in-Some-Listed.document.now
+    (listed_found c.args.self.now.journal c.args.id.now c.in-Some-Listed.document.now
     c.in-Some-Listed.ensures.found c.args.revs c.as_slice-in-Some-Listed.result.now)
     c.open_revs-in-Some-Listed.ensures.ok)
 
 pub returns-in-Some-Listed-clause-memory : goal.returns-in-Some-Listed-clause-memory
 returns-in-Some-Listed-clause-memory c =
-    rw (sym c.self.view_is, c.in-Some-Listed.is-1, sym c.as_slice-in-Some-Listed.ensures)
+    rw (c.in-Some-Listed.is-1, sym c.as_slice-in-Some-Listed.ensures)
     (err_then c.open_revs-in-Some-Listed.result
-    (listed_open (edits_of_store c.self.inside.store) c.args.id.now c.args.revs
+    (listed_open c.args.self.now.journal c.args.id.now c.args.revs
     c.as_slice-in-Some-Listed.result.now)
     c.open_revs-in-Some-Listed.ensures.memory)

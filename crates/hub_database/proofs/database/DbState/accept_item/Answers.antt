@@ -1,17 +1,14 @@
-use Rattle.std.proofs.Common.{length, subst}
+use Rattle.std.proofs.Common.{length}
 use Rattle.hub_model.specs.Current.{current}
 use Rattle.hub_model.specs.Row.{ChangeRow, row_of}
-use Rattle.hub_feed.specs.Feeds.{AreBehind}
-use Rattle.hub_database.specs.Database.{Followed}
 use Rattle.hub_database.proofs.ListingLemmas.{handed_kept}
 use Rattle.hub_database.proofs.database.DbState.accept_item.Goals as goal
 
 pub invariant_of-self : goal.invariant_of-self
 invariant_of-self c =
     let new = c.accept_item.new.self in
-    let J = c.rows-rows.result.edits in (
-      subst (λ (followed : Followed). AreBehind (length followed.edits) new.feeds) c.rows-rows.ensures
-          c.accept_item.ensures.behind,
+    let J = c.self.inside.contents.journal in (
+      c.accept_item.ensures.behind,
       handed_kept {R = ChangeRow} c.self.inside.contents.journal (length J) (current J)
           (row_of J) c.self.inside.feeds new c.args.feed.number c.self.inside.listing
           c.accept_item.ensures.new c.self.invariant.1,

@@ -4,20 +4,20 @@ use Rattle.hub_model.specs.Current.{current}
 use Rattle.hub_model.specs.Entries.{entry_in}
 use Rattle.hub_model.specs.Filter.{DocIds}
 use Rattle.hub_feed.specs.Reach.{IsFirst}
-use Rattle.hub_database.specs.Database.{Database, Followed}
+use Rattle.hub_database.specs.Database.{Database}
 use Rattle.hub_database.proofs.ListingLemmas.{first_is, passing_rises}
 use Rattle.hub_database.proofs.database.DbState.first_listed.Goals as goal
 
 pub first_between-requires : goal.first_between-requires
 first_between-requires c =
     subst (AllPairs (λ m n. m < n)) (sym (c.if-not-holds.ensures.held refl))
-    (passing_rises (DocIds (map string_bytes c.in_ok-ids.ids.now)) c.rows-rows.result.edits)
+    (passing_rises (DocIds (map string_bytes c.in_ok-ids.ids.now)) c.self.inside.contents.journal)
 
 pub returns-clause-first : goal.returns-clause-first
 returns-clause-first c =
     let id = c.args.feed.number in
     let first = c.first_between.result in
-    let J = c.rows-rows.result.edits in
+    let J = c.self.inside.contents.journal in
     let is =
     first_is c.state_at-state.result.now J
     (map string_bytes c.in_ok-ids.ids.now) c.place-2.result c.bound.result c.holds.new.self.rows.items
@@ -25,6 +25,4 @@ returns-clause-first c =
     c.in_ok-ids.ensures c.place-2.ensures c.bound.ensures
     (c.if-not-holds.ensures.held refl) c.first_between.ensures in
     let there = subst (IsFirst first (current J)) (sym c.state_at-state.ensures.found) is in
-    let here = subst (λ (followed : Followed). IsFirst first (current followed.edits)
-    (entry_in id c.self.inside.feeds.feeds)) c.rows-rows.ensures there in
-    subst (λ (db : Database). IsFirst first (current db.journal) (entry_in id db.feeds)) c.self.view_is here
+    subst (λ (db : Database). IsFirst first (current db.journal) (entry_in id db.feeds)) c.self.view_is there

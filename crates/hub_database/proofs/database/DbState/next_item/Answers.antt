@@ -4,12 +4,12 @@ use Rattle.hub_model.specs.Current.{current}
 use Rattle.hub_model.specs.Entries.{entry_in}
 use Rattle.hub_model.specs.Row.{ChangeRow, row_of}
 use Rattle.hub_model.proofs.Entries.{no_entry}
-use Rattle.hub_feed.specs.Feeds.{AreBehind, FeedList}
+use Rattle.hub_feed.specs.Feeds.{FeedList}
 use Rattle.hub_feed.specs.Host.{answer_of}
 use Rattle.hub_feed.specs.declared.next.Next.{Next}
 use Rattle.hub_feed.specs.declared.next.Next.TheVariants.{Gone}
 use Rattle.hub_feed.proofs.FeedsLemmas.{ok_or_err}
-use Rattle.hub_database.specs.Database.{Database, Followed}
+use Rattle.hub_database.specs.Database.{Database}
 use Rattle.hub_database.specs.Hosting.{hosted_of}
 use Rattle.hub_database.specs.Listing.{IsListing}
 use Rattle.hub_database.proofs.ListingLemmas.{answer_kept}
@@ -41,9 +41,8 @@ pub invariant_of-self-3 : goal.invariant_of-self-3
 invariant_of-self-3 c =
     let db = c.self-2.inside in
     let new = c.next_at.new.self in
-    let J = c.rows-rows.result.edits in (
-      subst (λ (followed : Followed). AreBehind (length followed.edits) new.feeds) c.rows-rows.ensures
-          c.next_at.ensures.behind,
+    let J = db.contents.journal in (
+      c.next_at.ensures.behind,
       ok_or_err {P = IsListing db.contents.journal new.feeds new.next db.listing} c.next_at.result
           (λ answer is. answer_kept {R = ChangeRow} db.contents.journal (length J) (current J)
           (row_of J) db.feeds new c.args.feed.number answer db.listing is c.self-2.invariant.1)

@@ -5,14 +5,14 @@ use Rattle.hub_model.specs.Current.{current}
 use Rattle.hub_model.specs.Entries.{entry_in}
 use Rattle.hub_model.specs.Row.{row_of}
 use Rattle.hub_model.proofs.Entries.{no_entry}
-use Rattle.hub_feed.specs.Feeds.{AreBehind, FeedList, feeds_of, over}
+use Rattle.hub_feed.specs.Feeds.{FeedList, feeds_of, over}
 use Rattle.hub_feed.specs.Hand.{HandsTo}
 use Rattle.hub_feed.specs.Host.{answer_of, answered, behind_answer, handed}
 use Rattle.hub_feed.specs.declared.handed.Handed.TheVariants.{Gone}
 use Rattle.hub_feed.specs.declared.next.Next.TheVariants.{Nothing}
 use Rattle.hub_feed.proofs.FeedsLemmas.{both_ok, ok_or_err}
 use Rattle.hub_feed.proofs.HandLemmas.{hands_keeps, hands_lifted}
-use Rattle.hub_database.specs.Database.{Database, Followed}
+use Rattle.hub_database.specs.Database.{Database}
 use Rattle.hub_database.specs.Hosting.{hosted_of, with_hosted}
 use Rattle.hub_database.specs.Listing.{IsListing}
 use Rattle.hub_database.proofs.ListingLemmas.{answer_kept, handed_kept}
@@ -48,7 +48,7 @@ invariant_of-self-3 g c =
     let db = c.self-2.inside in
     let old = db.feeds in
     let new = c.hand_at.new.self in
-    let J = c.rows-rows.result.edits in
+    let J = db.contents.journal in
     let len = length J in
     let rows = current J in
     let shown = row_of J in
@@ -59,8 +59,7 @@ invariant_of-self-3 g c =
     let refuses = g.H.Pushes.refuses c.args.handle.now in
     let K : FeedList → Type 0 = λ z. IsListing db.contents.journal z.feeds z.next db.listing in
     let kept = c.self-2.invariant.1 in (
-      subst (λ (followed : Followed). AreBehind (length followed.edits) new.feeds) c.rows-rows.ensures
-          c.hand_at.ensures.behind,
+      c.hand_at.ensures.behind,
       ok_or_err {P = K new} c.hand_at.result
           (λ did hands. hands_keeps behind refuses c.args.sink.now K old given looked new kept
           (handed_kept db.contents.journal len rows shown old given id db.listing refl kept)
@@ -115,11 +114,5 @@ returns-clause-ok g c =
     (hands_lifted behind refuses sink old given looked new
     (whole old) (whole given) (whole looked) (whole new)
     (ap whole) (ap whole) (ap whole) (answered seen id) did taker
-    (subst (λ (followed : Followed). HandsTo behind refuses old
-    (feeds_of (handed (over (length followed.edits) (current followed.edits) (row_of followed.edits) old) id))
-    (feeds_of (behind_answer (over (length followed.edits) (current followed.edits)
-    (row_of followed.edits) old) id Nothing))
-    sink (answered (over (length followed.edits) (current followed.edits) (row_of followed.edits) old) id) did
-    new taker)
-    c.rows-rows.ensures hands)))
+    hands))
     c.hand_at.ensures.ok c.hand_at.ensures.ok

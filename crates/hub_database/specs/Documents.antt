@@ -1,0 +1,36 @@
+-- Documents by number, and their count (own).
+use Rattle.std.specs.Prelude.{ℕ, List, [], map, count_by, Bool, true, false}
+use Rattle.hub_model.specs.Current.{current}
+use Rattle.hub_model.specs.Journal.{Edit}
+use Rattle.hub_model.specs.Leaves.{leaves_of}
+use Rattle.hub_model.specs.Row.{is_deleted}
+use Rattle.hub_database.specs.Filed.{Filed}
+use Rattle.hub_database.specs.Looked.{Setting}
+use Rattle.hub_database.specs.declared.document.Document.{Document}
+use Rattle.hub_database.specs.declared.entry.Entry.{Entry}
+
+-- a document without what its tree has memory for
+abbrev pub filed : Document → Filed
+filed document = record { id = document.id; latest = document.latest; edits = document.tree.edits }
+
+-- documents without what their trees have memory for
+abbrev pub files : List Document → List Filed
+files documents = map filed documents
+
+-- how many documents of a journal have a deleted winner
+abbrev pub deleted_in : List Edit → ℕ
+deleted_in journal = count_by (λ c. is_deleted (leaves_of journal c.id)) (current journal)
+
+-- 1 for true and 0 for false
+abbrev pub one_if : Bool → ℕ
+one_if true = 1
+one_if false = 0
+
+-- where an edit is stored of a document that is there
+abbrev pub setting_of : ℕ → Document → List Entry → List (ℕ × ℕ) → Setting
+setting_of number document entries rows =
+    record { number = number; document = filed document; entries = entries; rows = rows }
+
+-- a document before its first edit
+abbrev pub unwritten : List ℕ → Filed
+unwritten id = record { id = id; latest = 0; edits = [] }
