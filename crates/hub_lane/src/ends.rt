@@ -101,7 +101,7 @@ impl<L: Kept<I>, I> Model for Receiver<L, I> {
 
 impl<L: Kept<I> + Drop, I: Drop> Lane<L, I> {
     /// An empty lane that holds at most `capacity` items, and its two ends. It makes room for all
-    /// of them, and no later call takes memory. A capacity of 2^60 and more is told as want of
+    /// of them, and no later call takes memory. A capacity of 2^60 and more is told as out of
     /// memory, and with every error the label is dropped.
     pub fn new(
         alloc: Global,

@@ -1,4 +1,4 @@
-use Rattle.std.proofs.Common.{◌≡◌, sym, subst, Contains, Bor}
+use Rattle.std.proofs.Common.{◌≡◌, sym, subst, Contains, Bor, List, ℕ}
 use Rattle.std.specs.Prelude.{◌↔◌, IfSome, IsSome, Option, Some, None}
 use Rattle.std.specs.Option.{option_copied}
 use Rattle.hub_databases.specs.Kept.{NamesState, names_of}
