@@ -1,6 +1,6 @@
 -- A follower over its peers, by what each says of its own calls (own).
-use Rattle.std.specs.Prelude.{◌≡◌, ◌⊎◌, ◌<◌, ◌-◌, ◌+◌, ◌^◌, ℕ, length, Bool, false, List, [], ◌∷◌, Some, None}
-use Rattle.std.specs.Prelude.{Ok}
+use Rattle.std.specs.Prelude.{◌≡◌, ◌⊎◌, ◌<◌, ◌≤◌, ◌-◌, ◌+◌, ◌^◌, ℕ, length, Bool, false, List, [], ◌∷◌}
+use Rattle.std.specs.Prelude.{Some, None, Result, Ok, IfOk, IfErr}
 use Rattle.hub_follow_model.specs.Follower as follow
 use Rattle.hub_database.specs.declared.batch.DbFault.{DbFault}
 use Rattle.hub_database.specs.declared.batch.DbFault.TheVariants as db_fault
@@ -19,6 +19,12 @@ abbrev pub IsCountedFault : CallFault → ℕ → ℕ → Type 0
 IsCountedFault call_fault.Peer old new = Rose old new
 IsCountedFault call_fault.NoMemory old new = Unit {0}
 
+-- What the outcome of a call tells of its peer's count of faults: the count does not fall, and the outcome is
+-- a fault of the peer only where the count rose, or stands at its last value. A lost call takes it from 3 to 4.
+pub record CallCounts {A : Type 0} (result : Result A CallFault) (old new : ℕ) : Type 0 where
+  pub rises : old ≤ new
+  pub fault : IfErr result (λ e. IsCountedFault e old new)
+
 -- a call's fault is told so
 abbrev pub IsCallFault : CallFault → FollowFault → Type 0
 IsCallFault call_fault.Peer fault = fault ≡ told.Peer
@@ -35,17 +41,19 @@ IsOwnFault told.Peer = ⊥
 IsOwnFault told.BadLogId = ⊥
 IsOwnFault fault = Unit {0}
 
--- a follower with a good id tells a fault of a peer only where that peer's count rose so; of one peer
-abbrev pub IsCountedOf : FollowFault → ℕ → ℕ → Type 0
-IsCountedOf told.Peer old new = Rose old new
-IsCountedOf told.BadLogId old new = ⊥
-IsCountedOf fault old new = Unit {0}
-
--- and of two
+-- a follower with a good id tells a fault of a peer only where the count of one of its two peers rose so
 abbrev pub IsCountedOfBoth : FollowFault → (s s' t t' : ℕ) → Type 0
 IsCountedOfBoth told.Peer s s' t t' = Rose s s' ⊎ Rose t t'
 IsCountedOfBoth told.BadLogId s s' t t' = ⊥
 IsCountedOfBoth fault s s' t t' = Unit {0}
+
+-- What a call of a follower tells of its peers' counts of faults: neither falls, and its outcome is a fault of
+-- a peer only where one of them rose so.
+pub record BothCount {S T A : Type 0} (count_s : S → ℕ) (count_t : T → ℕ) (result : Result A FollowFault)
+    (s : S) (t : T) (s' : S) (t' : T) : Type 0 where
+  pub source : count_s s ≤ count_s s'
+  pub target : count_t t ≤ count_t t'
+  pub fault : IfErr result (λ e. IsCountedOfBoth e (count_s s) (count_s s') (count_t t) (count_t t'))
 
 -- whose call it is
 abbrev pub side_of : follow.Call → follow.Side
@@ -63,6 +71,22 @@ Gives S = S → follow.Call → follow.Answer → S → Type 0
 -- and how they may fail
 abbrev pub Fails : Type 0 → Type 1
 Fails S = S → follow.Call → S → Type 0
+
+-- What a call of a peer tells whose answer is shown so: an answer is one that the peer may give, and behind a
+-- fault the peer is as it may be. The count of faults tells it.
+pub record IsCalled {S A : Type 0} (gives : Gives S) (loses : Fails S) (count : S → ℕ) (call : follow.Call)
+    (shown : A → follow.Answer) (result : Result A CallFault) (old new : S) : Type 0 where
+  pub answered : IfOk result (λ answer. gives old call (shown answer) new)
+  pub lost : IfErr result (λ _. loses old call new)
+  pub counts : CallCounts result (count old) (count new)
+
+-- so it is of a call for a log, which may be the one of either side
+pub record IsLogCalled {S A : Type 0} (gives : Gives S) (loses : Fails S) (count : S → ℕ)
+    (call : follow.Side → follow.Call) (shown : A → follow.Answer) (result : Result A CallFault)
+    (old new : S) : Type 0 where
+  pub answered : IfOk result (λ answer. (side : follow.Side) → gives old (call side) (shown answer) new)
+  pub lost : IfErr result (λ _. (side : follow.Side) → loses old (call side) new)
+  pub counts : CallCounts result (count old) (count new)
 
 -- a follower and its two peers, as they stand between two calls
 pub record Standing (S T : Type 0) : Type 0 where

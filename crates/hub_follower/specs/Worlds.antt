@@ -38,6 +38,13 @@ world_of pair sessions follower =
       follower = follower;
     }
 
+-- the call is answered so, whichever sessions and follower the world has
+abbrev pub Answers : Pair → follow.Call → Answer → Pair → Type 0
+Answers old call answer new =
+    (sessions : List (List ℕ)) (follower : follow.Follower)
+    → world.IsAnswered (world_of old sessions follower) call (answer_of answer)
+    (world_of new sessions follower)
+
 -- changes are asked for above a sequence that the source has
 abbrev pub IsWithin : ℕ → follow.Call → Type 0
 IsWithin len (follow.Changes since) = since.n ≤ len
@@ -63,12 +70,8 @@ HasAnswered w (Some call) (Some answer) new =
 -- the sequence above which changes are asked for next, where they are
 abbrev pub changes_asked : Option follow.Call → Option Seq
 changes_asked None = None
-changes_asked (Some (follow.LocalGet side)) = None
 changes_asked (Some (follow.Changes since)) = Some since
-changes_asked (Some (follow.RevsDiff asked)) = None
-changes_asked (Some (follow.OpenRevs id revs)) = None
-changes_asked (Some (follow.Merge docs)) = None
-changes_asked (Some (follow.LocalPut side log)) = None
+changes_asked (Some call) = None
 
 -- these items are such an answer of a source of this life
 abbrev pub IsAnswerOf : List Edit → (life since : ℕ) → List ChangeItem → Answer → Type 0

@@ -9,6 +9,7 @@ use hub_document::{Asked, Doc};
 use hub_follow_model::Seq;
 
 /// What a follower asks of a peer.
+#[derive(Drop)]
 pub enum Call<'a> {
     /// The replication log of the source.
     GetSource,

@@ -1,9 +1,9 @@
 //! Databases that threads share, as a follower's peers.
 
-ghost use Rattle.std.specs.Prelude.{◌≡◌, ◌≤◌, true, map, length, IfOk, IfErr, OnOk};
+ghost use Rattle.std.specs.Prelude.{◌≡◌, true, map, length, IfOk};
 ghost use Rattle.hub_follow_model.specs.Follower as follow;
 ghost use Rattle.hub_database.specs.Edits.{edit_of};
-ghost use Rattle.hub_follower.specs.Peers.{IsCountedFault};
+ghost use Rattle.hub_follower.specs.Peers.{CallCounts};
 ghost use Rattle.hub_follower.specs.Shared.{IsShared};
 ghost use Rattle.hub_follower.specs.Views.{found_edit};
 
@@ -264,8 +264,7 @@ impl<'a, R: Wait> DbPeer<'a, R> {
     // The outcome of a call, whose fault is counted.
     fn counted<A>(&mut self, outcome: Result<A, CallFault>) -> Result<A, CallFault>
         ensures same { result ≡ outcome }
-        ensures fault { IfErr result (λ e. IsCountedFault e self.old.faults self.new.faults) }
-        ensures counts { self.old.faults ≤ self.new.faults }
+        ensures counts { CallCounts result self.old.faults self.new.faults }
     {
         if let Err(CallFault::Peer) = outcome {
             self.faults = self.faults.saturating_add(1);

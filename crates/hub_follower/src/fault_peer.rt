@@ -49,10 +49,7 @@ fn lose_log<P: Peer>(peer: &mut P, log_id: &str)
 impl<P: Peer> FaultPeer<P> {
     /// A peer that fails at its call of this number, counted from 1; at 0 at none. It takes no memory.
     pub fn new(peer: P, call: u64, loss: Loss) -> FaultPeer<P>
-        ensures peer { result.peer ≡ peer }
-        ensures call { (result.left ≡ call) × (result.again ≡ 0) }
-        ensures loss { result.loss ≡ loss }
-        ensures faults { result.faults ≡ 0 }
+        ensures { result ≡ record { peer = peer; left = call; again = 0; loss = loss; faults = 0 } }
     {
         FaultPeer {
             peer,
@@ -65,18 +62,11 @@ impl<P: Peer> FaultPeer<P> {
 
     /// A peer that fails at each call whose number this one divides; at 0 at none. It takes no memory.
     pub fn repeating(peer: P, calls: u64, loss: Loss) -> FaultPeer<P>
-        ensures peer { result.peer ≡ peer }
-        ensures calls { (result.left ≡ calls) × (result.again ≡ calls) }
-        ensures loss { result.loss ≡ loss }
-        ensures faults { result.faults ≡ 0 }
+        ensures { result ≡ record { peer = peer; left = calls; again = calls; loss = loss; faults = 0 } }
     {
-        FaultPeer {
-            peer,
-            left: calls,
-            again: calls,
-            loss,
-            faults: 0,
-        }
+        let mut failing = FaultPeer::new(peer, calls, loss);
+        failing.again = calls;
+        failing
     }
 
     /// The other peer. It takes no memory.
@@ -88,10 +78,7 @@ impl<P: Peer> FaultPeer<P> {
 
     // Counts a call, and says what is lost of it; None: nothing.
     fn next_loss(&mut self) -> Option<Loss>
-        ensures peer { self.new.peer ≡ self.old.peer }
-        ensures faults { self.new.faults ≡ self.old.faults }
-        ensures again { self.new.again ≡ self.old.again }
-        ensures loss { self.new.loss ≡ self.old.loss }
+        ensures rest { self.new ≡ record self.old { left = self.new.left } }
         ensures left { IsCountedDown self.old.again self.old.left self.new.left }
         ensures none { IfNone result (self.old.left ≢ 1) }
         ensures some { IfSome result (λ loss. (self.old.left ≡ 1) × (self.old.loss ≡ loss)) }
@@ -111,11 +98,8 @@ impl<P: Peer> FaultPeer<P> {
 
     // Counts a fault.
     fn fault(&mut self) -> CallFault
-        ensures peer { self.new.peer ≡ self.old.peer }
-        ensures left { self.new.left ≡ self.old.left }
-        ensures again { self.new.again ≡ self.old.again }
-        ensures loss { self.new.loss ≡ self.old.loss }
-        ensures faults { self.new.faults ≡ min (self.old.faults + 1) (2 ^ 64 - 1) }
+        ensures faults { self.new
+            ≡ record self.old { faults = min (self.old.faults + 1) (2 ^ 64 - 1) } }
         ensures value { result ≡ CallFault.Peer }
     {
         self.faults = self.faults.saturating_add(1);

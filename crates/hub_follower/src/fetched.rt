@@ -1,6 +1,6 @@
 //! What a round fetched: revisions and documents that have their histories.
 
-ghost use Rattle.std.specs.Prelude.{◌≡◌, ◌++◌, ◌∷◌, [], length, nat_eq, All, OnOk, OnErr};
+ghost use Rattle.std.specs.Prelude.{◌≡◌, ◌++◌, ◌∷◌, [], All, OnOk, OnErr};
 ghost use Rattle.hub_follower.specs.Fetched.{HasPath, FoundHasPath};
 
 use hub_database::OpenRev;
@@ -83,15 +83,8 @@ impl FetchedDocs {
         Ok(())
     }
 
-    /// Whether there is none. Constant time.
-    pub(crate) fn is_empty(&self) -> bool
-        ensures { result ≡ nat_eq (length self.now) 0 }
-    {
-        self.list.is_empty()
-    }
-
     /// The documents in order. Constant time.
-    pub(crate) fn as_slice(&self) -> &[Doc]
+    pub(crate) fn docs(&self) -> &[Doc]
         ensures { result.now ≡ self.now }
     {
         self.list.as_slice()

@@ -5,7 +5,8 @@ ghost use Rattle.hub_document.specs.Local.{IsLocalId};
 ghost use Rattle.hub_follow_model.specs.Follower as follow;
 ghost use Rattle.hub_follow_model.specs.Sequence.{is_same_place};
 ghost use Rattle.hub_follow_model.specs.World as world;
-ghost use Rattle.hub_follower.specs.Peers.{standing_of, IsWalk, Breaks, BeginsNot, IsCountedOfBoth};
+ghost use Rattle.hub_follower.specs.Peers.{standing_of, IsWalk, Breaks, BeginsNot};
+ghost use Rattle.hub_follower.specs.Peers.{BothCount, IsCountedOfBoth};
 
 use crate::driving::drive;
 use crate::fault::FollowFault;
@@ -104,8 +105,8 @@ fn begin<S: Peer, T: Peer>(
         (standing_of (follow.SourceStart session_id.now) source.old target.old)
         (standing_of core.new source.new target.new)) }
     ensures same { OnErr result (core.new ≡ follow.Down) }
-    ensures fault { IfErr result (λ e. IsCountedOfBoth e (S.fault_count source.old) (S.fault_count source.new)
-        (T.fault_count target.old) (T.fault_count target.new)) }
+    ensures counts { BothCount S.fault_count T.fault_count result
+        source.old target.old source.new target.new }
 {
     let Ok(session_id) = String::from_str(alloc, session_id) else {
         return Err(FollowFault::NoMemory);
@@ -174,12 +175,11 @@ impl<S: Peer + Drop, T: Peer + Drop> Follower<S, T> {
         }
     }
 
-    /// The source's sequence up to which it has copied; None where a session did not begin. Constant
-    /// time.
-    pub fn place(&self) -> Option<Seq>
-        ensures { result ≡ world.place_of self.now.core }
+    /// How far it is: `place` tells the source's sequence up to which it has copied. Constant time.
+    pub fn core(&self) -> &FollowCore
+        ensures { result.now ≡ self.now.core }
     {
-        self.core.place()
+        &self.core
     }
 
     /// Copies the changes above the place, 100 documents at most: it asks the target which of the listed
@@ -202,9 +202,8 @@ impl<S: Peer + Drop, T: Peer + Drop> Follower<S, T> {
             (standing_of self.new.core self.new.source self.new.target)) }
         ensures same { OnErr result (self.new.core ≡ self.old.core) }
         ensures id { self.new.log_id ≡ self.old.log_id }
-        ensures fault { IfErr result (λ e. IsCountedOfBoth e
-            (S.fault_count self.old.source) (S.fault_count self.new.source)
-            (T.fault_count self.old.target) (T.fault_count self.new.target)) }
+        ensures counts { BothCount S.fault_count T.fault_count result
+            self.old.source self.old.target self.new.source self.new.target }
     {
         let place = self.core.place();
         self.core.begin_round();
@@ -230,9 +229,8 @@ impl<S: Peer + Drop, T: Peer + Drop> Follower<S, T> {
             (standing_of self.new.core self.new.source self.new.target)) }
         ensures same { OnErr result (self.new.core ≡ self.old.core) }
         ensures id { self.new.log_id ≡ self.old.log_id }
-        ensures fault { IfErr result (λ e. IsCountedOfBoth e
-            (S.fault_count self.old.source) (S.fault_count self.new.source)
-            (T.fault_count self.old.target) (T.fault_count self.new.target)) }
+        ensures counts { BothCount S.fault_count T.fault_count result
+            self.old.source self.old.target self.new.source self.new.target }
     {
         self.core.begin_checkpoint();
         let (source, target) = (&mut self.source, &mut self.target);

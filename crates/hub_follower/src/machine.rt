@@ -1,23 +1,19 @@
 //! A follower as a machine that makes no call itself.
 
-ghost use Rattle.std.specs.Prelude.{◌≡◌, true, map, option_map, string_bytes, Ok, OnOk, IfOk, IfErr};
+ghost use Rattle.std.specs.Prelude.{◌≡◌, true, option_map, string_bytes, Ok, OnOk, IfOk, IfErr};
 ghost use Rattle.hub_follow_model.specs.Follower as follow;
 ghost use Rattle.hub_follow_model.specs.World as world;
-ghost use Rattle.hub_database.specs.Edits.{edit_of};
 ghost use Rattle.hub_follower.specs.Peers.{calls_left, IsOwnFault};
 ghost use Rattle.hub_follower.specs.Views.{answer_of, call_of, follower_of, phase_of, follower_behind};
 ghost use Rattle.hub_follower.specs.Views.{IsFaultOf};
 
 use crate::call::{Answer, Call};
 use crate::fault::FollowFault;
-use crate::fetched::FetchedDocs;
 use crate::log::Log;
 use crate::phase::{self, Next, Phase};
 use crate::session::Session;
-use hub_document::Asked;
 use hub_follow_model::Seq;
 use std::alloc::Global;
-use std::collections::VecDeque;
 use std::marker::Model;
 use std::mem;
 
@@ -58,145 +54,6 @@ impl Model for FollowCore {
     ghost view = { λ c. follower_of c.state };
 }
 
-// The answer to `changes`.
-fn changed(alloc: Global, session: &Session, answer: Answer) -> Result<Next, FollowFault>
-    ensures ok { IfOk result (λ goes. follow.phase_result session.now follow.Listing (answer_of answer)
-        ≡ Ok (follower_behind session.now goes)) }
-    ensures err { IfErr result (λ e.
-        IsFaultOf e (follow.phase_result session.now follow.Listing (answer_of answer))) }
-{
-    match answer {
-        Answer::Changes(changes) => {
-            let last = Seq::of_life(changes.last_seq, changes.life);
-            Ok(phase::comparison_or_ready(alloc, changes.rows, last)?)
-        }
-        Answer::Log(_log) => Err(FollowFault::Peer),
-        Answer::RevsDiff(_diffs) => Err(FollowFault::Peer),
-        Answer::OpenRevs(_found) => Err(FollowFault::Peer),
-        Answer::Merge(_replies) => Err(FollowFault::Peer),
-        Answer::Put => Err(FollowFault::Peer),
-    }
-}
-
-// The answer to `revs_diff`.
-fn missing(
-    alloc: Global,
-    session: &Session,
-    asked: Vec<Asked>,
-    last: Seq,
-    answer: Answer,
-) -> Result<Next, FollowFault>
-    ensures ok { IfOk result (λ goes.
-        follow.phase_result session.now (follow.Comparison asked.items last) (answer_of answer)
-        ≡ Ok (follower_behind session.now goes)) }
-    ensures err { IfErr result (λ e. IsFaultOf e
-        (follow.phase_result session.now (follow.Comparison asked.items last) (answer_of answer))) }
-{
-    match answer {
-        Answer::RevsDiff(diffs) => Ok(phase::first_retrieval(alloc, diffs, last)?),
-        Answer::Log(_log) => Err(FollowFault::Peer),
-        Answer::Changes(_changes) => Err(FollowFault::Peer),
-        Answer::OpenRevs(_found) => Err(FollowFault::Peer),
-        Answer::Merge(_replies) => Err(FollowFault::Peer),
-        Answer::Put => Err(FollowFault::Peer),
-    }
-}
-
-// The answer to `open_revs`.
-fn opened(
-    session: &Session,
-    wanted: Asked,
-    later: VecDeque<Asked>,
-    got: FetchedDocs,
-    last: Seq,
-    answer: Answer,
-) -> Result<Next, FollowFault>
-    requires fits { follow.IsAnswerTo (follow.OpenRevs wanted.id wanted.revs) (answer_of answer) }
-    ensures ok { IfOk result (λ goes.
-        follow.phase_result session.now
-        (follow.Retrieval wanted later.items (map edit_of got) last) (answer_of answer)
-        ≡ Ok (follower_behind session.now goes)) }
-    ensures err { IfErr result (λ e.
-        IsFaultOf e (follow.phase_result session.now
-        (follow.Retrieval wanted later.items (map edit_of got) last) (answer_of answer))) }
-{
-    match answer {
-        Answer::OpenRevs(found) => match phase::documents_behind(wanted, found, got) {
-            Ok(got) => Ok(phase::retrieval_or_storage(later, got, last)),
-            Err(fault) => Err(fault),
-        },
-        Answer::Log(_log) => Err(FollowFault::Peer),
-        Answer::Changes(_changes) => Err(FollowFault::Peer),
-        Answer::RevsDiff(_diffs) => Err(FollowFault::Peer),
-        Answer::Merge(_replies) => Err(FollowFault::Peer),
-        Answer::Put => Err(FollowFault::Peer),
-    }
-}
-
-// The answer to the merge.
-fn merged(
-    session: &Session,
-    got: FetchedDocs,
-    last: Seq,
-    answer: Answer,
-) -> Result<Next, FollowFault>
-    requires fits { follow.IsAnswerTo (follow.Merge (map edit_of got)) (answer_of answer) }
-    ensures ok { IfOk result (λ goes.
-        follow.phase_result session.now (follow.Storage (map edit_of got) last) (answer_of answer)
-        ≡ Ok (follower_behind session.now goes)) }
-    ensures err { IfErr result (λ e.
-        IsFaultOf e (follow.phase_result session.now
-        (follow.Storage (map edit_of got) last) (answer_of answer))) }
-{
-    match answer {
-        Answer::Merge(replies) => match phase::first_refusal(got, replies.as_slice()) {
-            None => Ok(Next::ReadyAt(last)),
-            Some(fault) => Err(fault),
-        },
-        Answer::Log(_log) => Err(FollowFault::Peer),
-        Answer::Changes(_changes) => Err(FollowFault::Peer),
-        Answer::RevsDiff(_diffs) => Err(FollowFault::Peer),
-        Answer::OpenRevs(_found) => Err(FollowFault::Peer),
-        Answer::Put => Err(FollowFault::Peer),
-    }
-}
-
-// The answer to the log that was to be kept at the source.
-fn source_written(session: &Session, answer: Answer) -> Result<Next, FollowFault>
-    ensures ok { IfOk result (λ goes.
-        follow.phase_result session.now follow.SourceCheckpoint (answer_of answer)
-        ≡ Ok (follower_behind session.now goes)) }
-    ensures err { IfErr result (λ e.
-        IsFaultOf e (follow.phase_result session.now follow.SourceCheckpoint (answer_of answer))) }
-{
-    match answer {
-        Answer::Put => Ok(Next::Busy(Phase::TargetCheckpoint)),
-        Answer::Log(_log) => Err(FollowFault::Peer),
-        Answer::Changes(_changes) => Err(FollowFault::Peer),
-        Answer::RevsDiff(_diffs) => Err(FollowFault::Peer),
-        Answer::OpenRevs(_found) => Err(FollowFault::Peer),
-        Answer::Merge(_replies) => Err(FollowFault::Peer),
-    }
-}
-
-// The answer to the log that was to be kept at the target.
-fn target_written(session: &Session, answer: Answer) -> Result<Next, FollowFault>
-    ensures ok { IfOk result (λ goes.
-        follow.phase_result session.now follow.TargetCheckpoint (answer_of answer)
-        ≡ Ok (follower_behind session.now goes)) }
-    ensures err { IfErr result (λ e.
-        IsFaultOf e (follow.phase_result session.now follow.TargetCheckpoint (answer_of answer))) }
-{
-    match answer {
-        Answer::Put => Ok(Next::Ready),
-        Answer::Log(_log) => Err(FollowFault::Peer),
-        Answer::Changes(_changes) => Err(FollowFault::Peer),
-        Answer::RevsDiff(_diffs) => Err(FollowFault::Peer),
-        Answer::OpenRevs(_found) => Err(FollowFault::Peer),
-        Answer::Merge(_replies) => Err(FollowFault::Peer),
-    }
-}
-
 // The answer to the call that such phase owes. The phase is spent.
 fn answered(
     alloc: Global,
@@ -210,15 +67,27 @@ fn answered(
     ensures err { IfErr result (λ e.
         IsFaultOf e (follow.phase_result session.now (phase_of phase) (answer_of answer))) }
 {
-    match phase {
-        Phase::Listing => changed(alloc, session, answer),
-        Phase::Comparison(asked, last) => missing(alloc, session, asked, last, answer),
-        Phase::Retrieval(wanted, later, got, last) => opened(
-            session, wanted, later, got, last, answer,
-        ),
-        Phase::Storage(got, last) => merged(session, got, last, answer),
-        Phase::SourceCheckpoint => source_written(session, answer),
-        Phase::TargetCheckpoint => target_written(session, answer),
+    match (phase, answer) {
+        (Phase::Listing, Answer::Changes(changes)) => {
+            let last = Seq::of_life(changes.last_seq, changes.life);
+            Ok(phase::comparison_or_ready(alloc, changes.rows, last)?)
+        }
+        (Phase::Comparison(_asked, last), Answer::RevsDiff(diffs)) => {
+            Ok(phase::first_retrieval(alloc, diffs, last)?)
+        }
+        (Phase::Retrieval(wanted, later, got, last), Answer::OpenRevs(found)) => {
+            let got = phase::documents_behind(wanted, found, got)?;
+            Ok(phase::retrieval_or_storage(later, got, last))
+        }
+        (Phase::Storage(got, last), Answer::Merge(replies)) => {
+            match phase::first_refusal(got, replies.as_slice()) {
+                None => Ok(Next::ReadyAt(last)),
+                Some(fault) => Err(fault),
+            }
+        }
+        (Phase::SourceCheckpoint, Answer::Put) => Ok(Next::Busy(Phase::TargetCheckpoint)),
+        (Phase::TargetCheckpoint, Answer::Put) => Ok(Next::Ready),
+        (_phase, _answer) => Err(FollowFault::Peer),
     }
 }
 
@@ -254,32 +123,20 @@ fn after(alloc: Global, state: State, answer: Answer) -> (State, Result<(), Foll
     ensures err { IfErr result.1 (λ e. (follower_of result.0 ≡ follow.after_failure (follower_of state))
         × IsFaultOf e (follow.answer_result (follower_of state) (answer_of answer))) }
 {
-    match state {
-        State::SourceStart(session_id) => match answer {
-            Answer::Log(log) => (State::TargetStart(session_id, log), Ok(())),
-            Answer::Changes(_changes) => (State::Down, Err(FollowFault::Peer)),
-            Answer::RevsDiff(_diffs) => (State::Down, Err(FollowFault::Peer)),
-            Answer::OpenRevs(_found) => (State::Down, Err(FollowFault::Peer)),
-            Answer::Merge(_replies) => (State::Down, Err(FollowFault::Peer)),
-            Answer::Put => (State::Down, Err(FollowFault::Peer)),
-        },
-        State::TargetStart(session_id, source) => match answer {
-            Answer::Log(log) => (
-                State::Ready(Session::begin(alloc, session_id, source, log)),
-                Ok(()),
-            ),
-            Answer::Changes(_changes) => (State::Down, Err(FollowFault::Peer)),
-            Answer::RevsDiff(_diffs) => (State::Down, Err(FollowFault::Peer)),
-            Answer::OpenRevs(_found) => (State::Down, Err(FollowFault::Peer)),
-            Answer::Merge(_replies) => (State::Down, Err(FollowFault::Peer)),
-            Answer::Put => (State::Down, Err(FollowFault::Peer)),
-        },
-        State::Busy(session, phase) => match answered(alloc, &session, phase, answer) {
+    match (state, answer) {
+        (State::SourceStart(session_id), Answer::Log(log)) => {
+            (State::TargetStart(session_id, log), Ok(()))
+        }
+        (State::TargetStart(session_id, source), Answer::Log(log)) => {
+            let session = Session::begin(alloc, session_id, source, log);
+            (State::Ready(session), Ok(()))
+        }
+        (State::Busy(session, phase), answer) => match answered(alloc, &session, phase, answer) {
             Ok(next) => (gone_on(session, next), Ok(())),
             Err(fault) => (State::Ready(session), Err(fault)),
         },
-        State::Down => (State::Down, Err(FollowFault::Peer)),
-        State::Ready(session) => (State::Ready(session), Err(FollowFault::Peer)),
+        (State::Ready(session), _answer) => (State::Ready(session), Err(FollowFault::Peer)),
+        (_state, _answer) => (State::Down, Err(FollowFault::Peer)),
     }
 }
 
@@ -306,11 +163,8 @@ impl FollowCore {
         ensures { result ≡ world.place_of self.now }
     {
         match &self.state {
-            State::Ready(session) => Some(session.place()),
-            State::Busy(session, _phase) => Some(session.place()),
-            State::Down => None,
-            State::SourceStart(_session_id) => None,
-            State::TargetStart(_session_id, _source) => None,
+            State::Ready(session) | State::Busy(session, _) => Some(session.place()),
+            State::Down | State::SourceStart(_) | State::TargetStart(_, _) => None,
         }
     }
 
@@ -319,17 +173,13 @@ impl FollowCore {
         ensures { result ≡ calls_left self.now }
     {
         match &self.state {
-            State::Down => 0,
-            State::SourceStart(_session_id) => 2,
-            State::TargetStart(_session_id, _source) => 1,
-            State::Ready(_session) => 0,
-            State::Busy(_session, Phase::Listing) => 0,
-            State::Busy(_session, Phase::Comparison(_asked, _last)) => 0,
-            State::Busy(_session, Phase::Retrieval(_next, later, _got, _last)) => later.len() as u64
-                + 2,
-            State::Busy(_session, Phase::Storage(_docs, _last)) => 1,
-            State::Busy(_session, Phase::SourceCheckpoint) => 2,
-            State::Busy(_session, Phase::TargetCheckpoint) => 1,
+            State::Down | State::Ready(_) => 0,
+            State::SourceStart(_) => 2,
+            State::TargetStart(_, _) => 1,
+            State::Busy(_, Phase::Listing | Phase::Comparison(_, _)) => 0,
+            State::Busy(_, Phase::Retrieval(_, later, _, _)) => later.len() as u64 + 2,
+            State::Busy(_, Phase::Storage(_, _) | Phase::TargetCheckpoint) => 1,
+            State::Busy(_, Phase::SourceCheckpoint) => 2,
         }
     }
 
@@ -375,9 +225,7 @@ impl FollowCore {
             State::Busy(_session, Phase::Retrieval(next, _later, _got, _last)) => Some(
                 Call::OpenRevs(next),
             ),
-            State::Busy(_session, Phase::Storage(docs, _last)) => Some(Call::Merge(
-                docs.as_slice(),
-            )),
+            State::Busy(_session, Phase::Storage(got, _last)) => Some(Call::Merge(got.docs())),
             State::Busy(session, Phase::SourceCheckpoint) => Some(Call::PutSource(session)),
             State::Busy(session, Phase::TargetCheckpoint) => Some(Call::PutTarget(session)),
         }

@@ -8,16 +8,15 @@ ghost use Rattle.hub_follow_model.specs.World as world;
 ghost use Rattle.hub_model.specs.Outcome.{merges_all};
 ghost use Rattle.hub_model.specs.Row.{ChangeRow as Row};
 ghost use Rattle.hub_database.specs.Edits.{edit_of};
-ghost use Rattle.hub_follower.specs.Views.{answer_of, call_of};
-ghost use Rattle.hub_follower.specs.Worlds.{world_of, IsWithin, IsAnswerOf};
+ghost use Rattle.hub_follower.specs.Views.{call_of};
+ghost use Rattle.hub_follower.specs.Worlds.{Answers, IsWithin, IsAnswerOf};
 
 use crate::call::{Answer, Call};
 use crate::handed::changes_in;
 use crate::log::Log;
 use crate::serving;
-use crate::session::Session;
 use hub_database::DbState;
-use hub_document::{Asked, ChangeRow, Doc, Limits};
+use hub_document::{ChangeRow, Doc, Limits};
 use hub_follow_model::Seq;
 use hub_model::Item;
 use std::alloc::{AllocError, Global};
@@ -90,105 +89,8 @@ impl Pair {
           source = (merges_all self.old.limit self.old.source (map edit_of docs.items)).journal;
         }) }
     {
-        match serving::merged(self.alloc, &mut self.source, docs.as_slice()) {
-            Ok(_replies) => Ok(()),
-            Err(_) => Err(AllocError),
-        }
-    }
-
-    // What the source says of changes.
-    fn changes(&self, since: Seq) -> Result<Answer, AllocError>
-        requires { IsWithin (length self.now.source) (follow.Changes since) }
-        ensures answered { IfOk result (λ answer. (sessions : List (List ℕ)) (follower : follow.Follower)
-            → world.IsAnswered (world_of self.now sessions follower) (follow.Changes since) (answer_of answer)
-            (world_of self.now sessions follower)) }
-    {
-        let since = since.counted_in(self.source.life());
-        match serving::changes(&self.source, since) {
-            Ok(changes) => Ok(Answer::Changes(changes)),
-            Err(_) => Err(AllocError),
-        }
-    }
-
-    // What the target misses.
-    fn missing(&self, asked: &[Asked]) -> Result<Answer, AllocError>
-        ensures answered { IfOk result (λ answer. (sessions : List (List ℕ)) (follower : follow.Follower)
-            → world.IsAnswered (world_of self.now sessions follower) (follow.RevsDiff asked.now)
-            (answer_of answer) (world_of self.now sessions follower)) }
-    {
-        match serving::missing(self.alloc, &self.target, asked) {
-            Ok(diffs) => Ok(Answer::RevsDiff(diffs)),
-            Err(_) => Err(AllocError),
-        }
-    }
-
-    // What the source has of these revisions.
-    fn opened(&self, asked: &Asked) -> Result<Answer, AllocError>
-        ensures answered { IfOk result (λ answer. (sessions : List (List ℕ)) (follower : follow.Follower)
-            → world.IsAnswered (world_of self.now sessions follower)
-            (follow.OpenRevs asked.now.id asked.now.revs) (answer_of answer)
-            (world_of self.now sessions follower)) }
-    {
-        match serving::opened(self.alloc, &self.source, asked) {
-            Ok(found) => Ok(Answer::OpenRevs(found)),
-            Err(_) => Err(AllocError),
-        }
-    }
-
-    // Stores documents at the target, with their histories.
-    fn merge(&mut self, docs: &[Doc]) -> Result<Answer, AllocError>
-        ensures answered { IfOk result (λ answer. (sessions : List (List ℕ)) (follower : follow.Follower)
-            → world.IsAnswered (world_of self.old sessions follower) (follow.Merge (map edit_of docs.now))
-            (answer_of answer) (world_of self.new sessions follower)) }
-    {
-        match serving::merged(self.alloc, &mut self.target, docs) {
-            Ok(replies) => Ok(Answer::Merge(replies)),
-            Err(_) => Err(AllocError),
-        }
-    }
-
-    // Keeps a session's log at the source.
-    fn put_source(&mut self, session: &Session) -> Result<Answer, AllocError>
-        ensures answered { IfOk result (λ answer. (sessions : List (List ℕ)) (follower : follow.Follower)
-            → world.IsAnswered (world_of self.old sessions follower)
-            (follow.LocalPut follow.Source (follow.checkpoint_log session.now session.now.source_history))
-            (answer_of answer) (world_of self.new sessions follower)) }
-    {
-        let log = session.source_log(self.alloc)?;
-        self.source_log = Some(log);
-        Ok(Answer::Put)
-    }
-
-    // Keeps a session's log at the target.
-    fn put_target(&mut self, session: &Session) -> Result<Answer, AllocError>
-        ensures answered { IfOk result (λ answer. (sessions : List (List ℕ)) (follower : follow.Follower)
-            → world.IsAnswered (world_of self.old sessions follower)
-            (follow.LocalPut follow.Target (follow.checkpoint_log session.now session.now.target_history))
-            (answer_of answer) (world_of self.new sessions follower)) }
-    {
-        let log = session.target_log(self.alloc)?;
-        self.target_log = Some(log);
-        Ok(Answer::Put)
-    }
-
-    // The log at the source.
-    fn source_log(&self) -> Result<Answer, AllocError>
-        ensures answered { IfOk result (λ answer. (sessions : List (List ℕ)) (follower : follow.Follower)
-            → world.IsAnswered (world_of self.now sessions follower) (follow.LocalGet follow.Source)
-            (answer_of answer) (world_of self.now sessions follower)) }
-    {
-        let log = copied(self.alloc, &self.source_log)?;
-        Ok(Answer::Log(log))
-    }
-
-    // The log at the target.
-    fn target_log(&self) -> Result<Answer, AllocError>
-        ensures answered { IfOk result (λ answer. (sessions : List (List ℕ)) (follower : follow.Follower)
-            → world.IsAnswered (world_of self.now sessions follower) (follow.LocalGet follow.Target)
-            (answer_of answer) (world_of self.now sessions follower)) }
-    {
-        let log = copied(self.alloc, &self.target_log)?;
-        Ok(Answer::Log(log))
+        drop(serving::merged(self.alloc, &mut self.source, docs.as_slice())?);
+        Ok(())
     }
 
     /// The answer that these items are, where the source may answer so for the changes above `since`, as
@@ -210,19 +112,35 @@ impl Pair {
     /// What the database answers that the call names.
     pub(crate) fn answer(&mut self, call: Call<'_>) -> Result<Answer, AllocError>
         requires { IsWithin (length self.old.source) (call_of call) }
-        ensures answered { IfOk result (λ answer. (sessions : List (List ℕ)) (follower : follow.Follower)
-            → world.IsAnswered (world_of self.old sessions follower) (call_of call.entry)
-            (answer_of answer) (world_of self.new sessions follower)) }
+        ensures { IfOk result (λ answer. Answers self.old (call_of call.entry) answer self.new) }
     {
         match call {
-            Call::GetSource => self.source_log(),
-            Call::GetTarget => self.target_log(),
-            Call::Changes(since) => self.changes(since),
-            Call::RevsDiff(asked) => self.missing(asked),
-            Call::OpenRevs(asked) => self.opened(asked),
-            Call::Merge(docs) => self.merge(docs),
-            Call::PutSource(session) => self.put_source(session),
-            Call::PutTarget(session) => self.put_target(session),
+            Call::GetSource => Ok(Answer::Log(copied(self.alloc, &self.source_log)?)),
+            Call::GetTarget => Ok(Answer::Log(copied(self.alloc, &self.target_log)?)),
+            Call::Changes(since) => {
+                let since = since.counted_in(self.source.life());
+                Ok(Answer::Changes(serving::changes(&self.source, since)?))
+            }
+            Call::RevsDiff(asked) => {
+                let missed = serving::missing(self.alloc, &self.target, asked)?;
+                Ok(Answer::RevsDiff(missed))
+            }
+            Call::OpenRevs(asked) => {
+                let found = serving::opened(self.alloc, &self.source, asked)?;
+                Ok(Answer::OpenRevs(found))
+            }
+            Call::Merge(docs) => {
+                let replies = serving::merged(self.alloc, &mut self.target, docs)?;
+                Ok(Answer::Merge(replies))
+            }
+            Call::PutSource(session) => {
+                self.source_log = Some(session.source_log(self.alloc)?);
+                Ok(Answer::Put)
+            }
+            Call::PutTarget(session) => {
+                self.target_log = Some(session.target_log(self.alloc)?);
+                Ok(Answer::Put)
+            }
         }
     }
 }

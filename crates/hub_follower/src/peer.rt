@@ -1,9 +1,9 @@
 //! What a follower's peers are.
 
-ghost use Rattle.std.specs.Prelude.{◌≡◌, ◌≤◌, ℕ, map, length, IfOk, IfErr, OnOk};
+ghost use Rattle.std.specs.Prelude.{◌≡◌, ℕ, map, length, IfOk};
 ghost use Rattle.hub_follow_model.specs.Follower as follow;
 ghost use Rattle.hub_database.specs.Edits.{edit_of};
-ghost use Rattle.hub_follower.specs.Peers.{IsCountedFault};
+ghost use Rattle.hub_follower.specs.Peers.{IsCalled, IsLogCalled};
 ghost use Rattle.hub_follower.specs.Views.{found_edit};
 
 use crate::fault::FollowFault;
@@ -78,56 +78,35 @@ pub trait Peer {
     /// The changes above this sequence, of every leaf: 100 rows at most, with their end. A sequence of
     /// another life counts as 0.
     fn changes(&mut self, since: Seq) -> Result<Changes, CallFault>
-        ensures ok { IfOk result (λ c. gives self.old (follow.Changes since)
-            (follow.ChangesAnswer c.rows.items c.last_seq c.life) self.new) }
-        ensures lost { IfErr result (λ _. loses self.old (follow.Changes since) self.new) }
-        ensures fault { IfErr result (λ e. IsCountedFault e (fault_count self.old) (fault_count self.new)) }
-        ensures counts { fault_count self.old ≤ fault_count self.new };
+        ensures called { IsCalled gives loses fault_count (follow.Changes since)
+            (λ c. follow.ChangesAnswer c.rows.items c.last_seq c.life) result self.old self.new };
 
     /// Which of these revisions it misses, row by row.
     fn revs_diff(&mut self, asked: &[Asked]) -> Result<Vec<Diff>, CallFault>
-        ensures ok { IfOk result (λ diffs.
-            gives self.old (follow.RevsDiff asked.now) (follow.RevsDiffAnswer diffs.items) self.new) }
-        ensures lost { IfErr result (λ _. loses self.old (follow.RevsDiff asked.now) self.new) }
-        ensures fault { IfErr result (λ e. IsCountedFault e (fault_count self.old) (fault_count self.new)) }
-        ensures counts { fault_count self.old ≤ fault_count self.new };
+        ensures called { IsCalled gives loses fault_count (follow.RevsDiff asked.now)
+            (λ diffs. follow.RevsDiffAnswer diffs.items) result self.old self.new };
 
     /// These revisions of a document, in this order, with their histories.
     fn open_revs(&mut self, asked: &Asked) -> Result<FetchedRevs, CallFault>
-        ensures ok { IfOk result (λ found. gives self.old (follow.OpenRevs asked.now.id asked.now.revs)
-            (follow.OpenRevsAnswer (map found_edit found)) self.new) }
-        ensures many { IfOk result (λ found. length found ≡ length asked.now.revs) }
-        ensures lost { IfErr result (λ _.
-            loses self.old (follow.OpenRevs asked.now.id asked.now.revs) self.new) }
-        ensures fault { IfErr result (λ e. IsCountedFault e (fault_count self.old) (fault_count self.new)) }
-        ensures counts { fault_count self.old ≤ fault_count self.new };
+        ensures called { IsCalled gives loses fault_count (follow.OpenRevs asked.now.id asked.now.revs)
+            (λ found. follow.OpenRevsAnswer (map found_edit found)) result self.old self.new }
+        ensures many { IfOk result (λ found. length found ≡ length asked.now.revs) };
 
     /// Stores documents with their histories, one after the other. After an error some may be stored.
     fn merge(&mut self, docs: &[Doc]) -> Result<Replies, CallFault>
-        ensures ok { IfOk result (λ replies.
-            gives self.old (follow.Merge (map edit_of docs.now)) (follow.MergeAnswer replies) self.new) }
-        ensures many { IfOk result (λ replies. length replies ≡ length docs.now) }
-        ensures lost { IfErr result (λ _. loses self.old (follow.Merge (map edit_of docs.now)) self.new) }
-        ensures fault { IfErr result (λ e. IsCountedFault e (fault_count self.old) (fault_count self.new)) }
-        ensures counts { fault_count self.old ≤ fault_count self.new };
+        ensures called { IsCalled gives loses fault_count (follow.Merge (map edit_of docs.now))
+            (λ replies. follow.MergeAnswer replies) result self.old self.new }
+        ensures many { IfOk result (λ replies. length replies ≡ length docs.now) };
 
     /// The replication log of this id, if there is one that can be read.
     fn local_get(&mut self, log_id: &str) -> Result<Option<Log>, CallFault>
-        ensures ok { IfOk result (λ log. (side : follow.Side)
-            → gives self.old (follow.LocalGet side) (follow.LogAnswer log) self.new) }
-        ensures lost { IfErr result
-            (λ _. (side : follow.Side) → loses self.old (follow.LocalGet side) self.new) }
-        ensures fault { IfErr result (λ e. IsCountedFault e (fault_count self.old) (fault_count self.new)) }
-        ensures counts { fault_count self.old ≤ fault_count self.new };
+        ensures called { IsLogCalled gives loses fault_count (λ side. follow.LocalGet side)
+            (λ log. follow.LogAnswer log) result self.old self.new };
 
     /// Keeps the replication log of this id. After an error it may be kept.
     fn local_put(&mut self, log_id: &str, log: &Log) -> Result<(), CallFault>
-        ensures ok { OnOk result ((side : follow.Side)
-            → gives self.old (follow.LocalPut side log.now) follow.PutAnswer self.new) }
-        ensures lost { IfErr result (λ _. (side : follow.Side)
-            → loses self.old (follow.LocalPut side log.now) self.new) }
-        ensures fault { IfErr result (λ e. IsCountedFault e (fault_count self.old) (fault_count self.new)) }
-        ensures counts { fault_count self.old ≤ fault_count self.new };
+        ensures called { IsLogCalled gives loses fault_count (λ side. follow.LocalPut side log.now)
+            (λ _. follow.PutAnswer) result self.old self.new };
 
     /// How many calls failed. It stays at 2^64 - 1 once there.
     fn faults(&self) -> u64

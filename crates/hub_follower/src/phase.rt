@@ -94,7 +94,7 @@ fn storage_or_ready(got: FetchedDocs, last: Seq) -> Next
     ensures value { (s : follow.Session)
         → follower_behind s result ≡ follow.storage_or_ready s (map edit_of got) last }
 {
-    if got.is_empty() {
+    if got.docs().is_empty() {
         return Next::ReadyAt(last);
     }
     Next::Busy(Phase::Storage(got, last))

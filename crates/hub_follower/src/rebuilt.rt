@@ -22,10 +22,8 @@ fn add_edit(alloc: Global, db: &DbState, copy: &mut DbState, seq: u64) -> Result
     };
     let mut docs = Vec::new(alloc);
     docs.push(doc)?;
-    match serving::merged(alloc, copy, docs.as_slice()) {
-        Ok(_replies) => Ok(()),
-        Err(_) => Err(AllocError),
-    }
+    drop(serving::merged(alloc, copy, docs.as_slice())?);
+    Ok(())
 }
 
 // Adds the edits of a database to a copy of the first ones, up to so many.

@@ -7,7 +7,7 @@ ghost use Rattle.hub_database.specs.Edits.{edit_of};
 ghost use Rattle.hub_follow_model.specs.Copied.{IsFaithful};
 ghost use Rattle.hub_follow_model.specs.Follower as follow;
 ghost use Rattle.hub_follow_model.specs.World as world;
-ghost use Rattle.hub_follower.specs.Views.{call_of};
+ghost use Rattle.hub_follower.specs.Views.{answer_of, call_of};
 ghost use Rattle.hub_follower.specs.Worlds.{changes_asked, event_of, HasAnswered, HasPlace};
 
 use crate::call::{Answer, Call};
@@ -92,15 +92,8 @@ fn changes_asked(call: Option<Call<'_>>) -> Option<Seq>
     ensures { result ≡ changes_asked (option_map call_of call.entry) }
 {
     match call {
-        None => None,
-        Some(Call::GetSource) => None,
-        Some(Call::GetTarget) => None,
         Some(Call::Changes(since)) => Some(since),
-        Some(Call::RevsDiff(_asked)) => None,
-        Some(Call::OpenRevs(_asked)) => None,
-        Some(Call::Merge(_docs)) => None,
-        Some(Call::PutSource(_session)) => None,
-        Some(Call::PutTarget(_session)) => None,
+        _ => None,
     }
 }
 
@@ -149,10 +142,21 @@ impl FollowWorld {
     {
         match self.core.next_call() {
             None => Ok(None),
-            Some(call) => match self.pair.answer(call) {
-                Ok(answer) => Ok(Some(answer)),
-                Err(refused) => Err(refused),
-            },
+            Some(call) => Ok(Some(self.pair.answer(call)?)),
+        }
+    }
+
+    // The follower takes an answer to its call.
+    fn take(&mut self, answer: Answer) -> Result<(), AllocError>
+        requires { follow.IsAnswerToNext (follow.next_call self.old.follower) (answer_of answer) }
+        ensures { OnOk result (self.new ≡ record self.old {
+          follower = follow.after_answer self.old.follower (answer_of answer);
+        }) }
+    {
+        match self.core.accept(self.alloc, answer) {
+            Ok(()) => Ok(()),
+            Err(FollowFault::NoMemory) => Err(AllocError),
+            Err(_) => Ok(()),
         }
     }
 
@@ -166,31 +170,22 @@ impl FollowWorld {
             Ok(None) => return Ok(()),
             Err(refused) => return Err(refused),
         };
-        match self.core.accept(self.alloc, answer) {
-            Ok(()) => Ok(()),
-            Err(FollowFault::NoMemory) => Err(AllocError),
-            Err(_) => Ok(()),
-        }
+        self.take(answer)
     }
 
     // The next call asks for changes, and is answered by these items, where the source may answer so.
     fn reply_changes(&mut self, items: Vec<Item<ChangeRow>>) -> Result<(), AllocError>
         ensures { OnOk result (world.Step self.old (world.ChangesReply items.items) self.new) }
     {
-        let since = match changes_asked(self.core.next_call()) {
-            Some(since) => since,
-            None => return Ok(()),
+        let Some(since) = changes_asked(self.core.next_call()) else {
+            return Ok(());
         };
         let answer = match self.pair.changes_in(since, items) {
             Ok(Some(answer)) => answer,
             Ok(None) => return Ok(()),
             Err(refused) => return Err(refused),
         };
-        match self.core.accept(self.alloc, answer) {
-            Ok(()) => Ok(()),
-            Err(FollowFault::NoMemory) => Err(AllocError),
-            Err(_) => Ok(()),
-        }
+        self.take(answer)
     }
 
     // The next call has its effect, and its answer is lost.
@@ -198,12 +193,10 @@ impl FollowWorld {
         requires { HasPlace self.old }
         ensures { OnOk result (world.Step self.old world.LossAfter self.new) }
     {
-        match self.answered() {
-            Ok(Some(answer)) => drop(answer),
-            Ok(None) => return Ok(()),
-            Err(refused) => return Err(refused),
+        if let Some(answer) = self.answered()? {
+            drop(answer);
+            self.core.fail();
         }
-        self.core.fail();
         Ok(())
     }
 

@@ -216,9 +216,9 @@ fn start<'a, R: Wait>(
 fn round<S: Peer + Drop, T: Peer + Drop>(
     follower: &mut Follower<S, T>,
 ) -> Result<Round, FollowFault> {
-    let place = follower.place();
+    let place = follower.core().place();
     match follower.round() {
-        Err(FollowFault::NoMemory) if follower.place() == place => follower.round(),
+        Err(FollowFault::NoMemory) if follower.core().place() == place => follower.round(),
         done => done,
     }
 }
@@ -231,16 +231,16 @@ fn round_into<R: Wait, S: Peer + Drop, T: Peer + Drop>(
 ) -> Result<(Round, Option<Seq>, u64), Fail> {
     let done = round(follower)?;
     let stored = edits(rt, target)?;
-    Ok((done, follower.place(), stored))
+    Ok((done, follower.core().place(), stored))
 }
 
 // Records a follower's place. A checkpoint that finds no memory leaves it, and is made again.
 fn checkpoint<S: Peer + Drop, T: Peer + Drop>(
     follower: &mut Follower<S, T>,
 ) -> Result<(), FollowFault> {
-    let place = follower.place();
+    let place = follower.core().place();
     match follower.checkpoint() {
-        Err(FollowFault::NoMemory) if follower.place() == place => follower.checkpoint(),
+        Err(FollowFault::NoMemory) if follower.core().place() == place => follower.checkpoint(),
         done => done,
     }
 }

@@ -2,7 +2,7 @@
 use Rattle.std.proofs.Common.{◌≡◌, ◌∙◌, ℕ, ◌<◌, ◌≤◌, List, [], ◌∷◌, ◌++◌, true, false}
 use Rattle.std.proofs.Common.{map, length, refl, sym, ap, subst, arith}
 use Rattle.std.specs.Prelude.{Option, Some, None, Bool, ◌&&◌, nat_le, slice_get}
-use Rattle.std.specs.Prelude.{drop, unwrap_or, option_and_then, if◌then◌else◌}
+use Rattle.std.specs.Prelude.{drop, take, unwrap_or, option_and_then, if◌then◌else◌}
 use Rattle.std.proofs.lemmas.Option.{none-some}
 use Rattle.hub_model.specs.Current.{Current, current}
 use Rattle.hub_model.specs.Feed.{Feed, Status, Open, Ending, Ended, Finished, Due}
@@ -29,10 +29,12 @@ use Rattle.hub_feed.specs.declared.host.OpenFault.TheVariants as open_fault
 use Rattle.hub_database.specs.Edits.{edit_of, draft_of, writes}
 use Rattle.hub_database.specs.Feeds.{deleted}
 use Rattle.hub_database.specs.Hosting.{hosted_of, with_hosted}
+use Rattle.hub_database.specs.declared.batch.Batch.{Batch}
 use Rattle.hub_params.specs.FeedModel.{params_of}
 use Rattle.hub_params.specs.declared.feed_params.FeedParams.{FeedParams}
-use Rattle.hub_world.specs.Applied.{CoreStep}
+use Rattle.hub_world.specs.Applied.{Answers, Applies, CoreStep, IsAnsweredFor, write_of}
 use Rattle.hub_world.specs.Core.{Core, Shows}
+use Rattle.hub_world.specs.Growth.{MayFail}
 use Rattle.hub_model.specs.Entries.{entry_in, changed, without}
 use Rattle.hub_world.specs.declared.event.Event.{Event}
 use Rattle.hub_world.specs.declared.event.Event.TheVariants.{Write, Interactive, Begin, Hand, Heartbeat}
@@ -66,7 +68,7 @@ stores_map store f false journal (x ∷ xs) =
     { outcomes = (store journal (f x)).outcome ∷ s.outcomes; journal = s.journal })
     (stores_map store f false (store journal (f x)).journal xs)
 
-pub write_leads : (core : Core) (docs : List Doc) (outcomes : List (Outcome Revision)) (journal : List Edit)
+write_leads : (core : Core) (docs : List Doc) (outcomes : List (Outcome Revision)) (journal : List Edit)
     → writes false core.db.deleted core.db.limits.journal core.db.journal docs
     ≡ record { outcomes = outcomes; journal = journal }
     → Leads core (Write docs) (Outcomes (whole_batch outcomes))
@@ -83,7 +85,7 @@ write_leads core docs outcomes journal e w h =
       journal_changed core w journal h,
     )
 
-pub make_leads : (core : Core) (docs : List Doc) (outcomes : List (Outcome Revision)) (journal : List Edit)
+make_leads : (core : Core) (docs : List Doc) (outcomes : List (Outcome Revision)) (journal : List Edit)
     → writes true core.db.deleted core.db.limits.journal core.db.journal docs
     ≡ record { outcomes = outcomes; journal = journal }
     → Leads core (Interactive docs) (Outcomes (whole_batch outcomes))
@@ -99,6 +101,32 @@ make_leads core docs outcomes journal e w h =
       ),
       journal_changed core w journal h,
     )
+
+-- documents of either kind
+pub stored_leads : (new_edits : Bool) (core : Core) (docs : List Doc) (outcomes : List (Outcome Revision))
+    (journal : List Edit)
+    → writes new_edits core.db.deleted core.db.limits.journal core.db.journal docs
+    ≡ record { outcomes = outcomes; journal = journal }
+    → Leads core (write_of new_edits docs) (Outcomes (whole_batch outcomes))
+    (record core { db = record core.db { journal = journal } })
+stored_leads false core docs outcomes journal e = write_leads core docs outcomes journal e
+stored_leads true core docs outcomes journal e = make_leads core docs outcomes journal e
+
+-- a batch of them that leads so is what its event and its reply tell
+pub stored_applies : (new_edits : Bool) (old new : Core) (docs : List Doc) (batch : Batch)
+    → Leads old (write_of new_edits (take (length batch.replies) docs))
+    (Outcomes (whole_batch batch.replies)) new
+    → IsAnsweredFor new_edits old docs batch new
+    → Applies old (write_of new_edits docs) (Outcomes batch) new
+    × Answers old (write_of new_edits docs) (Outcomes batch) new
+stored_applies false old new docs batch l a = (l, a)
+stored_applies true old new docs batch l a = (l, a)
+
+-- they take memory
+pub stored_may_fail : (new_edits : Bool) (core : Core) (docs : List Doc) → 0 < length docs
+    → MayFail core (write_of new_edits docs)
+stored_may_fail false core docs n w h = n
+stored_may_fail true core docs n w h = n
 
 -- ---- beginning and ending
 

@@ -24,6 +24,11 @@ abbrev pub last_reply : Option ChangeItem → Reply
 last_reply (Some item) = Pushed item
 last_reply None = Nothing
 
+-- documents come: with their histories, or, as new edits, their revisions are made here
+abbrev pub write_of : (new_edits : Bool) → List Doc → Event
+write_of false docs = Write docs
+write_of true docs = Interactive docs
+
 -- the event as it took place, given its reply: of a batch that stopped, the write of the documents before
 -- the stop. Of a write of five documents whose batch stopped after three replies it is the write of the
 -- first three.

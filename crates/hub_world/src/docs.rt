@@ -29,7 +29,7 @@ impl Docs {
     }
 
     /// The documents in order. Constant time.
-    pub fn as_slice(&self) -> &[Doc]
+    pub fn list(&self) -> &[Doc]
         ensures { result.now ≡ self.now }
     {
         self.list.as_slice()

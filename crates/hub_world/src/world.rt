@@ -2,7 +2,7 @@
 //! thread.
 
 ghost use Rattle.std.specs.Prelude.{◌≡◌, ◌<◌, ◌≤◌, length, IfOk, OnErr};
-ghost use Rattle.hub_world.specs.Applied.{Answers, Applies, CoreStep, last_reply};
+ghost use Rattle.hub_world.specs.Applied.{Answers, Applies, CoreStep, last_reply, write_of};
 ghost use Rattle.hub_world.specs.Core.{Shows, limits_of};
 ghost use Rattle.hub_world.specs.Growth.{MayFail};
 ghost use Rattle.hub_world.specs.Headline.{AreFaithful, AreRight};
@@ -72,25 +72,14 @@ impl World {
         }
     }
 
-    // Documents come with their histories.
-    fn write(&mut self, docs: Docs) -> Result<Reply, AllocError>
-        ensures ok { IfOk result (λ reply. Applies self.old (Event.Write docs) reply self.new
-            × Answers self.old (Event.Write docs) reply self.new) }
-        ensures err { OnErr result ((self.new ≡ self.old) × MayFail self.old (Event.Write docs)) }
+    // Documents come: with their histories, or their revisions are made here.
+    fn write(&mut self, docs: Docs, new_edits: bool) -> Result<Reply, AllocError>
+        ensures ok { IfOk result (λ reply. Applies self.old (write_of new_edits docs) reply self.new
+            × Answers self.old (write_of new_edits docs) reply self.new) }
+        ensures err { OnErr result
+            ((self.new ≡ self.old) × MayFail self.old (write_of new_edits docs)) }
     {
-        let Ok((batch, _)) = self.locked.store(&mut NoCount, docs.into_vec(), false) else {
-            return Err(AllocError);
-        };
-        Ok(Reply::Outcomes(batch))
-    }
-
-    // Documents come whose revisions are made here.
-    fn make(&mut self, docs: Docs) -> Result<Reply, AllocError>
-        ensures ok { IfOk result (λ reply. Applies self.old (Event.Interactive docs) reply self.new
-            × Answers self.old (Event.Interactive docs) reply self.new) }
-        ensures err { OnErr result ((self.new ≡ self.old) × MayFail self.old (Event.Interactive docs)) }
-    {
-        let Ok((batch, _)) = self.locked.store(&mut NoCount, docs.into_vec(), true) else {
+        let Ok((batch, _)) = self.locked.store(&mut NoCount, docs.into_vec(), new_edits) else {
             return Err(AllocError);
         };
         Ok(Reply::Outcomes(batch))
@@ -195,8 +184,8 @@ impl World {
         ensures err { OnErr result ((self.new ≡ self.old) × MayFail self.old event) }
     {
         match event {
-            Event::Write(docs) => self.write(docs),
-            Event::Interactive(docs) => self.make(docs),
+            Event::Write(docs) => self.write(docs, false),
+            Event::Interactive(docs) => self.write(docs, true),
             Event::Begin(params) => self.begin(params),
             Event::Hand(feed) => self.hand(feed),
             Event::Heartbeat(feed) => Ok(self.beat(feed)),

@@ -369,7 +369,7 @@ fn places_in(alloc: Global, event: &Event) -> Result<Vec<usize>, AllocError> {
     let mut places = Vec::new(alloc);
     match event {
         Event::Write(docs) | Event::Interactive(docs) => {
-            for doc in docs.as_slice() {
+            for doc in docs.list() {
                 places.push(place_of(doc.id.as_str()))?;
             }
         }

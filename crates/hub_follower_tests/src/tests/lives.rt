@@ -156,7 +156,7 @@ fn round_of_nothing<'a, R: Wait>(
     follower: &mut Copier<'a, R>,
 ) -> Result<Done, Fail> {
     delete(rt, hub, SOURCE)?;
-    if !matches!(round(follower), Err(FollowFault::Peer)) || follower.place() != at(2) {
+    if !matches!(round(follower), Err(FollowFault::Peer)) || follower.core().place() != at(2) {
         return Err(Fail::new("a round without a source"));
     }
     make(rt, hub, SOURCE)?;
@@ -174,7 +174,7 @@ fn round_of_three<'a, R: Wait>(
     let done = next_round(rt, hub, follower)?;
     checkpoint(follower)?;
     for name in [SOURCE, TARGET] {
-        if recorded(rt, alloc, found(rt, hub, name)?.db())? != follower.place() {
+        if recorded(rt, alloc, found(rt, hub, name)?.db())? != follower.core().place() {
             return Err(Fail::new("another log"));
         }
     }

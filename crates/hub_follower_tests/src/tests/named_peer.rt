@@ -1,7 +1,7 @@
 //! What a hub has under a name, as a follower's peer.
 
-ghost use Rattle.std.specs.Prelude.{◌≡◌, ◌≤◌, IfErr};
-ghost use Rattle.hub_follower.specs.Peers.{IsCountedFault};
+ghost use Rattle.std.specs.Prelude.{◌≡◌};
+ghost use Rattle.hub_follower.specs.Peers.{CallCounts};
 
 use hub_database::{Diff, Replies};
 use hub_databases::Hub;
@@ -66,8 +66,7 @@ impl<'a, R: Wait> NamedPeer<'a, R> {
     // The outcome of a call, whose fault is counted.
     fn counted<A>(&mut self, outcome: Result<A, CallFault>) -> Result<A, CallFault>
         ensures same { result ≡ outcome }
-        ensures fault { IfErr result (λ e. IsCountedFault e self.old.faults self.new.faults) }
-        ensures counts { self.old.faults ≤ self.new.faults }
+        ensures counts { CallCounts result self.old.faults self.new.faults }
     {
         if let Err(CallFault::Peer) = outcome {
             self.faults = self.faults.saturating_add(1);

@@ -89,7 +89,7 @@ fn fails_without_source<R: Wait, S: Peer + Drop, T: Peer + Drop>(
 ) -> Result<bool, Fail> {
     source.handle()?.delete(rt)?;
     let is_fault = matches!(round(follower), Err(FollowFault::Peer));
-    Ok(is_fault && follower.place() == Some(Seq::beginning()))
+    Ok(is_fault && follower.core().place() == Some(Seq::beginning()))
 }
 
 // The same in a session, and how many faults its peers counted.

@@ -128,8 +128,8 @@ fn holds<R: Wait, S: Peer + Drop, T: Peer + Drop>(
 ) -> Result<bool, Fail> {
     let (source, target) = peers;
     Ok(match step {
-        Step::Begins => follower.place() == Some(Seq::beginning()),
-        Step::IsAt(n, life) => follower.place() == Some(Seq::of_life(*n, *life)),
+        Step::Begins => follower.core().place() == Some(Seq::beginning()),
+        Step::IsAt(n, life) => follower.core().place() == Some(Seq::of_life(*n, *life)),
         Step::Rounds(done, (n, life), stored) => {
             let place = Some(Seq::of_life(*n, *life));
             round_into(rt, follower, target)? == (*done, place, *stored)
@@ -212,7 +212,7 @@ pub(crate) fn copy_unrecorded<R: Wait>(
 fn copy_and_record<S: Peer + Drop, T: Peer + Drop>(
     follower: &mut Follower<S, T>,
 ) -> Result<Option<Seq>, Fail> {
-    let place = follower.place();
+    let place = follower.core().place();
     copy_all(follower)?;
     checkpoint(follower)?;
     Ok(place)

@@ -19,8 +19,8 @@ loop-init g c =
           counted gs gt c.in_ok-step-2.field-0 one two e2.idle e2.ok
           (past_asking gs gt c.in_ok-step.field-0 old one e1.idle e1.ok);
       left = omega (arith, c.calls_left-end.ensures);
-      source = omega (arith, e1.source, e2.source);
-      target = omega (arith, e1.target, e2.target);
+      source = omega (arith, e1.counts.source, e2.counts.source);
+      target = omega (arith, e1.counts.target, e2.counts.target);
       reach = reach_on gs gt old one r1 c.in_ok-step-2.field-0 two e2.idle e2.ok;
     }
 
@@ -38,8 +38,8 @@ loop-preserved g c =
     record {
       counted = counted_more gs gt mid new p i.counted;
       left = omega (arith, low, i.left);
-      source = omega (arith, i.source, c.in_ok-step-3.ensures.source);
-      target = omega (arith, i.target, c.in_ok-step-3.ensures.target);
+      source = omega (arith, i.source, c.in_ok-step-3.ensures.counts.source);
+      target = omega (arith, i.target, c.in_ok-step-3.ensures.counts.target);
       reach = reach_more gs gt old mid i.reach new p;
     }
 

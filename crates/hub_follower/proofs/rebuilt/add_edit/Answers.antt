@@ -5,8 +5,8 @@ use Rattle.hub_model.specs.Outcome.{merges_all}
 use Rattle.hub_follower.proofs.Rebuilding.{added}
 use Rattle.hub_follower.proofs.rebuilt.add_edit.Goals as goal
 
-pub returns-in-Ok : goal.returns-in-Ok
-returns-in-Ok c =
+pub returns : goal.returns
+returns c =
     let copy = c.args.copy.now in
     let doc = c.in-Some.doc in
     let one : c.as_slice.result.now ≡ doc ∷ [] =
@@ -14,8 +14,8 @@ returns-in-Ok c =
     ∙ (c.in_ok-push.ensures.items ∙ ap (λ (docs : List Doc). docs ++ doc ∷ []) c.new-docs.ensures.items) in
     record {
       ok =
-          added c.args.db.now.journal copy c.merged.new.db doc c.args.seq c.in-Ok._replies c.requires.copy
+          added c.args.db.now.journal copy c.merged.new.db doc c.args.seq c.in_ok-merged.field-0 c.requires.copy
           c.requires.next c.requires.within (sym c.in-Some.is ∙ c.in_ok-doc.ensures.doc)
           (ap (λ docs. merges_all copy.limits.journal copy.journal (map edit_of docs)) (sym one)
-          ∙ c.in-Ok.ensures.ok) c.in-Ok.ensures.rest;
+          ∙ c.in_ok-merged.ensures.ok) c.in_ok-merged.ensures.rest;
     }

@@ -13,8 +13,8 @@ returns-in-Ok-clause-ok c =
     let all =
     ap (λ (z : Descending). reverse z.rows)
     (c.answer.view_is ∙ (c.in-Ok.ensures.ok.1 ∙ ap (descending J c.args.db.now.life) c.listing_after.ensures))
-    ∙ turned J since c.requires c.args.db.now.life in
-    first_answered J since c.requires rows last
+    ∙ turned J since c.requires.within c.args.db.now.life in
+    first_answered J since c.requires.within rows last
     (subst (λ z. AreFirst z (length J) rows last) all
     (subst (λ z. AreFirst (reverse c.answer.inside.rows.items) z rows last) c.update_seq.ensures.value
     c.first_rows.ensures.first))
