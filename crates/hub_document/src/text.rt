@@ -106,7 +106,7 @@ fn put_hashes(out: &mut Vec<u8>, revisions: &[RevId]) -> Result<(), AllocError>
     };
     first.print_hash(out)?;
     for rev in rest {
-        out.extend_from_slice(b",")?;
+        out.push(b',')?;
         rev.print_hash(out)?;
     }
     Ok(())
@@ -164,9 +164,9 @@ pub(crate) fn put_rest(out: &mut Vec<u8>, body: &Body) -> Result<(), AllocError>
     if inside.is_empty() {
         return out.extend_from_slice(b"}");
     }
-    out.extend_from_slice(b",")?;
+    out.push(b',')?;
     out.extend_from_slice(inside)?;
-    out.extend_from_slice(b"}")?;
+    out.push(b'}')?;
     Ok(())
 }
 

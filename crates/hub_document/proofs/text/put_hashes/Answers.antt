@@ -10,7 +10,7 @@ pub returns-in_err-print_hash-2-clause-front : goal.returns-in_err-print_hash-2-
 returns-in_err-print_hash-2-clause-front c =
     front-front c.args.out.now.items _ _ _ c.in_ok-print_hash.ensures.ok
     (front-front _ _ _ _ c.loop-rev.invariant
-    (front-front _ _ _ _ c.in_ok-extend_from_slice.ensures.items c.in_err-print_hash-2.ensures.front))
+    (front-front _ _ _ _ c.in_ok-push.ensures.items c.in_err-print_hash-2.ensures.front))
 
 pub returns-clause-ok : goal.returns-clause-ok
 returns-clause-ok c =

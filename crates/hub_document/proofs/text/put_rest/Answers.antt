@@ -13,5 +13,5 @@ pub returns-clause-ok : goal.returns-clause-ok
 returns-clause-ok c =
     rest_written c.args.out.now.items _ c.args.body.now c.inside_of-inside.result.now
     (c.inside_of-inside.ensures ∙ ap inside c.as_bytes.ensures) (sym c.is_empty.ensures ∙ c.if-is_empty.false)
-    (rw (c.in_ok-extend_from_slice-3.ensures.items, c.in_ok-extend_from_slice-2.ensures.items)
-    (ap (λ l. (l ++ c.inside_of-inside.result.now) ++ codes "}") c.in_ok-extend_from_slice.ensures.items))
+    (rw (c.in_ok-push-2.ensures.items, c.in_ok-extend_from_slice.ensures.items)
+    (ap (λ l. (l ++ c.inside_of-inside.result.now) ++ codes "}") c.in_ok-push.ensures.items))
