@@ -153,23 +153,9 @@ impl RevTree {
         Ok(Run::whole(revisions))
     }
 
-    // The path with the revision in front of the known one: it shares what stands behind it where
-    // `shared_line` does, and else is in memory of its own size.
-    fn path_behind(&self, alloc: Global, rev: &DigestRev, older: &RevId) -> Result<Run, AllocError>
-        requires { IsHistory (rev.now ∷ line_to self.now.edits (Some older.now)) }
-        ensures { IfOk result (λ path. path ≡ rev.now ∷ line_to self.now.edits (Some older.now)) }
-    {
-        if let Some(line) = self.shared_line(alloc, older)? {
-            return Ok(Run::on(rev, line));
-        }
-        match self.digests_on(alloc, rev, older)? {
-            Some(path) => Ok(path),
-            None => self.revisions_on(alloc, rev, older),
-        }
-    }
-
-    // The path with the revision in front of the one that it extends, if there is one. A revision that stands
-    // alone takes no memory.
+    // The path with the revision in front of the one that it extends, if there is one: it shares what stands
+    // behind it where `shared_line` does, and else is in memory of its own size. A revision that stands alone
+    // takes none.
     fn path_on(
         &self,
         alloc: Global,
@@ -179,9 +165,15 @@ impl RevTree {
         requires { IsHistory (rev.now ∷ line_to self.now.edits older.now) }
         ensures { IfOk result (λ path. path ≡ rev.now ∷ line_to self.now.edits older.now) }
     {
-        match older {
-            Some(older) => self.path_behind(alloc, rev, older),
-            None => Ok(Run::of_one(rev)),
+        let Some(older) = older else {
+            return Ok(Run::of_one(rev));
+        };
+        if let Some(line) = self.shared_line(alloc, older)? {
+            return Ok(Run::on(rev, line));
+        }
+        match self.digests_on(alloc, rev, older)? {
+            Some(path) => Ok(path),
+            None => self.revisions_on(alloc, rev, older),
         }
     }
 
