@@ -1,4 +1,4 @@
-use crate::made_again::{again, next_of};
+use crate::made_again::{next_of, same_bytes, some_of};
 use hub_http::{HttpFault, Input, IoFault, Output, Request, Requests, Tally, send, write_all};
 use std::alloc::Global;
 use std::io;
@@ -77,7 +77,7 @@ const TEXT: &[u8] = b"PUT /d HTTP/1.1\r\nContent-Length: 3\r\n\r\nabcGET /e HTTP
 
 /// The two requests of a text whose reader is interrupted so often before each byte, and how many
 /// reads faulted.
-fn read_two(alloc: Global, times: u32) -> Result<(Vec<Request>, u64), Fail> {
+fn read_two(alloc: Global, times: u32) -> Result<(Request, Request, u64), Fail> {
     let mut requests = Requests::new(
         alloc,
         Tally::new(Halting {
@@ -86,28 +86,22 @@ fn read_two(alloc: Global, times: u32) -> Result<(Vec<Request>, u64), Fail> {
             times,
         }),
     );
-    let mut found = again!(Vec::with_capacity(alloc, 2))?;
-    for _ in 0..2 {
-        match next_of(&mut requests)? {
-            Some(request) => found.push(request)?,
-            None => return Err(Fail::new("no request")),
-        }
-    }
+    let first = some_of(&mut requests)?;
+    let second = some_of(&mut requests)?;
     if next_of(&mut requests)?.is_some() {
         return Err(Fail::new("a third request"));
     }
-    Ok((found, Input::faults(requests.reader())))
+    Ok((first, second, Input::faults(requests.reader())))
 }
 
 #[test]
 fn interrupted_reads(rt: HostRuntime) -> Result<(), Fail> {
     for times in [1, 3] {
-        let (found, faults) = read_two(rt.alloc(), times)?;
-        assert_eq!(rt; found.len(), 2);
-        assert_eq!(rt; found[0].target.as_slice(), b"/d".as_slice());
-        assert_eq!(rt; found[0].body.as_slice(), b"abc".as_slice());
-        assert_eq!(rt; found[1].target.as_slice(), b"/e".as_slice());
-        assert!(rt; found[1].body.is_empty());
+        let (first, second, faults) = read_two(rt.alloc(), times)?;
+        same_bytes(&rt, first.target.as_slice(), b"/d");
+        same_bytes(&rt, first.body.as_slice(), b"abc");
+        same_bytes(&rt, second.target.as_slice(), b"/e");
+        same_bytes(&rt, second.body.as_slice(), b"");
         assert_eq!(rt; faults, (TEXT.len() as u64 + 1) * u64::from(times));
     }
     Ok(())

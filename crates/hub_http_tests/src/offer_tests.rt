@@ -1,6 +1,7 @@
-use crate::made_again::again;
-use hub_http::{HttpFault, Inbox, Next};
+use crate::made_again::{again, same_bytes};
+use hub_http::{HttpFault, Inbox, Next, Request};
 use std::alloc::Global;
+use std::process::Abort;
 use std::test::Fail;
 
 /// Two requests. The first has a body of three bytes.
@@ -49,10 +50,8 @@ fn taken(inbox: &mut Inbox, most: usize) -> Result<usize, HttpFault> {
     Ok(most)
 }
 
-/// Requests come whole, whatever the cut: here one byte an offer.
-#[test]
-fn one_byte_an_offer(rt: HostRuntime) -> Result<(), Fail> {
-    let alloc = rt.alloc();
+/// The requests of the text, each byte of which is an offer, and how often there was none yet.
+fn byte_by_byte(alloc: Global) -> Result<(Vec<Request>, usize), Fail> {
     let mut inbox = Inbox::new(alloc);
     let mut found = again!(Vec::with_capacity(alloc, 2))?;
     let mut waits = 0usize;
@@ -64,33 +63,46 @@ fn one_byte_an_offer(rt: HostRuntime) -> Result<(), Fail> {
             Next::End => return Err(Fail::new("an end")),
         }
     }
-    assert_eq!(rt; waits, TEXT.len() - 2);
-    assert_eq!(rt; found.len(), 2);
-    assert_eq!(rt; found[0].body.as_slice(), b"abc".as_slice());
-    assert_eq!(rt; found[1].target.as_slice(), b"/e".as_slice());
+    Ok((found, waits))
+}
+
+/// Requests come whole, whatever the cut: here one byte an offer.
+#[test]
+fn one_byte_an_offer(rt: HostRuntime) -> Result<(), Fail> {
+    let (found, waits) = byte_by_byte(rt.alloc())?;
+    assert_eq!(rt; (found.len(), waits), (2, TEXT.len() - 2));
+    same_bytes(&rt, found[0].body.as_slice(), b"abc");
+    same_bytes(&rt, found[1].target.as_slice(), b"/e");
     Ok(())
+}
+
+/// Whether the input ends here between two requests, or in the middle of one.
+fn is_between(inbox: &mut Inbox) -> Result<bool, Fail> {
+    match next_of(inbox) {
+        Ok(Next::End) => Ok(true),
+        Err(HttpFault::Ended) => Ok(false),
+        _ => Err(Fail::new("no end")),
+    }
+}
+
+/// How many requests of a front of the text come whole, and whether it ends between two requests, by two looks.
+fn end_of(alloc: Global, front: &[u8]) -> Result<(usize, bool, bool), Fail> {
+    let mut inbox = offered(alloc, front)?;
+    let whole = taken(&mut inbox, 3)?;
+    inbox.end();
+    let first = is_between(&mut inbox)?;
+    Ok((whole, first, is_between(&mut inbox)?))
 }
 
 /// Behind the end of the input a front of the text ends between two requests, or in the middle of one. So it
 /// does at each further look.
 #[test]
 fn ends_of_fronts(rt: HostRuntime) -> Result<(), Fail> {
-    let alloc = rt.alloc();
     for count in 0..TEXT.len() + 1 {
-        let mut inbox = offered(alloc, &TEXT[..count])?;
-        let whole = taken(&mut inbox, 3)?;
-        inbox.end();
+        let found = end_of(rt.alloc(), &TEXT[..count])?;
         let between = count == 0 || count == FIRST || count == TEXT.len();
-        for _ in 0..2 {
-            let is_end = match next_of(&mut inbox) {
-                Ok(Next::End) => true,
-                Err(HttpFault::Ended) => false,
-                _ => return Err(Fail::new("no end")),
-            };
-            assert_eq!(rt; is_end, between, "behind {count}");
-        }
-        let expected = usize::from(count >= FIRST) + usize::from(count == TEXT.len());
-        assert_eq!(rt; whole, expected, "behind {count}");
+        let whole = usize::from(count >= FIRST) + usize::from(count == TEXT.len());
+        assert_eq!(rt; found, (whole, between, between), "behind {count}");
     }
     Ok(())
 }
@@ -129,25 +141,42 @@ fn faults_of_heads(rt: HostRuntime) -> Result<(), Fail> {
     Ok(())
 }
 
-/// A body of 70,000 bytes comes in parts of 4,096, with a request behind it.
-#[test]
-fn a_long_body(rt: HostRuntime) -> Result<(), Fail> {
-    let alloc = rt.alloc();
-    let body = again!(Vec::from_elem(alloc, b'x', 70_000))?;
+/// No request is whole yet.
+fn is_not_yet(rt: &impl Abort, inbox: &mut Inbox) -> Result<(), Fail> {
+    assert!(rt; matches!(next_of(inbox)?, Next::NotYet));
+    Ok(())
+}
+
+/// The request that comes next.
+fn request_of(inbox: &mut Inbox) -> Result<Request, Fail> {
+    match next_of(inbox)? {
+        Next::Whole(request) => Ok(request),
+        Next::NotYet | Next::End => Err(Fail::new("no request")),
+    }
+}
+
+/// An inbox to which a body was offered in parts of 4,096 bytes, with a request behind it. Before each part no
+/// request is whole.
+fn offered_in_parts(rt: &impl Abort, alloc: Global, body: &[u8]) -> Result<Inbox, Fail> {
     let mut inbox = offered(alloc, b"PUT /d HTTP/1.1\r\nContent-Length: 70000\r\n\r\n")?;
     for part in body.chunks(4_096) {
-        assert!(rt; matches!(next_of(&mut inbox)?, Next::NotYet));
+        is_not_yet(rt, &mut inbox)?;
         offer(&mut inbox, part)?;
     }
     offer(&mut inbox, b"GET /e HTTP/1.1\r\n\r\n")?;
-    let Next::Whole(request) = next_of(&mut inbox)? else {
-        return Err(Fail::new("no request"));
-    };
-    assert_eq!(rt; request.body.as_slice(), body.as_slice());
-    let Next::Whole(request) = next_of(&mut inbox)? else {
-        return Err(Fail::new("no request behind it"));
-    };
-    assert_eq!(rt; request.target.as_slice(), b"/e".as_slice());
-    assert!(rt; matches!(next_of(&mut inbox)?, Next::NotYet));
-    Ok(())
+    Ok(inbox)
+}
+
+/// A body of 70,000 bytes comes in parts of 4,096, with a request behind it.
+#[test]
+fn a_long_body(rt: HostRuntime) -> Result<(), Fail> {
+    let body = again!(Vec::from_elem(rt.alloc(), b'x', 70_000))?;
+    let mut inbox = offered_in_parts(&rt, rt.alloc(), body.as_slice())?;
+    same_bytes(
+        &rt,
+        request_of(&mut inbox)?.body.as_slice(),
+        body.as_slice(),
+    );
+    same_bytes(&rt, request_of(&mut inbox)?.target.as_slice(), b"/e");
+    is_not_yet(&rt, &mut inbox)
 }

@@ -1,8 +1,9 @@
-use crate::made_again::again;
+use crate::made_again::{again, same_bytes};
 use hub_http::{Handed, Outbox, Output, write_vec};
 use std::alloc::{AllocError, Global};
 use std::io;
 use std::io::{ErrorKind, Write};
+use std::process::Abort;
 use std::test::Fail;
 
 /// Takes at most two bytes at every second write, and has no room at the others.
@@ -48,11 +49,9 @@ fn three_texts(alloc: Global) -> Result<Outbox, Fail> {
     Ok(outbox)
 }
 
-/// What a slow writer takes is each byte once, in order, and nothing is left.
-#[test]
-fn two_bytes_a_write(rt: HostRuntime) -> Result<(), Fail> {
-    let mut outbox = three_texts(rt.alloc())?;
-    let mut writer = Slow::new(rt.alloc(), 10)?;
+/// How often a slow writer has no room in twelve writes of an outbox, and what it took.
+fn slowly(alloc: Global, outbox: &mut Outbox) -> Result<(usize, Vec<u8>), Fail> {
+    let mut writer = Slow::new(alloc, 10)?;
     let mut refusals = 0usize;
     for _ in 0..12 {
         match outbox.send_to(&mut writer) {
@@ -61,9 +60,16 @@ fn two_bytes_a_write(rt: HostRuntime) -> Result<(), Fail> {
             Handed::Refused => return Err(Fail::new("refused")),
         }
     }
-    assert!(rt; outbox.is_empty());
-    assert_eq!(rt; refusals, 6);
-    assert_eq!(rt; writer.held.as_slice(), b"abcdefghij".as_slice());
+    Ok((refusals, writer.held))
+}
+
+/// What a slow writer takes is each byte once, in order, and nothing is left.
+#[test]
+fn two_bytes_a_write(rt: HostRuntime) -> Result<(), Fail> {
+    let mut outbox = three_texts(rt.alloc())?;
+    let (refusals, held) = slowly(rt.alloc(), &mut outbox)?;
+    assert_eq!(rt; (outbox.is_empty(), refusals), (true, 6));
+    same_bytes(&rt, held.as_slice(), b"abcdefghij");
     Ok(())
 }
 
@@ -76,17 +82,20 @@ fn went(outbox: &mut Outbox, count: usize) -> Result<(), Fail> {
     Ok(())
 }
 
+/// An outbox begins with this text, of which so many bytes go.
+fn goes(rt: &impl Abort, outbox: &mut Outbox, front: &[u8], count: usize) -> Result<(), Fail> {
+    same_bytes(rt, outbox.front(), front);
+    went(outbox, count)
+}
+
 /// A text that goes behind a part of another keeps its place.
 #[test]
 fn parts_and_texts_by_turns(rt: HostRuntime) -> Result<(), Fail> {
     let mut outbox = three_texts(rt.alloc())?;
-    assert_eq!(rt; outbox.front(), b"abc".as_slice());
-    went(&mut outbox, 2)?;
-    assert_eq!(rt; outbox.front(), b"c".as_slice());
-    went(&mut outbox, 3)?;
-    assert_eq!(rt; outbox.front(), b"fghij".as_slice());
+    goes(&rt, &mut outbox, b"abc", 2)?;
+    goes(&rt, &mut outbox, b"c", 3)?;
     assert!(rt; outbox.holds(5) && !outbox.holds(6));
-    went(&mut outbox, 5)?;
+    goes(&rt, &mut outbox, b"fghij", 5)?;
     assert!(rt; outbox.is_empty());
     Ok(())
 }

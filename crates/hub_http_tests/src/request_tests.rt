@@ -1,4 +1,4 @@
-use crate::made_again::{again, next_of};
+use crate::made_again::{again, next_of, same_bytes, some_of};
 use hub_http::{HttpFault, Input, Request, Requests, Tally};
 use std::alloc::{AllocError, Global};
 use std::io;
@@ -115,21 +115,9 @@ fn pipelined() -> Slow<'static> {
     Slow(PIPELINED.as_bytes())
 }
 
-/// The request that comes next.
-fn some_of(requests: &mut Requests<Tally<Slow<'_>>>) -> Result<Request, Fail> {
-    match next_of(requests)? {
-        Some(request) => Ok(request),
-        None => Err(Fail::new("no request")),
-    }
-}
-
 /// Why no request comes.
 fn fault_of<R: Read>(requests: &mut Requests<Tally<R>>) -> Option<HttpFault> {
     next_of(requests).err()
-}
-
-fn same_bytes(rt: &impl Abort, found: &[u8], wanted: &[u8]) {
-    assert_eq!(rt; found, wanted);
 }
 
 fn is_put(rt: &impl Abort, request: &Request) {

@@ -1,4 +1,4 @@
-use crate::made_again::again;
+use crate::made_again::{again, same_bytes};
 use hub_document::UpdateRow;
 use hub_http::{RowText, item_text};
 use hub_model::{Item, Mode, UpdateKind};
@@ -63,6 +63,11 @@ fn text_behind<R: RowText>(
     Ok(out)
 }
 
+// This text behind what was held.
+fn behind_held(alloc: Global, text: &str) -> Result<String, AllocError> {
+    format!(in alloc; "held{text}")
+}
+
 // An item of a feed of updates has this text.
 fn is_shown(
     rt: &impl Abort,
@@ -73,9 +78,14 @@ fn is_shown(
     expected: &str,
 ) -> Result<(), Fail> {
     let text = again!(text_behind(alloc, b"held", mode, rows_before, item))?;
-    let expected = again!(format!(in alloc; "held{expected}"))?;
-    assert_eq!(rt; text.as_slice(), expected.as_bytes());
+    let expected = again!(behind_held(alloc, expected))?;
+    same_bytes(rt, text.as_slice(), expected.as_bytes());
     Ok(())
+}
+
+// An object with what stands before and behind it.
+fn in_place(alloc: Global, before: &str, object: &str, behind: &str) -> Result<String, AllocError> {
+    format!(in alloc; "{before}{object}{behind}")
 }
 
 #[test]
@@ -89,7 +99,7 @@ fn rows_of_updates_by_mode(rt: HostRuntime) -> Result<(), Fail> {
             seen: 0,
         });
         for (mode, rows_before, before, behind) in PLACES {
-            let expected = again!(format!(in alloc; "{before}{object}{behind}"))?;
+            let expected = again!(in_place(alloc, before, object, behind))?;
             is_shown(&rt, alloc, *mode, *rows_before, &row, expected.as_str())?;
         }
     }
