@@ -220,20 +220,21 @@ impl<'h, N: Wait, P: Pumping> Service for Connection<'h, N, P> {
 
     fn item(&mut self) -> Option<StreamItem> {
         let item = match &mut self.sent {
-            Some(sent) => sent.next(&self.pumping)?,
-            None => return None,
+            Some(sent) => sent.next(&self.pumping),
+            None => None,
         };
-        if item.is_end() {
+        if matches!(&item, Some(item) if item.is_end()) {
             self.drop_stream();
         }
-        Some(item)
+        item
     }
 
     fn poll_item(&mut self) -> Polled {
-        match self.item() {
-            None if self.waits() => Polled::Waits,
-            given => Polled::Given(given),
+        let given = self.item();
+        if given.is_none() && self.waits() {
+            return Polled::Waits;
         }
+        Polled::Given(given)
     }
 
     fn drop_stream(&mut self) {
