@@ -11,7 +11,7 @@ ghost use Rattle.hub_service.specs.Moments.{IsWritten};
 ghost use Rattle.hub_service.specs.Said.{IsSaid};
 
 use crate::context::Context;
-use crate::refusal::unnoted;
+use crate::refusal::{unnoted, with_refusal};
 use crate::response::{Response, created};
 use hub_databases::{HubDb, Written};
 use hub_document::{Doc, DocFault, RevId, read_doc};
@@ -170,7 +170,7 @@ fn store_elements<N: Wait>(
         (Ok (record { docs = items_view elements.now; new_edits = new_edits }))) result }
 {
     let Readings { docs, faults } = read_elements(context.alloc, elements, new_edits)?;
-    let written = context.write(db, docs, new_edits)?;
+    let written = with_refusal(context.hub.write(context.rt, db, docs, new_edits))?;
     say_batch(
         context.alloc,
         elements,

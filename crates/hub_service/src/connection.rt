@@ -10,16 +10,16 @@ ghost use Rattle.hub_service.specs.Requests.{AtName, IsCalled, IsListed, IsMade}
 ghost use Rattle.hub_service.specs.Requests.{IsRemoved, IsSent, Responds};
 
 use crate::context::Context;
-use crate::database::answer;
-use crate::feeds::begin_updates;
+use crate::info::info;
 use crate::pumping::Pumping;
 use crate::refusal::unnamed;
-use crate::response::{Response, ok};
+use crate::response::{Response, created, ok};
 use crate::rooms::JsonRooms;
 use crate::sent::Sent;
+use crate::{bulk, diff, documents, feeds, locals};
 use hub_databases::{Hub, is_name};
 use hub_http::{Refusal, Reply, Request, StatusCode};
-use hub_replies::{names_body, ok_body, welcome_body};
+use hub_replies::{commit_body, names_body, ok_body, welcome_body};
 use hub_routes::{Call, Route, Routes};
 use hub_session::{Answer, Polled, Service, StreamItem};
 use hub_shared::{Watch, Watchable};
@@ -110,27 +110,38 @@ impl<'h, N: Wait, P: Pumping> Connection<'h, N, P> {
         ok(names_body(self.context.alloc, names.as_slice()))
     }
 
-    // A call on the database of a name.
+    // A call on the database of a name, with this body. A commit has nothing to do: every edit that was
+    // answered is stored.
     fn call(&self, name: &str, call: Call<'_>, body: &[u8]) -> Result<Response, Refusal>
         ensures { AtName name.now (λ r. IsCalled call.entry name.now body.now r) result }
     {
-        match self.context.hub.find(self.context.rt, name) {
-            Ok(db) => answer(&self.context, &db, call, body),
-            Err(fault) => Err(unnamed(fault)),
-        }
-    }
-
-    // The answer to a request that goes there.
-    fn go(&self, route: Route<'_>, body: &[u8]) -> Result<Response, Refusal>
-        ensures { Responds body.now (Ok route.entry) result }
-    {
-        match route {
-            Route::Welcome => ok(Vec::from_slice(self.context.alloc, welcome_body())),
-            Route::PutDatabase { db } => self.create(db.as_str()),
-            Route::DeleteDatabase { db } => self.remove(db.as_str()),
-            Route::AllDbs => self.list(),
-            Route::DbUpdates { query } => { begin_updates(&self.context, query, body) }
-            Route::Database { db, call } => self.call(db.as_str(), call, body),
+        let context = &self.context;
+        let db = match context.hub.find(context.rt, name) {
+            Ok(db) => db,
+            Err(fault) => return Err(unnamed(fault)),
+        };
+        match call {
+            Call::Info => info(context, &db),
+            Call::BulkDocs => bulk::store(context, &db, body),
+            Call::Changes { query } => feeds::begin(context, &db, query, body),
+            Call::RevsDiff => diff::revs_diff(context, &db, body),
+            Call::FullCommit => created(Vec::from_slice(context.alloc, commit_body())),
+            Call::GetDocument { id, query } => documents::get(context, &db, id.as_str(), query),
+            Call::PutDocument { id, query } => documents::put(
+                context,
+                &db,
+                id.as_str(),
+                query,
+                body,
+            ),
+            Call::DeleteDocument { id, query } => documents::delete(
+                context,
+                &db,
+                id.as_str(),
+                query,
+            ),
+            Call::GetLocal { id } => locals::get(context, &db, id.as_str()),
+            Call::PutLocal { id } => locals::put(context, &db, id.as_str(), body),
         }
     }
 
@@ -139,8 +150,14 @@ impl<'h, N: Wait, P: Pumping> Connection<'h, N, P> {
         ensures { (route : Result Route RouteFault) × GoesTo (asked_by request.now) route
             × Responds (asked_by request.now).body route result }
     {
+        let body = request.body.as_slice();
         match self.routes.route(self.context.alloc, request) {
-            Ok(route) => self.go(route, request.body.as_slice()),
+            Ok(Route::Welcome) => ok(Vec::from_slice(self.context.alloc, welcome_body())),
+            Ok(Route::PutDatabase { db }) => self.create(db.as_str()),
+            Ok(Route::DeleteDatabase { db }) => self.remove(db.as_str()),
+            Ok(Route::AllDbs) => self.list(),
+            Ok(Route::DbUpdates { query }) => feeds::begin_updates(&self.context, query, body),
+            Ok(Route::Database { db, call }) => self.call(db.as_str(), call, body),
             Err(fault) => Err(Refusal::from(fault)),
         }
     }
@@ -211,20 +228,21 @@ impl<'h, N: Wait, P: Pumping> Service for Connection<'h, N, P> {
 
     fn item(&mut self) -> Option<StreamItem> {
         let item = match &mut self.sent {
-            Some(sent) => sent.next(&self.pumping)?,
-            None => return None,
+            Some(sent) => sent.next(&self.pumping),
+            None => None,
         };
-        if item.is_end() {
+        if matches!(&item, Some(item) if item.is_end()) {
             self.drop_stream();
         }
-        Some(item)
+        item
     }
 
     fn poll_item(&mut self) -> Polled {
-        match self.item() {
-            None if self.waits() => Polled::Waits,
-            given => Polled::Given(given),
+        let given = self.item();
+        if given.is_none() && self.waits() {
+            return Polled::Waits;
         }
+        Polled::Given(given)
     }
 
     fn drop_stream(&mut self) {

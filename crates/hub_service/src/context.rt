@@ -7,13 +7,13 @@ ghost use Rattle.hub_feed.specs.Host.{opening_fault};
 ghost use Rattle.hub_params.specs.FeedShown.{params_asked};
 ghost use Rattle.hub_service.specs.Calls.{winner_in};
 ghost use Rattle.hub_service.specs.Feeds.{IsNew};
-ghost use Rattle.hub_service.specs.Moments.{HasDatabase, IsEdited, IsFound, IsKept, IsLooked, IsStored};
+ghost use Rattle.hub_service.specs.Moments.{HasDatabase, IsFound, IsKept, IsLooked};
 
 use crate::refusal::with_refusal;
 use crate::rooms::JsonRooms;
 use hub_database::{DbFault, DbState};
-use hub_databases::{Edited, Hub, HubDb, Written};
-use hub_document::{Doc, LocalDoc};
+use hub_databases::{Hub, HubDb};
+use hub_document::LocalDoc;
 use hub_feed::OpenFault;
 use hub_http::Refusal;
 use hub_params::FeedParams;
@@ -73,25 +73,5 @@ impl<'h, N: Wait> Context<'h, N> {
             return Err(OpenFault::NoMemory);
         };
         handle.open_feed(self.rt, params)
-    }
-
-    /// Stores one edit whose revision is made here, and notes that in the log of updates.
-    pub(crate) fn write_one(&self, db: &HubDb, doc: Doc) -> Result<Edited, Refusal>
-        ensures { IsEdited doc result }
-    {
-        with_refusal(self.hub.write_one(self.rt, db, doc))
-    }
-
-    /// Stores documents, and notes that in the log of updates.
-    pub(crate) fn write(
-        &self,
-        db: &HubDb,
-        docs: Vec<Doc>,
-        new_edits: bool,
-    ) -> Result<Written, Refusal>
-        ensures ok { IfOk result (λ w. IsStored new_edits docs.items w) }
-        ensures err { IfErr result (λ e. e ≡ Refusal.NoMemory) }
-    {
-        with_refusal(self.hub.write(self.rt, db, docs, new_edits))
     }
 }

@@ -13,7 +13,7 @@ ghost use Rattle.hub_service.specs.Moments.{IsRead, IsWritten};
 ghost use Rattle.hub_service.specs.Said.{IsSaid, Refusing};
 
 use crate::context::Context;
-use crate::refusal::unnoted;
+use crate::refusal::{unnoted, with_refusal};
 use crate::response::{Response, ok};
 use hub_database::{Lookup, OpenRev};
 use hub_databases::{Edited, HubDb};
@@ -112,7 +112,7 @@ fn edit<N: Wait>(
     ensures { IsWritten (λ db. edits status db doc) result }
 {
     let front = edit_front(context.alloc, doc.id.as_str())?;
-    let edited = context.write_one(db, doc)?;
+    let edited = with_refusal(context.hub.write_one(context.rt, db, doc))?;
     say_edited(status, front, &edited)
 }
 

@@ -5,10 +5,10 @@
 mod bulk;
 mod connection;
 mod context;
-mod database;
 mod diff;
 mod documents;
 mod feeds;
+mod info;
 mod laws;
 mod locals;
 mod next;

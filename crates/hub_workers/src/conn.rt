@@ -63,21 +63,21 @@ impl<S: Service + Watchable + Drop> Conn<S> {
     /// Sets the watch that it took, if it did.
     pub(crate) fn set_watch(&mut self) {
         if let Some(watch) = self.watch.take() {
-            self.driven.service().watch(watch);
+            self.driven.session.service().watch(watch);
             self.is_watched = true;
         }
     }
 
     /// Notes where its stream has ended, and with it the stream's watch.
     pub(crate) fn note_stream(&mut self) {
-        if self.is_watched && self.driven.service().life().is_none() {
+        if self.is_watched && self.driven.session.service().life().is_none() {
             self.is_watched = false;
         }
     }
 
     /// What a connection waits for whose stream has no item: a watch, if there is none yet.
     pub(crate) fn awaited_news(&self) -> Awaits {
-        match self.driven.service().life() {
+        match self.driven.session.service().life() {
             Some(life) if !self.is_watched => Awaits::Watch(life),
             _ => Awaits::News,
         }

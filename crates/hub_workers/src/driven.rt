@@ -12,7 +12,7 @@ use std::alloc::{AllocError, Global};
 /// offered.
 #[derive(Drop)]
 pub(crate) struct Driven<S: Service> {
-    session: Session<S>,
+    pub(crate) session: Session<S>,
     ghost has_run: { ∥ ((run : Run S) × HasRun S.rules run (seen session)) ∥₁ },
 }
 
@@ -28,20 +28,20 @@ impl<S: Service> Driven<S> {
         })
     }
 
-    /// What answers its requests. Constant time.
-    pub(crate) fn service(&self) -> &S {
-        self.session.service()
-    }
-
     /// Goes on by one exchange, by the head of a stream, or by one item of it.
     pub(crate) fn step(&mut self) -> Step {
         self.session.step()
     }
 
-    /// Takes bytes that came. Where there is no memory for them the session answers so, and closes. A socket
-    /// that said its end gives none behind it: such bytes would be no part of the session.
+    /// Takes bytes that came: none says that no more come. Where there is no memory for them the session
+    /// answers so, and closes. A socket that said its end gives none behind it: such bytes would be no part
+    /// of the session.
     pub(crate) fn take_in(&mut self, bytes: &[u8]) {
         if self.session.is_over() {
+            return;
+        }
+        if bytes.is_empty() {
+            self.session.end();
             return;
         }
         match self.session.offer(bytes) {
@@ -50,14 +50,13 @@ impl<S: Service> Driven<S> {
         }
     }
 
-    /// Says that no more bytes come.
-    pub(crate) fn end(&mut self) {
-        self.session.end();
-    }
-
-    /// Hands a front of what is to go to a socket, by one write.
-    pub(crate) fn send_to(&mut self, stream: &mut TcpStream) -> Handed {
-        self.session.send_to(stream)
+    /// Hands a front of what is to go to a socket, by one write. One that was interrupted is made again:
+    /// `Again` then says that there is no room.
+    pub(crate) fn hand(&mut self, stream: &mut TcpStream) -> Handed {
+        match self.session.send_to(stream) {
+            Handed::Again => self.session.send_to(stream),
+            handed => handed,
+        }
     }
 
     /// The client is gone: the service gives back what its stream holds.

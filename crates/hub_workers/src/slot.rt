@@ -64,7 +64,7 @@ impl<S: Service + Watchable + Drop> Slot<S> {
         match self.awaits {
             Awaits::Input | Awaits::Room => self.since.saturating_add(PATIENCE),
             Awaits::Farewell => self.since.saturating_add(FAREWELL),
-            Awaits::News => conn.driven.service().due().unwrap_or(NEVER),
+            Awaits::News => conn.driven.session.service().due().unwrap_or(NEVER),
             Awaits::Turn | Awaits::Watch(_) | Awaits::Nothing => NEVER,
         }
     }

@@ -71,19 +71,10 @@ impl<S: Service + Watchable + Drop> Conn<S> {
         }
     }
 
-    // Hands the socket what it takes by one write. One that was interrupted is made again: `Again` then says
-    // that there is no room.
-    fn hand(&mut self) -> Handed {
-        match self.driven.send_to(&mut self.stream) {
-            Handed::Again => self.driven.send_to(&mut self.stream),
-            handed => handed,
-        }
-    }
-
     // Sends what is to go; what it waits for, None where all went.
     fn send(&mut self, budget: &mut Budget) -> Option<Awaits> {
         for _ in 0..u64::MAX {
-            match self.hand() {
+            match self.driven.hand(&mut self.stream) {
                 Handed::Took(0) => return None,
                 Handed::Took(count) => {
                     self.is_renewed = true;
@@ -140,7 +131,7 @@ impl<S: Service + Watchable + Drop> Conn<S> {
             Got::Nothing => Some(Awaits::Input),
             Got::Gone => Some(self.give_up()),
             Got::End => {
-                self.driven.end();
+                self.driven.take_in(&[]);
                 None
             }
             Got::Bytes(count) => {

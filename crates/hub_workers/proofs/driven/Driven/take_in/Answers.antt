@@ -4,6 +4,12 @@ use Rattle.hub_workers.proofs.driven.Driven.take_in.Goals as goal
 
 pub invariant_of-self : goal.invariant_of-self
 invariant_of-self g c = record {
+  has_run = driven_on g.S.Service.rules (seen c.args.self.now.session) (seen c.end.new.self) (λ run. run)
+      c.end.ensures.run c.args.self.now.has_run;
+}
+
+pub invariant_of-self-in-Ok : goal.invariant_of-self-in-Ok
+invariant_of-self-in-Ok g c = record {
   has_run = driven_on g.S.Service.rules (seen c.args.self.now.session) (seen c.offer.new.self)
       (λ run. with_offered run c.args.bytes.now) c.in-Ok.ensures.run c.args.self.now.has_run;
 }

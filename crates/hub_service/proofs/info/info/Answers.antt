@@ -9,7 +9,7 @@ use Rattle.hub_service.specs.Calls.{says_info}
 use Rattle.hub_service.specs.Moments.{IsRead}
 use Rattle.hub_service.specs.Said.{Body}
 use Rattle.hub_service.proofs.Looks.{found_read, look_found, look_unfound, said_text, unfound_read}
-use Rattle.hub_service.proofs.database.info.Goals as goal
+use Rattle.hub_service.proofs.info.info.Goals as goal
 
 -- what a look for what a database says of itself finds
 abbrev is_info : Database → Info → Type 0

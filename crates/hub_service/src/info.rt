@@ -1,0 +1,19 @@
+//! What a database says of itself (CouchDB API reference, `GET /{db}`).
+
+ghost use Rattle.hub_service.specs.Calls.{says_info};
+ghost use Rattle.hub_service.specs.Moments.{IsRead};
+
+use crate::context::Context;
+use crate::response::{Response, ok};
+use hub_databases::HubDb;
+use hub_http::Refusal;
+use hub_replies::info_body;
+use std::sync::Wait;
+
+/// What a database says of itself. It costs the wait for the database, and the length of its name.
+pub(crate) fn info<N: Wait>(context: &Context<'_, N>, db: &HubDb) -> Result<Response, Refusal>
+    ensures { let name = db.now in IsRead (λ db. says_info name db) result }
+{
+    let info = context.look(db, |state| state.info())?;
+    ok(info_body(context.alloc, db.name(), &info))
+}
