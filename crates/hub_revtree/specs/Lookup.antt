@@ -37,8 +37,8 @@ pub record IsLineStart (list : List Stem) (told : Option Index) (place : Place) 
   pub legal : IsLegal (edits_in (branches_of list))
   pub within : IsWithin list place
 
--- a stem with these revisions, standing so, may come behind the stems: the revisions are a path; it stands on a
--- place of the stems, or on nothing; and where it joins none, none of its revisions is one of theirs
+-- a stem with these revisions, standing so, may come behind the stems: the revisions are a path; it stands
+-- on a place of the stems, or on nothing; and where it joins none, none of its revisions is one of theirs
 pub record MayCome (list : List Stem) (run : List Revision) (standing : Standing) : Type 0 where
   pub path : IsPath run
   pub within : IfSome standing.parent (IsWithin list)

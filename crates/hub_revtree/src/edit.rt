@@ -96,8 +96,8 @@ impl RevTree {
         }
     }
 
-    // The path with the revision in front of the known one, as digests; None where one of the revisions is kept
-    // otherwise.
+    // The path with the revision in front of the known one, as digests; None where one of the revisions is
+    // kept otherwise.
     fn digests_on(
         &self,
         alloc: Global,
