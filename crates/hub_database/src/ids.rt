@@ -1,6 +1,6 @@
 //! The ids of documents by number.
 
-ghost use Rattle.std.specs.Prelude.{◌≡◌, Some, slice_get};
+ghost use Rattle.std.specs.Prelude.{◌≡◌};
 ghost use Rattle.hub_index.specs.Order.{IsOrder, number_in};
 ghost use Rattle.hub_database.specs.Documents.{files};
 ghost use Rattle.hub_database.specs.Filed.{HasNumbers, ids_of};
