@@ -23,7 +23,8 @@ pub record HandleState : Type 0 where
   pub parts : ℕ  -- of the right to know how many edits were accepted through all handles
   pub count : ℕ  -- how many were accepted through this one, and those joined to it
 
--- what is seen of a handle that has this share, where these say how many parts a share has, and what it counted
+-- what is seen of a handle that has this share, where these say how many parts a share has, and what it
+-- counted
 abbrev pub handle_of : {S : Type 0} → (parts amount : S → ℕ) → S → HandleState
 handle_of parts amount share = record { parts = parts share; count = amount share }
 
