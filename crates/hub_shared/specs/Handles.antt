@@ -1,5 +1,6 @@
 -- What a handle on a database knows of it (own).
-use Rattle.std.specs.Prelude.{◌≡◌, ℕ, ◌+◌, ◌≤◌, ◌<◌, List, length, take, min, Bool, true, false, IsTrue, Result}
+use Rattle.std.specs.Prelude.{◌≡◌, ℕ, ◌+◌, ◌≤◌, ◌<◌, List, length, take, min, Bool, true, false}
+use Rattle.std.specs.Prelude.{IsTrue, Result}
 use Rattle.hub_model.specs.Feed.{counted_in}
 use Rattle.hub_model.specs.Journal.{IsLegal}
 use Rattle.hub_model.specs.Revision.{Revision}
