@@ -189,7 +189,8 @@ module _ {Y : Type 0} where
 
   module _ (limit : ℕ) (es : List (String Y × List ℕ)) (kept : AreKept limit es) where
     -- with one put in under its name
-    pub kept_put : (key : String Y) (db : List ℕ) (new : List (String Y × List ℕ)) → is_name (string_bytes key) ≡ true
+    pub kept_put : (key : String Y) (db : List ℕ) (new : List (String Y × List ℕ))
+        → is_name (string_bytes key) ≡ true
         → db ≡ string_bytes key
         → new ≡ insert_entry string_cmp es key db → IsStrictlySortedBy string_cmp (keys_of new)
         → length new ≤ limit → AreKept limit new

@@ -1,5 +1,6 @@
 -- What a handle on a database knows of it (own).
-use Rattle.std.specs.Prelude.{◌≡◌, ℕ, ◌+◌, ◌≤◌, ◌<◌, List, length, take, min, Bool, true, false, IsTrue, Result}
+use Rattle.std.specs.Prelude.{◌≡◌, ℕ, ◌+◌, ◌≤◌, ◌<◌, List, length, take, min, Bool, true, false}
+use Rattle.std.specs.Prelude.{IsTrue, Result}
 use Rattle.hub_model.specs.Feed.{counted_in}
 use Rattle.hub_model.specs.Journal.{IsLegal}
 use Rattle.hub_model.specs.Revision.{Revision}
@@ -23,7 +24,8 @@ pub record HandleState : Type 0 where
   pub parts : ℕ  -- of the right to know how many edits were accepted through all handles
   pub count : ℕ  -- how many were accepted through this one, and those joined to it
 
--- what is seen of a handle that has this share, where these say how many parts a share has, and what it counted
+-- what is seen of a handle that has this share, where these say how many parts a share has, and what it
+-- counted
 abbrev pub handle_of : {S : Type 0} → (parts amount : S → ℕ) → S → HandleState
 handle_of parts amount share = record { parts = parts share; count = amount share }
 

@@ -138,9 +138,9 @@ impl<S: FeedHost, C: Count> HostFeed<S, C> {
 }
 
 impl<S: FeedHost + Drop, C: Count> HostFeed<S, C> {
-    /// Takes the feed out of the lock, drops its subscriber, and hands back the end that takes, from which
-    /// the items of the blocks that the lane got can be taken until None: items that still wait for room in the
-    /// lane go with the subscriber. A pump of the feed ends. It takes no memory.
+    /// Takes the feed out of the lock, drops its subscriber, and hands back the end that takes. From that end
+    /// the items of the blocks that the lane got can be taken until None: items that still wait for room in
+    /// the lane go with the subscriber. A pump of the feed ends. It takes no memory.
     pub fn finish<R: Wait>(self, rt: &R) -> FeedEnd<S>
         ensures { result ≡ receiver_of self }
     {

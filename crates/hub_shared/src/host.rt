@@ -16,10 +16,10 @@ const MINUTE: u64 = 60_000;
 /// What keeps feeds and is shared by threads, behind its lock. Each copy keeps it; it goes with the last of
 /// them.
 pub struct Host<S: HostView, C: Count = Plain> {
-    /// The only lock, and the news. The lock guards what keeps the feeds, and their subscribers. It is held for
-    /// one call; nothing is waited for while it is held, and no other lock is taken under it. The news are
-    /// told of each change that a pump may wait for, and each end of a feed, once the lock is free again.
-    /// Pumps wait there that have nothing to hand.
+    /// The only lock, and the news. The lock guards what keeps the feeds, and their subscribers. It is held
+    /// for one call; nothing is waited for while it is held, and no other lock is taken under it. The news
+    /// are told of each change that a pump may wait for, and each end of a feed, once the lock is free again.
+    /// Pumps that have nothing to hand wait for the news.
     shared: Arc<(Mutex<Locked<S, C>>, Condvar), Global>,
     pub(crate) alloc: Global,
 }

@@ -73,9 +73,9 @@ fn steps_of<S: FeedHost, C: Count>(
     hand_on(locked, feed, most)
 }
 
-// One holding: the items that wait go into the lane as one block, then come the steps, and the items that they
-// sent go into the lane as another, also where the steps found no memory. Items that wait behind a turn that
-// hands are told as `Full`: once there is room the feed is to be held again.
+// One holding: the items that wait go into the lane as one block, then come the steps, and the items that the
+// steps sent go into the lane as another, also where the steps found no memory. Items that wait behind a turn
+// that hands are told as `Full`: once there is room the feed is to be held again.
 fn holding_of<S, C, R>(
     locked: &mut Locked<S, C>,
     rt: &R,
@@ -209,11 +209,11 @@ impl<'a, S: FeedHost, C: Count, K: Clock> PumpState<'a, S, C, K> {
     }
 }
 
-/// Hands a feed's items into its lane as they come, a block for each holding of the lock, until the feed is finished or has handed its end:
-/// then it ends with Ok. Without memory for a row it ends with that error, and the feed stays as it
-/// is. It takes the lock for at most as many items as one holding may hand. Where the lane is full it
-/// sleeps until `Feed::take` finds it empty; where there is nothing to hand it sleeps until a write, a
-/// deletion or the end of a feed, and at most until a heartbeat is due, or the feed's time is over.
+/// Hands a feed's items into its lane as they come, a block for each holding of the lock, until the feed is
+/// finished or has handed its end: then it ends with Ok. Without memory for a row it ends with that error,
+/// and the feed stays as it is. It takes the lock for at most as many items as one holding may hand. Where the
+/// lane is full it sleeps until `Feed::take` finds it empty. Where there is nothing to hand it sleeps until a
+/// write, a deletion or the end of a feed, and at most until a heartbeat is due, or the feed's time is over.
 pub fn pump<S, C, R, G, K>(
     rt: &R,
     host: &Host<S, C>,
