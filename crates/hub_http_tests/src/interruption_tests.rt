@@ -1,4 +1,4 @@
-use crate::made_again::{next_of, same_bytes, some_of};
+use crate::made_again::{next_of, same, same_bytes, some_of};
 use hub_http::{HttpFault, Input, IoFault, Output, Request, Requests, Tally, send, write_all};
 use std::alloc::Global;
 use std::io;
@@ -102,7 +102,7 @@ fn interrupted_reads(rt: HostRuntime) -> Result<(), Fail> {
         same_bytes(&rt, first.body.as_slice(), b"abc");
         same_bytes(&rt, second.target.as_slice(), b"/e");
         same_bytes(&rt, second.body.as_slice(), b"");
-        assert_eq!(rt; faults, (TEXT.len() as u64 + 1) * u64::from(times));
+        same(&rt, &faults, &((TEXT.len() as u64 + 1) * u64::from(times)));
     }
     Ok(())
 }
@@ -132,13 +132,14 @@ fn reads_interrupted_too_often(rt: HostRuntime) {
     let first = next_of(&mut requests).err();
     let reads = requests.reader().reads();
     let second = next_of(&mut requests).err();
-    assert_eq!(rt;
-        (first, reads, second),
-        (
+    same(
+        &rt,
+        &(first, reads, second),
+        &(
             Some(HttpFault::IoFault),
             u64::from(TRIES),
-            Some(HttpFault::Ended)
-        )
+            Some(HttpFault::Ended),
+        ),
     );
 }
 
@@ -175,7 +176,7 @@ fn interrupted_writes(rt: HostRuntime) {
 #[test]
 fn writes_interrupted_too_often(rt: HostRuntime) {
     let (outcome, held) = written(rt.alloc(), TRIES, 0);
-    assert_eq!(rt; outcome, Err(IoFault));
+    same(&rt, &outcome, &Err(IoFault));
     assert!(rt; held.is_empty());
 }
 
@@ -199,7 +200,7 @@ fn sent_at_last(alloc: Global, times: u32) -> (Result<(), IoFault>, usize, u32) 
 #[test]
 fn interrupted_flushes(rt: HostRuntime) {
     for times in [0, 3, TRIES - 1] {
-        assert_eq!(rt; sent_at_last(rt.alloc(), times), (Ok(()), 3, 1));
+        same(&rt, &sent_at_last(rt.alloc(), times), &(Ok(()), 3, 1));
     }
-    assert_eq!(rt; sent_at_last(rt.alloc(), TRIES), (Err(IoFault), 3, 0));
+    same(&rt, &sent_at_last(rt.alloc(), TRIES), &(Err(IoFault), 3, 0));
 }

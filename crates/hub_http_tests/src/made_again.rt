@@ -4,6 +4,7 @@
 //! that it has with ample memory.
 
 use hub_http::{HttpFault, Input, Request, Requests};
+use std::fmt::Debug;
 use std::process::Abort;
 use std::test::Fail;
 
@@ -38,4 +39,9 @@ pub(crate) fn some_of<R: Input>(requests: &mut Requests<R>) -> Result<Request, F
 /// The bytes that were found are those that are wanted. The comparison is proved here, and not in each test.
 pub(crate) fn same_bytes(rt: &impl Abort, found: &[u8], wanted: &[u8]) {
     assert_eq!(rt; found, wanted);
+}
+
+/// The value that was found is the one that is wanted. The comparison is proved here, and not in each test.
+pub(crate) fn same<T: PartialEq + Debug>(rt: &impl Abort, found: &T, wanted: &T) {
+    assert_eq!(rt; *found, *wanted);
 }

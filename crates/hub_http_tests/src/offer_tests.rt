@@ -1,4 +1,4 @@
-use crate::made_again::{again, same_bytes};
+use crate::made_again::{again, same, same_bytes};
 use hub_http::{HttpFault, Inbox, Next, Request};
 use std::alloc::Global;
 use std::process::Abort;
@@ -132,11 +132,11 @@ fn faults_of_heads(rt: HostRuntime) -> Result<(), Fail> {
     ];
     for (bytes, fault) in table {
         let found = fault_of(alloc, bytes)?;
-        assert_eq!(rt; found, Some(*fault));
+        same(&rt, &found, &Some(*fault));
     }
     for (count, expected) in [(16_383, None), (16_384, Some(HttpFault::HeadTooLong))] {
         let long = again!(Vec::from_elem(alloc, b'a', count))?;
-        assert_eq!(rt; fault_of(alloc, long.as_slice())?, expected);
+        same(&rt, &fault_of(alloc, long.as_slice())?, &expected);
     }
     Ok(())
 }

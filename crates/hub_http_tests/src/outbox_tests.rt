@@ -1,4 +1,4 @@
-use crate::made_again::{again, same_bytes};
+use crate::made_again::{again, same, same_bytes};
 use hub_http::{Handed, Outbox, Output, write_vec};
 use std::alloc::{AllocError, Global};
 use std::io;
@@ -68,7 +68,7 @@ fn slowly(alloc: Global, outbox: &mut Outbox) -> Result<(usize, Vec<u8>), Fail> 
 fn two_bytes_a_write(rt: HostRuntime) -> Result<(), Fail> {
     let mut outbox = three_texts(rt.alloc())?;
     let (refusals, held) = slowly(rt.alloc(), &mut outbox)?;
-    assert_eq!(rt; (outbox.is_empty(), refusals), (true, 6));
+    same(&rt, &(outbox.is_empty(), refusals), &(true, 6));
     same_bytes(&rt, held.as_slice(), b"abcdefghij");
     Ok(())
 }
@@ -131,7 +131,7 @@ fn refused_bytes_stay(rt: HostRuntime) -> Result<(), Fail> {
     for (kind, expected) in table {
         let mut outbox = three_texts(rt.alloc())?;
         let handed = outbox.send_to(&mut Gone { kind });
-        assert_eq!(rt; handed, expected);
+        same(&rt, &handed, &expected);
         assert!(rt; outbox.holds(10) && !outbox.holds(11));
     }
     Ok(())

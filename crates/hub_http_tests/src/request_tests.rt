@@ -1,4 +1,4 @@
-use crate::made_again::{again, next_of, same_bytes, some_of};
+use crate::made_again::{again, next_of, same, same_bytes, some_of};
 use hub_http::{HttpFault, Input, Request, Requests, Tally};
 use std::alloc::{AllocError, Global};
 use std::io;
@@ -124,13 +124,13 @@ fn is_put(rt: &impl Abort, request: &Request) {
     same_bytes(rt, request.method.as_slice(), b"PUT");
     same_bytes(rt, request.target.as_slice(), b"/d");
     same_bytes(rt, request.body.as_slice(), b"abc");
-    assert_eq!(rt; (request.has_length, request.close), (true, false));
+    same(rt, &(request.has_length, request.close), &(true, false));
 }
 
 fn is_get(rt: &impl Abort, request: &Request) {
     same_bytes(rt, request.target.as_slice(), b"/d/_changes");
     same_bytes(rt, request.body.as_slice(), b"");
-    assert_eq!(rt; (request.has_length, request.close), (false, true));
+    same(rt, &(request.has_length, request.close), &(false, true));
 }
 
 #[test]
@@ -139,7 +139,11 @@ fn pipelined_requests(rt: HostRuntime) -> Result<(), Fail> {
     is_put(&rt, &some_of(&mut requests)?);
     is_get(&rt, &some_of(&mut requests)?);
     let faults = (fault_of(&mut requests), fault_of(&mut requests));
-    assert_eq!(rt; faults, (Some(HttpFault::Version), Some(HttpFault::Ended)));
+    same(
+        &rt,
+        &faults,
+        &(Some(HttpFault::Version), Some(HttpFault::Ended)),
+    );
     Ok(())
 }
 
@@ -268,9 +272,10 @@ fn a_body_that_is_too_long_is_not_waited_for(rt: HostRuntime) {
     let mut requests = Requests::new(rt.alloc(), Tally::new(Slow(text.as_slice())));
     let fault = fault_of(&mut requests);
     let reads = requests.reader().reads();
-    assert_eq!(rt;
-        (fault, reads),
-        (Some(HttpFault::BodyTooLong), text.len() as u64 - 3)
+    same(
+        &rt,
+        &(fault, reads),
+        &(Some(HttpFault::BodyTooLong), text.len() as u64 - 3),
     );
 }
 
@@ -440,7 +445,7 @@ fn has_room(rt: &impl Abort, alloc: Global, text: &[u8], len: usize) {
     let (requests, end) = read_all(alloc, text);
     assert_eq!(rt; (requests.len(), end), (1, None), "{len}");
     let body = &requests[0].body;
-    assert_eq!(rt; (body.len(), body.capacity()), (len, text.len()));
+    same(rt, &(body.len(), body.capacity()), &(len, text.len()));
 }
 
 /// A body that is not whole is none. A long one keeps the room that it came into, which is its request's.

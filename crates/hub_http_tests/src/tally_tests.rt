@@ -1,4 +1,4 @@
-use crate::made_again::again;
+use crate::made_again::{again, same, same_bytes};
 use hub_http::{Input, Output, Tally};
 use std::alloc::Global;
 use std::io;
@@ -12,7 +12,7 @@ fn gives(
     buf: &mut [u8; 2],
     count: usize,
 ) -> Result<(), Fail> {
-    assert_eq!(rt; Input::read(input, buf)?, count);
+    same(rt, &Input::read(input, buf)?, &count);
     Ok(())
 }
 
@@ -21,10 +21,10 @@ fn reads_memory(rt: HostRuntime) -> Result<(), Fail> {
     let mut input = Tally::new(b"abc".as_slice());
     let mut buf = [0u8; 2];
     gives(&rt, &mut input, &mut buf, 2)?;
-    assert_eq!(rt; buf, [97, 98]);
+    same(&rt, &buf, &[97, 98]);
     gives(&rt, &mut input, &mut buf, 1)?;
     gives(&rt, &mut input, &mut buf, 0)?;
-    assert_eq!(rt; (input.reads(), Input::faults(&input)), (3, 0));
+    same(&rt, &(input.reads(), Input::faults(&input)), &(3, 0));
     Ok(())
 }
 
@@ -40,8 +40,8 @@ fn written(alloc: Global) -> io::Result<(usize, Tally<Vec<u8>>)> {
 fn writes_memory(rt: HostRuntime) -> Result<(), Fail> {
     let alloc = rt.alloc();
     let (count, output) = again!(written(alloc))?;
-    assert_eq!(rt; (count, Output::faults(&output)), (3, 0));
+    same(&rt, &(count, Output::faults(&output)), &(3, 0));
     let held = output.into_inner();
-    assert_eq!(rt; held.as_slice(), b"abc".as_slice());
+    same_bytes(&rt, held.as_slice(), b"abc");
     Ok(())
 }

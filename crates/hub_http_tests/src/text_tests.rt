@@ -1,4 +1,4 @@
-use crate::made_again::again;
+use crate::made_again::{again, same, same_bytes};
 use hub_document::{ChangeRow, Changes, Doc, DocFault, RevId, Revisions};
 use hub_http::{
     ChunkFault, ChunkWriter, Refusal, Reply, StatusCode, Tally, feed_head, item_text,
@@ -223,7 +223,7 @@ fn is_sent(
     expected: &str,
 ) -> Result<(), Fail> {
     let bytes = again!(reply_bytes(alloc, reply, head_only, close))?;
-    assert_eq!(rt; bytes.as_slice(), expected.as_bytes());
+    same_bytes(rt, bytes.as_slice(), expected.as_bytes());
     Ok(())
 }
 
@@ -253,8 +253,12 @@ fn refusals(rt: HostRuntime) -> Result<(), Fail> {
 
 #[test]
 fn refusals_of_faults(rt: HostRuntime) {
-    assert_eq!(rt; Refusal::from(DocFault::TooLong), Refusal::TooLong);
-    assert_eq!(rt; Refusal::from(Fault::Contradicts), Refusal::Contradicts);
+    same(&rt, &Refusal::from(DocFault::TooLong), &Refusal::TooLong);
+    same(
+        &rt,
+        &Refusal::from(Fault::Contradicts),
+        &Refusal::Contradicts,
+    );
 }
 
 // The answer that a database was made.
@@ -396,7 +400,7 @@ fn is_shown(
     expected: &str,
 ) -> Result<(), Fail> {
     let text = again!(text_of(alloc, mode, rows_before, item))?;
-    assert_eq!(rt; text.as_slice(), expected.as_bytes());
+    same_bytes(rt, text.as_slice(), expected.as_bytes());
     Ok(())
 }
 
@@ -458,7 +462,7 @@ fn a_feed_of_two_rows_in_chunks(rt: HostRuntime) -> Result<(), Fail> {
         r#""last_seq":"2-1","pending":0}"#,
         "\n\r\n"
     );
-    assert_eq!(rt; sent.as_slice(), expected.as_bytes());
+    same_bytes(&rt, sent.as_slice(), expected.as_bytes());
     Ok(())
 }
 
@@ -476,7 +480,7 @@ fn chunks_of_one_digit_and_three(rt: HostRuntime) -> Result<(), Fail> {
     let long = again!(vec![in alloc; b'x'; 300])?;
     let sent = again!(chunked(alloc, &[b"abc", long.as_slice()]))?;
     let expected = again!(two_chunks(alloc, long.as_slice()))?;
-    assert_eq!(rt; sent.as_slice(), expected.as_slice());
+    same_bytes(&rt, sent.as_slice(), expected.as_slice());
     Ok(())
 }
 
@@ -524,7 +528,7 @@ fn the_greatest_sequence_of_the_greatest_life(rt: HostRuntime) -> Result<(), Fai
         r#"{"last_seq":"18446744073709551615-18446744073709551615","pending":0}"#,
         "\n"
     );
-    assert_eq!(rt; out.as_slice(), expected.as_bytes());
+    same_bytes(&rt, out.as_slice(), expected.as_bytes());
     Ok(())
 }
 
