@@ -1,7 +1,7 @@
 //! The hub over a reader and a writer.
 
-ghost use Rattle.std.specs.Prelude.{◌≡◌, ◌≤◌, Err, IfOk, IfSome, None, OnErr, Ok, Option};
-ghost use Rattle.hub_http.specs.Counts.{GaveUp, Rose};
+ghost use Rattle.std.specs.Prelude.{◌≡◌, Err, IfOk, IfSome, None, OnErr, Ok, Option};
+ghost use Rattle.hub_http.specs.Counts.{CallCounts};
 ghost use Rattle.hub_http.specs.Words.{HasEnded, IsOpen, failures_of, faults_of, to_come};
 ghost use Rattle.hub_http.specs.declared.fault.HttpFault.{HttpFault};
 ghost use Rattle.hub_session.specs.Rules.{moment};
@@ -36,19 +36,10 @@ pub fn answer_stream<N: Wait, R: Input, W: Output>(
         (moment last (W.written writer.new)))) }
     ensures ended { HasEnded requests.old → IfOk result (λ closing. (closing ≡ Closing.Fault HttpFault.Ended)
         × (requests.new ≡ requests.old) × (writer.new ≡ writer.old)) }
-    ensures writes { W.fault_count writer.old ≤ W.fault_count writer.new }
-    ensures failed_writes { W.failure_count writer.old ≤ W.failure_count writer.new }
-    ensures reads { faults_of R.fault_count requests.old ≤ faults_of R.fault_count requests.new }
-    ensures failed_reads { failures_of R.failure_count requests.old
-        ≤ failures_of R.failure_count requests.new }
-    ensures broken { result ≡ Ok Closing.Broken → Rose (W.fault_count writer.old) (W.fault_count writer.new) }
-    ensures tried { result ≡ Ok Closing.Broken → GaveUp (W.failure_count writer.old)
-        (W.failure_count writer.new) (W.fault_count writer.old) (W.fault_count writer.new) }
-    ensures fault { result ≡ Ok (Closing.Fault HttpFault.IoFault)
-        → Rose (faults_of R.fault_count requests.old) (faults_of R.fault_count requests.new) }
-    ensures tried_reads { result ≡ Ok (Closing.Fault HttpFault.IoFault)
-        → GaveUp (failures_of R.failure_count requests.old) (failures_of R.failure_count requests.new)
-        (faults_of R.fault_count requests.old) (faults_of R.fault_count requests.new) }
+    ensures writes { CallCounts (result ≡ Ok Closing.Broken) W.fault_count W.failure_count
+        writer.old writer.new }
+    ensures reads { CallCounts (result ≡ Ok (Closing.Fault HttpFault.IoFault)) (faults_of R.fault_count)
+        (failures_of R.failure_count) requests.old requests.new }
     ensures err { OnErr result ((writer.new ≡ writer.old) × (requests.new ≡ requests.old)) }
 {
     let hub = Hub::new(alloc, limits)?;
