@@ -19,8 +19,9 @@ abbrev pub IsCountedFault : CallFault → ℕ → ℕ → Type 0
 IsCountedFault call_fault.Peer old new = Rose old new
 IsCountedFault call_fault.NoMemory old new = Unit {0}
 
--- What the outcome of a call tells of its peer's count of faults: the count does not fall, and the outcome is
--- a fault of the peer only where the count rose, or stands at its last value. A lost call takes it from 3 to 4.
+-- What the outcome of a call tells of its peer's count of faults: the count does not fall, and the outcome
+-- is a fault of the peer only where the count rose, or stands at its last value. A lost call takes it from
+-- 3 to 4.
 pub record CallCounts {A : Type 0} (result : Result A CallFault) (old new : ℕ) : Type 0 where
   pub rises : old ≤ new
   pub fault : IfErr result (λ e. IsCountedFault e old new)
@@ -47,8 +48,8 @@ IsCountedOfBoth told.Peer s s' t t' = Rose s s' ⊎ Rose t t'
 IsCountedOfBoth told.BadLogId s s' t t' = ⊥
 IsCountedOfBoth fault s s' t t' = Unit {0}
 
--- What a call of a follower tells of its peers' counts of faults: neither falls, and its outcome is a fault of
--- a peer only where one of them rose so.
+-- What a call of a follower tells of its peers' counts of faults: neither falls, and its outcome is a fault
+-- of a peer only where one of them rose so.
 pub record BothCount {S T A : Type 0} (count_s : S → ℕ) (count_t : T → ℕ) (result : Result A FollowFault)
     (s : S) (t : T) (s' : S) (t' : T) : Type 0 where
   pub source : count_s s ≤ count_s s'
