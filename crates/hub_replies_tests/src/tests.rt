@@ -15,11 +15,9 @@ use std::alloc::{AllocError, Global};
 use std::process::Abort;
 use std::test::Fail;
 
-// An id of a quote, a backslash, a line feed, the byte 1, a letter of two bytes and one of four.
+// An id of a quote, a backslash, a line feed, the byte 1, a letter of two bytes and one of four. Its JSON
+// string is "\"\\\n\u0001é😀".
 const ODD: &str = "\"\\\n\u{1}é😀";
-
-// Its JSON string.
-const ODD_TEXT: &str = r#""\"\\\n\u0001é😀""#;
 
 // What a call gives, made again where it fails.
 macro_rules! again {
@@ -81,50 +79,56 @@ fn listed(alloc: Global, names: &[&str]) -> Result<Vec<u8>, AllocError> {
     names_body(alloc, list.as_slice())
 }
 
+// The body that lists these names is this text.
+fn lists(rt: &impl Abort, alloc: Global, names: &[&str], text: &str) -> Result<(), Fail> {
+    let body = again!(listed(alloc, names))?;
+    is_line(rt, body.as_slice(), text);
+    Ok(())
+}
+
 #[test]
 fn names_are_listed(rt: HostRuntime) -> Result<(), Fail> {
     let alloc = rt.alloc();
-    let body = again!(listed(alloc, &[]))?;
-    is_line(&rt, body.as_slice(), "[]");
-    let body = again!(listed(alloc, &["b/c"]))?;
-    is_line(&rt, body.as_slice(), r#"["b/c"]"#);
-    let body = again!(listed(alloc, &["b/c", "a"]))?;
-    is_line(&rt, body.as_slice(), r#"["b/c","a"]"#);
-    let body = again!(listed(alloc, &["b/c", "a", ODD]))?;
-    let expected = again!(format!(in alloc; r#"["b/c","a",{ODD_TEXT}]"#))?;
-    is_line(&rt, body.as_slice(), expected.as_str());
+    lists(&rt, alloc, &[], "[]")?;
+    lists(&rt, alloc, &["b/c"], r#"["b/c"]"#)?;
+    lists(&rt, alloc, &["b/c", "a"], r#"["b/c","a"]"#)?;
+    lists(
+        &rt,
+        alloc,
+        &["b/c", "a", ODD],
+        r#"["b/c","a","\"\\\n\u0001é😀"]"#,
+    )
+}
+
+// What a database says of itself is this text.
+fn says(rt: &impl Abort, alloc: Global, name: &str, info: &Info, text: &str) -> Result<(), Fail> {
+    let body = again!(info_body(alloc, name, info))?;
+    is_line(rt, body.as_slice(), text);
     Ok(())
 }
 
 #[test]
 fn databases_say_of_themselves(rt: HostRuntime) -> Result<(), Fail> {
-    let alloc = rt.alloc();
     let info = Info {
         doc_count: 2,
         doc_del_count: 0,
         update_seq: 3,
         life: 1,
     };
-    let body = again!(info_body(alloc, "d", &info))?;
-    let expected =
+    let text =
         r#"{"db_name":"d","doc_count":2,"doc_del_count":0,"update_seq":"3-1","instance_start_time":"0"}"#;
-    is_line(&rt, body.as_slice(), expected);
+    says(&rt, rt.alloc(), "d", &info, text)?;
     let info = Info {
         doc_count: 10,
         doc_del_count: 4294967295,
         update_seq: 18446744073709551615,
         life: 18446744073709551615,
     };
-    let body = again!(info_body(alloc, ODD, &info))?;
-    let counts = concat!(
-        r#""doc_count":10,"doc_del_count":4294967295,"#,
-        r#""update_seq":"18446744073709551615-18446744073709551615""#
+    let text = concat!(
+        r#"{"db_name":"\"\\\n\u0001é😀","doc_count":10,"doc_del_count":4294967295,"#,
+        r#""update_seq":"18446744073709551615-18446744073709551615","instance_start_time":"0"}"#
     );
-    let expected = again!(format!(in alloc;
-        r#"{{"db_name":{ODD_TEXT},{counts},"instance_start_time":"0"}}"#
-    ))?;
-    is_line(&rt, body.as_slice(), expected.as_str());
-    Ok(())
+    says(&rt, rt.alloc(), ODD, &info, text)
 }
 
 // The answer to an edit of this document, which made this revision.
@@ -132,19 +136,20 @@ fn edited(alloc: Global, id: &str, rev: &RevId) -> Result<Vec<u8>, AllocError> {
     edit_body(edit_front(alloc, id)?, rev)
 }
 
+// The answer to an edit of this document, which made this revision, is this text.
+fn is_edited(rt: &impl Abort, alloc: Global, id: &str, rev: &str, text: &str) -> Result<(), Fail> {
+    let rev = RevId::read(rev).expect(rt, "a revision");
+    let body = again!(edited(alloc, id, &rev))?;
+    is_line(rt, body.as_slice(), text);
+    Ok(())
+}
+
 #[test]
 fn edits_are_answered(rt: HostRuntime) -> Result<(), Fail> {
-    let alloc = rt.alloc();
-    let rev = RevId::read("1-a").expect(&rt, "a revision");
-    let body = again!(edited(alloc, "a", &rev))?;
-    is_line(&rt, body.as_slice(), r#"{"ok":true,"id":"a","rev":"1-a"}"#);
-    let rev = RevId::read("65535-0Zz9").expect(&rt, "a revision");
-    let body = again!(edited(alloc, ODD, &rev))?;
-    let expected = again!(format!(in alloc;
-        r#"{{"ok":true,"id":{ODD_TEXT},"rev":"65535-0Zz9"}}"#
-    ))?;
-    is_line(&rt, body.as_slice(), expected.as_str());
-    Ok(())
+    let text = r#"{"ok":true,"id":"a","rev":"1-a"}"#;
+    is_edited(&rt, rt.alloc(), "a", "1-a", text)?;
+    let text = r#"{"ok":true,"id":"\"\\\n\u0001é😀","rev":"65535-0Zz9"}"#;
+    is_edited(&rt, rt.alloc(), ODD, "65535-0Zz9", text)
 }
 
 // The answer to an edit of this local document, which has so many edits.
@@ -152,21 +157,25 @@ fn locally_edited(alloc: Global, id: &str, count: u64) -> Result<Vec<u8>, AllocE
     local_edit_body(edit_front(alloc, id)?, count)
 }
 
+// The answer to an edit of this local document, which has so many edits, is this text.
+fn is_locally_edited(
+    rt: &impl Abort,
+    alloc: Global,
+    id: &str,
+    count: u64,
+    text: &str,
+) -> Result<(), Fail> {
+    let body = again!(locally_edited(alloc, id, count))?;
+    is_line(rt, body.as_slice(), text);
+    Ok(())
+}
+
 #[test]
 fn local_edits_are_answered(rt: HostRuntime) -> Result<(), Fail> {
-    let alloc = rt.alloc();
-    let body = again!(locally_edited(alloc, "_local/k", 2))?;
-    is_line(
-        &rt,
-        body.as_slice(),
-        r#"{"ok":true,"id":"_local/k","rev":"0-2"}"#,
-    );
-    let body = again!(locally_edited(alloc, ODD, 18446744073709551615))?;
-    let expected = again!(format!(in alloc;
-        r#"{{"ok":true,"id":{ODD_TEXT},"rev":"0-18446744073709551615"}}"#
-    ))?;
-    is_line(&rt, body.as_slice(), expected.as_str());
-    Ok(())
+    let text = r#"{"ok":true,"id":"_local/k","rev":"0-2"}"#;
+    is_locally_edited(&rt, rt.alloc(), "_local/k", 2, text)?;
+    let text = r#"{"ok":true,"id":"\"\\\n\u0001é😀","rev":"0-18446744073709551615"}"#;
+    is_locally_edited(&rt, rt.alloc(), ODD, 18446744073709551615, text)
 }
 
 #[test]
@@ -179,74 +188,90 @@ fn documents_are_shown(rt: HostRuntime) -> Result<(), Fail> {
     Ok(())
 }
 
+// A local document of this id is shown as this text.
+fn is_shown(
+    rt: &impl Abort,
+    alloc: Global,
+    id: &str,
+    local: &Local,
+    text: &str,
+) -> Result<(), Fail> {
+    let body = again!(local_doc_body(alloc, id, local))?;
+    is_line(rt, body.as_slice(), text);
+    Ok(())
+}
+
 #[test]
 fn local_documents_are_shown(rt: HostRuntime) -> Result<(), Fail> {
-    let alloc = rt.alloc();
     let text = r#"{"_id":"d","_rev":"1-a","k":[1,null]}"#;
-    let doc = again!(Doc::read(alloc, text.as_bytes(), false))?;
+    let doc = again!(Doc::read(rt.alloc(), text.as_bytes(), false))?;
     let local = Local {
         count: 12,
         body: doc.body,
     };
-    let body = again!(local_doc_body(alloc, "_local/k", &local))?;
-    is_line(
-        &rt,
-        body.as_slice(),
-        r#"{"_id":"_local/k","_rev":"0-12","k":[1,null]}"#,
-    );
-    let body = again!(local_doc_body(alloc, ODD, &local))?;
-    let expected = again!(format!(in alloc; r#"{{"_id":{ODD_TEXT},"_rev":"0-12","k":[1,null]}}"#))?;
-    is_line(&rt, body.as_slice(), expected.as_str());
+    let text = r#"{"_id":"_local/k","_rev":"0-12","k":[1,null]}"#;
+    is_shown(&rt, rt.alloc(), "_local/k", &local, text)?;
+    let text = r#"{"_id":"\"\\\n\u0001é😀","_rev":"0-12","k":[1,null]}"#;
+    is_shown(&rt, rt.alloc(), ODD, &local, text)
+}
+
+// The body that shows these revisions is this text.
+fn shows(rt: &impl Abort, alloc: Global, revs: &[OpenRev], text: &str) -> Result<(), Fail> {
+    let body = again!(open_revs_body(alloc, revs))?;
+    is_line(rt, body.as_slice(), text);
     Ok(())
 }
 
 #[test]
 fn revisions_that_were_asked_for(rt: HostRuntime) -> Result<(), Fail> {
     let alloc = rt.alloc();
-    let body = again!(open_revs_body(alloc, &[]))?;
-    is_line(&rt, body.as_slice(), "[]");
-    let text = r#"{"_id":"d","_rev":"1-a","_deleted":true,"k":1}"#;
-    let shown =
-        r#"{"_id":"d","_rev":"1-a","_deleted":true,"_revisions":{"start":1,"ids":["a"]},"k":1}"#;
-    let doc = again!(Doc::read(alloc, text.as_bytes(), false))?;
     let missing = RevId::read("9-z").expect(&rt, "a revision");
+    shows(&rt, alloc, &[], "[]")?;
     let revs = [OpenRev::Missing(missing)];
-    let body = again!(open_revs_body(alloc, &revs))?;
-    is_line(&rt, body.as_slice(), r#"[{"missing":"9-z"}]"#);
+    shows(&rt, alloc, &revs, r#"[{"missing":"9-z"}]"#)?;
+    let text = r#"{"_id":"d","_rev":"1-a","_deleted":true,"k":1}"#;
+    let doc = again!(Doc::read(alloc, text.as_bytes(), false))?;
     let revs = [
         OpenRev::Missing(missing),
         OpenRev::Found(doc),
         OpenRev::Missing(missing),
     ];
-    let body = again!(open_revs_body(alloc, &revs))?;
-    let expected = again!(format!(in alloc;
-        r#"[{{"missing":"9-z"}},{{"ok":{shown}}},{{"missing":"9-z"}}]"#
-    ))?;
-    is_line(&rt, body.as_slice(), expected.as_str());
+    let text = concat!(
+        r#"[{"missing":"9-z"},"#,
+        r#"{"ok":{"_id":"d","_rev":"1-a","_deleted":true,"_revisions":{"start":1,"ids":["a"]},"k":1}},"#,
+        r#"{"missing":"9-z"}]"#
+    );
+    shows(&rt, alloc, &revs, text)
+}
+
+// The body that tells these differences is this text.
+fn tells(rt: &impl Abort, alloc: Global, diffs: &[Diff], text: &str) -> Result<(), Fail> {
+    let body = again!(diffs_body(alloc, diffs))?;
+    is_line(rt, body.as_slice(), text);
     Ok(())
+}
+
+// The differences of three documents.
+fn three_diffs(alloc: Global) -> Result<[Diff; 3], AllocError> {
+    let first = diff(alloc, "a", &["2-d", "3-e"], &["2-c"])?;
+    let second = diff(alloc, "z", &["1-q"], &[])?;
+    let third = diff(alloc, ODD, &["4-w"], &["3-y", "3-x"])?;
+    Ok([first, second, third])
 }
 
 #[test]
 fn revisions_that_are_missing(rt: HostRuntime) -> Result<(), Fail> {
     let alloc = rt.alloc();
-    let body = again!(diffs_body(alloc, &[]))?;
-    is_line(&rt, body.as_slice(), "{}");
-    let of_a = r#"{"missing":["2-d","3-e"],"possible_ancestors":["2-c"]}"#;
-    let diffs = [again!(diff(alloc, "a", &["2-d", "3-e"], &["2-c"]))?];
-    let body = again!(diffs_body(alloc, &diffs))?;
-    let expected = again!(format!(in alloc; r#"{{"a":{of_a}}}"#))?;
-    is_line(&rt, body.as_slice(), expected.as_str());
-    let diffs = [
-        again!(diff(alloc, "a", &["2-d", "3-e"], &["2-c"]))?,
-        again!(diff(alloc, "z", &["1-q"], &[]))?,
-        again!(diff(alloc, ODD, &["4-w"], &["3-y", "3-x"]))?,
-    ];
-    let body = again!(diffs_body(alloc, &diffs))?;
-    let of_z = r#"{"missing":["1-q"]}"#;
-    let of_odd = r#"{"missing":["4-w"],"possible_ancestors":["3-y","3-x"]}"#;
-    let expected = again!(format!(in alloc; r#"{{"a":{of_a},"z":{of_z},{ODD_TEXT}:{of_odd}}}"#))?;
-    is_line(&rt, body.as_slice(), expected.as_str());
-    Ok(())
+    tells(&rt, alloc, &[], "{}")?;
+    let one = [again!(diff(alloc, "a", &["2-d", "3-e"], &["2-c"]))?];
+    let text = r#"{"a":{"missing":["2-d","3-e"],"possible_ancestors":["2-c"]}}"#;
+    tells(&rt, alloc, &one, text)?;
+    let three = again!(three_diffs(alloc))?;
+    let text = concat!(
+        r#"{"a":{"missing":["2-d","3-e"],"possible_ancestors":["2-c"]},"z":{"missing":["1-q"]},"#,
+        r#""\"\\\n\u0001é😀":{"missing":["4-w"],"possible_ancestors":["3-y","3-x"]}}"#
+    );
+    tells(&rt, alloc, &three, text)
 }
 
 // A batch of known documents, of others, and of elements that are none; two have no reply of their own.
@@ -262,6 +287,19 @@ const BATCH_REPLIES: &str = concat!(
     r#"{"id":null,"error":"bad_request","reason":"bad id"},"#,
     r#"{"id":"c","error":"conflict","reason":"Document update conflict."}]"#
 );
+
+// The answer to a batch of these elements is this text.
+fn answers(
+    rt: &impl Abort,
+    alloc: Global,
+    elements: &[Value],
+    replies: &[Option<BatchReply>],
+    text: &str,
+) -> Result<(), Fail> {
+    let body = again!(batch_body(alloc, elements, replies))?;
+    is_line(rt, body.as_slice(), text);
+    Ok(())
+}
 
 #[test]
 fn batches_are_answered(rt: HostRuntime) -> Result<(), Fail> {
@@ -279,11 +317,7 @@ fn batches_are_answered(rt: HostRuntime) -> Result<(), Fail> {
         Some(BatchReply::Refused(Refusal::BadId)),
         Some(BatchReply::Refused(Refusal::Conflict)),
     ];
-    let body = again!(batch_body(alloc, elements.as_slice(), &replies))?;
-    is_line(&rt, body.as_slice(), BATCH_REPLIES);
-    let body = again!(batch_body(alloc, elements.as_slice(), &[None, None]))?;
-    is_line(&rt, body.as_slice(), "[]");
-    let body = again!(batch_body(alloc, &[], &replies))?;
-    is_line(&rt, body.as_slice(), "[]");
-    Ok(())
+    answers(&rt, alloc, elements.as_slice(), &replies, BATCH_REPLIES)?;
+    answers(&rt, alloc, elements.as_slice(), &[None, None], "[]")?;
+    answers(&rt, alloc, &[], &replies, "[]")
 }
