@@ -141,7 +141,7 @@ impl RevTree {
         Ok(Some(line))
     }
 
-    // The same as revisions.
+    // The path with the revision in front of the known one, as revisions.
     fn revisions_on(&self, alloc: Global, rev: &DigestRev, older: &RevId) -> Result<Run, AllocError>
         ensures { IfOk result (λ path. path ≡ rev.now ∷ line_to self.now.edits (Some older.now)) }
     {
