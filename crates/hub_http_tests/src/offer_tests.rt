@@ -85,7 +85,7 @@ fn is_between(inbox: &mut Inbox) -> Result<bool, Fail> {
     }
 }
 
-/// How many requests of a front of the text come whole, and whether it ends between two requests, by two looks.
+/// How many requests of a front of the text come whole, and whether it ends between two, asked twice.
 fn end_of(alloc: Global, front: &[u8]) -> Result<(usize, bool, bool), Fail> {
     let mut inbox = offered(alloc, front)?;
     let whole = taken(&mut inbox, 3)?;
@@ -155,8 +155,8 @@ fn request_of(inbox: &mut Inbox) -> Result<Request, Fail> {
     }
 }
 
-/// An inbox to which a body was offered in parts of 4,096 bytes, with a request behind it. Before each part no
-/// request is whole.
+/// An inbox to which a body was offered in parts of 4,096 bytes, with a request behind it. Before each part
+/// no request is whole.
 fn offered_in_parts(rt: &impl Abort, alloc: Global, body: &[u8]) -> Result<Inbox, Fail> {
     let mut inbox = offered(alloc, b"PUT /d HTTP/1.1\r\nContent-Length: 70000\r\n\r\n")?;
     for part in body.chunks(4_096) {

@@ -15,8 +15,8 @@ use std::alloc::{AllocError, Global};
 use std::process::Abort;
 use std::test::Fail;
 
-// An id of a quote, a backslash, a line feed, the byte 1, a letter of two bytes and one of four. Its JSON string is
-// "\"\\\n\u0001é😀".
+// An id of a quote, a backslash, a line feed, the byte 1, a letter of two bytes and one of four. Its JSON
+// string is "\"\\\n\u0001é😀".
 const ODD: &str = "\"\\\n\u{1}é😀";
 
 // What a call gives, made again where it fails.
