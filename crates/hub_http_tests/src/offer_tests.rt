@@ -85,7 +85,7 @@ fn is_between(inbox: &mut Inbox) -> Result<bool, Fail> {
     }
 }
 
-/// How many requests of a front of the text come whole, and whether it ends between two requests, twice asked.
+/// How many requests of a front of the text come whole, and whether it ends between two, asked twice.
 fn end_of(alloc: Global, front: &[u8]) -> Result<(usize, bool, bool), Fail> {
     let mut inbox = offered(alloc, front)?;
     let whole = taken(&mut inbox, 3)?;
