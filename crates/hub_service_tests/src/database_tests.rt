@@ -6,7 +6,7 @@ use hub_databases::Hub;
 use hub_document::Limits;
 use hub_http::{Refusal, Reply};
 use hub_routes::Routes;
-use hub_service::{ByTurns, Connection};
+use hub_service::{ByTurns, Connection, JsonRooms};
 use hub_session::{Answer, Service};
 use std::alloc::Global;
 use std::sync::Wait;
@@ -87,7 +87,8 @@ fn a_deleted_database(rt: HostRuntime) -> Result<(), Fail> {
     let alloc = rt.alloc();
     let hub = again!(Hub::new(alloc, Limits::full()))?;
     let routes = again!(Routes::new(alloc))?;
-    let mut connection = Connection::new(&rt, alloc, &hub, &routes, ByTurns::new(&rt));
+    let rooms = JsonRooms::new(alloc);
+    let mut connection = Connection::new(&rt, alloc, &hub, &routes, &rooms, ByTurns::new(&rt));
     assert!(rt;
         is_done(
             alloc,

@@ -10,7 +10,7 @@ use hub_databases::Hub;
 use hub_document::Limits;
 use hub_http::{Requests, Tally};
 use hub_routes::Routes;
-use hub_service::{ByTurns, Connection};
+use hub_service::{ByTurns, Connection, JsonRooms};
 use hub_session::{Closing, serve};
 use std::alloc::{AllocError, Global};
 use std::process::Abort;
@@ -382,7 +382,8 @@ fn broken_feeds(rt: HostRuntime) -> Result<(), Fail> {
     let alloc = rt.alloc();
     let hub = again!(Hub::new(alloc, one_feed()))?;
     let routes = again!(Routes::new(alloc))?;
-    let mut connection = Connection::new(&rt, alloc, &hub, &routes, ByTurns::new(&rt));
+    let rooms = JsonRooms::new(alloc);
+    let mut connection = Connection::new(&rt, alloc, &hub, &routes, &rooms, ByTurns::new(&rt));
     assert!(rt; is_held(alloc, &mut connection, MAKING, 1000)?);
     let shown = held_count(alloc, &mut connection, ONE_FEED)?;
     assert_eq!(rt; shown, EMPTY.len() + 1);

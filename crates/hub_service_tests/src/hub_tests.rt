@@ -9,7 +9,7 @@ use hub_document::Limits;
 use hub_http::{Refusal, Reply, Request, Requests, Tally};
 use hub_model::Item;
 use hub_routes::Routes;
-use hub_service::{ByTurns, Connection};
+use hub_service::{ByTurns, Connection, JsonRooms};
 use hub_session::{Answer, Closing, Service, StreamItem};
 use std::alloc::{AllocError, Global};
 use std::sync::Wait;
@@ -97,8 +97,9 @@ fn a_feed_of_a_removed_database(rt: HostRuntime) -> Result<(), Fail> {
     let alloc = rt.alloc();
     let hub = again!(Hub::new(alloc, Limits::full()))?;
     let routes = again!(Routes::new(alloc))?;
-    let mut writer = Connection::new(&rt, alloc, &hub, &routes, ByTurns::new(&rt));
-    let mut reader = Connection::new(&rt, alloc, &hub, &routes, ByTurns::new(&rt));
+    let rooms = JsonRooms::new(alloc);
+    let mut writer = Connection::new(&rt, alloc, &hub, &routes, &rooms, ByTurns::new(&rt));
+    let mut reader = Connection::new(&rt, alloc, &hub, &routes, &rooms, ByTurns::new(&rt));
     let items = items_of_removed(alloc, &mut writer, &mut reader);
     assert_eq!(rt; items, Some(((false, 1), (true, 1))));
     Ok(())

@@ -10,7 +10,7 @@ use hub_databases::Hub;
 use hub_document::Limits;
 use hub_http::{Requests, Tally};
 use hub_routes::Routes;
-use hub_service::{ByTurns, Connection};
+use hub_service::{ByTurns, Connection, JsonRooms};
 use hub_session::{Closing, serve};
 use std::alloc::{AllocError, Global};
 use std::sync::Wait;
@@ -29,7 +29,8 @@ fn session<N: Wait>(
 ) -> Result<(Vec<u8>, Closing), AllocError> {
     let mut writer = Tally::new(Vec::with_capacity(alloc, ROOM)?);
     let mut requests = Requests::new(alloc, Tally::new(input));
-    let mut connection = Connection::new(rt, alloc, hub, routes, ByTurns::new(rt));
+    let rooms = JsonRooms::new(alloc);
+    let mut connection = Connection::new(rt, alloc, hub, routes, &rooms, ByTurns::new(rt));
     let closing = serve(alloc, &mut requests, &mut writer, &mut connection);
     Ok((writer.into_inner(), closing))
 }
