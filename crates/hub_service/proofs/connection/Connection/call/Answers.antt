@@ -29,14 +29,14 @@ answered name body db call found r is own bad given = by (is_name name) cc
 pub returns-in-Info : goal.returns-in-Info
 returns-in-Info g c =
     answered c.args.name.now c.args.body.now c.in-Ok.db c.args.call c.find.result c.info.result
-    c.in-Ok.is c.in-Ok.ensures.own c.find.ensures.bad
+    c.in-Ok.is c.in-Ok.ensures.own c.find.ensures.bad.0
     (subst (λ call. AnswersCall call c.in-Ok.db c.args.body.now c.info.result) (sym c.in-Info.is)
     c.info.ensures)
 
 pub returns-in-GetDocument : goal.returns-in-GetDocument
 returns-in-GetDocument g c =
     answered c.args.name.now c.args.body.now c.in-Ok.db c.args.call c.find.result c.get.result
-    c.in-Ok.is c.in-Ok.ensures.own c.find.ensures.bad
+    c.in-Ok.is c.in-Ok.ensures.own c.find.ensures.bad.0
     (subst (λ call. AnswersCall call c.in-Ok.db c.args.body.now c.get.result) (sym c.in-GetDocument.is)
     (subst (λ (id : List ℕ).
     IsRead (λ db. gets_doc db.journal id (doc_asked c.in-GetDocument.query.now)) c.get.result)
@@ -45,7 +45,7 @@ returns-in-GetDocument g c =
 pub returns-in-PutDocument : goal.returns-in-PutDocument
 returns-in-PutDocument g c =
     answered c.args.name.now c.args.body.now c.in-Ok.db c.args.call c.find.result c.put.result
-    c.in-Ok.is c.in-Ok.ensures.own c.find.ensures.bad
+    c.in-Ok.is c.in-Ok.ensures.own c.find.ensures.bad.0
     (subst (λ call. AnswersCall call c.in-Ok.db c.args.body.now c.put.result) (sym c.in-PutDocument.is)
     (let asked = doc_asked c.in-PutDocument.query.now in
     subst (λ (id : List ℕ).
@@ -55,7 +55,7 @@ returns-in-PutDocument g c =
 pub returns-in-GetLocal : goal.returns-in-GetLocal
 returns-in-GetLocal g c =
     answered c.args.name.now c.args.body.now c.in-Ok.db c.args.call c.find.result c.get-in-GetLocal.result
-    c.in-Ok.is c.in-Ok.ensures.own c.find.ensures.bad
+    c.in-Ok.is c.in-Ok.ensures.own c.find.ensures.bad.0
     (subst (λ call. AnswersCall call c.in-Ok.db c.args.body.now c.get-in-GetLocal.result)
     (sym c.in-GetLocal.is)
     (subst (λ (id : List ℕ). IsRead (λ db. says_local (local_of db.locals id)) c.get-in-GetLocal.result)
@@ -64,7 +64,7 @@ returns-in-GetLocal g c =
 pub returns : goal.returns
 returns g c =
     answered c.args.name.now c.args.body.now c.in-Ok.db c.args.call c.find.result c.put-in-PutLocal.result
-    c.in-Ok.is c.in-Ok.ensures.own c.find.ensures.bad
+    c.in-Ok.is c.in-Ok.ensures.own c.find.ensures.bad.0
     (subst (λ call. AnswersCall call c.in-Ok.db c.args.body.now c.put-in-PutLocal.result)
     (sym c.in-PutLocal.is)
     (subst (λ (id : List ℕ).
