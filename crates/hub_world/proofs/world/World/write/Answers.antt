@@ -63,5 +63,5 @@ returns-in_default-clause-err c =
     let err = c.in_default.ensures.err in (
       ap core_of err.1 ∙ c.self.view_is,
       stored_may_fail c.args.new_edits c.args.self.now c.args.docs
-          (omega (arith, err.3, ap length c.into_vec.ensures)),
+          (omega (arith, err.0.1, ap length c.into_vec.ensures)),
     )
