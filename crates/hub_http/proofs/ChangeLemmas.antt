@@ -1,6 +1,6 @@
 -- The texts of rows of changes.
 use Rattle.std.proofs.Common.{◌≡◌, ℕ, ◌≤◌, List, [], ◌∷◌, ◌++◌, length, map, take, take_all}
-use Rattle.std.proofs.Common.{sym, ap, ◌∙◌, arith, append_assoc, append-nil, codes, Some}
+use Rattle.std.proofs.Common.{sym, ap, ◌∙◌, arith, append_assoc, append-nil, codes, decimal, Some}
 use Rattle.std.specs.List.{flat_map, join_with_byte}
 use Rattle.hub_model.specs.Revision.{Revision, text_of}
 use Rattle.json.specs.Print.{escape, quoted}
@@ -48,7 +48,7 @@ revisions_written held mid new revision revisions all i e first later end =
 
 -- the parts of the front of a row whose id needs no escape
 pub plain_parts : (held : List ℕ) (life seq : ℕ) (id : List ℕ)
-    → ((((held ++ codes "{\"seq\":") ++ sequence_text seq life) ++ codes ",\"id\":\"") ++ id)
+    → ((((held ++ codes "{\"seq\":\"") ++ decimal seq) ++ 45 ∷ (decimal life ++ codes "\",\"id\":\"")) ++ id)
     ++ codes "\",\"changes\":[{\"rev\":"
     ≡ held ++ plain_front life seq id
 unfolding plain_front

@@ -1,6 +1,6 @@
 //! The texts of rows of changes.
 
-ghost use Rattle.std.specs.Prelude.{◌≡◌, [], ◌∷◌, ◌++◌, Some, codes};
+ghost use Rattle.std.specs.Prelude.{◌≡◌, ◌<◌, [], ◌∷◌, ◌++◌, Some, codes, decimal};
 ghost use Rattle.hub_http.specs.Appends.{Appends};
 ghost use Rattle.json.specs.Print.{escape};
 ghost use Rattle.hub_http.specs.ChangeTexts.{revision_text, revisions_text, row_mark, doc_member, row_end};
@@ -119,13 +119,34 @@ fn put_any_row(out: &mut Vec<u8>, life: u64, row: &ChangeRow) -> Result<(), Allo
     Ok(())
 }
 
+// What stands between the number of a sequence and an id, where the number of the life has one digit.
+fn short_middle(life: u64) -> [u8; 10]
+    requires { life < 10 }
+    ensures { result ≡ 45 ∷ (decimal life ++ codes "\",\"id\":\"") }
+{
+    [
+        b'-',
+        b'0' + life as u8,
+        b'"',
+        b',',
+        b'"',
+        b'i',
+        b'd',
+        b'"',
+        b':',
+        b'"',
+    ]
+}
+
 // Appends the front of a row whose id needs no escape, as far as its first revision, in few parts.
 fn put_plain_front(out: &mut Vec<u8>, life: u64, seq: u64, id: &str) -> Result<(), AllocError>
+    requires { life < 10 }
     ensures { Appends (plain_front life seq id.now) result out.old.items out.new.items }
 {
-    out.extend_from_slice(b"{\"seq\":")?;
-    put_sequence(out, seq, life)?;
-    out.extend_from_slice(b",\"id\":\"")?;
+    let mut number = Buffer::new();
+    out.extend_from_slice(b"{\"seq\":\"")?;
+    out.extend_from_slice(number.format(seq).as_bytes())?;
+    out.extend_from_slice(short_middle(life).as_slice())?;
     out.extend_from_slice(id.as_bytes())?;
     out.extend_from_slice(b"\",\"changes\":[{\"rev\":")?;
     Ok(())
@@ -183,6 +204,7 @@ fn put_plain_row(
     row: &ChangeRow,
     rev: &DigestRev,
 ) -> Result<(), AllocError>
+    requires short { life < 10 }
     requires plain { escape row.now.id ≡ row.now.id }
     requires only { row.now.changes ≡ rev.now ∷ [] }
     ensures { Appends (change_row_text life row.now) result out.old.items out.new.items }
@@ -199,7 +221,7 @@ impl RowText for ChangeRow {
     ghost end_text = { change_end_text };
 
     fn put_row(&self, out: &mut Vec<u8>, life: u64) -> Result<(), AllocError> {
-        if !is_plain(self.id.as_str().as_bytes()) {
+        if life >= 10 || !is_plain(self.id.as_str().as_bytes()) {
             return put_any_row(out, life, self);
         }
         match self.changes.lent() {

@@ -8,11 +8,15 @@ unfolding plain_front
 returns c =
     appended _ _ _
     (rw (
+      c.in_ok-extend_from_slice-5.ensures.items,
       c.in_ok-extend_from_slice-4.ensures.items,
+      c.as_bytes-2.ensures.value,
       c.in_ok-extend_from_slice-3.ensures.items,
-      c.as_bytes.ensures.value,
+      c.as_slice.ensures,
+      c.short_middle.ensures,
       c.in_ok-extend_from_slice-2.ensures.items,
-      c.in_ok-put_sequence.ensures.ok,
+      c.as_bytes.ensures.value,
+      c.format.ensures.text,
       c.in_ok-extend_from_slice.ensures.items,
     )
     (plain_parts c.args.out.now.items _ _ _))
