@@ -337,6 +337,7 @@ impl FeedState {
 
     // Gives the sink the item that is due, and goes on behind it. Where the sink gives it back nothing
     // changes. It costs a push.
+    #[inline(always)]
     fn give<S: Source, K: Sink<Item<S::Row>>, H: Pushes<K, Item<S::Row>>>(
         &mut self,
         source: &S,

@@ -20,6 +20,7 @@ fn put_separator(out: &mut Vec<u8>, rows_before: u64) -> Result<(), AllocError>
 }
 
 #[tactic(auto, unfolding(crate::specs::Items::before_row))]
+#[inline(always)]
 fn put_before_row(out: &mut Vec<u8>, mode: Mode, rows_before: u64) -> Result<(), AllocError>
     ensures { Appends (before_row mode rows_before) result out.old.items out.new.items }
 {

@@ -12,6 +12,7 @@ use hex::FromHex;
 const DIGITS: &[u8; 16] = b"0123456789abcdef";
 
 /// Writes the text of the digest, 32 lower-case digits, over these 32 letters. Constant time.
+#[inline(always)]
 pub(crate) fn write_digits(letters: &mut [u8], digest: &[u8; 16])
     requires { length letters.old ≡ 32 }
     ensures { letters.new ≡ encode_lower digest.now }
