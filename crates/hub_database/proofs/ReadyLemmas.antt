@@ -23,11 +23,6 @@ made_has : (edits : List Edit) (draft : Draft) (edit : Edit) (o : Option (List R
     → (path : List Revision) × (o ≡ Some path) × (generation_of (parent_of path) < 65535)
 made_has edits draft edit o full h = grind (arith, nat_tests, common_steps)
 
--- a full journal takes nothing
-pub not_full : (full : Bool) (looked : Looked) (edit : Edit) → Ready edit ≡ unless_full full looked
-    → full ≡ false
-not_full full looked edit h = grind (arith, common_steps)
-
 needs : (id : List ℕ) (edits : List Edit) (full : Bool) (edit : Incoming) (e : Edit)
     → IsStorable edits (Ready e) → Ready e ≡ unless_full full (look_at id edits edit)
     → NeedsRoomFor edits [] edit

@@ -38,29 +38,17 @@ pub one_more_item : (vs : List Value) (v : Value) (rest : Option Items)
 one_more_item vs v None = refl
 one_more_item vs v (Some rest) = ap Some (items_push vs v rest)
 
-pub none_before : (rest : Option Items) → rest ≡ option_map (items_before []) rest
-none_before None = refl
-none_before (Some rest) = refl
-
 module _ {A : Type 0} where
   -- a tree that is a value stands in front of others
   pub item_read : (tree : Tree A) (trees : List (Tree A)) (d : Data) → of_json (value_view tree) ≡ Some d
       → of_items (trees_view (tree ∷ trees)) ≡ option_map (item d) (of_items (trees_view trees))
   item_read tree trees d is = rw is refl
 
-  pub item_refused : (tree : Tree A) (trees : List (Tree A)) → of_json (value_view tree) ≡ None
-      → of_items (trees_view (tree ∷ trees)) ≡ None
-  item_refused tree trees is = rw is refl
-
   pub member_read : (m : Bor (List ℕ) × Tree A) (ms : List (Bor (List ℕ) × Tree A)) (found : Members)
       (d : Data) → of_json (value_view m.1) ≡ Some d
       → of_members (tree_members_view (m ∷ ms)) found
       ≡ of_members (tree_members_view ms) (put m.0.now d found)
   member_read m ms found d is = rw is refl
-
-  pub member_refused : (m : Bor (List ℕ) × Tree A) (ms : List (Bor (List ℕ) × Tree A)) (found : Members)
-      → of_json (value_view m.1) ≡ None → of_members (tree_members_view (m ∷ ms)) found ≡ None
-  member_refused m ms found is = rw is refl
 
 -- ---- whole texts
 

@@ -234,11 +234,6 @@ pub stored_whole : (new_edits : Bool) (docs : List Doc) (given : Result Written 
 stored_whole new_edits docs (Ok written) stored lapsed = record { stored = stored; lapsed = lapsed }
 stored_whole new_edits docs (Err e) stored lapsed = tt
 
-pub unstored : (given : Result Written DbFault) → IfErr given (λ e. e ≡ db_fault.NoMemory)
-    → IfErr (with_refusal given) (λ e. e ≡ NoMemory)
-unstored (Ok written) want = tt
-unstored (Err e) want = ap of_db_fault want
-
 -- an edit that was refused is answered as that
 pub edit_refused : (status : ℕ) (doc : Doc) (refusal : Refusal) → IsEdited doc (Err refusal)
     → IsWritten (λ db. edits status db doc) (Err refusal)

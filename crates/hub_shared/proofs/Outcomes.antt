@@ -10,10 +10,6 @@ module _ {T E : Type 0} where
   err_by (Ok a) f p = p
   err_by (Err e) f p = f e p
 
-  pub ok_then : {X Y : Type 0} (r : Result T E) → (X → Y) → OnOk r X → OnOk r Y
-  ok_then (Ok a) f x = f x
-  ok_then (Err e) f x = x
-
   -- what follows of either answer
   pub either : {Q : T → Type 0} {W : E → Type 0} {Z : Type 0} (r : Result T E) → IfOk r Q → IfErr r W
       → ((a : T) → Q a → Z) → ((e : E) → W e → Z) → Z
