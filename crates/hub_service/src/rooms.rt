@@ -10,7 +10,7 @@ use std::alloc::{AllocError, Global};
 use std::sync::{Mutex, Wait};
 
 /// Room for reading the bodies of requests. There are as many rooms as requests were read at one time, each of
-/// some 16 kB and 64 KiB more at most.
+/// some 16 kB, and 4 KiB more at most.
 pub struct JsonRooms {
     alloc: Global,
     /// Those that no request uses.
