@@ -1,3 +1,4 @@
+pub mod AppendLemmas
 mod AskedLemmas
 pub mod MadeLemmas
 pub mod DigestLemmas

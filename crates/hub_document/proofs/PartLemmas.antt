@@ -1,7 +1,7 @@
 -- The parts of a document's text, and the text that they make together.
 use Rattle.std.proofs.Common.{◌≡◌, ℕ, ◌<◌, ◌≤◌, ◌^◌, List, [], ◌∷◌, ◌++◌, length, map, take}
 use Rattle.std.proofs.Common.{take_all, refl, sym, ap, ◌∙◌, arith, append_assoc, append-nil}
-use Rattle.std.proofs.Common.{decimal, codes, true, false, eqb, Some, Result, Ok, Err, OnOk}
+use Rattle.std.proofs.Common.{decimal, codes, true, false, eqb, Some, Result, Ok, Err}
 use Rattle.std.proofs.lemmas.Bool.Decides.{nat_tests}
 use Rattle.std.specs.Prelude.{flat_map, is_ok, if◌then◌else◌}
 use Rattle.std.specs.List.{join_with_byte}
@@ -13,6 +13,8 @@ use Rattle.hub_document.specs.DocText.{member_text, rev_member, deleted_member, 
 use Rattle.hub_document.specs.DocText.{history_text, inside, if_some, doc_text, local_text}
 use Rattle.hub_document.specs.Joined.{after_commas, head_text, ids_text, start_text, count_text, rest_text}
 use Rattle.hub_document.specs.SpecialText.{special_text}
+use Rattle.hub_document.specs.Appends.{Appends}
+use Rattle.hub_document.proofs.AppendLemmas.{appended, front_of}
 use Rattle.hub_document.proofs.WriteLemmas.{quoted_count, three_parts}
 
 -- ---- the names of members
@@ -80,10 +82,12 @@ rest_some body some = ap (λ l. l ++ codes "}") (rest_if (inside body) some)
 -- an object without members of its own
 pub nothing_inside : {E : Type 0} (r : Result (Unit {0}) E) (held new body i : List ℕ)
     → i ≡ inside body → eqb (length i) 0 ≡ true → new ≡ (if is_ok r then held ++ codes "}" else held)
-    → OnOk r (new ≡ held ++ rest_text body)
-nothing_inside (Ok u) held new body [] is none h = h ∙ ap (λ l. held ++ l) (sym (rest_none body (sym is)))
+    → Appends (rest_text body) r held new
+nothing_inside (Ok u) held new body [] is none h =
+    appended (rest_text body) held new (h ∙ ap (λ l. held ++ l) (sym (rest_none body (sym is))))
 nothing_inside (Ok u) held new body (b ∷ bs) is none h = absurd (grind (arith, nat_tests))
-nothing_inside (Err e) held new body i is none h = tt
+nothing_inside (Err e) held new body i is none h =
+    record { ok = tt; front = front_of [] held new (h ∙ sym (append-nil held)) }
 
 -- and one with some
 pub rest_written : (held new body i : List ℕ) → i ≡ inside body → eqb (length i) 0 ≡ false

@@ -3,12 +3,13 @@ use Rattle.std.proofs.Common.{◌≡◌, ℕ, suc, ◌+◌, ◌%◌, ◌<◌, �
 use Rattle.std.proofs.Common.{length, take, All, IsTrue, refl, sym, ap, ◌∙◌, arith}
 use Rattle.std.proofs.Common.{append_assoc, append-nil, decimal, Result, Ok, Err, OnOk}
 use Rattle.std.proofs.lemmas.Bool.Decides.{nat_tests}
-use Rattle.std.proofs.lemmas.Grind.{common_steps}
 use Rattle.std.proofs.lemmas.Fmt.{decimal_by_steps}
 use Rattle.json.specs.Token.{Token, string}
 use Rattle.json.specs.Print.{escape, escape_byte, quoted, print, print_from}
 use Rattle.json.proofs.Printed.Strings.{escape_byte_plain}
 use Rattle.hub_model.specs.Revision.{Revision, IsRevision, is_hash_byte, text_of}
+use Rattle.hub_document.specs.Appends.{Appends}
+use Rattle.hub_document.proofs.AppendLemmas.{appended, front_of}
 
 -- what a writer of JSON has written after one string
 print_string : (s : List ℕ) → print (string s ∷ []) ≡ quoted s
@@ -18,13 +19,15 @@ print_string s = append-nil (quoted s)
 pub string_written : {E : Type 0} (r : Result (Unit {0}) E) (s held before new : List ℕ)
     (old tokens : List Token)
     → before ≡ held → old ≡ [] → new ≡ before ++ print tokens
-    → OnOk r (tokens ≡ old ++ string s ∷ []) → OnOk r (new ≡ held ++ quoted s)
+    → OnOk r (tokens ≡ old ++ string s ∷ []) → Appends (quoted s) r held new
 string_written (Ok u) s held before new old tokens b o n t =
-    n
+    appended (quoted s) held new
+    (n
     ∙ ap (λ l. before ++ print l) (t ∙ ap (λ l. l ++ string s ∷ []) o)
     ∙ ap (λ l. before ++ l) (print_string s)
-    ∙ ap (λ l. l ++ quoted s) b
-string_written (Err e) s held before new old tokens b o n t = tt
+    ∙ ap (λ l. l ++ quoted s) b)
+string_written (Err e) s held before new old tokens b o n t =
+    record { ok = tt; front = front_of (print tokens) held new (n ∙ ap (λ l. l ++ print tokens) b) }
 
 -- ---- texts that need no escape
 
@@ -121,8 +124,3 @@ four_parts o a b c d = append_assoc ((o ++ a) ++ b) c d ∙ three_parts o a b (c
 pub five_parts : (o a b c d e : List ℕ)
     → ((((o ++ a) ++ b) ++ c) ++ d) ++ e ≡ o ++ (a ++ (b ++ (c ++ (d ++ e))))
 five_parts o a b c d e = append_assoc (((o ++ a) ++ b) ++ c) d e ∙ four_parts o a b c (d ++ e)
-
--- what stands at the front of a front stands at the front
-pub front-front : (old mid new more : List ℕ) → mid ≡ old ++ more → take (length mid) new ≡ mid
-    → take (length old) new ≡ old
-front-front old mid new more e h = grind (arith, common_steps, e, h, ap length e, ap (take (length old)) h)

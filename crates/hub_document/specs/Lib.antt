@@ -1,3 +1,4 @@
+pub mod Appends
 pub mod Asking
 pub mod BodyText
 pub mod Changes

@@ -1,6 +1,7 @@
 //! Rows of changes.
 
-ghost use Rattle.std.specs.Prelude.{◌≡◌, ◌++◌, length, slice_get, take, IfOk, OnOk};
+ghost use Rattle.std.specs.Prelude.{◌≡◌, slice_get, IfOk};
+ghost use Rattle.hub_document.specs.Appends.{Appends};
 ghost use Rattle.hub_document.specs.DocText.{doc_text, rev_member, row_doc};
 ghost use Rattle.hub_document.specs.Joined.{after_commas};
 
@@ -55,9 +56,8 @@ fn copied_body(alloc: Global, body: &Option<Body>) -> Result<Option<Body>, Alloc
 
 // The revision of the document, which is the first that the row lists, if it lists one.
 fn put_winner(out: &mut Vec<u8>, changes: &Changes) -> Result<(), AllocError>
-    ensures ok { OnOk result
-        (out.new.items ≡ out.old.items ++ after_commas (rev_member (slice_get changes.now 0))) }
-    ensures front { take (length out.old.items) out.new.items ≡ out.old.items }
+    ensures { Appends
+        (after_commas (rev_member (slice_get changes.now 0))) result out.old.items out.new.items }
 {
     match changes.lent() {
         LentChanges::One(rev) => put_digest_rev(out, rev),
@@ -87,8 +87,7 @@ impl ChangeRow {
     /// length. After an error what was held still stands in front, and a part of the text may stand
     /// behind it.
     pub fn write_doc(&self, out: &mut Vec<u8>, body: &Body) -> Result<(), AllocError>
-        ensures ok { OnOk result (out.new.items ≡ out.old.items ++ doc_text (row_doc self.now body.now)) }
-        ensures front { take (length out.old.items) out.new.items ≡ out.old.items }
+        ensures { Appends (doc_text (row_doc self.now body.now)) result out.old.items out.new.items }
     {
         put_head(out, self.id.as_str())?;
         put_winner(out, &self.changes)?;

@@ -1,6 +1,7 @@
 //! Documents.
 
-ghost use Rattle.std.specs.Prelude.{◌≡◌, ◌++◌, length, take, IfOk, OnOk, OnErr};
+ghost use Rattle.std.specs.Prelude.{◌≡◌, ◌++◌, IfOk, OnOk, OnErr};
+ghost use Rattle.hub_document.specs.Appends.{Appends};
 ghost use Rattle.hub_document.specs.DocText.{doc_text};
 ghost use Rattle.hub_document.specs.SpecialText.{special_text};
 
@@ -65,8 +66,7 @@ impl Doc {
 
 // The members that are not its own.
 fn put_special(out: &mut Vec<u8>, doc: &Doc) -> Result<(), AllocError>
-    ensures ok { OnOk result (out.new.items ≡ out.old.items ++ special_text doc.now) }
-    ensures front { take (length out.old.items) out.new.items ≡ out.old.items }
+    ensures { Appends (special_text doc.now) result out.old.items out.new.items }
 {
     put_head(out, doc.id.as_str())?;
     put_rev(out, &doc.rev)?;
@@ -76,8 +76,7 @@ fn put_special(out: &mut Vec<u8>, doc: &Doc) -> Result<(), AllocError>
 }
 
 fn put_doc(out: &mut Vec<u8>, doc: &Doc) -> Result<(), AllocError>
-    ensures ok { OnOk result (out.new.items ≡ out.old.items ++ doc_text doc.now) }
-    ensures front { take (length out.old.items) out.new.items ≡ out.old.items }
+    ensures { Appends (doc_text doc.now) result out.old.items out.new.items }
 {
     put_special(out, doc)?;
     put_rest(out, &doc.body)?;

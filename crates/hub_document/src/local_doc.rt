@@ -1,7 +1,8 @@
 //! Local documents.
 
-ghost use Rattle.std.specs.Prelude.{◌≡◌, ◌⊎◌, ◌++◌, length, take, IfOk, IfErr};
+ghost use Rattle.std.specs.Prelude.{◌≡◌, ◌⊎◌, ◌++◌, IfOk, IfErr};
 ghost use Rattle.std.specs.Prelude.{IsSome, OnOk, OnErr, Ok, Err, string_bytes};
+ghost use Rattle.hub_document.specs.Appends.{Appends};
 ghost use Rattle.hub_document.specs.DocText.{local_text};
 ghost use Rattle.serde_json.specs.View.{view, members_view};
 ghost use Rattle.hub_document.specs.Local.{IsLocalId, is_local_id as is_local};
@@ -133,8 +134,7 @@ impl LocalDoc {
 }
 
 fn put_local(out: &mut Vec<u8>, id: &str, count: u64, body: &Body) -> Result<(), AllocError>
-    ensures ok { OnOk result (out.new.items ≡ out.old.items ++ local_text id.now count body.now) }
-    ensures front { take (length out.old.items) out.new.items ≡ out.old.items }
+    ensures { Appends (local_text id.now count body.now) result out.old.items out.new.items }
 {
     put_head(out, id)?;
     put_count(out, count)?;

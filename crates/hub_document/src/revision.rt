@@ -3,12 +3,13 @@
 mod digest;
 mod digest_rev;
 
-ghost use Rattle.std.specs.Prelude.{◌≡◌, ◌≤◌, ◌-◌, ◌<◌, ◌^◌, ◌++◌, length, take};
+ghost use Rattle.std.specs.Prelude.{◌≡◌, ◌≤◌, ◌-◌, ◌<◌, ◌++◌, length};
 ghost use Rattle.std.specs.Prelude.{replicate, option_map, IfSome, IfNone, OnOk, OnErr};
 ghost use Rattle.std.specs.List.{list_all};
 ghost use Rattle.json.specs.Print.{quoted};
 ghost use Rattle.hub_model.specs.Revision.{IsRevision, text_of, is_hash_byte as is_letter};
 ghost use Rattle.hub_model.specs.Revision.{is_same as is_same_revision};
+ghost use Rattle.hub_document.specs.Appends.{Appends};
 ghost use Rattle.hub_document.specs.RevisionLaws.{TextsRead, ReadsAreTexts};
 ghost use Rattle.hub_document.specs.RevisionText.{number_of, is_hash as is_hash_text, with_hash, revision_of};
 
@@ -168,8 +169,7 @@ impl RevId {
     /// Writes its text as a JSON string behind what the vector holds. After an error what was held
     /// still stands in front, and a part of the string may stand behind it.
     pub fn print_quoted(&self, out: &mut Vec<u8>) -> Result<(), AllocError>
-        ensures ok { OnOk result (out.new.items ≡ out.old.items ++ quoted (text_of self.now)) }
-        ensures front { take (length out.old.items) out.new.items ≡ out.old.items }
+        ensures { Appends (quoted (text_of self.now)) result out.old.items out.new.items }
     {
         out.push(b'"')?;
         self.print(out)?;
@@ -180,8 +180,7 @@ impl RevId {
     /// Writes its hash as a JSON string behind what the vector holds. After an error it is as with
     /// `print_quoted`.
     pub(crate) fn print_hash(&self, out: &mut Vec<u8>) -> Result<(), AllocError>
-        ensures ok { OnOk result (out.new.items ≡ out.old.items ++ quoted self.now.hash) }
-        ensures front { take (length out.old.items) out.new.items ≡ out.old.items }
+        ensures { Appends (quoted self.now.hash) result out.old.items out.new.items }
     {
         let hash = &self.bytes[..self.len as usize];
         out.push(b'"')?;

@@ -1,6 +1,7 @@
 //! The texts of sequences.
 
-ghost use Rattle.std.specs.Prelude.{◌≡◌, ◌+◌, ◌<◌, ◌≤◌, ◌∷◌, ◌++◌, length, take, drop, OnOk};
+ghost use Rattle.std.specs.Prelude.{◌≡◌, ◌+◌, ◌<◌, ◌≤◌, ◌∷◌, length, drop};
+ghost use Rattle.hub_document.specs.Appends.{Appends};
 ghost use Rattle.hub_document.specs.SequenceText.{sequence_text};
 
 use itoa::write_digits;
@@ -24,8 +25,7 @@ fn put_before(text: &mut [u8], end: usize, byte: u8) -> usize
 /// behind it.
 #[tactic(auto, unfolding(crate::specs::SequenceText::sequence_text))]
 pub fn put_sequence(out: &mut Vec<u8>, seq: u64, life: u64) -> Result<(), AllocError>
-    ensures ok { OnOk result (out.new.items ≡ out.old.items ++ sequence_text seq life) }
-    ensures front { take (length out.old.items) out.new.items ≡ out.old.items }
+    ensures { Appends (sequence_text seq life) result out.old.items out.new.items }
 {
     // The text is made from its end on.
     let mut text = [b'"'; ROOM];

@@ -1,7 +1,8 @@
 //! The JSON texts of documents, written part by part behind what a vector holds.
 
-ghost use Rattle.std.specs.Prelude.{◌≡◌, ◌++◌, length, take, OnOk, Some};
+ghost use Rattle.std.specs.Prelude.{◌≡◌, Some};
 ghost use Rattle.json.specs.Print.{escape, quoted};
+ghost use Rattle.hub_document.specs.Appends.{Appends};
 ghost use Rattle.hub_document.specs.DocText.{rev_member, deleted_member};
 ghost use Rattle.hub_document.specs.DocText.{history_member, history_text, inside};
 ghost use Rattle.hub_document.specs.Joined.{after_commas, head_text, ids_text};
@@ -19,8 +20,7 @@ use std::mem;
 // Appends the JSON string of a text that needs no escape.
 fn put_plain(out: &mut Vec<u8>, text: &str) -> Result<(), AllocError>
     requires { escape text.now ≡ text.now }
-    ensures ok { OnOk result (out.new.items ≡ out.old.items ++ quoted text.now) }
-    ensures front { take (length out.old.items) out.new.items ≡ out.old.items }
+    ensures { Appends (quoted text.now) result out.old.items out.new.items }
 {
     out.push(b'"')?;
     out.extend_from_slice(text.as_bytes())?;
@@ -30,8 +30,7 @@ fn put_plain(out: &mut Vec<u8>, text: &str) -> Result<(), AllocError>
 
 // Appends the JSON string of any text.
 fn put_escaped(out: &mut Vec<u8>, text: &str) -> Result<(), AllocError>
-    ensures ok { OnOk result (out.new.items ≡ out.old.items ++ quoted text.now) }
-    ensures front { take (length out.old.items) out.new.items ≡ out.old.items }
+    ensures { Appends (quoted text.now) result out.old.items out.new.items }
 {
     let alloc = *out.allocator();
     let mut writer = Writer::new(mem::replace(out, Vec::new(alloc)));
@@ -44,8 +43,7 @@ fn put_escaped(out: &mut Vec<u8>, text: &str) -> Result<(), AllocError>
 /// still stands in front, and a part may stand behind it; so it is with all that is written here. It
 /// costs the text's length, and copies nothing else.
 pub fn put_quoted(out: &mut Vec<u8>, text: &str) -> Result<(), AllocError>
-    ensures ok { OnOk result (out.new.items ≡ out.old.items ++ quoted text.now) }
-    ensures front { take (length out.old.items) out.new.items ≡ out.old.items }
+    ensures { Appends (quoted text.now) result out.old.items out.new.items }
 {
     if is_plain(text.as_bytes()) {
         put_plain(out, text)
@@ -56,8 +54,7 @@ pub fn put_quoted(out: &mut Vec<u8>, text: &str) -> Result<(), AllocError>
 
 // The brace and the id.
 pub(crate) fn put_head(out: &mut Vec<u8>, id: &str) -> Result<(), AllocError>
-    ensures ok { OnOk result (out.new.items ≡ out.old.items ++ head_text id.now) }
-    ensures front { take (length out.old.items) out.new.items ≡ out.old.items }
+    ensures { Appends (head_text id.now) result out.old.items out.new.items }
 {
     out.extend_from_slice(b"{\"_id\":")?;
     put_quoted(out, id)?;
@@ -65,8 +62,7 @@ pub(crate) fn put_head(out: &mut Vec<u8>, id: &str) -> Result<(), AllocError>
 }
 
 pub(crate) fn put_rev(out: &mut Vec<u8>, rev: &Option<RevId>) -> Result<(), AllocError>
-    ensures ok { OnOk result (out.new.items ≡ out.old.items ++ after_commas (rev_member rev.now)) }
-    ensures front { take (length out.old.items) out.new.items ≡ out.old.items }
+    ensures { Appends (after_commas (rev_member rev.now)) result out.old.items out.new.items }
 {
     let Some(rev) = rev else {
         return Ok(());
@@ -78,8 +74,7 @@ pub(crate) fn put_rev(out: &mut Vec<u8>, rev: &Option<RevId>) -> Result<(), Allo
 
 // The same of a revision whose hash is a digest's text.
 pub(crate) fn put_digest_rev(out: &mut Vec<u8>, rev: &DigestRev) -> Result<(), AllocError>
-    ensures ok { OnOk result (out.new.items ≡ out.old.items ++ after_commas (rev_member (Some rev.now))) }
-    ensures front { take (length out.old.items) out.new.items ≡ out.old.items }
+    ensures { Appends (after_commas (rev_member (Some rev.now))) result out.old.items out.new.items }
 {
     out.extend_from_slice(b",\"_rev\":")?;
     rev.print_quoted(out)?;
@@ -87,8 +82,7 @@ pub(crate) fn put_digest_rev(out: &mut Vec<u8>, rev: &DigestRev) -> Result<(), A
 }
 
 pub(crate) fn put_deleted(out: &mut Vec<u8>, deleted: bool) -> Result<(), AllocError>
-    ensures ok { OnOk result (out.new.items ≡ out.old.items ++ after_commas (deleted_member deleted)) }
-    ensures front { take (length out.old.items) out.new.items ≡ out.old.items }
+    ensures { Appends (after_commas (deleted_member deleted)) result out.old.items out.new.items }
 {
     if deleted {
         out.extend_from_slice(b",\"_deleted\":true")?;
@@ -98,8 +92,7 @@ pub(crate) fn put_deleted(out: &mut Vec<u8>, deleted: bool) -> Result<(), AllocE
 
 // The hashes, each a string.
 fn put_hashes(out: &mut Vec<u8>, revisions: &[RevId]) -> Result<(), AllocError>
-    ensures ok { OnOk result (out.new.items ≡ out.old.items ++ ids_text revisions.now) }
-    ensures front { take (length out.old.items) out.new.items ≡ out.old.items }
+    ensures { Appends (ids_text revisions.now) result out.old.items out.new.items }
 {
     let Some((first, rest)) = revisions.split_first() else {
         return Ok(());
@@ -113,8 +106,7 @@ fn put_hashes(out: &mut Vec<u8>, revisions: &[RevId]) -> Result<(), AllocError>
 }
 
 fn put_start(out: &mut Vec<u8>, generation: u16) -> Result<(), AllocError>
-    ensures ok { OnOk result (out.new.items ≡ out.old.items ++ start_text generation) }
-    ensures front { take (length out.old.items) out.new.items ≡ out.old.items }
+    ensures { Appends (start_text generation) result out.old.items out.new.items }
 {
     let mut number = Buffer::new();
     out.extend_from_slice(b"{\"start\":")?;
@@ -124,8 +116,7 @@ fn put_start(out: &mut Vec<u8>, generation: u16) -> Result<(), AllocError>
 }
 
 fn put_history(out: &mut Vec<u8>, path: &Path) -> Result<(), AllocError>
-    ensures ok { OnOk result (out.new.items ≡ out.old.items ++ history_text path.now) }
-    ensures front { take (length out.old.items) out.new.items ≡ out.old.items }
+    ensures { Appends (history_text path.now) result out.old.items out.new.items }
 {
     put_start(out, path.head().generation())?;
     put_hashes(out, path.revisions())?;
@@ -134,8 +125,7 @@ fn put_history(out: &mut Vec<u8>, path: &Path) -> Result<(), AllocError>
 }
 
 pub(crate) fn put_path(out: &mut Vec<u8>, path: &Option<Path>) -> Result<(), AllocError>
-    ensures ok { OnOk result (out.new.items ≡ out.old.items ++ after_commas (history_member path.now)) }
-    ensures front { take (length out.old.items) out.new.items ≡ out.old.items }
+    ensures { Appends (after_commas (history_member path.now)) result out.old.items out.new.items }
 {
     let Some(path) = path else {
         return Ok(());
@@ -157,8 +147,7 @@ fn inside_of(text: &[u8]) -> &[u8]
 
 // A body's own members, and the brace. The text is copied as it stands.
 pub(crate) fn put_rest(out: &mut Vec<u8>, body: &Body) -> Result<(), AllocError>
-    ensures ok { OnOk result (out.new.items ≡ out.old.items ++ rest_text body.now) }
-    ensures front { take (length out.old.items) out.new.items ≡ out.old.items }
+    ensures { Appends (rest_text body.now) result out.old.items out.new.items }
 {
     let inside = inside_of(body.as_bytes());
     if inside.is_empty() {
@@ -172,8 +161,7 @@ pub(crate) fn put_rest(out: &mut Vec<u8>, body: &Body) -> Result<(), AllocError>
 
 // The `_rev` of a local document.
 pub(crate) fn put_count(out: &mut Vec<u8>, count: u64) -> Result<(), AllocError>
-    ensures ok { OnOk result (out.new.items ≡ out.old.items ++ count_text count) }
-    ensures front { take (length out.old.items) out.new.items ≡ out.old.items }
+    ensures { Appends (count_text count) result out.old.items out.new.items }
 {
     let mut number = Buffer::new();
     out.extend_from_slice(b",\"_rev\":\"0-")?;

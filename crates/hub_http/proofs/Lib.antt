@@ -1,4 +1,3 @@
-pub mod AppendLemmas
 pub mod BlockLemmas
 pub mod BoxLemmas
 pub mod ChangeLemmas

@@ -1,5 +1,4 @@
 pub mod Counts
-pub mod Appends
 pub mod Heads
 pub mod Looking
 pub mod Stream

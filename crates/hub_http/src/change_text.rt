@@ -1,7 +1,7 @@
 //! The texts of rows of changes.
 
 ghost use Rattle.std.specs.Prelude.{◌≡◌, ◌<◌, [], ◌∷◌, ◌++◌, Some, codes, decimal};
-ghost use Rattle.hub_http.specs.Appends.{Appends};
+ghost use Rattle.hub_document.specs.Appends.{Appends};
 ghost use Rattle.json.specs.Print.{escape};
 ghost use Rattle.hub_http.specs.ChangeTexts.{revision_text, revisions_text, row_mark, doc_member, row_end};
 ghost use Rattle.hub_http.specs.ChangeTexts.{id_member, row_head, change_row_text, change_end_text};

@@ -1,7 +1,7 @@
 //! The texts of a feed's items.
 
 ghost use Rattle.std.specs.Prelude.{◌≡◌};
-ghost use Rattle.hub_http.specs.Appends.{Appends};
+ghost use Rattle.hub_document.specs.Appends.{Appends};
 ghost use Rattle.hub_http.specs.Items.{separator, before_row, after_row, before_end, item_text, feed_head};
 
 use crate::row_text::RowText;

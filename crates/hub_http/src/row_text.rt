@@ -1,7 +1,7 @@
 //! Rows as a feed writes them.
 
 ghost use Rattle.std.specs.Prelude.{ℕ, List};
-ghost use Rattle.hub_http.specs.Appends.{Appends};
+ghost use Rattle.hub_document.specs.Appends.{Appends};
 
 use std::alloc::AllocError;
 

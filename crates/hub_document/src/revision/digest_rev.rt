@@ -1,9 +1,10 @@
 //! Revisions whose hashes are digests, in little memory.
 
-ghost use Rattle.std.specs.Prelude.{◌≡◌, ◌≤◌, ◌<◌, ◌∷◌, [], ◌++◌, length, take, OnOk};
+ghost use Rattle.std.specs.Prelude.{◌≡◌, ◌≤◌, ◌<◌, ◌∷◌, [], ◌++◌};
 ghost use Rattle.hex.specs.Hex.{encode_lower};
 ghost use Rattle.json.specs.Print.{quoted};
 ghost use Rattle.hub_model.specs.Revision.{text_of};
+ghost use Rattle.hub_document.specs.Appends.{Appends};
 
 use crate::revision::RevId;
 use crate::revision::digest::write_digits;
@@ -60,12 +61,10 @@ fn ending(digest: &[u8; 16]) -> [u8; 34]
 // Appends the text of the revision of this generation and digest, as a JSON string.
 fn put_long(out: &mut Vec<u8>, generation: u16, digest: &[u8; 16]) -> Result<(), AllocError>
     requires { 1 ≤ generation }
-    ensures ok { OnOk result
-        (out.new.items ≡ out.old.items ++ quoted (text_of (record {
-          generation = generation;
-          hash = encode_lower digest.now;
-        }))) }
-    ensures front { take (length out.old.items) out.new.items ≡ out.old.items }
+    ensures { Appends (quoted (text_of (record {
+      generation = generation;
+      hash = encode_lower digest.now;
+    }))) result out.old.items out.new.items }
 {
     let mut number = Buffer::new();
     out.extend_from_slice(b"\"")?;
@@ -118,8 +117,7 @@ impl DigestRev {
     /// Writes its text as a JSON string behind what the vector holds. After an error what was held
     /// still stands in front, and a part of the string may stand behind it.
     pub fn print_quoted(&self, out: &mut Vec<u8>) -> Result<(), AllocError>
-        ensures ok { OnOk result (out.new.items ≡ out.old.items ++ quoted (text_of self.now)) }
-        ensures front { take (length out.old.items) out.new.items ≡ out.old.items }
+        ensures { Appends (quoted (text_of self.now)) result out.old.items out.new.items }
     {
         if self.generation < 10 {
             return out.extend_from_slice(short_text(self.generation, &self.digest).as_slice());

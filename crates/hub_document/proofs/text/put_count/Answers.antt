@@ -1,10 +1,12 @@
+use Rattle.hub_document.proofs.AppendLemmas.{appended}
 use Rattle.hub_document.proofs.PartLemmas.{count_is}
 use Rattle.hub_document.proofs.WriteLemmas.{three_parts}
 use Rattle.hub_document.proofs.text.put_count.Goals as goal
 
-pub returns-clause-ok : goal.returns-clause-ok
-returns-clause-ok c =
-    rw (
+pub returns : goal.returns
+returns c =
+    appended _ _ _
+    (rw (
       count_is c.args.count c.ranges.count.fits,
       c.in_ok-extend_from_slice-3.ensures.items,
       c.in_ok-extend_from_slice-2.ensures.items,
@@ -12,4 +14,4 @@ returns-clause-ok c =
       c.format.ensures.text,
       c.in_ok-extend_from_slice.ensures.items,
     )
-    (three_parts c.args.out.now.items _ _ _)
+    (three_parts c.args.out.now.items _ _ _))

@@ -1,8 +1,10 @@
+use Rattle.hub_document.proofs.AppendLemmas.{appended}
 use Rattle.std.proofs.Common.{append_assoc}
 use Rattle.hub_document.proofs.PartLemmas.{history_is}
 use Rattle.hub_document.proofs.text.put_path.Goals as goal
 
-pub returns-clause-ok : goal.returns-clause-ok
-returns-clause-ok c =
-    rw (c.in-Some.is, history_is, c.in_ok-put_history.ensures.ok, c.in_ok-extend_from_slice.ensures.items)
-    (append_assoc c.args.out.now.items _ _)
+pub returns : goal.returns
+returns c =
+    appended _ _ _
+    (rw (c.in-Some.is, history_is, c.in_ok-put_history.ensures.ok, c.in_ok-extend_from_slice.ensures.items)
+    (append_assoc c.args.out.now.items _ _))

@@ -1,4 +1,4 @@
-use Rattle.hub_http.proofs.AppendLemmas.{appended}
+use Rattle.hub_document.proofs.AppendLemmas.{appended}
 use Rattle.std.proofs.Common.{◌∙◌, ap, sym}
 use Rattle.hub_document.specs.Changes.{lent_in}
 use Rattle.hub_http.proofs.ChangeLemmas.{one_revision}

@@ -1,4 +1,4 @@
-use Rattle.hub_http.proofs.AppendLemmas.{appended}
+use Rattle.hub_document.proofs.AppendLemmas.{appended}
 use Rattle.std.proofs.Common.{sym, append-nil, append_assoc}
 use Rattle.hub_http.specs.ChangeTexts.{doc_member}
 use Rattle.hub_http.proofs.change_text.put_doc.Goals as goal

@@ -1,4 +1,4 @@
-use Rattle.hub_http.proofs.AppendLemmas.{appended}
+use Rattle.hub_document.proofs.AppendLemmas.{appended}
 use Rattle.hub_http.proofs.ChangeLemmas.{doc_ended}
 use Rattle.hub_http.proofs.change_text.put_doc_end.Goals as goal
 

@@ -1,4 +1,4 @@
-use Rattle.hub_http.proofs.AppendLemmas.{appended}
+use Rattle.hub_document.proofs.AppendLemmas.{appended}
 use Rattle.hub_http.proofs.ChangeLemmas.{plain_parts}
 use Rattle.hub_http.specs.ChangeTexts.{plain_front}
 use Rattle.hub_http.proofs.change_text.put_plain_front.Goals as goal

@@ -1,4 +1,4 @@
-use Rattle.hub_http.proofs.AppendLemmas.{appended}
+use Rattle.hub_document.proofs.AppendLemmas.{appended}
 use Rattle.hub_http.proofs.ChangeLemmas.{plain_row}
 use Rattle.hub_http.specs.ChangeTexts.{change_row_text}
 use Rattle.hub_http.proofs.change_text.put_plain_row.Goals as goal

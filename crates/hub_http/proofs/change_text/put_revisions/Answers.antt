@@ -1,7 +1,6 @@
 use Rattle.std.proofs.Common.{rules}
-use Rattle.hub_http.proofs.AppendLemmas.{appended}
+use Rattle.hub_document.proofs.AppendLemmas.{appended, front-front}
 use Rattle.hub_http.proofs.ChangeLemmas.{no_revisions, revisions_written}
-use Rattle.hub_document.proofs.WriteLemmas.{front-front}
 use Rattle.hub_http.proofs.change_text.put_revisions.Goals as goal
 
 pub returns-in_default : goal.returns-in_default

@@ -1,3 +1,4 @@
+use Rattle.hub_document.proofs.AppendLemmas.{appended}
 use Rattle.std.proofs.Common.{◌≡◌, ℕ, List, [], ◌++◌, sym, ap, ◌∙◌, append-nil}
 use Rattle.hub_document.proofs.PartLemmas.{doc_written}
 use Rattle.hub_document.proofs.WriteLemmas.{three_parts}
@@ -12,10 +13,11 @@ front_written held a b new h r d head rev deleted =
     ∙ three_parts held h r d
     ∙ ap (λ l. held ++ (h ++ (r ++ l))) (sym (append-nil d))
 
-pub returns-clause-ok : goal.returns-clause-ok
-returns-clause-ok c =
-    rw (← c.self.view_is)
+pub returns : goal.returns
+returns c =
+    appended _ _ _
+    (rw (← c.self.view_is)
     (doc_written c.args.out.now.items _ _ _
     (front_written c.args.out.now.items _ _ _ _ _ _ (rw c.as_str.ensures.value at c.in_ok-put_head.ensures.ok)
     c.in_ok-put_winner.ensures.ok c.in_ok-put_deleted.ensures.ok)
-    c.in_ok-put_rest.ensures.ok)
+    c.in_ok-put_rest.ensures.ok))

@@ -1,10 +1,12 @@
+use Rattle.hub_document.proofs.AppendLemmas.{appended}
 use Rattle.std.proofs.Common.{◌<◌, ◌^◌, refl, rules}
 use Rattle.hub_document.proofs.DigestLemmas.{digest_quoted}
 use Rattle.hub_document.proofs.revision.digest_rev.put_long.Goals as goal
 
-pub returns-clause-ok : goal.returns-clause-ok
-returns-clause-ok c =
-    let below : c.args.generation < 2 ^ 16 = search rules in
+pub returns : goal.returns
+returns c =
+    appended _ _ _
+    (let below : c.args.generation < 2 ^ 16 = search rules in
     digest_quoted c.args.out.now.items c.args.digest.now _ c.args.generation
     c.requires below c.fits-digest c.told-digest
     (rw (
@@ -15,4 +17,4 @@ returns-clause-ok c =
       c.format.ensures.text,
       c.as_slice.ensures,
       c.ending.ensures,
-    ) refl)
+    ) refl))

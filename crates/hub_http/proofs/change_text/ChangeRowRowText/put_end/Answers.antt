@@ -1,4 +1,4 @@
-use Rattle.hub_http.proofs.AppendLemmas.{appended}
+use Rattle.hub_document.proofs.AppendLemmas.{appended}
 use Rattle.hub_http.specs.ChangeTexts.{change_end_text}
 use Rattle.hub_document.proofs.WriteLemmas.{five_parts}
 use Rattle.hub_http.proofs.change_text.ChangeRowRowText.put_end.Goals as goal

@@ -1,4 +1,4 @@
-use Rattle.hub_http.proofs.AppendLemmas.{appended}
+use Rattle.hub_document.proofs.AppendLemmas.{appended}
 use Rattle.hub_http.specs.UpdateTexts.{update_row_text}
 use Rattle.hub_http.proofs.UpdateLemmas.{seven_parts}
 use Rattle.hub_http.proofs.update_text.UpdateRowRowText.put_row.Goals as goal

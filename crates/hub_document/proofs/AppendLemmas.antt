@@ -1,0 +1,23 @@
+-- Appends to a buffer.
+use Rattle.std.proofs.Common.{◌≡◌, ℕ, List, ◌++◌, Result, Ok, Err, OnOk, ap, ◌∙◌, length, take, arith}
+use Rattle.std.proofs.lemmas.Grind.{common_steps}
+use lib.Seq.{take-append_seam}
+use Rattle.hub_document.specs.Appends.{Appends}
+
+on_ok : {E : Type 0} {P : Type 0} (result : Result (Unit {0}) E) → P → OnOk result P
+on_ok (Ok u) p = p
+on_ok (Err e) p = tt
+
+-- what any text stands behind stands in front
+pub front_of : (text old new : List ℕ) → new ≡ old ++ text → take (length old) new ≡ old
+front_of text old new e = ap (take (length old)) e ∙ take-append_seam old text
+
+-- a text that stands behind what was held leaves that in front
+pub appended : {E : Type 0} {result : Result (Unit {0}) E} (text old new : List ℕ) → new ≡ old ++ text
+    → Appends text result old new
+appended {result = result} text old new e = record { ok = on_ok result e; front = front_of text old new e }
+
+-- what stands at the front of a front stands at the front
+pub front-front : (old mid new more : List ℕ) → mid ≡ old ++ more → take (length mid) new ≡ mid
+    → take (length old) new ≡ old
+front-front old mid new more e h = grind (arith, common_steps, e, h, ap length e, ap (take (length old)) h)
