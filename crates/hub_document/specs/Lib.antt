@@ -22,3 +22,4 @@ pub mod RevisionText
 pub mod SequenceText
 pub mod SpecialMembers
 pub mod SpecialText
+pub mod Writing

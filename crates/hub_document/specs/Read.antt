@@ -1,7 +1,7 @@
 -- The document that a JSON value is, or the first fault in it (CouchDB API reference, documents and
 -- `_bulk_docs`; the order of the faults is own).
-use Rattle.std.specs.Prelude.{ℕ, List, length, slice_get, Bool, not, nat_lt, if◌then◌else◌, Option, Some}
-use Rattle.std.specs.Prelude.{None, option_map, Result, Ok, Err, ⊤}
+use Rattle.std.specs.Prelude.{◌≡◌, ℕ, List, length, slice_get, Bool, true, false, not, nat_lt}
+use Rattle.std.specs.Prelude.{if◌then◌else◌, Option, Some, None, option_map, Result, Ok, Err, ⊤}
 use Rattle.hub_model.specs.Revision.{Revision}
 use Rattle.serde_json.specs.Data.{Data, Members}
 use Rattle.std.specs.Str.{is_utf8}
@@ -10,7 +10,7 @@ use Rattle.serde_json.specs.Find.{as_object}
 use Rattle.serde_json.specs.Written.{members_have_float}
 use Rattle.hub_document.specs.SpecialMembers.{are_good_members, deleted_of}
 use Rattle.hub_document.specs.BodyText.{body_text}
-use Rattle.hub_document.specs.Ids.{id_of}
+use Rattle.hub_document.specs.Ids.{is_id, id_of}
 use Rattle.hub_document.specs.Histories.{rev_of, path_of}
 use Rattle.hub_document.specs.declared.doc.DocFault.{DocFault}
 use Rattle.hub_document.specs.declared.doc.DocFault.TheVariants.{NotJson, NotObject, BadNumber, BadId, BadRev}
@@ -33,6 +33,11 @@ history_of new_edits rev content =
     option_map (λ path. (slice_get path 0, Some path)) (path_of rev content)
 
 -- ---- the faults in their order
+
+-- the members can be a document's under the id: no number of them is a float, and the id is good
+pub record IsStorable (members : Members) (id : List ℕ) : Type 0 where
+  pub whole : members_have_float members ≡ false
+  pub good : is_id id ≡ true
 
 -- the rest, where the head and the path are known
 abbrev pub with_path : Data → Members → List ℕ → Option Revision → Option (List Revision)

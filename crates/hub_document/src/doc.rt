@@ -1,7 +1,7 @@
 //! Documents.
 
-ghost use Rattle.std.specs.Prelude.{◌≡◌, ◌++◌, IfOk, OnOk, OnErr};
-ghost use Rattle.hub_document.specs.Appends.{Appends};
+ghost use Rattle.std.specs.Prelude.{◌≡◌, IfOk};
+ghost use Rattle.hub_document.specs.Appends.{Appends, AppendsWhole};
 ghost use Rattle.hub_document.specs.DocText.{doc_text};
 ghost use Rattle.hub_document.specs.SpecialText.{special_text};
 
@@ -34,8 +34,7 @@ impl Doc {
     /// `_deleted` where it is deleted, `_revisions` where it has a path. Where that needs more memory
     /// than there is, the vector stays as it was. It costs the text's length.
     pub fn write(&self, out: &mut Vec<u8>) -> Result<(), AllocError>
-        ensures ok { OnOk result (out.new.items ≡ out.old.items ++ doc_text self.now) }
-        ensures err { OnErr result (out.new.items ≡ out.old.items) }
+        ensures { AppendsWhole (doc_text self.now) result out.old.items out.new.items }
     {
         let held = out.len();
         match put_doc(out, self) {

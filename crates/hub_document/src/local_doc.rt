@@ -1,8 +1,8 @@
 //! Local documents.
 
-ghost use Rattle.std.specs.Prelude.{◌≡◌, ◌⊎◌, ◌++◌, IfOk, IfErr};
-ghost use Rattle.std.specs.Prelude.{IsSome, OnOk, OnErr, Ok, Err, string_bytes};
-ghost use Rattle.hub_document.specs.Appends.{Appends};
+ghost use Rattle.std.specs.Prelude.{◌≡◌, ◌⊎◌, IfOk, IfErr};
+ghost use Rattle.std.specs.Prelude.{IsSome, Ok, Err, string_bytes};
+ghost use Rattle.hub_document.specs.Appends.{Appends, AppendsWhole};
 ghost use Rattle.hub_document.specs.DocText.{local_text};
 ghost use Rattle.serde_json.specs.View.{view, members_view};
 ghost use Rattle.hub_document.specs.Local.{IsLocalId, is_local_id as is_local};
@@ -145,8 +145,7 @@ fn put_local(out: &mut Vec<u8>, id: &str, count: u64, body: &Body) -> Result<(),
 /// Writes a local document behind what the vector holds: `count` says how often it was written, and
 /// is its revision `0-count`. Where that needs more memory than there is, the vector stays as it was.
 pub fn write_local(out: &mut Vec<u8>, id: &str, count: u64, body: &Body) -> Result<(), AllocError>
-    ensures ok { OnOk result (out.new.items ≡ out.old.items ++ local_text id.now count body.now) }
-    ensures err { OnErr result (out.new.items ≡ out.old.items) }
+    ensures { AppendsWhole (local_text id.now count body.now) result out.old.items out.new.items }
 {
     let held = out.len();
     match put_local(out, id, count, body) {

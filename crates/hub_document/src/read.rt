@@ -1,15 +1,13 @@
 //! Documents from JSON texts and values.
 
-ghost use Rattle.std.specs.Prelude.{is_some, not, IfSome, ◌≡◌, ◌<◌, length, nat_lt, if◌then◌else◌};
-ghost use Rattle.std.specs.Prelude.{◌⊎◌, IfOk, IfErr, IsOk, Ok, Err, Some, None, true, false};
-ghost use Rattle.hub_document.specs.Ids.{is_id};
+ghost use Rattle.std.specs.Prelude.{is_some, not, IfSome, ◌≡◌, length, nat_lt, if◌then◌else◌};
+ghost use Rattle.std.specs.Prelude.{◌⊎◌, IfOk, IfErr, IsOk, Ok, Err, Some, None, false};
 ghost use Rattle.serde_json.specs.View.{view, members_view};
 ghost use Rattle.hub_document.specs.Read.{with_path as path_gives, with_rev as rev_gives};
-ghost use Rattle.hub_document.specs.Read.{with_id as id_gives, document_of};
-ghost use Rattle.hub_document.specs.Read.{history_of as history_in, doc_of, doc_in, json_of};
-ghost use Rattle.hub_document.specs.Reading.{Reads};
+ghost use Rattle.hub_document.specs.Read.{with_id as id_gives, document_of, IsStorable};
+ghost use Rattle.hub_document.specs.Read.{history_of as history_in, doc_of, doc_in};
+ghost use Rattle.hub_document.specs.Reading.{Reads, ReadsEdit, ReadsJson};
 ghost use Rattle.hub_document.specs.SpecialMembers.{are_good_members as are_good};
-ghost use Rattle.serde_json.specs.Written.{members_have_float as members_have_float_in};
 
 use crate::body::body_of;
 use crate::doc::{Doc, DocFault};
@@ -70,8 +68,7 @@ pub(crate) fn with_path(
     rev: Option<RevId>,
     path: Option<Path>,
 ) -> Result<Doc, DocFault>
-    requires whole { members_have_float_in (members_view members.now.entries) ≡ false }
-    requires id { is_id id.now ≡ true }
+    requires { IsStorable (members_view members.now.entries) id.now }
     ensures reads { Reads
         (path_gives (view value.now) (members_view members.now.entries) id.now rev path) result }
     ensures history { IfOk result (λ d. d.path ≡ path) }
@@ -122,11 +119,9 @@ fn with_rev(
     id: &str,
     rev: Option<RevId>,
 ) -> Result<Doc, DocFault>
-    requires whole { members_have_float_in (members_view members.now.entries) ≡ false }
-    requires id { is_id id.now ≡ true }
-    ensures reads { Reads
+    requires { IsStorable (members_view members.now.entries) id.now }
+    ensures { ReadsEdit new_edits
         (rev_gives new_edits (view value.now) (members_view members.now.entries) id.now rev) result }
-    ensures history { IfOk result (λ d. is_some d.path ≡ not new_edits) }
 {
     let history = match history_of(alloc, new_edits, rev, value) {
         Ok(history) => history,
@@ -146,11 +141,9 @@ fn with_id(
     members: &Map<String, Value>,
     id: &str,
 ) -> Result<Doc, DocFault>
-    requires whole { members_have_float_in (members_view members.now.entries) ≡ false }
-    requires id { is_id id.now ≡ true }
-    ensures reads { Reads
+    requires { IsStorable (members_view members.now.entries) id.now }
+    ensures { ReadsEdit new_edits
         (id_gives new_edits (view value.now) (members_view members.now.entries) id.now) result }
-    ensures history { IfOk result (λ d. is_some d.path ≡ not new_edits) }
 {
     let Some(rev) = rev_of(value, new_edits) else {
         return Err(DocFault::BadRev);
@@ -165,9 +158,8 @@ fn document_from(
     value: &Value,
     members: &Map<String, Value>,
 ) -> Result<Doc, DocFault>
-    ensures reads { Reads
+    ensures { ReadsEdit new_edits
         (document_of new_edits (view value.now) (members_view members.now.entries)) result }
-    ensures history { IfOk result (λ d. is_some d.path ≡ not new_edits) }
 {
     if members_have_float(members) {
         return Err(DocFault::BadNumber);
@@ -181,10 +173,7 @@ fn document_from(
 /// The JSON value that a text is. It costs the text's length. Whatever the text is, it takes room
 /// before that is known; an empty one takes none.
 pub fn read_value(alloc: Global, bytes: &[u8]) -> Result<Value, DocFault>
-    ensures ok { IfOk result (λ v. json_of bytes.now ≡ Some (view v)) }
-    ensures err { IfErr result (λ e. (e ≡ DocFault.NoMemory)
-        ⊎ ((e ≡ DocFault.NotJson) × (json_of bytes.now ≡ None))) }
-    ensures memory { IfErr result (λ e. e ≡ DocFault.NoMemory → 0 < length bytes.now) }
+    ensures { ReadsJson bytes.now result }
 {
     match Value::from_slice(alloc, bytes) {
         Ok(value) => Ok(value),
@@ -204,12 +193,7 @@ pub fn read_value(alloc: Global, bytes: &[u8]) -> Result<Value, DocFault>
 /// method of `Doc`: each crate that names a type is proved over the contracts of all its methods, and so over
 /// those of `Value`.
 pub fn read_doc(alloc: Global, value: &Value, new_edits: bool) -> Result<Doc, DocFault>
-    ensures ok { IfOk result (λ d. doc_of new_edits (view value.now) ≡ Ok d) }
-    ensures err { IfErr result (λ e. (e ≡ DocFault.NoMemory)
-        ⊎ (doc_of new_edits (view value.now) ≡ Err e)) }
-    ensures memory { IfErr result
-        (λ e. e ≡ DocFault.NoMemory → IsOk (doc_of new_edits (view value.now))) }
-    ensures history { IfOk result (λ d. is_some d.path ≡ not new_edits) }
+    ensures { ReadsEdit new_edits (doc_of new_edits (view value.now)) result }
 {
     let Some(members) = value.as_object() else {
         return Err(DocFault::NotObject);

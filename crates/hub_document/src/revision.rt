@@ -9,7 +9,7 @@ ghost use Rattle.std.specs.List.{list_all};
 ghost use Rattle.json.specs.Print.{quoted};
 ghost use Rattle.hub_model.specs.Revision.{IsRevision, text_of, is_hash_byte as is_letter};
 ghost use Rattle.hub_model.specs.Revision.{is_same as is_same_revision};
-ghost use Rattle.hub_document.specs.Appends.{Appends};
+ghost use Rattle.hub_document.specs.Appends.{Appends, AppendsWhole};
 ghost use Rattle.hub_document.specs.RevisionLaws.{TextsRead, ReadsAreTexts};
 ghost use Rattle.hub_document.specs.RevisionText.{number_of, is_hash as is_hash_text, with_hash, revision_of};
 
@@ -153,8 +153,7 @@ impl RevId {
     /// Writes its text behind what the vector holds. Where that needs more memory than there is, the
     /// vector stays as it was.
     pub fn print(&self, out: &mut Vec<u8>) -> Result<(), AllocError>
-        ensures ok { OnOk result (out.new.items ≡ out.old.items ++ text_of self.now) }
-        ensures err { OnErr result (out.new.items ≡ out.old.items) }
+        ensures appends { AppendsWhole (text_of self.now) result out.old.items out.new.items }
         ensures good { IsRevision self.now }
     {
         let mut buffer = Buffer::new();

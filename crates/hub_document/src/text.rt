@@ -1,7 +1,7 @@
 //! The JSON texts of documents, written part by part behind what a vector holds.
 
 ghost use Rattle.std.specs.Prelude.{◌≡◌, Some};
-ghost use Rattle.json.specs.Print.{escape, quoted};
+ghost use Rattle.json.specs.Print.{quoted};
 ghost use Rattle.hub_document.specs.Appends.{Appends};
 ghost use Rattle.hub_document.specs.DocText.{rev_member, deleted_member};
 ghost use Rattle.hub_document.specs.DocText.{history_member, history_text, inside};
@@ -16,17 +16,6 @@ use itoa::Buffer;
 use json::Writer;
 use std::alloc::AllocError;
 use std::mem;
-
-// Appends the JSON string of a text that needs no escape.
-fn put_plain(out: &mut Vec<u8>, text: &str) -> Result<(), AllocError>
-    requires { escape text.now ≡ text.now }
-    ensures { Appends (quoted text.now) result out.old.items out.new.items }
-{
-    out.push(b'"')?;
-    out.extend_from_slice(text.as_bytes())?;
-    out.push(b'"')?;
-    Ok(())
-}
 
 // Appends the JSON string of any text.
 fn put_escaped(out: &mut Vec<u8>, text: &str) -> Result<(), AllocError>
@@ -45,11 +34,13 @@ fn put_escaped(out: &mut Vec<u8>, text: &str) -> Result<(), AllocError>
 pub fn put_quoted(out: &mut Vec<u8>, text: &str) -> Result<(), AllocError>
     ensures { Appends (quoted text.now) result out.old.items out.new.items }
 {
-    if is_plain(text.as_bytes()) {
-        put_plain(out, text)
-    } else {
-        put_escaped(out, text)
+    if !is_plain(text.as_bytes()) {
+        return put_escaped(out, text);
     }
+    out.push(b'"')?;
+    out.extend_from_slice(text.as_bytes())?;
+    out.push(b'"')?;
+    Ok(())
 }
 
 // The brace and the id.

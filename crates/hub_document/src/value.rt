@@ -3,14 +3,14 @@
 //! `serde_json` clears 16 kB for each text that it reads. The kit's `json` reads into a tree that borrows from
 //! its text, with room of its caller's. The tree is then made into a value of `serde_json`.
 
-ghost use Rattle.std.specs.Prelude.{◌≡◌, ◌⊎◌, ◌<◌, ◌==◌, length, None, Some, true, false, IfErr, IfOk, IsTrue};
-ghost use Rattle.std.specs.Prelude.{option_map, slice_index};
+ghost use Rattle.std.specs.Prelude.{◌≡◌, ◌⊎◌, ◌<◌, ◌==◌, length, None, Some, true, false};
+ghost use Rattle.std.specs.Prelude.{IfErr, IfOk, IsTrue, option_map, slice_index};
 ghost use Rattle.fast_float.specs.Text.{minus};
 ghost use Rattle.json.specs.Value.{value_view, items_view as trees_view, members_view as tree_members_view};
 ghost use Rattle.serde_json.specs.Data.{no_members};
 ghost use Rattle.serde_json.specs.Read.{number_of, number_from, float_of, of_json, of_items, of_members};
 ghost use Rattle.serde_json.specs.View.{view, number_view, items_view, members_view};
-ghost use Rattle.hub_document.specs.Read.{json_of};
+ghost use Rattle.hub_document.specs.Reading.{ReadsJson};
 
 use crate::doc::DocFault;
 use crate::read::read_value;
@@ -146,10 +146,7 @@ impl JsonRoom {
     /// The JSON value that a text is, as `read_value`. It costs the text's length. A text of 4 KiB at most is
     /// read with this room, and clears no other.
     pub fn read(&mut self, alloc: Global, bytes: &[u8]) -> Result<Value, DocFault>
-        ensures ok { IfOk result (λ v. json_of bytes.now ≡ Some (view v)) }
-        ensures err { IfErr result (λ e. (e ≡ DocFault.NoMemory)
-            ⊎ ((e ≡ DocFault.NotJson) × (json_of bytes.now ≡ None))) }
-        ensures memory { IfErr result (λ e. e ≡ DocFault.NoMemory → 0 < length bytes.now) }
+        ensures { ReadsJson bytes.now result }
     {
         if bytes.len() > SHORT {
             return read_value(alloc, bytes);
@@ -160,10 +157,7 @@ impl JsonRoom {
 
 /// The JSON value that a text is.
 fn read_with(alloc: Global, bytes: &[u8], scratch: &mut Scratch) -> Result<Value, DocFault>
-    ensures ok { IfOk result (λ v. json_of bytes.now ≡ Some (view v)) }
-    ensures err { IfErr result (λ e. (e ≡ DocFault.NoMemory)
-        ⊎ ((e ≡ DocFault.NotJson) × (json_of bytes.now ≡ None))) }
-    ensures memory { IfErr result (λ e. e ≡ DocFault.NoMemory → 0 < length bytes.now) }
+    ensures { ReadsJson bytes.now result }
 {
     let Ok(text) = simdutf8::compat::from_utf8(bytes) else {
         return Err(DocFault::NotJson);

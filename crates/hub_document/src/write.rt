@@ -1,12 +1,13 @@
 //! Writing JSON values behind one another into one text.
 
-ghost use Rattle.std.specs.Prelude.{◌≡◌, ◌++◌, false, OnOk};
+ghost use Rattle.std.specs.Prelude.{◌≡◌, false};
 ghost use Rattle.json.specs.Tree.{json_tokens, items_tokens, members_tokens};
 ghost use Rattle.serde_json.specs.View.{view, number_view, items_view, members_view};
 ghost use Rattle.serde_json.specs.Find.{is_float};
 ghost use Rattle.serde_json.specs.Data.{number};
 ghost use Rattle.serde_json.specs.Written.{has_float, items_have_float, members_have_float};
 ghost use Rattle.serde_json.specs.Written.{outline, items_outline, members_outline};
+ghost use Rattle.hub_document.specs.Writing.{WritesTokens};
 
 use json::Writer;
 use serde_json::{Map, Number, Value};
@@ -14,9 +15,7 @@ use std::alloc::AllocError;
 
 fn write_number(value: &Number, out: &mut Writer) -> Result<(), AllocError>
     requires { is_float (number_view value.now) ≡ false }
-    ensures ok { OnOk result (out.new.tokens
-        ≡ out.old.tokens ++ json_tokens (outline (number (number_view value.now)))) }
-    ensures before { out.new.before ≡ out.old.before }
+    ensures { WritesTokens (json_tokens (outline (number (number_view value.now)))) result out.old out.new }
 {
     if let Some(whole) = value.as_u64() {
         return out.u64(whole);
@@ -31,9 +30,7 @@ fn write_number(value: &Number, out: &mut Writer) -> Result<(), AllocError>
 #[cycle(write)]
 pub(crate) fn write_value(value: &Value, out: &mut Writer) -> Result<(), AllocError>
     requires { has_float (view value.now) ≡ false }
-    ensures ok { OnOk result (out.new.tokens
-        ≡ out.old.tokens ++ json_tokens (outline (view value.now))) }
-    ensures before { out.new.before ≡ out.old.before }
+    ensures { WritesTokens (json_tokens (outline (view value.now))) result out.old out.new }
 {
     match value {
         Value::Null => out.null(),
@@ -54,9 +51,8 @@ pub(crate) fn write_value(value: &Value, out: &mut Writer) -> Result<(), AllocEr
 #[cycle(write)]
 fn write_items(items: &Vec<Value>, out: &mut Writer) -> Result<(), AllocError>
     requires { items_have_float (items_view items.now.items) ≡ false }
-    ensures ok { OnOk result (out.new.tokens
-        ≡ out.old.tokens ++ items_tokens (items_outline (items_view items.now.items))) }
-    ensures before { out.new.before ≡ out.old.before }
+    ensures { WritesTokens (items_tokens (items_outline (items_view items.now.items))) result
+        out.old out.new }
 {
     for item in items {
         write_value(item, out)?;
@@ -67,9 +63,8 @@ fn write_items(items: &Vec<Value>, out: &mut Writer) -> Result<(), AllocError>
 #[cycle(write)]
 fn write_members(members: &Map<String, Value>, out: &mut Writer) -> Result<(), AllocError>
     requires { members_have_float (members_view members.now.entries) ≡ false }
-    ensures ok { OnOk result (out.new.tokens
-        ≡ out.old.tokens ++ members_tokens (members_outline (members_view members.now.entries))) }
-    ensures before { out.new.before ≡ out.old.before }
+    ensures { WritesTokens (members_tokens (members_outline (members_view members.now.entries))) result
+        out.old out.new }
 {
     for (key, member) in members.iter() {
         out.key(key.as_str())?;

@@ -8,7 +8,7 @@ returns c =
     (rw (
       quoted_text c.args.self.now c.print.ensures.good,
       c.in_ok-push-2.ensures.items,
-      c.in_ok-print.ensures.ok,
+      c.in_ok-print.ensures.appends.ok,
       c.in_ok-push.ensures.items,
     )
     (three_parts c.args.out.now.items _ _ _))
