@@ -11,6 +11,6 @@ pub record Appends {E : Type 0} (text : List ℕ) (result : Result (Unit {0}) E)
 -- The text stands behind what the buffer held, or out of memory the buffer is as it was. Where ab is put
 -- behind x the buffer holds xab, and out of memory x.
 pub record AppendsWhole {E : Type 0} (text : List ℕ) (result : Result (Unit {0}) E) (old new : List ℕ)
-  : Type 0 where
-    pub ok : OnOk result (new ≡ old ++ text)
-    pub err : OnErr result (new ≡ old)
+    : Type 0 where
+  pub ok : OnOk result (new ≡ old ++ text)
+  pub err : OnErr result (new ≡ old)
