@@ -3,12 +3,10 @@
 //! `serde_json` clears 16 kB for each text that it reads. The kit's `json` reads into a tree that borrows from
 //! its text, with room of its caller's. The tree is then made into a value of `serde_json`.
 
-ghost use Rattle.std.specs.Prelude.{◌≡◌, ◌⊎◌, ◌<◌, ◌==◌, length, None, Some, true, false};
-ghost use Rattle.std.specs.Prelude.{IfErr, IfOk, IsTrue, option_map, slice_index};
-ghost use Rattle.fast_float.specs.Text.{minus};
+ghost use Rattle.std.specs.Prelude.{◌≡◌, ◌⊎◌, None, Some, IfErr, IfOk, option_map};
 ghost use Rattle.json.specs.Value.{value_view, items_view as trees_view, members_view as tree_members_view};
 ghost use Rattle.serde_json.specs.Data.{no_members};
-ghost use Rattle.serde_json.specs.Read.{number_of, number_from, float_of, of_json, of_items, of_members};
+ghost use Rattle.serde_json.specs.Read.{number_of, of_json, of_items, of_members};
 ghost use Rattle.serde_json.specs.View.{view, number_view, items_view, members_view};
 ghost use Rattle.hub_document.specs.Reading.{ReadsJson};
 
@@ -26,49 +24,25 @@ const MAX_DEPTH: usize = 127;
 /// less than its tree.
 const SHORT: usize = 4_096;
 
-/// The float that is nearest; None where it is not finite.
-fn float_of(negative: bool, numeral: &Numeral<'_>) -> Option<Number>
-    ensures { option_map number_view result ≡ float_of negative numeral.now }
-{
-    Number::from_f64(numeral.to_float::<f64>(negative))
-}
-
-/// The number of a numeral without a sign.
-fn unsigned_of(numeral: &Numeral<'_>) -> Option<Number>
-    ensures { option_map number_view result ≡ number_from false numeral.now }
-{
-    match numeral.to_u64() {
-        Some(n) => Some(Number::from(n)),
-        None => float_of(false, numeral),
-    }
-}
-
-/// The number of a numeral behind a minus sign: `-0` is a float.
-fn negative_of(numeral: &Numeral<'_>) -> Option<Number>
-    ensures { option_map number_view result ≡ number_from true numeral.now }
-{
-    match numeral.to_i64(true) {
-        Some(n) if n < 0 => Some(Number::from(n)),
-        _ => float_of(true, numeral),
-    }
-}
-
-fn has_minus(bytes: &[u8]) -> bool
-    ensures sign { result ≡ (slice_index bytes.now 0 == minus) }
-    ensures some { IsTrue result → 0 < length bytes.now }
-{
-    !bytes.is_empty() && bytes[0] == b'-'
-}
-
-/// The number that a token of JSON writes; None where it is too large for a float.
+/// The number that a token of JSON writes; None where it is too large for a float. `-0` is a float.
 fn number_of(text: &str) -> Option<Number>
     ensures { option_map number_view result ≡ number_of text.now }
 {
-    let bytes = text.as_bytes();
-    if has_minus(bytes) {
-        negative_of(&Numeral::scan(&bytes[1..]))
-    } else {
-        unsigned_of(&Numeral::scan(bytes))
+    match text.as_bytes() {
+        [b'-', digits @ ..] => {
+            let numeral = Numeral::scan(digits);
+            match numeral.to_i64(true) {
+                Some(n) if n < 0 => Some(Number::from(n)),
+                _ => Number::from_f64(numeral.to_float::<f64>(true)),
+            }
+        }
+        digits => {
+            let numeral = Numeral::scan(digits);
+            match numeral.to_u64() {
+                Some(n) => Some(Number::from(n)),
+                None => Number::from_f64(numeral.to_float::<f64>(false)),
+            }
+        }
     }
 }
 
