@@ -60,6 +60,12 @@ impl<S: HostView> FeedEnd<S> {
         self.receiver.label()
     }
 
+    /// Whether an item is left of the block that the lane gave last: `take` gives it. Constant time.
+    #[inline(always)]
+    pub(crate) fn has_item(&self) -> bool {
+        self.block.len() > 0
+    }
+
     /// Takes the first item that the lane got and that was not taken yet: what was taken is the beginning
     /// of a list that is rightly handed, with the parameters and the since of the label. There is none only
     /// where the lane was empty at a moment of the call, and no item was left of its blocks; then no memory
@@ -71,17 +77,15 @@ impl<S: HostView> FeedEnd<S> {
         ensures allowed { IsAllowedBeginning
             (λ l items. S.right (params_in l.asked) l.since items) self.new }
     {
-        if let Some(item) = self.block.next() {
+        if self.block.len() > 0 {
             let _label = self.receiver.label();
-            return Some(item);
+            return self.block.next();
         }
         let Some(block) = self.receiver.take(rt) else {
             self.block = Vec::new(self.alloc).into_iter();
             return None;
         };
-        let mut items = block.into_items().into_iter();
-        let item = items.next();
-        self.block = items;
-        item
+        self.block = block.into_items().into_iter();
+        self.block.next()
     }
 }
