@@ -77,15 +77,17 @@ impl<S: HostView> FeedEnd<S> {
         ensures allowed { IsAllowedBeginning
             (λ l items. S.right (params_in l.asked) l.since items) self.new }
     {
-        if self.block.len() > 0 {
+        if let Some(item) = self.block.next() {
             let _label = self.receiver.label();
-            return self.block.next();
+            return Some(item);
         }
         let Some(block) = self.receiver.take(rt) else {
             self.block = Vec::new(self.alloc).into_iter();
             return None;
         };
-        self.block = block.into_items().into_iter();
-        self.block.next()
+        let mut items = block.into_items().into_iter();
+        let item = items.next();
+        self.block = items;
+        item
     }
 }
