@@ -1,12 +1,13 @@
 #!/usr/bin/env python3
 """What the hub costs, and how the cost grows.
 
-    python3 bench/bench.py [--small] [--no-callgrind]
+    python3 bench/bench.py [--small | --growth] [--no-callgrind]
 
 builds the proved hub (./hub does it), makes its own requests, runs them through `changes_hub stdin`,
 prints a table, and writes the figures beside it, to bench/out/figures.json. Only Python's standard
 library is used; valgrind, where it is there, counts instructions for one small case. No figure is
-asserted anywhere: a figure is read.
+asserted anywhere: a figure is read. --growth takes batches, a feed of everything and GETs alone, up to
+1,000,000 documents.
 
 Each case is a list of requests. A case that reads has a setup, which is run alone too, and what is
 told is the difference. Times are processor times of the hub, user and system, since they are steadier
@@ -283,12 +284,33 @@ def build():
         sys.exit("the hub was not built")
 
 
+def measure_growth():
+    """The cases whose growth is told up to 1,000,000 documents, with the memory that these take."""
+    entries = []
+    for size in [1000, 10000, 100000, 1000000]:
+        stored = batches(size, 100)
+        times = max(1, READ // size)
+        entries += [
+            measure("replicated batches", size, size, None, stored, 2),
+            measure("normal feed", size, size * times, stored, feed() * times, 2, times),
+            measure("pipelined GETs", size, READ, stored, gets(min(size, READ)) * times, 2, times),
+        ]
+    for name, exponent in growth(entries).items():
+        print("growth of %s: %.2f" % (name, exponent))
+    for name, ratio in ratios(entries).items():
+        print("%s: %.2f" % (name, ratio))
+
+
 def main():
     parser = argparse.ArgumentParser(description=__doc__.split("\n\n")[0])
     parser.add_argument("--small", action="store_true", help="up to 10,000 documents")
+    parser.add_argument("--growth", action="store_true", help="three cases alone, up to 1,000,000 documents")
     parser.add_argument("--no-callgrind", action="store_true", help="count no instructions")
     options = parser.parse_args()
     build()
+    if options.growth:
+        measure_growth()
+        return
     sizes = [1000, 10000] if options.small else [1000, 10000, 100000]
     print(
         "%-28s %9s %10s %11s %13s %8s %8s %9s"

@@ -118,6 +118,37 @@ class Wrk:
         return float(re.search(r"Requests/sec:\s+([\d.]+)", told).group(1)), 1e6 * spent / max(count, 1), late
 
 
+class Batches:
+    """A hundred batches of 1,000 new documents of about 100 bytes, one after the other."""
+
+    name = "batches of 1,000"
+    count = 100
+    runs = 0
+
+    def measure(self, server):
+        """Documents a second, microseconds of the server for each, and the milliseconds of the slowest batch."""
+        Batches.runs += 1
+        bodies = []
+        for number in range(self.count):
+            ids = ("%d-%d-%d" % (Batches.runs, number, at) for at in range(1000))
+            docs = [{"_id": it, "number": number, "text": "x" * 72} for it in ids]
+            bodies.append(json.dumps({"docs": docs}, separators=(",", ":")).encode())
+        client = http.client.HTTPConnection("127.0.0.1", server.port)
+        client.connect()
+        took, before = [], server.seconds()
+        for body in bodies:
+            since = time.monotonic()
+            client.request("POST", "/put/_bulk_docs", body)
+            answer = client.getresponse()
+            answer.read()
+            took.append(time.monotonic() - since)
+            if answer.status != 201:
+                sys.exit("a batch: %d" % answer.status)
+        client.close()
+        documents = 1000 * self.count
+        return documents / sum(took), 1e6 * (server.seconds() - before) / documents, 1e3 * max(took)
+
+
 class Rows:
     """A normal feed of 100,000 rows, the median of seven."""
 
@@ -196,7 +227,7 @@ def main():
     asked = parser.parse_args()
     programs = dict(word.split("=", 1) for word in asked.programs)
     cases = [Wrk(kind, n, asked.seconds) for kind in ("PUT", "GET") for n in (1, 16, 64)]
-    cases += [Rows("rows", ""), Rows("rows with documents", "?include_docs=true")]
+    cases += [Batches(), Rows("rows", ""), Rows("rows with documents", "?include_docs=true")]
     cases = [case for case in cases if any(case.name.startswith(word) for word in asked.case or [""])]
     names, figures = list(programs), {}
     for round_ in range(asked.rounds):

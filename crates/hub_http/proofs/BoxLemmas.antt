@@ -1,11 +1,7 @@
 -- What leaves an outbox.
 use Rattle.std.proofs.Common.{◌≡◌, ℕ, ◌+◌, ◌-◌, ◌≤◌, List, [], ◌++◌, length}
 use Rattle.std.proofs.Common.{drop, sym, ap, subst, ◌∙◌, append-nil, arith}
-use lib.Seq.{drop-append-le, drop-append-add, drop-append_seam}
-
--- a front of the first part went
-pub drop_first : (x y z : List ℕ) (n : ℕ) → n ≤ length x → z ≡ drop n x → z ++ y ≡ drop n (x ++ y)
-drop_first x y z n low is = ap (λ l. l ++ y) is ∙ sym (drop-append-le n x y low)
+use lib.Seq.{drop-append-add, drop-append_seam}
 
 drop_whole : (x : List ℕ) → drop (length x) x ≡ []
 drop_whole x = subst (λ l. drop (length x) l ≡ []) (append-nil x) (drop-append_seam x [])

@@ -48,8 +48,7 @@ revisions_written held mid new revision revisions all i e first later end =
 
 -- the parts of the front of a row whose id needs no escape
 pub plain_parts : (held : List ℕ) (life seq : ℕ) (id : List ℕ)
-    → ((((held ++ codes "{\"seq\":\"") ++ decimal seq) ++ 45 ∷ (decimal life ++ codes "\",\"id\":\"")) ++ id)
-    ++ codes "\",\"changes\":[{\"rev\":"
+    → ((held ++ codes "{\"seq\":\"") ++ (decimal seq ++ 45 ∷ (decimal life ++ codes "\",\"id\":\""))) ++ id
     ≡ held ++ plain_front life seq id
 unfolding plain_front
 plain_parts held life seq id = simp append_assoc
@@ -57,7 +56,8 @@ plain_parts held life seq id = simp append_assoc
 -- a row whose id needs no escape and whose only revision is this one
 pub plain_row : (held : List ℕ) (life : ℕ) (row : ChangeRow) (revision : Revision) → escape row.id ≡ row.id
     → row.changes ≡ revision ∷ []
-    → ((held ++ plain_front life row.seq row.id) ++ quoted (text_of revision)) ++ (125 ∷ row_end row)
+    → ((held ++ plain_front life row.seq row.id)
+    ++ (codes "\",\"changes\":[{\"rev\":" ++ quoted (text_of revision))) ++ (125 ∷ row_end row)
     ≡ held ++ (row_head life row.seq row.id ++ (revisions_text row.changes ++ row_end row))
 unfolding plain_front row_head id_member sequence_text revision_text revisions_text
 plain_row held life row revision plain only = simp (append_assoc, plain, only)

@@ -37,12 +37,11 @@ id_member id = codes ",\"id\":" ++ (quoted id ++ codes ",\"changes\":[")
 unfoldable pub row_head : (life seq : ℕ) → List ℕ → List ℕ
 row_head life seq id = codes "{\"seq\":" ++ (sequence_text seq life ++ id_member id)
 
--- the front of a row whose id needs no escape, as far as its first revision
+-- The front of a row whose id needs no escape, as far as the id. In life 1 it is `{"seq":"3-1","id":"a` of the
+-- row of a at 3.
 unfoldable pub plain_front : (life seq : ℕ) → List ℕ → List ℕ
 plain_front life seq id =
-    codes "{\"seq\":\""
-    ++ (decimal seq
-    ++ (codes "-" ++ (decimal life ++ (codes "\",\"id\":\"" ++ (id ++ codes "\",\"changes\":[{\"rev\":")))))
+    codes "{\"seq\":\"" ++ (decimal seq ++ (codes "-" ++ (decimal life ++ (codes "\",\"id\":\"" ++ id))))
 
 -- a row as a JSON object, in a feed of this life: its sequence is written with the number of the life. In
 -- life 1 the row of a at 3 with 2-b is `{"seq":"3-1","id":"a","changes":[{"rev":"2-b"}]}`, and where it is

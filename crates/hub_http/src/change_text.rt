@@ -1,8 +1,9 @@
 //! The texts of rows of changes.
 
-ghost use Rattle.std.specs.Prelude.{◌≡◌, ◌<◌, [], ◌∷◌, ◌++◌, Some, codes, decimal};
+ghost use Rattle.std.specs.Prelude.{◌≡◌, ◌<◌, ◌≤◌, [], ◌∷◌, ◌++◌, Some, codes, decimal, drop, length};
 ghost use Rattle.hub_document.specs.Appends.{Appends};
-ghost use Rattle.json.specs.Print.{escape};
+ghost use Rattle.json.specs.Print.{escape, quoted};
+ghost use Rattle.hub_model.specs.Revision.{text_of};
 ghost use Rattle.hub_http.specs.ChangeTexts.{revision_text, revisions_text, row_mark, doc_member, row_end};
 ghost use Rattle.hub_http.specs.ChangeTexts.{id_member, row_head, change_row_text, change_end_text};
 ghost use Rattle.hub_http.specs.ChangeTexts.{plain_front};
@@ -11,7 +12,7 @@ use crate::row_text::RowText;
 use hub_document::{
     Body, ChangeRow, Changes, DigestRev, LentChanges, RevId, is_plain, put_quoted, put_sequence,
 };
-use itoa::Buffer;
+use itoa::{Buffer, write_digits};
 use std::alloc::AllocError;
 
 fn put_revision(out: &mut Vec<u8>, rev: &RevId) -> Result<(), AllocError>
@@ -119,37 +120,60 @@ fn put_any_row(out: &mut Vec<u8>, life: u64, row: &ChangeRow) -> Result<(), Allo
     Ok(())
 }
 
-// What stands between the number of a sequence and an id, where the number of the life has one digit.
-fn short_middle(life: u64) -> [u8; 10]
+// Room for the 20 digits of a sequence, and behind it what stands between the sequence and an id, where the
+// number of the life has one digit.
+fn sequence_room(life: u64) -> [u8; 30]
     requires { life < 10 }
-    ensures { result ≡ 45 ∷ (decimal life ++ codes "\",\"id\":\"") }
+    ensures { drop 20 result ≡ 45 ∷ (decimal life ++ codes "\",\"id\":\"") }
 {
-    [
-        b'-',
-        b'0' + life as u8,
-        b'"',
-        b',',
-        b'"',
-        b'i',
-        b'd',
-        b'"',
-        b':',
-        b'"',
-    ]
+    let mut room = *b"00000000000000000000-0\",\"id\":\"";
+    room[21] = b'0' + life as u8;
+    room
 }
 
-// Appends the front of a row whose id needs no escape, as far as its first revision, in few parts.
+// Appends what a text has from this place on.
+fn put_from(out: &mut Vec<u8>, text: &[u8], at: usize) -> Result<(), AllocError>
+    requires { at ≤ length text.now }
+    ensures { Appends (drop at text.now) result out.old.items out.new.items }
+{
+    out.extend_from_slice(&text[at..])
+}
+
+// Appends the front of a row whose id needs no escape, as far as the id, in few parts.
 fn put_plain_front(out: &mut Vec<u8>, life: u64, seq: u64, id: &str) -> Result<(), AllocError>
     requires { life < 10 }
     ensures { Appends (plain_front life seq id.now) result out.old.items out.new.items }
 {
-    let mut number = Buffer::new();
+    let mut text = sequence_room(life);
+    let at = write_digits(seq, &mut text, 20);
     out.extend_from_slice(b"{\"seq\":\"")?;
-    out.extend_from_slice(number.format(seq).as_bytes())?;
-    out.extend_from_slice(short_middle(life).as_slice())?;
+    put_from(out, text.as_slice(), at)?;
     out.extend_from_slice(id.as_bytes())?;
-    out.extend_from_slice(b"\",\"changes\":[{\"rev\":")?;
     Ok(())
+}
+
+// What stands between an id and the end of a row's only revision, which has this text.
+fn revision_part(text: &[u8; 36]) -> [u8; 56]
+    ensures { result ≡ codes "\",\"changes\":[{\"rev\":" ++ text.now }
+{
+    let mut part = *b"\",\"changes\":[{\"rev\":....................................";
+    part[20..].copy_from_slice(text.as_slice());
+    part
+}
+
+// Appends the only revision of a row, and what stands between the id and it.
+fn put_only_revision(out: &mut Vec<u8>, rev: &DigestRev) -> Result<(), AllocError>
+    ensures { Appends (codes "\",\"changes\":[{\"rev\":" ++ quoted (text_of rev.now)) result
+        out.old.items out.new.items }
+{
+    match rev.short_text() {
+        Some(text) => out.extend_from_slice(revision_part(&text).as_slice()),
+        None => {
+            out.extend_from_slice(b"\",\"changes\":[{\"rev\":")?;
+            rev.print_quoted(out)?;
+            Ok(())
+        }
+    }
 }
 
 // Appends what stands behind the only revision of a row that brings no document.
@@ -210,7 +234,7 @@ fn put_plain_row(
     ensures { Appends (change_row_text life row.now) result out.old.items out.new.items }
 {
     put_plain_front(out, life, row.seq, row.id.as_str())?;
-    rev.print_quoted(out)?;
+    put_only_revision(out, rev)?;
     put_only_end(out, row)?;
     Ok(())
 }

@@ -95,6 +95,11 @@ impl ChunkWriter {
         }
     }
 
+    /// Whether it has memory of its own, as behind its first chunk. Constant time.
+    pub fn has_room(&self) -> bool {
+        self.buffer.capacity() > 0
+    }
+
     /// Leaves the room for the head of a chunk in the buffer, and nothing behind it.
     fn begin(&mut self) -> Result<(), AllocError>
         ensures { OnOk result (length self.new.buffer.items ≡ head_room) }

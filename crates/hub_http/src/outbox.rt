@@ -100,11 +100,11 @@ impl Outbox {
             self.texts.take(texts);
             self.moved.take(count - texts);
         }
-        self.release();
     }
 
-    /// Gives back room that is not needed.
-    fn release(&mut self)
+    /// Gives back the room that is not needed, where nothing is to go. A sender of many texts calls it behind
+    /// the last of them. Constant time.
+    pub fn release(&mut self)
         ensures same { pending_in self.new ≡ pending_in self.old }
         ensures faults { faults_in self.new ≡ faults_in self.old }
     {

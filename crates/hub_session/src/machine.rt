@@ -247,7 +247,16 @@ impl<S: Service> Session<S> {
         ensures run { RunsOn S.rules (λ run. with_gone run (handed_of result (seen self.old).pending))
             (seen self.old) (seen self.new) }
     {
-        self.outbox.send_to(writer)
+        let handed = self.outbox.send_to(writer);
+        if !self.is_streaming() {
+            self.outbox.release();
+        }
+        handed
+    }
+
+    /// Whether items of a stream were sent since the last one was waited for. Constant time.
+    fn is_streaming(&self) -> bool {
+        matches!(self.place, Place::Within(..)) && self.chunks.has_room()
     }
 
     /// The other side is gone: a session that did not close does so as `Broken`, and its service gets back

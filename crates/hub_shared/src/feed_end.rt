@@ -60,6 +60,12 @@ impl<S: HostView> FeedEnd<S> {
         self.receiver.label()
     }
 
+    /// Whether an item is left of the block that the lane gave last: `take` gives it. Constant time.
+    #[inline(always)]
+    pub(crate) fn has_item(&self) -> bool {
+        self.block.len() > 0
+    }
+
     /// Takes the first item that the lane got and that was not taken yet: what was taken is the beginning
     /// of a list that is rightly handed, with the parameters and the since of the label. There is none only
     /// where the lane was empty at a moment of the call, and no item was left of its blocks; then no memory

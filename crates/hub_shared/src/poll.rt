@@ -99,6 +99,10 @@ impl<S: FeedHost, C: Count> HostFeed<S, C> {
         ensures taken { Takes self.old result self.new }
         ensures allowed { IsRightSoFar S.right self.new }
     {
+        if self.end.has_item() {
+            self.idle_since = None;
+            return self.end.take(rt);
+        }
         let item = self.take_handed(rt, gate);
         if item.is_some() {
             self.idle_since = None;

@@ -1,6 +1,6 @@
 //! Revisions whose hashes are digests, in little memory.
 
-ghost use Rattle.std.specs.Prelude.{◌≡◌, ◌≤◌, ◌<◌, ◌∷◌, [], ◌++◌};
+ghost use Rattle.std.specs.Prelude.{◌≡◌, ◌≤◌, ◌<◌, ◌∷◌, [], ◌++◌, IfNone, IfSome};
 ghost use Rattle.hex.specs.Hex.{encode_lower};
 ghost use Rattle.json.specs.Print.{quoted};
 ghost use Rattle.hub_model.specs.Revision.{text_of};
@@ -114,14 +114,27 @@ impl DigestRev {
         RevId::from_digest(self.generation, &self.digest)
     }
 
+    /// Its text as a JSON string; None where its generation has more than one digit. Constant time, and no
+    /// memory.
+    pub fn short_text(&self) -> Option<[u8; 36]>
+        ensures text { IfSome result (λ text. text ≡ quoted (text_of self.now)) }
+        ensures none { IfNone result (10 ≤ self.now.generation) }
+    {
+        if self.generation < 10 {
+            Some(short_text(self.generation, &self.digest))
+        } else {
+            None
+        }
+    }
+
     /// Writes its text as a JSON string behind what the vector holds. After an error what was held
     /// still stands in front, and a part of the string may stand behind it.
     pub fn print_quoted(&self, out: &mut Vec<u8>) -> Result<(), AllocError>
         ensures { Appends (quoted (text_of self.now)) result out.old.items out.new.items }
     {
-        if self.generation < 10 {
-            return out.extend_from_slice(short_text(self.generation, &self.digest).as_slice());
+        match self.short_text() {
+            Some(text) => out.extend_from_slice(text.as_slice()),
+            None => put_long(out, self.generation, &self.digest),
         }
-        put_long(out, self.generation, &self.digest)
     }
 }

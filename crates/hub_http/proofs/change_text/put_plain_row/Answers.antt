@@ -9,7 +9,7 @@ returns c =
     appended _ _ _
     (rw (
       c.in_ok-put_only_end.ensures.ok,
-      c.in_ok-print_quoted.ensures.ok,
+      c.in_ok-put_only_revision.ensures.ok,
       c.in_ok-put_plain_front.ensures.ok,
       c.as_str.ensures.value,
       ← c.row.view_is,
