@@ -253,9 +253,9 @@ impl<R: Input> Requests<R> {
     /// bytes come, whatever `Content-Length` says: for 65,536 bytes at first, then for as many
     /// again as are held, and never for more than the request has. So a body of fewer costs one
     /// reservation, and a longer one is copied where its room grows, in all less than twice its
-    /// length. The bytes that were read behind a request stay where they lie. They are moved where more
-    /// are read and no more are left than were taken, so each byte is moved twice at most. Room for a head
-    /// and a block is kept.
+    /// length. The bytes that were read behind a request stay where they lie. Before a read they are moved to
+    /// the front, where they are no more than those that were taken. So in all no more bytes are moved than
+    /// were taken.
     pub fn next(&mut self) -> Result<Option<Request>, HttpFault>
         ensures told { IsOpen self.old → IfSome (to_come R.left self.old)
             (λ bytes. Leaves bytes result (to_come R.left self.new)) }
