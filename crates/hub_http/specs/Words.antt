@@ -6,7 +6,7 @@ use Rattle.hub_http.specs.Stream.{known, to_read}
 
 -- the bytes that no request took yet, where they are told
 abbrev pub to_come : {R : Type 0} → (R → Option (List ℕ)) → Requests R → Option (List ℕ)
-to_come left q = known q.held.items (to_read q.block (left q.reader))
+to_come left q = known q.held (to_read q.block (left q.reader))
 
 -- no fault came that ends the requests
 abbrev pub IsOpen : {R : Type 0} → Requests R → Type 0

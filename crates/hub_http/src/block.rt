@@ -8,6 +8,7 @@ ghost use Rattle.hub_http.specs.Stream.{to_read};
 use crate::fault::HttpFault;
 use crate::input::Input;
 use crate::output::is_interrupted;
+use crate::pending::Pending;
 use std::alloc::AllocError;
 use std::marker::Model;
 
@@ -97,18 +98,18 @@ impl Block {
 
     /// Moves at most so many bytes from the block's front to the end of those that are held. An
     /// error changes nothing, and comes only where there are some.
-    pub(crate) fn give(&mut self, held: &mut Vec<u8>, most: usize) -> Result<usize, AllocError>
+    pub(crate) fn give(&mut self, held: &mut Pending, most: usize) -> Result<usize, AllocError>
         ensures count { IfOk result (λ n. n ≡ min most (length self.old)) }
-        ensures held { IfOk result (λ n. held.new.items ≡ held.old.items ++ take n self.old) }
+        ensures held { IfOk result (λ n. held.new ≡ held.old ++ take n self.old) }
         ensures rest { IfOk result (λ n. self.new ≡ drop n self.old) }
-        ensures same { OnErr result ((held.new.items ≡ held.old.items) × (self.new ≡ self.old)) }
+        ensures same { OnErr result ((held.new ≡ held.old) × (self.new ≡ self.old)) }
         ensures memory { OnErr result (0 < length self.old) }
     {
         let n = most.min(self.len);
         if n == 0 {
             return Ok(0);
         }
-        held.extend_from_slice(&self.bytes[..n])?;
+        held.put(&self.bytes[..n])?;
         self.bytes.copy_within(n..self.len, 0);
         self.len -= n;
         Ok(n)

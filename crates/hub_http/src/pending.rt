@@ -108,6 +108,7 @@ impl Pending {
         ensures ok { IfOk result (λ v. (v.items ≡ take count (drop before self.old))
             × (self.new ≡ drop (before + count) self.old)) }
         ensures err { OnErr result (self.new ≡ self.old) }
+        ensures memory { OnErr result (0 < count) }
     {
         let from = self.start + before;
         if count > BLOCK {

@@ -41,13 +41,19 @@ fn put_status_line(out: &mut Vec<u8>, status: StatusCode) -> Result<(), AllocErr
     Ok(())
 }
 
-// Appends a head as far as the length of the body. Where the status is 200 it is one append.
+// Appends a head as far as the length of the body. Where the status is 200 or 201 it is one append.
 fn put_front(out: &mut Vec<u8>, status: StatusCode) -> Result<(), AllocError>
     ensures { OnOk result (out.new.items ≡ out.old.items ++ head_front status) }
 {
     if status.as_u16() == 200 {
         out.extend_from_slice(
             b"HTTP/1.1 200 OK\r\nContent-Type: application/json\r\nContent-Length: ",
+        )?;
+        return Ok(());
+    }
+    if status.as_u16() == 201 {
+        out.extend_from_slice(
+            b"HTTP/1.1 201 Created\r\nContent-Type: application/json\r\nContent-Length: ",
         )?;
         return Ok(());
     }

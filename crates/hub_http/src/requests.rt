@@ -12,10 +12,11 @@ ghost use Rattle.hub_http.specs.Looking.{Finds};
 ghost use Rattle.hub_http.specs.Heads.{HasHeadFault};
 ghost use Rattle.hub_http.specs.Offers.{SpellsAll};
 
-use crate::block::{BLOCK, Block};
+use crate::block::Block;
 use crate::fault::HttpFault;
 use crate::head::{HEAD_LIMIT, Head, look};
 use crate::input::Input;
+use crate::pending::Pending;
 use crate::read::read_more;
 use crate::request::Request;
 use std::alloc::Global;
@@ -26,16 +27,16 @@ fn find_head<R: Input>(
     alloc: Global,
     reader: &mut R,
     block: &mut Block,
-    held: &mut Vec<u8>,
+    held: &mut Pending,
 ) -> Result<Option<Head>, HttpFault>
-    ensures kept { Keeps (prepend_known held.old.items (to_read block.old (R.left reader.old)))
-        (prepend_known held.new.items (to_read block.new (R.left reader.new))) }
-    ensures found { Finds held.new.items (to_read block.new (R.left reader.new)) result }
+    ensures kept { Keeps (prepend_known held.old (to_read block.old (R.left reader.old)))
+        (prepend_known held.new (to_read block.new (R.left reader.new))) }
+    ensures found { Finds held.new (to_read block.new (R.left reader.new)) result }
     ensures counts { CallCounts (IsErrOf result HttpFault.IoFault) R.fault_count
         R.failure_count reader.old reader.new }
 {
     loop {
-        match look(alloc, held) {
+        match look(alloc, held.as_slice()) {
             Ok(Some(head)) => return Ok(Some(head)),
             Ok(None) => {}
             Err(e) => return Err(e),
@@ -71,18 +72,15 @@ pub(crate) fn room(held: usize, wanted: usize) -> usize
 fn fill_room<R: Input>(
     reader: &mut R,
     block: &mut Block,
-    held: &mut Vec<u8>,
+    held: &mut Pending,
     wanted: usize,
 ) -> Result<bool, HttpFault>
-    ensures filled { Fills wanted result held.old.items held.new.items
+    ensures filled { Fills wanted result held.old held.new
         (to_read block.old (R.left reader.old)) (to_read block.new (R.left reader.new)) }
     ensures counts { CallCounts (IsErrOf result HttpFault.IoFault) R.fault_count
         R.failure_count reader.old reader.new }
 {
-    if held
-        .reserve_exact(wanted.saturating_sub(held.len()))
-        .is_err()
-    {
+    if held.make_room(wanted).is_err() {
         return Err(HttpFault::NoMemory);
     }
     while held.len() < wanted {
@@ -100,10 +98,10 @@ fn fill_room<R: Input>(
 fn fill<R: Input>(
     reader: &mut R,
     block: &mut Block,
-    held: &mut Vec<u8>,
+    held: &mut Pending,
     wanted: usize,
 ) -> Result<bool, HttpFault>
-    ensures filled { Fills wanted result held.old.items held.new.items
+    ensures filled { Fills wanted result held.old held.new
         (to_read block.old (R.left reader.old)) (to_read block.new (R.left reader.new)) }
     ensures counts { CallCounts (IsErrOf result HttpFault.IoFault) R.fault_count
         R.failure_count reader.old reader.new }
@@ -158,61 +156,15 @@ pub(crate) fn split_body(
     Ok(bytes)
 }
 
-/// Takes so many bytes away from the front of those that are held. It copies the bytes behind them
-/// at once into memory of their own, and where it finds none it moves them in their place, one by one.
-fn drop_front(alloc: Global, held: &mut Vec<u8>, count: usize)
-    requires { count ≤ length held.old.items }
-    ensures { held.new.items ≡ drop count held.old.items }
-{
-    if count == held.len() {
-        held.clear();
-        return;
-    }
-    match Vec::from_slice(alloc, &held[count..]) {
-        Ok(rest) => *held = rest,
-        Err(_) => {
-            held.copy_within(count.., 0);
-            held.truncate(held.len() - count);
-        }
-    }
-}
-
-/// Takes the body from behind a head, and both away from the bytes that are held. An error changes
-/// nothing, and comes only where there is a body. A short body is copied, and a long one keeps the
-/// memory that it was read into, so that no more than a block's stays behind.
-fn take_body(
-    alloc: Global,
-    held: &mut Vec<u8>,
-    len: usize,
-    body: usize,
-) -> Result<Vec<u8>, HttpFault>
-    requires { len + body ≤ length held.old.items }
-    ensures ok { IfOk result (λ v. (v.items ≡ take body (drop len held.old.items))
-        × (held.new.items ≡ drop (len + body) held.old.items)) }
-    ensures err { IfErr result
-        (λ e. (e ≡ HttpFault.NoMemory) × (held.new.items ≡ held.old.items) × (0 < body)) }
-{
-    if body > BLOCK {
-        return split_body(alloc, held, len, body);
-    }
-    let end = len + body;
-    let bytes = match copy_of(alloc, &held[len..end]) {
-        Ok(bytes) => bytes,
-        Err(e) => return Err(e),
-    };
-    drop_front(alloc, held, end);
-    Ok(bytes)
-}
-
 /// Reads the next request, `None` at the end of the input.
 fn read_request<R: Input>(
     alloc: Global,
     reader: &mut R,
     block: &mut Block,
-    held: &mut Vec<u8>,
+    held: &mut Pending,
 ) -> Result<Option<Request>, HttpFault>
-    ensures told { IfSome (known held.old.items (to_read block.old (R.left reader.old)))
-        (λ bytes. Leaves bytes result (known held.new.items (to_read block.new (R.left reader.new)))) }
+    ensures told { IfSome (known held.old (to_read block.old (R.left reader.old)))
+        (λ bytes. Leaves bytes result (known held.new (to_read block.new (R.left reader.new)))) }
     ensures counts { CallCounts (IsErrOf result HttpFault.IoFault) R.fault_count
         R.failure_count reader.old reader.new }
 {
@@ -227,9 +179,9 @@ fn read_request<R: Input>(
         Ok(false) => return Err(HttpFault::Ended),
         Err(e) => return Err(e),
     }
-    let body = match take_body(alloc, held, head.len, body_len) {
+    let body = match held.take_body(alloc, head.len, body_len) {
         Ok(body) => body,
-        Err(e) => return Err(e),
+        Err(_) => return Err(HttpFault::NoMemory),
     };
     let Head {
         method,
@@ -256,7 +208,7 @@ pub struct Requests<R> {
     /// What came and is not held yet.
     block: Block,
     /// What came and was not asked for yet, in order.
-    held: Vec<u8>,
+    held: Pending,
     ended: bool,
 }
 
@@ -274,7 +226,7 @@ impl<R: Input> Requests<R> {
             reader,
             alloc,
             block: Block::new(),
-            held: Vec::new(alloc),
+            held: Pending::new(Vec::new(alloc)),
             ended: false,
         }
     }
@@ -301,8 +253,9 @@ impl<R: Input> Requests<R> {
     /// bytes come, whatever `Content-Length` says: for 65,536 bytes at first, then for as many
     /// again as are held, and never for more than the request has. So a body of fewer costs one
     /// reservation, and a longer one is copied where its room grows, in all less than twice its
-    /// length. The bytes that were read behind a request, less than a block, are copied once a request,
-    /// and moved in their place where there is no memory for a copy.
+    /// length. The bytes that were read behind a request stay where they lie. Before a read they are moved to
+    /// the front, where they are no more than those that were taken. So in all no more bytes are moved than
+    /// were taken.
     pub fn next(&mut self) -> Result<Option<Request>, HttpFault>
         ensures told { IsOpen self.old → IfSome (to_come R.left self.old)
             (λ bytes. Leaves bytes result (to_come R.left self.new)) }

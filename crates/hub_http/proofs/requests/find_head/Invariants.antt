@@ -8,10 +8,10 @@ invariant-loop-head g l =
     let left = g.R.Input.left in
     let faults = g.R.Input.fault_count in
     let failures = g.R.Input.failure_count in
-    Keeps (prepend_known l.fn.held.items (to_read l.fn.block (left l.fn.reader)))
-    (prepend_known l.held.items (to_read l.block (left l.reader)))
+    Keeps (prepend_known l.fn.held (to_read l.fn.block (left l.fn.reader)))
+    (prepend_known l.held (to_read l.block (left l.reader)))
     × (faults l.fn.reader ≤ faults l.reader)
     × (failures l.fn.reader ≤ failures l.reader)
 
 abbrev pub decreases-loop-head : goal.decreases-loop-head
-decreases-loop-head g l = 16384 - length l.held.items
+decreases-loop-head g l = 16384 - length l.held
