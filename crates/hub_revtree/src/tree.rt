@@ -10,7 +10,7 @@ ghost use Rattle.hub_model.specs.Path.{IsHistory};
 ghost use Rattle.hub_model.specs.Row.{doc_of, is_deleted};
 ghost use Rattle.hub_revtree.specs.Branch.{edits_in};
 ghost use Rattle.hub_revtree.specs.Count.{revision_count};
-ghost use Rattle.hub_revtree.specs.Tree.{HasKnownHead, IsRevTree, nameless};
+ghost use Rattle.hub_revtree.specs.Tree.{HasKnownHead, IsRevTree, MakesReady, nameless};
 ghost use Rattle.hub_revtree.specs.Winner.{winner_of};
 
 use crate::branches::Branches;
@@ -122,9 +122,7 @@ impl RevTree {
         body: Body,
     ) -> Result<Ready, AllocError>
         requires { new ≤ length path }
-        ensures edits { self.new.edits ≡ self.old.edits }
-        ensures ready { IfOk result (λ ready. ready ≡ nameless path deleted body) }
-        ensures room { IfOk result (λ ready. length ready.path ≤ self.new.room) }
+        ensures { MakesReady self.old self.new (nameless path deleted body) result }
     {
         let _head = path.head();
         let run = Run::front(self.branches.allocator(), path.revisions(), new)?;
@@ -141,9 +139,7 @@ impl RevTree {
     ) -> Result<Ready, AllocError>
         requires history { IsHistory path }
         requires front { run ≡ take (length run) path }
-        ensures edits { self.new.edits ≡ self.old.edits }
-        ensures ready { IfOk result (λ ready. ready ≡ nameless path deleted body) }
-        ensures room { IfOk result (λ ready. length ready.path ≤ self.new.room) }
+        ensures { MakesReady self.old self.new (nameless path deleted body) result }
     {
         // A path has no more revisions than its head's generation, so that one place has room for it.
         let _revisions_at_most = path.generation();

@@ -5,8 +5,7 @@ returns-in-Some-clause-index c = λ stems i.
     let own = rw c.in-Some.is at i in
     rw (
       c.drop_line.ensures.line,
-      c.drop_line.ensures.same.stems,
-      c.drop_line.ensures.same.others,
+      c.drop_line.ensures.same.firsts,
       c.drop_line.ensures.same.links,
       c.deref_mut.ensures.value,
     ) (own.0, tt)

@@ -9,14 +9,14 @@ invariant_of-self c = elim c.match-self.branch [
         c.self.invariant.0,
         c.self.invariant.1,
         rw (
-          w.take_candidates.ensures.same.stems,
-          w.take_candidates.ensures.same.others,
+          w.take_candidates.ensures.same.firsts,
           w.take_candidates.ensures.same.links,
           w.take_candidates.ensures.line,
           w.deref_mut.ensures.value,
         ) own,
         c.self.invariant.3,
         rw w.take_candidates.ensures.candidates tt,
+        c.self.invariant.5,
       )
   | in-None w ↦ rw w.self-inside-is c.self.invariant
 ]

@@ -10,7 +10,6 @@ push-requires c =
     let room : length c.args.ready.path ≤ 65535 * c.self.inside.branches.spare =
     rw (sym c.self.view_is) at c.requires.room in
     record {
-      legal = c.self.invariant.legal;
       acceptable = ok;
       front = c.ready.invariant.0;
       room = omega (arith, room, some_history c.args.ready.path c.requires.acceptable.history);
