@@ -114,12 +114,18 @@ abbrev pub IsIndexed : Option Index → List Stem → Type 0
 IsIndexed None stems = Unit {0}
 IsIndexed (Some index) stems = IsIndex index stems × IsNewestLine index.line stems
 
--- the second index has the first stems and the links of the first
-pub record HasSameEntries (before after : Index) : Type 0 where
-  pub firsts : after.firsts ≡ before.firsts
-  pub links : after.links ≡ before.links
+-- these are stems of a tree, and each of their revisions is told
+pub record AreToldOf (list : List Stem) (firsts : Firsts) : Type 0 where
+  pub stems : AreStems list
+  pub told : AreTold (Has list) (entry_in firsts) (other_in firsts)
 
 -- these are stems of a tree, and the last of them has this number
 pub record IsLastOf (list : List Stem) (number : ℕ) : Type 0 where
   pub stems : AreStems list
   pub newest : number + 1 ≡ length list
+
+-- the same, and each of their revisions is told
+pub record IsLastTold (list : List Stem) (firsts : Firsts) (number : ℕ) : Type 0 where
+  pub stems : AreStems list
+  pub newest : number + 1 ≡ length list
+  pub told : AreTold (Has list) (entry_in firsts) (other_in firsts)

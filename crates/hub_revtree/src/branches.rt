@@ -125,7 +125,7 @@ fn without_line(index: Option<Box<Index>>) -> Option<Box<Index>>
 {
     match index {
         Some(mut index) => {
-            index.drop_line();
+            index.line = None;
             Some(index)
         }
         None => None,
@@ -367,7 +367,7 @@ impl Branches {
             map encode_lower line.now ≡ map (λ r. r.hash) (line_to (edits_in self.now.list) (Some rev.now))) }
     {
         let index = lent(&self.index)?;
-        let line = index.line()?;
+        let line = index.line.as_ref()?;
         if !is_newest(self.stems.as_slice(), rev) {
             return None;
         }
@@ -397,7 +397,10 @@ impl Branches {
     {
         let alloc = self.allocator();
         match &mut self.index {
-            Some(index) => Some(index.take_candidates(alloc)),
+            Some(index) => match index.candidates.take() {
+                Some(candidates) => Some(candidates),
+                None => Some(Candidates::new(alloc)),
+            },
             None => None,
         }
     }
@@ -408,7 +411,7 @@ impl Branches {
         ensures { self.new.list ≡ self.old.list }
     {
         if let Some(index) = &mut self.index {
-            index.put_candidates(candidates);
+            index.candidates = Some(candidates);
         }
     }
 

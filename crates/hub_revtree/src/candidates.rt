@@ -133,34 +133,22 @@ impl Candidates {
         }
     }
 
-    // Looks at the next edit: where its revision is a leaf, it becomes a candidate. At most log n
-    // comparisons of revisions.
-    fn add_next(&mut self, branches: &Branches) -> Result<(), AllocError>
-        requires candidates { AreCandidates branches.now.list self.old }
-        requires more { self.old.count < length branches.now.list }
-        ensures candidates { OnOk result (AreCandidates branches.now.list self.new) }
-        ensures count { OnOk result (self.new.count ≡ self.old.count + 1) }
-    {
-        let _edits_at_most = branches.len();
-        let at = self.count;
-        let leaf = branches.head(at);
-        if !branches.is_head_inner(at) {
-            let number = kept_number(at)?;
-            let candidate = Candidate::new(branches.allocator(), &leaf, number)?;
-            self.heap.push(candidate)?;
-        }
-        self.count = at + 1;
-        Ok(())
-    }
-
-    /// Looks at all edits that came since the last time. It costs what `add_next` does for each.
+    /// Looks at all edits that came since the last time: where the revision of one is a leaf, it becomes a
+    /// candidate. At most log n comparisons of revisions for each.
     pub(crate) fn add_newer(&mut self, branches: &Branches) -> Result<(), AllocError>
         requires { AreCandidates branches.now.list self.old }
         ensures candidates { OnOk result (AreCandidates branches.now.list self.new) }
         ensures all { OnOk result (self.new.count ≡ length branches.now.list) }
     {
         while self.count < branches.len() {
-            self.add_next(branches)?;
+            let at = self.count;
+            let leaf = branches.head(at);
+            if !branches.is_head_inner(at) {
+                let number = kept_number(at)?;
+                let candidate = Candidate::new(branches.allocator(), &leaf, number)?;
+                self.heap.push(candidate)?;
+            }
+            self.count = at + 1;
         }
         Ok(())
     }

@@ -4,11 +4,10 @@ ghost use Rattle.std.specs.Prelude.{◌≡◌, ℕ, [], ◌+◌, ◌-◌, ◌<�
 ghost use Rattle.std.specs.Prelude.{nat_eq, option_map, take, unwrap_or, IfNone, IfOk, IfSome, OnOk};
 ghost use Rattle.std.specs.Ordering.{eq_by_cmp};
 ghost use Rattle.hub_model.specs.Revision.{Revision, revision_cmp};
-ghost use Rattle.hub_revtree.specs.Branch.{Branch};
-ghost use Rattle.hub_revtree.specs.Candidates.{AreCandidates, candidates_in};
+ghost use Rattle.hub_revtree.specs.Candidates.{candidates_in};
 ghost use Rattle.hub_revtree.specs.First.{first_put};
-ghost use Rattle.hub_revtree.specs.Index.{AreLinked, AreTold, Has, HasSameEntries, HasTo, IsFirstPlace};
-ghost use Rattle.hub_revtree.specs.Index.{IsIndex, IsIndexed, IsLastOf, IsNewestLine, entry_in, link_in};
+ghost use Rattle.hub_revtree.specs.Index.{AreLinked, AreTold, AreToldOf, Has, HasTo, IsFirstPlace};
+ghost use Rattle.hub_revtree.specs.Index.{IsIndex, IsIndexed, IsLastOf, IsLastTold, IsNewestLine, entry_in, link_in};
 ghost use Rattle.hub_revtree.specs.Index.{number_in, other_in};
 ghost use Rattle.hub_revtree.specs.Stem.{AreStems, has_revision, revisions_at};
 
@@ -50,10 +49,10 @@ pub(crate) struct Index {
     links: BTreeMap<RevKey, u32>,
     /// The newest stem's newest revision and all that stands behind it, for the next one that stands on it;
     /// None where it was not made so, and where the memory for it was not to be had.
-    line: Option<Line>,
+    pub(crate) line: Option<Line>,
     /// What was looked at so that the best leaf is found soon; None before one was sought that
     /// costs a look at each edit, and where the memory for it was not to be had.
-    candidates: Option<Candidates>,
+    pub(crate) candidates: Option<Candidates>,
 }
 
 // The number that the map has at the revision. At most log n comparisons of revisions.
@@ -142,8 +141,7 @@ impl Firsts {
 
     // The place of the revision in the stem that the others tell. At most log n comparisons of revisions.
     fn place_other(&self, stems: &[Stem], rev: &RevId) -> Option<Place>
-        requires stems { AreStems stems.now }
-        requires told { AreTold (Has stems.now) (entry_in self.now) (other_in self.now) }
+        requires { AreToldOf stems.now self.now }
         ensures found { IfSome result (IsFirstPlace stems.now rev.now) }
         ensures none { IfNone result (other_in self.now rev.now ≡ None) }
     {
@@ -157,8 +155,7 @@ impl Firsts {
     /// where its hash is a digest's text and that stem is the first with its first eight bytes; else at most
     /// log n comparisons of revisions.
     pub(crate) fn place(&self, stems: &[Stem], rev: &RevId) -> Option<Place>
-        requires stems { AreStems stems.now }
-        requires told { AreTold (Has stems.now) (entry_in self.now) (other_in self.now) }
+        requires { AreToldOf stems.now self.now }
         ensures found { IfSome result (IsFirstPlace stems.now rev.now) }
         ensures none { IfNone result (has_revision stems.now rev.now ≡ false) }
     {
@@ -183,9 +180,8 @@ impl Firsts {
         number: u32,
         at: usize,
     ) -> Result<(), AllocError>
-        requires last { IsLastOf stems.now number }
+        requires last { IsLastTold stems.now self.now number }
         requires within { at < length (revisions_at stems.now number) }
-        requires told { AreTold (Has stems.now) (entry_in self.now) (other_in self.now) }
         requires linked { AreLinked (HasTo stems.now number at) stems.now (number_in links.old) }
         ensures { OnOk result
             (AreLinked (HasTo stems.now number (at + 1)) stems.now (number_in links.new)) }
@@ -210,8 +206,7 @@ impl Firsts {
         stems: &[Stem],
         number: u32,
     ) -> Result<(), AllocError>
-        requires last { IsLastOf stems.now number }
-        requires told { AreTold (Has stems.now) (entry_in self.now) (other_in self.now) }
+        requires last { IsLastTold stems.now self.now number }
         requires linked { AreLinked (Has (take number stems.now)) (take number stems.now) (number_in links.old) }
         ensures { OnOk result (AreLinked (Has stems.now) stems.now (number_in links.new)) }
     {
@@ -239,45 +234,6 @@ impl Index {
             return Ok(());
         }
         self.firsts.link_all(&mut self.links, stems, number)
-    }
-
-    /// The newest revision and all that stands behind it, if these are kept.
-    pub(crate) fn line(&self) -> Option<&Line>
-        ensures { option_map (λ l. l.now) result ≡ self.now.line }
-    {
-        self.line.as_ref()
-    }
-
-    /// Gives up the path, so that whoever shares it may have it alone.
-    pub(crate) fn drop_line(&mut self)
-        ensures same { HasSameEntries self.old self.new }
-        ensures candidates { self.new.candidates ≡ self.old.candidates }
-        ensures line { self.new.line ≡ None }
-    {
-        self.line = None;
-    }
-
-    /// The candidates, which it gives up; those of no edit where there are none.
-    pub(crate) fn take_candidates(&mut self, alloc: Global) -> Candidates
-        ensures same { HasSameEntries self.old self.new }
-        ensures line { self.new.line ≡ self.old.line }
-        ensures candidates { self.new.candidates ≡ None }
-        ensures taken { (branches : List Branch) → IfSome self.old.candidates (AreCandidates branches)
-            → AreCandidates branches result }
-    {
-        match self.candidates.take() {
-            Some(candidates) => candidates,
-            None => Candidates::new(alloc),
-        }
-    }
-
-    /// Keeps the candidates.
-    pub(crate) fn put_candidates(&mut self, candidates: Candidates)
-        ensures same { HasSameEntries self.old self.new }
-        ensures line { self.new.line ≡ self.old.line }
-        ensures candidates { self.new.candidates ≡ Some candidates }
-    {
-        self.candidates = Some(candidates);
     }
 
     /// The number of a later stem that goes on behind the revision, where the first one that has it does not.
@@ -309,36 +265,26 @@ fn empty(alloc: Global, capacity: usize) -> Result<Index, AllocError>
     })
 }
 
-// An index of the stems. It costs what `add` does for each.
-fn built(alloc: Global, stems: &[Stem]) -> Result<Box<Index>, AllocError>
+// An index of the stems where they are so many that it is time for one. It costs what `add` does for each.
+fn begun(
+    alloc: Global,
+    stems: &[Stem],
+    line: Option<Line>,
+) -> Result<Option<Box<Index>>, AllocError>
     requires { AreStems stems.now }
-    ensures index { IfOk result (λ i. IsIndex i.value stems.now) }
-    ensures candidates { IfOk result (λ i. i.value.candidates ≡ None) }
+    ensures index { IfOk result (λ begun. IfSome begun (λ i. IsIndex i.value stems.now)) }
+    ensures line { IfOk result (λ begun. IfSome begun (λ i. i.value.line ≡ line)) }
+    ensures candidates { IfOk result (λ begun. IfSome begun (λ i. i.value.candidates ≡ None)) }
 {
+    if stems.len() < TURN || !stems.len().is_power_of_two() {
+        return Ok(None);
+    }
     let mut index = empty(alloc, stems.len())?;
     for count in 0..stems.len() {
         index.add(&stems[..count + 1])?;
     }
-    Ok(Box::new(alloc, index)?)
-}
-
-// An index of the stems where they are so many that it is time for one, and there is memory for it.
-fn begun(alloc: Global, stems: &[Stem], line: Option<Line>) -> Option<Box<Index>>
-    requires { AreStems stems.now }
-    ensures index { IfSome result (λ i. IsIndex i.value stems.now) }
-    ensures line { IfSome result (λ i. i.value.line ≡ line) }
-    ensures candidates { IfSome result (λ i. i.value.candidates ≡ None) }
-{
-    if stems.len() < TURN || !stems.len().is_power_of_two() {
-        return None;
-    }
-    match built(alloc, stems) {
-        Ok(mut index) => {
-            index.line = line;
-            Some(index)
-        }
-        Err(_) => None,
-    }
+    index.line = line;
+    Ok(Some(Box::new(alloc, index)?))
 }
 
 /// The index of the stems, of one of all but the newest, with the newest one's path where it is given. Where
@@ -358,7 +304,10 @@ pub(crate) fn renewed(
         (λ c. candidates_in (option_map (λ i. i.value) index) ≡ Some c) }
 {
     let Some(mut index) = index else {
-        return begun(alloc, stems, line);
+        return match begun(alloc, stems, line) {
+            Ok(begun) => begun,
+            Err(_) => None,
+        };
     };
     if stems.is_empty() || index.add(stems).is_err() {
         return None;

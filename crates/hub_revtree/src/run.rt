@@ -68,25 +68,6 @@ fn digests_of(alloc: Global, revisions: &[RevId]) -> Result<Option<Vec<[u8; 16]>
     Ok(Some(digests))
 }
 
-// The first of the revisions, so many, as they take the least memory.
-fn kept_of(alloc: Global, revisions: &[RevId], count: usize) -> Result<Kept, AllocError>
-    requires path { IsPath revisions.now }
-    requires within { count ≤ length revisions.now }
-    ensures { IfOk result (λ kept. kept_in kept ≡ take count revisions.now) }
-{
-    let newest = &revisions[0];
-    if count == 1 {
-        if let Some(digest) = newest.digest() {
-            return Ok(Kept::One(newest.generation(), digest));
-        }
-    }
-    let front = &revisions[..count];
-    match digests_of(alloc, front)? {
-        Some(digests) => Ok(Kept::Digests(newest.generation(), digests)),
-        None => Ok(Kept::Texts(Vec::from_slice(alloc, front)?)),
-    }
-}
-
 // The first of a list, so many, in its own memory, which gives the rest back.
 fn cut_list<T: Drop>(mut list: Vec<T>, count: usize) -> Vec<T>
     ensures { result.items ≡ take count list.items }
@@ -136,21 +117,6 @@ fn line_in(kept: Kept) -> Option<Line>
     }
 }
 
-// What keeps the first of the revisions, so many. It takes no memory.
-fn cut_kept(kept: Kept, count: usize) -> Kept
-    requires { 1 ≤ count }
-    ensures { kept_in result ≡ take count (kept_in kept) }
-{
-    match kept {
-        Kept::One(newest, digest) => Kept::One(newest, digest),
-        Kept::Digests(newest, digests) => Kept::Digests(newest, cut_list(digests, count)),
-        Kept::Shared(newest, most, digest, line) => {
-            Kept::Shared(newest, least(most, count), digest, line)
-        }
-        Kept::Texts(revisions) => Kept::Texts(cut_list(revisions, count)),
-    }
-}
-
 // Whether the revision is of this generation, and its hash the text of the digest.
 fn is_of(generation: u16, digest: &[u8; 16], sought: &Sought) -> bool
     ensures { result ≡ (nat_eq sought.now.generation generation
@@ -167,8 +133,18 @@ impl Run {
         requires within { count ≤ length revisions.now }
         ensures { IfOk result (λ run. run ≡ take count revisions.now) }
     {
-        let kept = kept_of(alloc, revisions, count)?;
-        Ok(Run { kept })
+        let newest = &revisions[0];
+        if count == 1 {
+            if let Some(digest) = newest.digest() {
+                let kept = Kept::One(newest.generation(), digest);
+                return Ok(Run { kept });
+            }
+        }
+        let front = &revisions[..count];
+        match digests_of(alloc, front)? {
+            Some(digests) => Ok(Run::from_digests(newest.generation(), digests)),
+            None => Ok(Run::whole(Vec::from_slice(alloc, front)?)),
+        }
     }
 
     /// One revision. It takes no memory.
@@ -224,8 +200,15 @@ impl Run {
         requires { 1 ≤ count }
         ensures { result ≡ take count self }
     {
-        Run {
-            kept: cut_kept(self.kept, count),
+        match self.kept {
+            Kept::One(newest, digest) => Run {
+                kept: Kept::One(newest, digest),
+            },
+            Kept::Digests(newest, digests) => Run::from_digests(newest, cut_list(digests, count)),
+            Kept::Shared(newest, most, digest, line) => Run {
+                kept: Kept::Shared(newest, least(most, count), digest, line),
+            },
+            Kept::Texts(revisions) => Run::whole(cut_list(revisions, count)),
         }
     }
 

@@ -13,7 +13,7 @@ ghost use Rattle.hub_revtree.specs.Branch.{edits_in};
 ghost use Rattle.hub_revtree.specs.Common.{common as common_of, last_in};
 ghost use Rattle.hub_revtree.specs.Extend.{line_to};
 ghost use Rattle.hub_revtree.specs.Index.{AreLinked, GoesOn, Has, IsIndex, IsIndexed, link_in};
-ghost use Rattle.hub_revtree.specs.Lookup.{AreIndexed, AreIndexedUpTo, IsLineStart, IsPlaceIn};
+ghost use Rattle.hub_revtree.specs.Lookup.{AreIndexed, AreIndexedUpTo, IsLineStart, IsNumberIn, IsPlaceIn};
 ghost use Rattle.hub_revtree.specs.Stem.{Stem as StemModel, AreStems, AreUpTo, IsBrought};
 ghost use Rattle.hub_revtree.specs.Stem.{IsBehind, IsWithin, StandsAt, branches_of, chain_from, chains_of};
 ghost use Rattle.hub_revtree.specs.Stem.{has_revision, own_path, rev_at, revisions_at};
@@ -202,8 +202,7 @@ fn end_of(stems: &[Stem], place: Place) -> RevId
 
 /// The place directly behind the revision in what the stem of this number brought. Constant time.
 pub(crate) fn behind_in(stems: &[Stem], number: usize, sought: &Sought) -> Option<Place>
-    requires stems { AreStems stems.now }
-    requires within { number < length stems.now }
+    requires { IsNumberIn stems.now number }
     ensures found { IfSome result (IsBehind stems.now sought.now) }
     ensures none { IfNone result
         ((stem : StemModel) (r : Revision) → slice_get stems.now number ≡ Some stem
@@ -383,7 +382,6 @@ pub(crate) fn agreeing(
     revisions: &[RevId],
 ) -> Option<usize>
     requires indexed { AreIndexedUpTo stems.now (option_map (λ i. i.now) index) highest }
-    requires legal { IsLegal (edits_in (branches_of stems.now)) }
     requires history { IsHistory revisions.now }
     ensures agrees { is_some result ≡ list_all (λ b. agrees_with revisions.now b.path)
         (branches_of stems.now) }
@@ -469,8 +467,7 @@ pub(crate) fn met_by(stems: &[Stem], index: Option<&Index>, highest: u16, path: 
 /// How many of the revisions that the stem of this number keeps none of the earlier ones has. Constant time
 /// where it joins none; else a look an edit for each of them.
 pub(crate) fn new_in(stems: &[Stem], number: usize) -> usize
-    requires stems { AreStems stems.now }
-    requires within { number < length stems.now }
+    requires { IsNumberIn stems.now number }
     ensures { (stem : StemModel) → slice_get stems.now number ≡ Some stem
         → result ≡ length (filter (λ r. not (has_revision (take number stems.now) r)) stem.revisions) }
 {

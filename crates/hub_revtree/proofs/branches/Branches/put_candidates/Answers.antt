@@ -10,14 +10,9 @@ invariant_of-self c = elim c.match-self.branch [
       rw w.self-inside-is (
         c.self.invariant.0,
         c.self.invariant.1,
-        rw (
-          w.put_candidates.ensures.same.firsts,
-          w.put_candidates.ensures.same.links,
-          w.put_candidates.ensures.line,
-          w.deref_mut.ensures.value,
-        ) own,
+        rw w.deref_mut.ensures.value own,
         c.self.invariant.3,
-        rw w.put_candidates.ensures.candidates are,
+        are,
         c.self.invariant.5,
       )
   | in_default w ↦ rw w.self-inside-is c.self.invariant
