@@ -84,16 +84,15 @@ fn lent(index: &Option<Box<Index>>) -> Option<&Index>
     }
 }
 
-// An edit as it is lent.
-fn stored(stem: &Stem) -> StoredEdit<'_>
-    requires { IsPath stem.now.revisions }
-    ensures rev { slice_get stem.now.revisions 0 ≡ Some result.rev }
+// An edit as it is lent, with this revision.
+fn stored(stem: &Stem, rev: RevId) -> StoredEdit<'_>
+    ensures rev { result.rev ≡ rev }
     ensures deleted { result.deleted ≡ stem.now.deleted }
     ensures body { result.body.now ≡ stem.now.body }
     ensures count { result.count ≡ stem.now.count }
 {
     StoredEdit {
-        rev: stem.head(),
+        rev,
         deleted: stem.mark().deleted(),
         body: stem.body(),
         count: stem.count(),
@@ -210,7 +209,7 @@ impl Branches {
         ensures some { IfSome result (λ e. 1 ≤ e.count) }
     {
         let stem = self.stems.as_slice().get(at)?;
-        Some(stored(stem))
+        Some(stored(stem, stem.head()))
     }
 
     /// The edit that the revision heads. One find.
@@ -221,7 +220,7 @@ impl Branches {
             ≡ option_map (λ b. length b.path) (find (λ b. is_first rev.now b.path) self.now.list) }
     {
         let stem = headed(self.stems.as_slice(), lent(&self.index), rev)?;
-        Some(stored(stem))
+        Some(stored(stem, *rev))
     }
 
     /// The revision of the edit of this number, and its mark. Constant time.
@@ -229,10 +228,10 @@ impl Branches {
         requires { at < length self.now.list }
         ensures { option_and_then head_in (slice_get self.now.list at) ≡ Some result }
     {
-        let edit = stored(&self.stems[at]);
+        let stem = &self.stems[at];
         Winner {
-            rev: edit.rev,
-            deleted: edit.deleted,
+            rev: stem.head(),
+            deleted: stem.mark().deleted(),
         }
     }
 
