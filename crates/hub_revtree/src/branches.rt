@@ -182,7 +182,8 @@ impl Branches {
 
     /// How many there are.
     pub(crate) fn len(&self) -> usize
-        ensures { result ≡ length self.now.list }
+        ensures length { result ≡ length self.now.list }
+        ensures legal { IsLegal (edits_in self.now.list) }
     {
         self.stems.len()
     }
@@ -396,10 +397,7 @@ impl Branches {
     {
         let alloc = self.allocator();
         match &mut self.index {
-            Some(index) => match index.candidates.take() {
-                Some(candidates) => Some(candidates),
-                None => Some(Candidates::new(alloc)),
-            },
+            Some(index) => Some(index.candidates.take().unwrap_or(Candidates::new(alloc))),
             None => None,
         }
     }

@@ -4,7 +4,6 @@ ghost use Rattle.std.specs.Prelude.{◌≡◌, ◌<◌, ◌+◌, [], List, Some,
 ghost use Rattle.std.specs.Prelude.{option_and_then, refl, slice_get, IfOk, OnOk};
 ghost use Rattle.std.specs.Ordering.{eq_by_cmp};
 ghost use Rattle.std.specs.Cmp.{partial_equiv_from_equiv, partial_order_from_total};
-ghost use Rattle.hub_model.specs.Journal.{IsLegal};
 ghost use Rattle.hub_model.specs.Leaves.{leaves_of};
 ghost use Rattle.hub_revtree.specs.Branch.{Branch, edits_in};
 ghost use Rattle.hub_revtree.specs.Candidate.{candidate_cmp, candidates_level, candidates_total};
@@ -159,11 +158,11 @@ impl Candidates {
     pub(crate) fn best(&mut self, branches: &Branches) -> usize
         requires candidates { AreCandidates branches.now.list self.old }
         requires all { self.old.count ≡ length branches.now.list }
-        requires legal { IsLegal (edits_in branches.now.list) }
         ensures candidates { AreCandidates branches.now.list self.new }
         ensures best { option_and_then head_in (slice_get branches.now.list result)
             ≡ winner_of (leaves_of (edits_in branches.now.list) []) }
     {
+        let edits = branches.len();
         while let Some(top) = self.heap.peek() {
             let number = top.number as usize;
             if !branches.is_head_inner(number) {
@@ -171,6 +170,6 @@ impl Candidates {
             }
             drop(self.heap.pop());
         }
-        branches.len()
+        edits
     }
 }

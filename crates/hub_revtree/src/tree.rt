@@ -113,22 +113,6 @@ impl RevTree {
         }
     }
 
-    // The edit, with memory for it, and the first of its revisions, so many, which are new.
-    pub(crate) fn made_ready(
-        &mut self,
-        path: Path,
-        new: usize,
-        deleted: bool,
-        body: Body,
-    ) -> Result<Ready, AllocError>
-        requires { new ≤ length path }
-        ensures { MakesReady self.old self.new (nameless path deleted body) result }
-    {
-        let _head = path.head();
-        let run = Run::front(self.branches.allocator(), path.revisions(), new)?;
-        self.ready_with(Run::whole(path.into_revisions()), run, deleted, body)
-    }
-
     // The edit on a path, of which the run is the front, with a place for it.
     pub(crate) fn ready_with(
         &mut self,
@@ -275,7 +259,8 @@ impl RevTree {
         let Some(new) = self.branches.new_count(&path) else {
             return Err(MergeFault::Contradicts);
         };
-        let ready = self.made_ready(path, new, deleted, body)?;
+        let run = Run::front(self.branches.allocator(), path.revisions(), new)?;
+        let ready = self.ready_with(Run::whole(path.into_revisions()), run, deleted, body)?;
         Ok(Some(ready))
     }
 

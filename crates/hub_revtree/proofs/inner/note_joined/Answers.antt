@@ -2,7 +2,6 @@ use Rattle.std.proofs.Common.{◌≡◌, ◌∙◌, drop, refl, sym, arith}
 use Rattle.hub_model.specs.Path.{names}
 use Rattle.hub_revtree.specs.Stem.{has_revision}
 use Rattle.hub_revtree.proofs.MarkLemmas.{indexed_same, last_noted, one_noted, stems_same, unknown_noted}
-use Rattle.std.proofs.lemmas.Bool.{not-true}
 use Rattle.hub_revtree.proofs.StemLemmas.{names_drop, none_of}
 use Rattle.hub_revtree.proofs.StemLooks.{some_path}
 use Rattle.hub_revtree.proofs.inner.note_joined.Goals as goal
@@ -13,7 +12,7 @@ returns-then-not-joins c =
       plain = refl;
       noted =
           unknown_noted c.args.stems.now (λ r. names (drop 1 c.args.run.now) r)
-          (λ r t. none_of (has_revision c.args.stems.now) c.args.run.now r (c.requires.fresh (not-true c.args.joins c.if-not-joins.true))
+          (λ r t. none_of (has_revision c.args.stems.now) c.args.run.now r (c.requires.fresh c.if-not-joins.true)
           (names_drop 1 c.args.run.now r t));
     }
 

@@ -1,3 +1,5 @@
+use Rattle.std.proofs.Common.{sym}
+use Rattle.hub_revtree.proofs.CandidateLemmas.{kept_or}
 use Rattle.hub_revtree.proofs.branches.Branches.take_candidates.Goals as goal
 use Rattle.hub_revtree.proofs.branches.Branches.take_candidates.Goals.{in-Some, in-None}
 
@@ -8,14 +10,9 @@ invariant_of-self c = elim c.match-self.branch [
       rw w.self-inside-is (
         c.self.invariant.0,
         c.self.invariant.1,
-        rw (
-          w.take_candidates.ensures.same.firsts,
-          w.take_candidates.ensures.same.links,
-          w.take_candidates.ensures.line,
-          w.deref_mut.ensures.value,
-        ) own,
+        rw w.deref_mut.ensures.value own,
         c.self.invariant.3,
-        rw w.take_candidates.ensures.candidates tt,
+        tt,
         c.self.invariant.5,
       )
   | in-None w ↦ rw w.self-inside-is c.self.invariant

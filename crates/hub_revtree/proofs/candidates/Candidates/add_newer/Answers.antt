@@ -11,7 +11,7 @@ loop-self-preserved c =
     let bs = c.args.branches.now.list in
     let old = c.loop-self.self in
     let leaf = c.head-leaf.result in
-    let more : old.count < length bs = omega (arith, c.loop-self-test.true, c.len.ensures) in
+    let more : old.count < length bs = omega (arith, c.loop-self-test.true, c.len.ensures.length) in
     elim c.if-not-is_head_inner.branch [
       | then-not-is_head_inner+in_ok-number+in_ok-candidate+in_ok-push w ↦
           let this = w.in_ok-candidate.ensures ∙ ap (λ n. candidate_of n leaf) w.in_ok-number.ensures in

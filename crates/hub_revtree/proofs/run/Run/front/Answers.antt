@@ -7,4 +7,4 @@ returns-in-Some-2 c =
     c.from_digests.ensures
     ∙ digests_kept c.args.revisions.now c.index-revisions-0.result c.generation-in-Some-2.result
     c.in-Some-2.digests.items c.args.count c.requires.path c.index-revisions-0.is
-    c.generation-in-Some-2.ensures.value (rw c.in-Some-2.is at c.in_ok-digests_of.ensures)
+    c.generation-in-Some-2.ensures.value (rw c.in-Some-2.is at c.in_ok-digests.ensures)

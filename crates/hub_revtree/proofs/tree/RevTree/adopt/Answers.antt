@@ -15,13 +15,6 @@ push-requires c =
       room = omega (arith, room, some_history c.args.ready.path c.requires.acceptable.history);
     }
 
-pub best_with_newest-self-inside-requires-clause-legal :
-    goal.best_with_newest-self-inside-requires-clause-legal
-best_with_newest-self-inside-requires-clause-legal c =
-    rw c.push.ensures
-    (legal_more _ _ c.self.invariant.legal
-    (rw (sym c.self.view_is, sym c.ready.view_is) at c.requires.acceptable))
-
 pub best_with_newest-self-inside-requires-clause-winner :
     goal.best_with_newest-self-inside-requires-clause-winner
 best_with_newest-self-inside-requires-clause-winner c =

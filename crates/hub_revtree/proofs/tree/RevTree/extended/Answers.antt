@@ -31,14 +31,14 @@ returns-in-Some-clause-first c =
 pub returns-clause-line : goal.returns-clause-line
 returns-clause-line c =
     rw c.in_default.is
-    (sym (known_path c.args.self.now.edits c.in-Some-winner.winner.rev
-    (dead_known c.args.self.now.edits c.in-Some-winner.winner c.in-Some-winner.ensures.tree
-    c.in-Some-winner.ensures.best))
-    ∙ dead_extends c.args.self.now.edits c.in-Some-winner.winner c.in-Some-winner.ensures.best
-    (not-false c.in-Some-winner.winner.deleted c.if-not-winner.false))
+    (sym (known_path c.args.self.now.edits c.in-Some-best.winner.rev
+    (dead_known c.args.self.now.edits c.in-Some-best.winner c.in-Some-best.ensures.tree
+    c.in-Some-best.ensures.best))
+    ∙ dead_extends c.args.self.now.edits c.in-Some-best.winner c.in-Some-best.ensures.best
+    (not-false c.in-Some-best.winner.deleted c.if-not-winner.false))
 
 pub returns-clause-first : goal.returns-clause-first
 returns-clause-first c =
-    known_first c.args.self.now.edits c.in-Some-winner.winner.rev c.in-Some-winner.ensures.tree
-    (dead_known c.args.self.now.edits c.in-Some-winner.winner c.in-Some-winner.ensures.tree
-    c.in-Some-winner.ensures.best)
+    known_first c.args.self.now.edits c.in-Some-best.winner.rev c.in-Some-best.ensures.tree
+    (dead_known c.args.self.now.edits c.in-Some-best.winner c.in-Some-best.ensures.tree
+    c.in-Some-best.ensures.best)
