@@ -51,8 +51,8 @@ fn generation(rev: &Option<RevId>) -> u16
 }
 
 impl RevTree {
-    // The revision that an edit extends, or nothing: the leaf that is named; without a name the winner where it
-    // is deleted, and nothing of a tree with no edit. One find where one is named.
+    // The revision that an edit extends, or nothing: the leaf that is named; without a name the winner where
+    // it is deleted, and nothing of a tree with no edit. One find where one is named.
     fn extended(&self, parent: Option<RevId>) -> Result<Option<RevId>, EditFault>
         ensures line { option_map (line_to self.now.edits) (result_ok result)
             ≡ extended_in self.now.edits [] (leaves_of self.now.edits []) parent }

@@ -7,8 +7,8 @@ ghost use Rattle.hub_model.specs.Revision.{Revision, revision_cmp};
 ghost use Rattle.hub_revtree.specs.Candidates.{candidates_in};
 ghost use Rattle.hub_revtree.specs.First.{first_put};
 ghost use Rattle.hub_revtree.specs.Index.{AreLinked, AreTold, AreToldOf, Has, HasTo, IsFirstPlace};
-ghost use Rattle.hub_revtree.specs.Index.{IsIndex, IsIndexed, IsLastOf, IsLastTold, IsNewestLine, entry_in, link_in};
-ghost use Rattle.hub_revtree.specs.Index.{number_in, other_in};
+ghost use Rattle.hub_revtree.specs.Index.{IsIndex, IsIndexed, IsLastOf, IsLastTold, IsNewestLine};
+ghost use Rattle.hub_revtree.specs.Index.{entry_in, link_in, number_in, other_in};
 ghost use Rattle.hub_revtree.specs.Stem.{AreStems, has_revision, revisions_at};
 
 use crate::candidates::Candidates;
@@ -26,9 +26,9 @@ use std::collections::{BTreeMap, HashMap};
 // and many documents with fewer edits shall have no more memory.
 const TURN: usize = 256;
 
-/// Which of the stems is the first that has each revision. A look costs constant time where the revision's hash
-/// is a digest's text and no earlier stem has another one with the same first eight bytes; else at most log n
-/// comparisons of revisions, where n counts those of which this does not hold.
+/// Which of the stems is the first that has each revision. A look costs constant time where the revision's
+/// hash is a digest's text and no earlier stem has another one with the same first eight bytes; else at most
+/// log n comparisons of revisions, where n counts those of which this does not hold.
 #[derive(Debug, Drop)]
 pub(crate) struct Firsts {
     /// From the key of a digest to the number of the first stem that has a revision with that key. It takes
@@ -207,7 +207,8 @@ impl Firsts {
         number: u32,
     ) -> Result<(), AllocError>
         requires last { IsLastTold stems.now self.now number }
-        requires linked { AreLinked (Has (take number stems.now)) (take number stems.now) (number_in links.old) }
+        requires linked { AreLinked (Has (take number stems.now)) (take number stems.now)
+            (number_in links.old) }
         ensures { OnOk result (AreLinked (Has stems.now) stems.now (number_in links.new)) }
     {
         for at in 0..stems[number as usize].run().len() {

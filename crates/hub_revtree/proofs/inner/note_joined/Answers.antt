@@ -12,7 +12,8 @@ returns-then-not-joins c =
       plain = refl;
       noted =
           unknown_noted c.args.stems.now (λ r. names (drop 1 c.args.run.now) r)
-          (λ r t. none_of (has_revision c.args.stems.now) c.args.run.now r (c.requires.fresh c.if-not-joins.true)
+          (λ r t. none_of (has_revision c.args.stems.now) c.args.run.now r
+          (c.requires.fresh c.if-not-joins.true)
           (names_drop 1 c.args.run.now r t));
     }
 
@@ -25,9 +26,11 @@ loop-at-init c = record {
 
 pub note_headed-requires : goal.note_headed-requires
 note_headed-requires c = record {
-  stems = stems_same c.args.stems.now c.loop-at.stems (sym c.loop-at.invariant.plain) c.requires.indexed.stems;
+  stems =
+      stems_same c.args.stems.now c.loop-at.stems (sym c.loop-at.invariant.plain) c.requires.indexed.stems;
   index =
-      indexed_same c.args.stems.now c.loop-at.stems _ (sym c.loop-at.invariant.plain) c.requires.indexed.index;
+      indexed_same c.args.stems.now c.loop-at.stems _ (sym c.loop-at.invariant.plain)
+      c.requires.indexed.index;
 }
 
 pub loop-at-preserved : goal.loop-at-preserved

@@ -12,9 +12,10 @@ returns-then-place-eq0 c =
     within_stem c.args.stems.now c.in-Some-place.place
     (rev_within c.args.stems.now c.in-Some-place.place c.args.rev.now c.in-Some-place.ensures.found.0) in
     let low = slice_get_within c.args.stems.now c.in-Some-place.place.stem i.0 i.1 in
-    heads_there c.args.stems.now c.requires.stems c.args.rev.now c.in-Some-place.place c.index-stems-place.result
-    c.in-Some-place.ensures.found c.if-place-eq0.true
-    (read_stem c.args.stems.now c.in-Some-place.place.stem c.index-stems-place.result low c.index-stems-place.is)
+    heads_there c.args.stems.now c.requires.stems c.args.rev.now c.in-Some-place.place
+    c.index-stems-place.result c.in-Some-place.ensures.found c.if-place-eq0.true
+    (read_stem c.args.stems.now c.in-Some-place.place.stem c.index-stems-place.result low
+    c.index-stems-place.is)
 
 pub returns-else-place-eq0 : goal.returns-else-place-eq0
 returns-else-place-eq0 c =

@@ -23,6 +23,7 @@ standing_of-standing-requires-clause-short c =
 pub standing_of-standing-requires-clause-reach : goal.standing_of-standing-requires-clause-reach
 standing_of-standing-requires-clause-reach c =
     let xs = c.self.inside.stems.items in
+    let legal = c.self.invariant.5 in
     let ok = rw (sym c.self.view_is) at c.requires.acceptable in
     let met = rw c.as_slice-stems.ensures.value at c.met_by-met.ensures in
     let is : Meets xs c.args.path c.met_by-met.result.at c.met_by-met.result.place c.met_by-met.result.behind
@@ -38,13 +39,14 @@ standing_of-standing-requires-clause-reach c =
     } in
     let head = newest_of c.args.path c.generation-newest.result c.generation-newest.ensures in
     let low =
-    reach_low xs c.self.invariant.0 c.self.invariant.5 c.args.path c.args.deleted c.args.body
+    reach_low xs c.self.invariant.0 legal c.args.path c.args.deleted c.args.body
     ok _ _ _ _ is head.0 head.1 in
     omega (arith, low, head.2)
 
 pub kept-run-requires-clause-some : goal.kept-run-requires-clause-some
 kept-run-requires-clause-some c =
     let xs = c.self.inside.stems.items in
+    let legal = c.self.invariant.5 in
     let ok = rw (sym c.self.view_is) at c.requires.acceptable in
     let met = rw c.as_slice-stems.ensures.value at c.met_by-met.ensures in
     let is : Meets xs c.args.path c.met_by-met.result.at c.met_by-met.result.place c.met_by-met.result.behind
@@ -58,11 +60,12 @@ kept-run-requires-clause-some c =
       none = met.none;
       fresh = met.fresh;
     } in
-    some_kept xs c.self.invariant.0 c.self.invariant.5 c.args.path c.args.deleted c.args.body ok _ _ _ _ is
+    some_kept xs c.self.invariant.0 legal c.args.path c.args.deleted c.args.body ok _ _ _ _ is
 
 pub new-requires-clause-stands : goal.new-requires-clause-stands
 new-requires-clause-stands c =
     let xs = c.self.inside.stems.items in
+    let legal = c.self.invariant.5 in
     let ok = rw (sym c.self.view_is) at c.requires.acceptable in
     let met = rw c.as_slice-stems.ensures.value at c.met_by-met.ensures in
     let is : Meets xs c.args.path c.met_by-met.result.at c.met_by-met.result.place c.met_by-met.result.behind
@@ -76,7 +79,7 @@ new-requires-clause-stands c =
       none = met.none;
       fresh = met.fresh;
     } in
-    stands_low xs c.self.invariant.0 c.self.invariant.5 c.args.path c.args.deleted c.args.body ok _ _ _
+    stands_low xs c.self.invariant.0 legal c.args.path c.args.deleted c.args.body ok _ _ _
     _ is c.standing_of-standing.result.parent c.kept-run.result.0 c.standing_of-standing.result.reach
     c.standing_of-standing.ensures.parent c.kept-run.ensures.run c.standing_of-standing.ensures.reach
 
@@ -96,6 +99,7 @@ stem_of c = record {
 brings : (c : Joined-drop) → Brings c.self.inside.stems.items c.args.path (stem_of c)
 brings c =
     let xs = c.self.inside.stems.items in
+    let legal = c.self.invariant.5 in
     let ok = rw (sym c.self.view_is) at c.requires.acceptable in
     let met = rw c.as_slice-stems.ensures.value at c.met_by-met.ensures in
     let is : Meets xs c.args.path c.met_by-met.result.at c.met_by-met.result.place c.met_by-met.result.behind
@@ -109,7 +113,7 @@ brings c =
       none = met.none;
       fresh = met.fresh;
     } in
-    met_brings xs c.self.invariant.0 c.self.invariant.5 c.args.path c.args.deleted c.args.body ok _ _ _ _ is
+    met_brings xs c.self.invariant.0 legal c.args.path c.args.deleted c.args.body ok _ _ _ _ is
     (stem_of c) c.kept-run.ensures.run c.standing_of-standing.ensures.parent
     (c.standing_of-standing.ensures.count ∙ c.len.ensures) c.standing_of-standing.ensures.reach
     c.standing_of-standing.ensures.joins
@@ -118,12 +122,13 @@ brings c =
 line_of : (c : Joined-drop) → IsNewestLine c.if-whole.line2 (c.self.inside.stems.items ++ stem_of c ∷ [])
 line_of c =
     let xs = c.self.inside.stems.items in
+    let legal = c.self.invariant.5 in
     let ok = rw (sym c.self.view_is) at c.requires.acceptable in
     let ends = rw c.as_slice-stems.ensures.value at c.ends-whole.ensures in
     elim c.if-whole.branch [
       | then-whole w ↦
           rw w.line2-is
-          (brought_line xs c.self.invariant.0 c.self.invariant.5 c.args.path c.args.deleted c.args.body ok (stem_of c)
+          (brought_line xs c.self.invariant.0 legal c.args.path c.args.deleted c.args.body ok (stem_of c)
           (brings c) refl refl c.kept-run.result.1 c.kept-run.ensures.line (ends w.if-whole.true))
       | else-whole w ↦ rw w.line2-is tt
     ]
@@ -131,6 +136,7 @@ line_of c =
 pub note_inner-requires-clause-comes : goal.note_inner-requires-clause-comes
 note_inner-requires-clause-comes c =
     let xs = c.self.inside.stems.items in
+    let legal = c.self.invariant.5 in
     let ok = rw (sym c.self.view_is) at c.requires.acceptable in
     let met = rw c.as_slice-stems.ensures.value at c.met_by-met.ensures in
     let is : Meets xs c.args.path c.met_by-met.result.at c.met_by-met.result.place c.met_by-met.result.behind
@@ -144,7 +150,7 @@ note_inner-requires-clause-comes c =
       none = met.none;
       fresh = met.fresh;
     } in
-    let some = some_kept xs c.self.invariant.0 c.self.invariant.5 c.args.path c.args.deleted c.args.body ok _ _ _ _ is in
+    let some = some_kept xs c.self.invariant.0 legal c.args.path c.args.deleted c.args.body ok _ _ _ _ is in
     record {
       path =
           rw c.kept-run.ensures.run
@@ -159,6 +165,7 @@ pub renewed-requires-clause-stems : goal.renewed-requires-clause-stems
 renewed-requires-clause-stems c =
     let xs = c.self.inside.stems.items in
     let ys = c.note_inner.new.stems.items in
+    let legal = c.self.invariant.5 in
     let ok = rw (sym c.self.view_is) at c.requires.acceptable in
     let met = rw c.as_slice-stems.ensures.value at c.met_by-met.ensures in
     let is : Meets xs c.args.path c.met_by-met.result.at c.met_by-met.result.place c.met_by-met.result.behind
@@ -183,13 +190,13 @@ renewed-requires-clause-stems c =
       body = c.args.body;
     } in
     let path =
-    met_brings xs c.self.invariant.0 c.self.invariant.5 c.args.path c.args.deleted
+    met_brings xs c.self.invariant.0 legal c.args.path c.args.deleted
     c.args.body ok _ _ _ _ is stem c.kept-run.ensures.run c.standing_of-standing.ensures.parent
     (c.standing_of-standing.ensures.count ∙ c.len.ensures) c.standing_of-standing.ensures.reach
     c.standing_of-standing.ensures.joins in
     rw (c.as_slice.ensures.value, c.push_reserved.ensures.items, c.new.ensures)
     (stems_same (xs ++ stem ∷ []) (ys ++ stem ∷ []) (plain_more xs ys stem c.note_inner.ensures.notes.plain)
-    (brought_stems xs c.self.invariant.0 c.self.invariant.5 c.args.path c.args.deleted c.args.body ok stem path))
+    (brought_stems xs c.self.invariant.0 legal c.args.path c.args.deleted c.args.body ok stem path))
 
 pub renewed-requires-clause-index : goal.renewed-requires-clause-index
 renewed-requires-clause-index c =
@@ -205,10 +212,11 @@ edits_more c =
     let xs = c.self.inside.stems.items in
     let ys = c.note_inner.new.stems.items in
     let stem = stem_of c in
+    let legal = c.self.invariant.5 in
     let ok = rw (sym c.self.view_is) at c.requires.acceptable in
     let same = plain_more xs ys stem c.note_inner.ensures.notes.plain in
     ap edits_in (sym (branches_same (xs ++ stem ∷ []) (ys ++ stem ∷ []) same))
-    ∙ brought_edit xs c.self.invariant.0 c.self.invariant.5 c.args.path c.args.deleted c.args.body ok stem (brings c)
+    ∙ brought_edit xs c.self.invariant.0 legal c.args.path c.args.deleted c.args.body ok stem (brings c)
 
 pub invariant_of-self : goal.invariant_of-self
 invariant_of-self c =
@@ -216,9 +224,10 @@ invariant_of-self c =
     let ys = c.note_inner.new.stems.items in
     let stem = stem_of c in
     let path = brings c in
+    let legal = c.self.invariant.5 in
     let ok = rw (sym c.self.view_is) at c.requires.acceptable in
     let more =
-    brought_stems xs c.self.invariant.0 c.self.invariant.5 c.args.path c.args.deleted c.args.body ok stem path in
+    brought_stems xs c.self.invariant.0 legal c.args.path c.args.deleted c.args.body ok stem path in
     let head = newest_of c.args.path c.generation-newest.result c.generation-newest.ensures in
     let same = plain_more xs ys stem c.note_inner.ensures.notes.plain in
     let up =
@@ -235,7 +244,7 @@ invariant_of-self c =
       candidates_more (branches_of xs) (branches_of (ys ++ stem ∷ []))
           (nameless c.args.path c.args.deleted c.args.body) _ _ (edits_more c) c.renewed.ensures.candidates
           (rw (c.without_line-index.ensures.candidates, c.take.ensures.value) c.self.invariant.4),
-      rw (edits_more c) (legal_more _ _ c.self.invariant.5 ok),
+      rw (edits_more c) (legal_more _ _ legal ok),
     )
 
 pub returns : goal.returns

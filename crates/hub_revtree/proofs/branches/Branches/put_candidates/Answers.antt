@@ -1,6 +1,7 @@
 use Rattle.std.proofs.Common.{sym}
 use Rattle.hub_revtree.proofs.branches.Branches.put_candidates.Goals as goal
-use Rattle.hub_revtree.proofs.branches.Branches.put_candidates.Goals.{in-Some+in-Some-1, in-Some+in-None-1, in_default}
+use Rattle.hub_revtree.proofs.branches.Branches.put_candidates.Goals.{in-Some+in-Some-1, in_default}
+use Rattle.hub_revtree.proofs.branches.Branches.put_candidates.Goals.{in-Some+in-None-1}
 
 pub invariant_of-self : goal.invariant_of-self
 invariant_of-self c =

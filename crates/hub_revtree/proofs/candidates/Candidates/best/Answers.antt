@@ -56,5 +56,6 @@ loop-top-preserved c =
 
 pub returns-clause-best : goal.returns-clause-best
 returns-clause-best c =
-    none_wins c.args.branches.now.list c.len-edits.ensures.legal c.loop-top.self c.loop-top.invariant.candidates
-    c.loop-top.invariant.all (nothing_in _ c.in_default.ensures.item.3) c.len-edits.result c.len-edits.ensures.length
+    none_wins c.args.branches.now.list c.len-edits.ensures.legal c.loop-top.self
+    c.loop-top.invariant.candidates c.loop-top.invariant.all (nothing_in _ c.in_default.ensures.item.3)
+    c.len-edits.result c.len-edits.ensures.length

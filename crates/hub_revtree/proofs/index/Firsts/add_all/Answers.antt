@@ -6,7 +6,8 @@ use Rattle.hub_revtree.proofs.index.Firsts.add_all.Goals as goal
 
 pub loop-at-init : goal.loop-at-init
 loop-at-init c =
-    told_start c.args.stems.now c.args.number (entry_in c.args.self.now) (other_in c.args.self.now) c.requires.told
+    told_start c.args.stems.now c.args.number (entry_in c.args.self.now) (other_in c.args.self.now)
+    c.requires.told
 
 pub add_at-requires-clause-within : goal.add_at-requires-clause-within
 add_at-requires-clause-within c =

@@ -28,7 +28,8 @@ returns-then-first-number c =
     read_back xs c.args.number c.args.at c.index-stems-number.result i.0 low c.index-stems-number.is i.1 in
     own_entry xs c.args.number c.args.at i.0 i.1 (entry_in c.args.self.now) (entry_in c.put.new.self)
     (other_in c.args.self.now) (other_in c.put.new.self) c.requires.told
-    c.in-Some.key (c.in-Some.ensures i.0 (rw c.run-run.ensures back)) c.in_ok-first.first c.in_ok-first.ensures.entries
+    c.in-Some.key (c.in-Some.ensures i.0 (rw c.run-run.ensures back)) c.in_ok-first.first
+    c.in_ok-first.ensures.entries
     c.in_ok-first.ensures.first c.if-first-number.true (λ x. rw c.put.ensures.others refl)
 
 pub returns-then-is_some : goal.returns-then-is_some
