@@ -2,7 +2,7 @@
 use Rattle.std.proofs.Common.{◌≡◌, ℕ, zero, suc, ◌+◌, ◌<◌, ◌≤◌, List, [], ◌∷◌, ◌++◌, length, Bool, true}
 use Rattle.std.proofs.Common.{false, ◌⊎◌, inl, inr, refl, sym, ap, ap₂, ◌∙◌, subst, get_or, heap_items, arith}
 use Rattle.std.specs.Prelude.{Contains, Option, Some, None, IfSome, IfNone}
-use Rattle.std.specs.Prelude.{slice_get, option_and_then, option_map, not, nat_lt, unwrap_or}
+use Rattle.std.specs.Prelude.{slice_get, option_and_then, option_map, not, nat_lt}
 use Rattle.std.specs.List.{list_any}
 use Rattle.std.specs.List.Sorted.{IsPermutation}
 use Rattle.std.specs.BinaryHeap.{HeapUnchanged, IsHeap, IsUpperBound, PopsGreatest}
@@ -31,13 +31,6 @@ use Rattle.hub_revtree.proofs.LeafLemmas.{head_there}
 use Rattle.hub_revtree.proofs.StemLemmas.{get_front, get_pushed}
 use Rattle.hub_revtree.proofs.TreeLemmas.{all_of_one, first_of, from_tree, in_tree, wins}
 use Rattle.hub_revtree.proofs.WinnerLemmas.{above_wins, branch_in, whole}
-
--- those that are kept, or these of no edit
-pub kept_or : (branches : List Branch) (kept : Option Candidates) (none : Candidates)
-    → IfSome kept (AreCandidates branches) → AreCandidates branches none
-    → AreCandidates branches (unwrap_or kept none)
-kept_or branches None none are no = no
-kept_or branches (Some candidates) none are no = are
 
 -- ---- leaves among the branches
 

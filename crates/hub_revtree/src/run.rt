@@ -117,6 +117,21 @@ fn line_in(kept: Kept) -> Option<Line>
     }
 }
 
+// What keeps the first of the revisions, so many. It takes no memory.
+fn cut_kept(kept: Kept, count: usize) -> Kept
+    requires { 1 ≤ count }
+    ensures { kept_in result ≡ take count (kept_in kept) }
+{
+    match kept {
+        Kept::One(newest, digest) => Kept::One(newest, digest),
+        Kept::Digests(newest, digests) => Kept::Digests(newest, cut_list(digests, count)),
+        Kept::Shared(newest, most, digest, line) => {
+            Kept::Shared(newest, least(most, count), digest, line)
+        }
+        Kept::Texts(revisions) => Kept::Texts(cut_list(revisions, count)),
+    }
+}
+
 // Whether the revision is of this generation, and its hash the text of the digest.
 fn is_of(generation: u16, digest: &[u8; 16], sought: &Sought) -> bool
     ensures { result ≡ (nat_eq sought.now.generation generation
@@ -200,15 +215,8 @@ impl Run {
         requires { 1 ≤ count }
         ensures { result ≡ take count self }
     {
-        match self.kept {
-            Kept::One(newest, digest) => Run {
-                kept: Kept::One(newest, digest),
-            },
-            Kept::Digests(newest, digests) => Run::from_digests(newest, cut_list(digests, count)),
-            Kept::Shared(newest, most, digest, line) => Run {
-                kept: Kept::Shared(newest, least(most, count), digest, line),
-            },
-            Kept::Texts(revisions) => Run::whole(cut_list(revisions, count)),
+        Run {
+            kept: cut_kept(self.kept, count),
         }
     }
 

@@ -1,5 +1,3 @@
-use Rattle.std.proofs.Common.{sym}
-use Rattle.hub_revtree.proofs.CandidateLemmas.{kept_or}
 use Rattle.hub_revtree.proofs.branches.Branches.take_candidates.Goals as goal
 use Rattle.hub_revtree.proofs.branches.Branches.take_candidates.Goals.{in-Some, in-None}
 
@@ -12,7 +10,7 @@ invariant_of-self c = elim c.match-self.branch [
         c.self.invariant.1,
         rw w.deref_mut.ensures.value own,
         c.self.invariant.3,
-        tt,
+        rw w.take.ensures.after tt,
         c.self.invariant.5,
       )
   | in-None w ↦ rw w.self-inside-is c.self.invariant
