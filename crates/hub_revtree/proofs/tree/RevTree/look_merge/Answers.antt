@@ -61,7 +61,7 @@ returns-clause-known c =
 
 pub returns-clause-acceptable : goal.returns-clause-acceptable
 returns-clause-acceptable c =
-    rw (c.in_ok-ready.ensures.ready, sym c.self.view_is)
+    rw (c.in_ok-ready.ensures.ready, c.whole.ensures, c.into_revisions.ensures, sym c.self.view_is)
     (acceptable c.self.inside.branches.list c.args.path c.head-head.result c.head-head.ensures.value
     c.is_named.result c.is_named.ensures true c.in-Some.ensures.agrees c.args.deleted c.args.body
     c.self.invariant.legal c.head-head.ensures.good c.if-is_named.false refl)
