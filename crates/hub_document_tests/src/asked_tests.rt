@@ -1,6 +1,6 @@
 //! What texts and values ask for, and the faults in them.
 
-use crate::tests::tables::{again, grown};
+use crate::tests::tables::{again, grown, same};
 use hub_document::DocFault::{BadRev, NotObject};
 use hub_document::{Asked, DocFault, OpenRevs, Revisions, read_asked, read_value};
 use std::alloc::{AllocError, Global};
@@ -48,7 +48,7 @@ fn revisions_of_one_document(rt: HostRuntime) -> Result<(), Fail> {
     let alloc = rt.alloc();
     for (text, expected) in cases {
         let found = grown!(open_revs(alloc, text))?;
-        assert_eq!(rt; found.as_slice(), expected.as_bytes(), "{text}");
+        same(&rt, &(text, found.as_slice()), &(text, expected.as_bytes()));
     }
     Ok(())
 }
@@ -90,7 +90,7 @@ fn revisions_of_documents(rt: HostRuntime) -> Result<(), Fail> {
     let alloc = rt.alloc();
     for (text, expected) in cases {
         let found = again!(shown(alloc, text))?;
-        assert_eq!(rt; found.as_slice(), expected.as_bytes(), "{text}");
+        same(&rt, &(text, found.as_slice()), &(text, expected.as_bytes()));
     }
     Ok(())
 }
@@ -115,7 +115,7 @@ fn faults_in_order(rt: HostRuntime) -> Result<(), Fail> {
     let alloc = rt.alloc();
     for (text, expected) in cases {
         let found = again!(asked(alloc, text)).err();
-        assert_eq!(rt; found, Some(expected), "{text}");
+        same(&rt, &(text, found), &(text, Some(expected)));
     }
     Ok(())
 }

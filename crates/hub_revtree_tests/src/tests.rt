@@ -23,6 +23,7 @@ use crate::tests::Step::{
 use hub_document::{Body as Members, Doc, DocId, RevId};
 use hub_revtree::{EditFault, MergeFault, Merged, RevTree, Winner as Best};
 use std::alloc::{AllocError, Global};
+use std::fmt::Debug;
 use std::process::Abort;
 use std::test::Fail;
 
@@ -94,6 +95,11 @@ macro_rules! again_on {
 }
 
 pub(crate) use again_on;
+
+/// The value that was found is the one that is wanted. The comparison is proved here, and not in each test.
+pub(crate) fn same<T: PartialEq + Debug>(rt: &impl Abort, found: &T, wanted: &T) {
+    assert_eq!(rt; *found, *wanted);
+}
 
 // The revisions' texts, each with a blank behind it.
 fn texts_of(alloc: Global, revs: &[RevId]) -> Result<Vec<u8>, AllocError> {
@@ -326,6 +332,6 @@ fn first_wrong(alloc: Global, tree: &mut RevTree, steps: &[Step]) -> Option<usiz
 fn assert_steps(rt: &impl Abort, alloc: Global, steps: &[Step]) -> Result<(), Fail> {
     let mut tree = RevTree::new(alloc);
     let wrong = first_wrong(alloc, &mut tree, steps);
-    assert_eq!(rt; wrong, None);
+    same(rt, &wrong, &None);
     Ok(())
 }

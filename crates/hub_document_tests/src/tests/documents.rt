@@ -1,4 +1,4 @@
-use super::tables::{again, grown, is_shown, parts};
+use super::tables::{again, grown, is_shown, parts, same};
 use hub_document::{Doc, DocFault, Limits, Path, RevId, Revisions};
 use std::alloc::{AllocError, Global};
 use std::test::Fail;
@@ -36,7 +36,7 @@ fn contents(rt: HostRuntime) -> Result<(), Fail> {
             "a | 1-a | path | {}",
         ),
     ];
-    assert_eq!(rt; found, [Ok(true), Ok(true), Ok(true), Ok(true)]);
+    same(&rt, &found, &[Ok(true), Ok(true), Ok(true), Ok(true)]);
     Ok(())
 }
 
@@ -130,9 +130,13 @@ fn a_list_of_revisions(rt: HostRuntime) -> Result<(), Fail> {
     let alloc = rt.alloc();
     let rev = RevId::read("1-a").expect(&rt, "a revision");
     let revisions = grown!(list_of(alloc, rev))?;
-    assert_eq!(rt; revisions.as_slice().first().copied(), RevId::read("1-a"));
+    same(
+        &rt,
+        &revisions.as_slice().first().copied(),
+        &RevId::read("1-a"),
+    );
     let copy = grown!(revisions.copy(alloc))?;
-    assert_eq!(rt; copy.as_slice(), revisions.as_slice());
+    same(&rt, &copy.as_slice(), &revisions.as_slice());
     Ok(())
 }
 
@@ -160,6 +164,6 @@ fn limits(rt: HostRuntime) -> Result<(), Fail> {
         limits.history,
     ];
     let expected = [8_388_608, 16_384, 64, 256, 1_024, 64, 64, 4_294_967_295, 50];
-    assert_eq!(rt; found, expected);
+    same(&rt, &found, &expected);
     Ok(())
 }

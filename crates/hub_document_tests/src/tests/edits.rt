@@ -1,4 +1,4 @@
-use super::tables::{again, parts};
+use super::tables::{again, parts, same};
 use hub_document::{Doc, DocFault, RevId, rev_of_edit};
 use std::alloc::Global;
 use std::test::Fail;
@@ -43,7 +43,7 @@ fn a_chain_of_edits(rt: HostRuntime) -> Result<(), Fail> {
     for (edit, expected) in CHAIN.iter().enumerate() {
         let parent = last;
         last = again!(made(alloc, edit == 1, parent, r#"{"_id":"a"}"#))?;
-        assert_eq!(rt; last, RevId::read(expected));
+        same(&rt, &last, &RevId::read(expected));
     }
     Ok(())
 }
@@ -54,7 +54,7 @@ fn first_edits(rt: HostRuntime) -> Result<(), Fail> {
     for line in FIRST.lines() {
         let (text, expected) = parts(line);
         let rev = again!(made(alloc, false, None, text))?;
-        assert_eq!(rt; rev, RevId::read(expected));
+        same(&rt, &rev, &RevId::read(expected));
     }
     Ok(())
 }

@@ -1,4 +1,4 @@
-use super::tables::grown;
+use super::tables::{grown, same};
 use hub_document::{DocId, LocalId};
 use std::alloc::{AllocError, Global};
 use std::test::Fail;
@@ -37,9 +37,9 @@ fn texts(rt: HostRuntime) -> Result<(), Fail> {
         wrong(alloc, "a a_ _design/x é \n a/b", true),
         wrong(alloc, " _ _x _design _design/ _local/x", false),
     ];
-    assert_eq!(rt; found, [Ok(None), Ok(None)]);
+    same(&rt, &found, &[Ok(None), Ok(None)]);
     let lengths = [is_id_of_length(alloc, 512), is_id_of_length(alloc, 513)];
-    assert_eq!(rt; lengths, [Ok(true), Ok(false)]);
+    same(&rt, &lengths, &[Ok(true), Ok(false)]);
     Ok(())
 }
 
@@ -58,7 +58,7 @@ fn local_ids(rt: HostRuntime) -> Result<(), Fail> {
     let alloc = rt.alloc();
     for (length, expected) in [(0, false), (1, true), (505, true), (506, false)] {
         let found = grown!(is_local_id(alloc, length))?;
-        assert_eq!(rt; found, expected, "{length}");
+        same(&rt, &(length, found), &(length, expected));
     }
     for text in ["", "x", "_local", "_design/x", "_local_/x", "/_local/x"] {
         let found = grown!(LocalId::read(alloc, text))?;

@@ -1,4 +1,4 @@
-use super::tables::{again, fault_name, grown, parts};
+use super::tables::{again, fault_name, grown, parts, same};
 use hub_document::{Body, DocFault, LocalDoc, write_local};
 use std::alloc::{AllocError, Global};
 use std::test::Fail;
@@ -34,7 +34,7 @@ fn other(alloc: Global) -> Result<Option<&'static str>, DocFault> {
 
 #[test]
 fn contents(rt: HostRuntime) -> Result<(), Fail> {
-    assert_eq!(rt; other(rt.alloc()), Ok(None));
+    same(&rt, &other(rt.alloc()), &Ok(None));
     Ok(())
 }
 
@@ -76,7 +76,7 @@ fn wrong(alloc: Global) -> Option<&'static str> {
 
 #[test]
 fn faults(rt: HostRuntime) -> Result<(), Fail> {
-    assert_eq!(rt; wrong(rt.alloc()), None);
+    same(&rt, &wrong(rt.alloc()), &None);
     Ok(())
 }
 
@@ -96,7 +96,7 @@ fn lengths(rt: HostRuntime) -> Result<(), Fail> {
         fault_of_length(alloc, 506, r#"{"_id":"x"}"#),
     ];
     let expected = [Ok("none"), Ok("TooLong"), Ok("BadMember"), Ok("BadId")];
-    assert_eq!(rt; found, expected);
+    same(&rt, &found, &expected);
     Ok(())
 }
 
@@ -122,7 +122,7 @@ fn the_text_of_an_empty_document(rt: HostRuntime) -> Result<(), Fail> {
     let alloc = rt.alloc();
     let body = grown!(Body::empty(alloc))?;
     let found = grown!(is_written(alloc, "_local/x", 1, &body, EMPTY));
-    assert_eq!(rt; found, Ok(true));
+    same(&rt, &found, &Ok(true));
     Ok(())
 }
 
@@ -131,6 +131,6 @@ fn the_text_of_a_document(rt: HostRuntime) -> Result<(), Fail> {
     let alloc = rt.alloc();
     let doc = again!(LocalDoc::read(alloc, "_local/q\"", br#"{"v":{"w":7},"b":""}"#))?;
     let found = grown!(is_written(alloc, doc.id.as_str(), u64::MAX, &doc.body, LARGE));
-    assert_eq!(rt; found, Ok(true));
+    same(&rt, &found, &Ok(true));
     Ok(())
 }

@@ -1,4 +1,4 @@
-use super::tables::{again, fault_name, grown, is_shown, parts};
+use super::tables::{again, fault_name, grown, is_shown, parts, same};
 use hub_document::{Doc, DocFault};
 use std::alloc::{AllocError, Global};
 use std::test::Fail;
@@ -35,7 +35,7 @@ fn other(alloc: Global) -> Result<Option<&'static str>, DocFault> {
 
 #[test]
 fn contents(rt: HostRuntime) -> Result<(), Fail> {
-    assert_eq!(rt; other(rt.alloc()), Ok(None));
+    same(&rt, &other(rt.alloc()), &Ok(None));
     Ok(())
 }
 
@@ -85,7 +85,7 @@ fn wrong(alloc: Global, table: &'static str, new_edits: bool) -> Option<&'static
 fn faults(rt: HostRuntime) -> Result<(), Fail> {
     let alloc = rt.alloc();
     let found = [wrong(alloc, HERE, true), wrong(alloc, ELSEWHERE, false)];
-    assert_eq!(rt; found, [None, None]);
+    same(&rt, &found, &[None, None]);
     Ok(())
 }
 
@@ -110,6 +110,6 @@ fn lengths(rt: HostRuntime) -> Result<(), Fail> {
         fault_of_length(alloc, 513, Some("x"), true),
     ];
     let expected = [Ok("none"), Ok("TooLong"), Ok("BadMember"), Ok("BadRev")];
-    assert_eq!(rt; found, expected);
+    same(&rt, &found, &expected);
     Ok(())
 }

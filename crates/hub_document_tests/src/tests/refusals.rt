@@ -1,4 +1,4 @@
-use super::tables::{again, fault_name, grown, parts};
+use super::tables::{again, fault_name, grown, parts, same, same_text};
 use hub_document::{Doc, DocFault};
 use std::alloc::{AllocError, Global};
 use std::test::Fail;
@@ -107,7 +107,7 @@ fn faults(rt: HostRuntime) -> Result<(), Fail> {
         wrong(alloc, ELSEWHERE, false),
         wrong(alloc, TWO, false),
     ];
-    assert_eq!(rt; found, [None, None, None]);
+    same(&rt, &found, &[None, None, None]);
     Ok(())
 }
 
@@ -156,7 +156,7 @@ fn sizes(rt: HostRuntime) -> Result<(), Fail> {
         Ok("none"),
         Ok("BadRevisions"),
     ];
-    assert_eq!(rt; found, expected);
+    same(&rt, &found, &expected);
     Ok(())
 }
 
@@ -164,7 +164,7 @@ fn sizes(rt: HostRuntime) -> Result<(), Fail> {
 fn bytes(rt: HostRuntime) -> Result<(), Fail> {
     let alloc = rt.alloc();
     let read = again!(Doc::read(alloc, b"{\"_id\":\"\xff\"}", true));
-    assert_eq!(rt; read.err(), Some(DocFault::NotJson));
+    same(&rt, &read.err(), &Some(DocFault::NotJson));
     Ok(())
 }
 
@@ -185,7 +185,7 @@ fn reasons(rt: HostRuntime) -> Result<(), Fail> {
     let alloc = rt.alloc();
     for (fault, expected) in &REASONS {
         let found = grown!(format!(in alloc; "{fault}"))?;
-        assert_eq!(rt; found.as_str(), *expected);
+        same_text(&rt, found.as_str(), *expected);
     }
     Ok(())
 }

@@ -1,4 +1,4 @@
-use super::tables::grown;
+use super::tables::{grown, same};
 use hub_document::RevId;
 use std::alloc::{AllocError, Global};
 use std::test::Fail;
@@ -31,7 +31,7 @@ fn texts_that_are_revisions(rt: HostRuntime) -> Result<(), Fail> {
         grown!(is_read(alloc, "65535-9", 65535, "9")),
         grown!(is_read(alloc, long.as_str(), 2, LONG)),
     ];
-    assert_eq!(rt; found, [Ok(true), Ok(true), Ok(true), Ok(true)]);
+    same(&rt, &found, &[Ok(true), Ok(true), Ok(true), Ok(true)]);
     Ok(())
 }
 
@@ -44,6 +44,6 @@ const NONE: &str = concat!(
 #[test]
 fn texts_that_are_none(rt: HostRuntime) -> Result<(), Fail> {
     let found = NONE.lines().find(|text| RevId::read(text).is_some());
-    assert_eq!(rt; (found, NONE.lines().count()), (None, 15));
+    same(&rt, &(found, NONE.lines().count()), &(None, 15));
     Ok(())
 }

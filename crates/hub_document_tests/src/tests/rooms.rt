@@ -1,6 +1,6 @@
 //! Texts that are read one after another with one room, beside the same texts read without.
 
-use super::tables::{again, fault_name, parts};
+use super::tables::{again, fault_name, parts, same};
 use super::values::{READ, REFUSED};
 use hub_document::{Doc, DocFault, JsonRoom, put_doc, read_doc};
 use std::alloc::Global;
@@ -43,9 +43,9 @@ fn wrong(alloc: Global, room: &mut JsonRoom, table: &'static str) -> Option<&'st
 fn values_that_one_room_reads(rt: HostRuntime) -> Result<(), Fail> {
     let alloc = rt.alloc();
     let mut room = JsonRoom::new(alloc);
-    assert_eq!(rt; other(alloc, &mut room, READ), Ok(None));
-    assert_eq!(rt; wrong(alloc, &mut room, REFUSED), None);
-    assert_eq!(rt; other(alloc, &mut room, READ), Ok(None));
+    same(&rt, &other(alloc, &mut room, READ), &Ok(None));
+    same(&rt, &wrong(alloc, &mut room, REFUSED), &None);
+    same(&rt, &other(alloc, &mut room, READ), &Ok(None));
     Ok(())
 }
 
@@ -72,8 +72,8 @@ fn takes(alloc: Global, room: &mut JsonRoom, depth: usize) -> Result<bool, DocFa
 fn a_room_takes_126_lists_within_an_object(rt: HostRuntime) -> Result<(), Fail> {
     let alloc = rt.alloc();
     let mut room = JsonRoom::new(alloc);
-    assert_eq!(rt; takes(alloc, &mut room, 126), Ok(true));
-    assert_eq!(rt; takes(alloc, &mut room, 127), Ok(false));
+    same(&rt, &takes(alloc, &mut room, 126), &Ok(true));
+    same(&rt, &takes(alloc, &mut room, 127), &Ok(false));
     Ok(())
 }
 
@@ -86,10 +86,14 @@ fn fault(alloc: Global, room: &mut JsonRoom, bytes: &[u8]) -> &'static str {
 fn bytes_that_no_room_reads(rt: HostRuntime) -> Result<(), Fail> {
     let alloc = rt.alloc();
     let mut room = JsonRoom::new(alloc);
-    assert_eq!(rt; fault(alloc, &mut room, b""), "NotJson");
-    assert_eq!(rt; fault(alloc, &mut room, b"{\"v\":\"\xff\"}"), "NotJson");
-    assert_eq!(rt; fault(alloc, &mut room, b"{} {}"), "NotJson");
-    assert_eq!(rt; fault(alloc, &mut room, b"{}"), "none");
+    same(&rt, &fault(alloc, &mut room, b""), &"NotJson");
+    same(
+        &rt,
+        &fault(alloc, &mut room, b"{\"v\":\"\xff\"}"),
+        &"NotJson",
+    );
+    same(&rt, &fault(alloc, &mut room, b"{} {}"), &"NotJson");
+    same(&rt, &fault(alloc, &mut room, b"{}"), &"none");
     Ok(())
 }
 
@@ -113,6 +117,6 @@ fn long(alloc: Global) -> Result<Vec<u8>, DocFault> {
 fn a_long_text_is_read_too(rt: HostRuntime) -> Result<(), Fail> {
     let alloc = rt.alloc();
     let mut room = JsonRoom::new(alloc);
-    assert_eq!(rt; padded(alloc, &mut room), Ok(true));
+    same(&rt, &padded(alloc, &mut room), &Ok(true));
     Ok(())
 }

@@ -1,4 +1,4 @@
-use super::tables::{again, grown};
+use super::tables::{again, grown, same, same_bytes};
 use hub_document::{Body, ChangeRow, Changes, Doc, DocFault, RevId, Revisions, UpdateRow};
 use hub_model::UpdateKind;
 use std::alloc::{AllocError, Global};
@@ -49,13 +49,10 @@ fn a_copy_of_a_row(rt: HostRuntime) -> Result<(), Fail> {
         seen: 4,
     };
     let copy = grown!(row.copy(alloc))?;
-    assert_eq!(rt;
-        (copy.seq, copy.id.as_str(), copy.deleted, copy.seen),
-        (3, "a", true, 4)
-    );
-    assert!(rt; copy.changes.len() == 0);
+    let found = (copy.seq, copy.id.as_str(), copy.deleted, copy.seen);
+    same(&rt, &(found, copy.changes.len()), &((3, "a", true, 4), 0));
     let body = copy.doc.as_ref().map(Body::as_bytes);
-    assert_eq!(rt; body, Some(br#"{"v":7}"#.as_slice()));
+    same(&rt, &body, &Some(br#"{"v":7}"#.as_slice()));
     Ok(())
 }
 
@@ -75,10 +72,8 @@ fn copies_of_rows_of_updates(rt: HostRuntime) -> Result<(), Fail> {
             seen,
         };
         let copy = grown!(row.copy(alloc))?;
-        assert_eq!(rt;
-            (copy.db_name.as_str(), copy.kind, copy.seq, copy.seen),
-            (name, kind, seq, seen)
-        );
+        let found = (copy.db_name.as_str(), copy.kind, copy.seq, copy.seen);
+        same(&rt, &found, &(name, kind, seq, seen));
     }
     Ok(())
 }
@@ -90,13 +85,11 @@ fn documents_of_rows(rt: HostRuntime) -> Result<(), Fail> {
     let here = again!(written(alloc, false, &doc.body))?;
     let empty = grown!(Body::empty(alloc))?;
     let deleted = again!(written(alloc, true, &empty))?;
-    assert_eq!(rt;
-        here.as_slice(),
-        br#" {"_id":"a","_rev":"1-x","v":7}"#.as_slice()
-    );
-    assert_eq!(rt;
+    same_bytes(&rt, here.as_slice(), br#" {"_id":"a","_rev":"1-x","v":7}"#);
+    same_bytes(
+        &rt,
         deleted.as_slice(),
-        br#" {"_id":"a","_rev":"1-x","_deleted":true}"#.as_slice()
+        br#" {"_id":"a","_rev":"1-x","_deleted":true}"#,
     );
     Ok(())
 }

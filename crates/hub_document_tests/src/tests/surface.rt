@@ -1,6 +1,6 @@
 //! Calls on values, revisions, paths, rows and texts.
 
-use super::tables::{again, grown, is_shown};
+use super::tables::{again, grown, is_shown, same, same_bytes};
 use hub_document::{
     Changes, DigestRev, Doc, DocFault, LentChanges, Path, RevId, Revisions, is_plain, place_in,
     put_quoted, put_sequence, read_doc, read_value,
@@ -24,7 +24,7 @@ fn documents_of_values(rt: HostRuntime) -> Result<(), Fail> {
     let elsewhere = again!(of_value(alloc, VALUE, false))?;
     assert!(rt; is_shown(&elsewhere, r#"a | 2-c | path | {"v":7}"#));
     let fault = again!(of_value(alloc, "[]", true)).err();
-    assert_eq!(rt; fault, Some(DocFault::NotObject));
+    same(&rt, &fault, &Some(DocFault::NotObject));
     Ok(())
 }
 
@@ -48,9 +48,9 @@ fn revisions_with_digests(rt: HostRuntime) {
     let made = RevId::from_digest(3, &DIGEST);
     for (text, is_made) in HASHES {
         let rev = RevId::read(text).expect(&rt, "a revision");
-        assert_eq!(rt; rev.is_same(&made), is_made, "{text}");
-        assert_eq!(rt; rev.has_digest(&DIGEST), is_made, "{text}");
-        assert_eq!(rt; rev.digest(), is_made.then_some(DIGEST), "{text}");
+        let found = (rev.is_same(&made), rev.has_digest(&DIGEST), rev.digest());
+        let wanted = (is_made, is_made, is_made.then_some(DIGEST));
+        same(&rt, &(text, found), &(text, wanted));
     }
 }
 
@@ -58,8 +58,8 @@ fn revisions_with_digests(rt: HostRuntime) {
 fn revisions_in_little_memory(rt: HostRuntime) {
     let rev = DigestRev::new(3, DIGEST);
     let copy = rev.copy();
-    assert_eq!(rt; (copy.generation(), copy.digest()), (3, DIGEST));
-    assert_eq!(rt; Some(rev.rev()), RevId::read(MADE));
+    let found = (copy.generation(), copy.digest(), Some(rev.rev()));
+    same(&rt, &found, &(3, DIGEST, RevId::read(MADE)));
 }
 
 const HISTORY: &str = r#"{"_id":"a","_revisions":{"start":3,"ids":["c","b","a"]}}"#;
@@ -88,12 +88,12 @@ fn places_in_a_path(rt: HostRuntime) -> Result<(), Fail> {
     };
     for (text, place, count) in PLACES {
         let rev = RevId::read(text).expect(&rt, "a revision");
-        assert_eq!(rt; place_of(&path, &rev), place, "{text}");
-        assert_eq!(rt; path.line(&rev).len(), count, "{text}");
+        let found = (text, place_of(&path, &rev), path.line(&rev).len());
+        same(&rt, &found, &(text, place, count));
     }
     let revisions = path.into_revisions();
-    assert_eq!(rt; revisions.len(), 3);
-    assert_eq!(rt; revisions.as_slice().last().copied(), RevId::read("1-a"));
+    let found = (revisions.len(), revisions.as_slice().last().copied());
+    same(&rt, &found, &(3, RevId::read("1-a")));
     Ok(())
 }
 
@@ -117,18 +117,15 @@ fn revisions_of_rows(rt: HostRuntime) -> Result<(), Fail> {
     for (text, is_made) in HASHES {
         let rev = RevId::read(text).expect(&rt, "a revision");
         let changes = grown!(Changes::one(alloc, rev))?;
-        assert_eq!(rt; lent_first(&changes), (is_made, Some(rev)), "{text}");
-        assert_eq!(rt;
-            (changes.get(0), changes.get(1)),
-            (Some(rev), None),
-            "{text}"
-        );
+        let found = (lent_first(&changes), changes.get(0), changes.get(1));
+        let wanted = ((is_made, Some(rev)), Some(rev), None);
+        same(&rt, &(text, found), &(text, wanted));
     }
     let changes = Changes::of_digest(DigestRev::new(3, DIGEST));
-    assert_eq!(rt; lent_first(&changes), (true, RevId::read(MADE)));
+    same(&rt, &lent_first(&changes), &(true, RevId::read(MADE)));
     let list = grown!(list_of(alloc, &changes))?;
-    assert_eq!(rt; list.as_slice().len(), 1);
-    assert_eq!(rt; list.as_slice().first().copied(), RevId::read(MADE));
+    let found = (list.as_slice().len(), list.as_slice().first().copied());
+    same(&rt, &found, &(1, RevId::read(MADE)));
     Ok(())
 }
 
@@ -156,7 +153,7 @@ const PUT: &str = concat!(
 fn texts_in_quotes(rt: HostRuntime) -> Result<(), Fail> {
     let alloc = rt.alloc();
     let out = grown!(put_all(alloc))?;
-    assert_eq!(rt; out.as_slice(), PUT.as_bytes());
+    same_bytes(&rt, out.as_slice(), PUT.as_bytes());
     Ok(())
 }
 

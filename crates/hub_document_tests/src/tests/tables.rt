@@ -4,6 +4,8 @@
 //! has the answer that it has with ample memory.
 
 use hub_document::{Doc, DocFault, RevId};
+use std::fmt::Debug;
+use std::process::Abort;
 
 /// What a call answers, made again where it finds no memory.
 macro_rules! again {
@@ -28,6 +30,21 @@ macro_rules! grown {
 }
 
 pub(crate) use grown;
+
+/// The value that was found is the one that is wanted. The comparison is proved here, and not in each test.
+pub(crate) fn same<T: PartialEq + Debug>(rt: &impl Abort, found: &T, wanted: &T) {
+    assert_eq!(rt; *found, *wanted);
+}
+
+/// The bytes that were found are those that are wanted. The comparison is proved here, and not in each test.
+pub(crate) fn same_bytes(rt: &impl Abort, found: &[u8], wanted: &[u8]) {
+    assert_eq!(rt; found, wanted);
+}
+
+/// The text that was found is the one that is wanted. The comparison is proved here, and not in each test.
+pub(crate) fn same_text(rt: &impl Abort, found: &str, wanted: &str) {
+    assert_eq!(rt; found, wanted);
+}
 
 /// What stands before the first bar and what stands behind it.
 pub fn parts(line: &str) -> (&str, &str) {

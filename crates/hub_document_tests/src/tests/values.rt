@@ -1,4 +1,4 @@
-use super::tables::{again, fault_name, parts};
+use super::tables::{again, fault_name, parts, same};
 use hub_document::{Doc, DocFault};
 use std::alloc::Global;
 use std::test::Fail;
@@ -33,7 +33,7 @@ fn other(alloc: Global, table: &'static str) -> Result<Option<&'static str>, Doc
 #[test]
 fn values_that_are_read(rt: HostRuntime) -> Result<(), Fail> {
     let found = [other(rt.alloc(), READ), other(rt.alloc(), CONTROL)];
-    assert_eq!(rt; found, [Ok(None), Ok(None)]);
+    same(&rt, &found, &[Ok(None), Ok(None)]);
     Ok(())
 }
 
@@ -67,12 +67,12 @@ fn wrong(alloc: Global, table: &'static str) -> Option<&'static str> {
 #[test]
 fn values_that_are_refused(rt: HostRuntime) -> Result<(), Fail> {
     let alloc = rt.alloc();
-    assert_eq!(rt; wrong(alloc, REFUSED), None);
+    same(&rt, &wrong(alloc, REFUSED), &None);
     let found = [
         fault(alloc, concat!(r#"{"_id":"a","s":""#, "\n", r#""}"#)),
         fault(alloc, concat!(r#"{"_id":"a","s":""#, "\u{1}", r#""}"#)),
         fault(alloc, concat!(r#"{"_id":"a","s":""#, "\t", r#""}"#)),
     ];
-    assert_eq!(rt; found, ["NotJson", "NotJson", "NotJson"]);
+    same(&rt, &found, &["NotJson", "NotJson", "NotJson"]);
     Ok(())
 }

@@ -1,4 +1,4 @@
-use super::tables::{again, grown, parts};
+use super::tables::{again, grown, parts, same};
 use hub_document::{Body, Doc, DocFault};
 use std::alloc::{AllocError, Global};
 use std::test::Fail;
@@ -57,7 +57,7 @@ fn other(
 fn texts(rt: HostRuntime) -> Result<(), Fail> {
     let alloc = rt.alloc();
     let found = [other(alloc, HERE, true), other(alloc, ELSEWHERE, false)];
-    assert_eq!(rt; found, [Ok(None), Ok(None)]);
+    same(&rt, &found, &[Ok(None), Ok(None)]);
     Ok(())
 }
 

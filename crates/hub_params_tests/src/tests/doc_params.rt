@@ -1,5 +1,6 @@
 //! Parameters against tables of queries.
 
+use crate::tests::same;
 use hub_params::DocParams;
 use std::alloc::{AllocError, Global};
 use std::process::Abort;
@@ -39,8 +40,8 @@ fn try_row<R: Abort + AllocGlobal>(rt: &R, row: DocRow) -> Result<(), Fail> {
         is_text(&found.open_revs, open_revs),
         "open_revs at {query}"
     );
-    assert_eq!(rt; found.revs, revs, "revs at {query}");
-    assert_eq!(rt; found.new_edits, new_edits, "new_edits at {query}");
+    let flags = (query, found.revs, found.new_edits);
+    same(rt, &flags, &(query, revs, new_edits));
     Ok(())
 }
 

@@ -1,6 +1,7 @@
 //! Where feeds begin (`since`). The outcomes are those that the rules give, by hand.
 
 use crate::tests::feed_params::{MOST, beginning_at, try_bad, try_good};
+use crate::tests::same;
 use hub_model::Since;
 use hub_params::{ParamFault, read_tagged};
 use std::test::Fail;
@@ -147,6 +148,6 @@ const TAGGED: [(&'static str, Option<(u64, u64)>); 10] = [
 #[test]
 fn tagged_texts(rt: HostRuntime) {
     for (text, wanted) in TAGGED {
-        assert_eq!(rt; read_tagged(text), wanted, "at {text}");
+        same(&rt, &(text, read_tagged(text)), &(text, wanted));
     }
 }

@@ -1,6 +1,7 @@
 //! The words that parameters are made of, as their users ask them.
 
 use crate::tests::feed_params::read;
+use crate::tests::{same, same_text};
 use hub_filter::Filter;
 use hub_model::{Mode, Since};
 use std::test::Fail;
@@ -12,7 +13,7 @@ fn modes_that_wait(rt: HostRuntime) {
         (Mode::Longpoll, true),
         (Mode::Continuous, true),
     ] {
-        assert_eq!(rt; mode.waits(), waits, "{mode:?}");
+        same(&rt, &(mode, mode.waits()), &(mode, waits));
     }
 }
 
@@ -31,7 +32,7 @@ const BEGINNINGS: [(Since, u64); 8] = [
 #[test]
 fn beginnings_within_a_life(rt: HostRuntime) {
     for (since, begins) in BEGINNINGS {
-        assert_eq!(rt; since.within(9, 3), begins, "{since:?}");
+        same(&rt, &(since, since.within(9, 3)), &(since, begins));
     }
 }
 
@@ -43,9 +44,9 @@ fn listed_ids_in_order(rt: HostRuntime) -> Result<(), Fail> {
         return Err(Fail::new("no ids"));
     };
     let wanted = ["_design/x", "a", "b", "b"];
-    assert_eq!(rt; ids.as_slice().len(), wanted.len());
+    same(&rt, &ids.as_slice().len(), &wanted.len());
     for (id, other) in ids.as_slice().iter().zip(wanted.iter()) {
-        assert_eq!(rt; id.as_str(), *other);
+        same_text(&rt, id.as_str(), *other);
     }
     Ok(())
 }

@@ -1,7 +1,7 @@
 //! The best leaf of a tree with so many edits that it has an index, as its leaves are taken one by one.
 
 use crate::tests::best::Turn::{Best, Worst};
-use crate::tests::{again, make, merge, rev_of};
+use crate::tests::{again, make, merge, rev_of, same};
 use hub_document::RevId;
 use hub_revtree::RevTree;
 use std::alloc::{AllocError, Global};
@@ -168,7 +168,7 @@ const ROWS: &[Row] = &[
 #[test]
 fn best_leaf_follows_the_best(rt: HostRuntime) -> Result<(), Fail> {
     for row in ROWS {
-        assert_eq!(rt; again!(wrong_step(rt.alloc(), row)), Some(None));
+        same(&rt, &again!(wrong_step(rt.alloc(), row)), &Some(None));
     }
     Ok(())
 }

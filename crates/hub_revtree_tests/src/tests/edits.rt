@@ -1,7 +1,7 @@
 //! Edits that are made on trees. The hashes are the MD5s of the texts beside them.
 
 use crate::tests::Step::{Deleted, Leaves, Len, Make, Merge, Path, Winner};
-use crate::tests::{ADDED, Step, again, assert_steps, long_history, make, merge};
+use crate::tests::{ADDED, Step, again, assert_steps, long_history, make, merge, same};
 use hub_document::RevId;
 use hub_revtree::{EditFault, Merged, RevTree};
 use std::alloc::Global;
@@ -115,11 +115,12 @@ fn last_generation_is_not_extended(rt: HostRuntime) -> Result<(), Fail> {
         return Err(Fail::new("no history"));
     };
     let mut tree = RevTree::new(alloc);
-    assert_eq!(rt;
-        merge(alloc, &mut tree, text.as_str()),
-        Some(Ok(Merged::Added))
+    same(
+        &rt,
+        &merge(alloc, &mut tree, text.as_str()),
+        &Some(Ok(Merged::Added)),
     );
-    assert_eq!(rt; tree.winner(), RevId::read("65534-a"));
+    same(&rt, &tree.winner(), &RevId::read("65534-a"));
     assert!(rt; is_last_behind(alloc, &mut tree));
     Ok(())
 }

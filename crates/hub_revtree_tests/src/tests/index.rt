@@ -1,7 +1,7 @@
 //! A tree with so many edits that it has an index.
 
 use crate::tests::Step::{Body, Deleted, Knows, Len, Merge, Missing, Nodes, Path};
-use crate::tests::{ADDED, KNOWN, Step, add_all, again, first_wrong};
+use crate::tests::{ADDED, KNOWN, Step, add_all, again, first_wrong, same};
 use hub_document::RevId;
 use hub_revtree::{MergeFault, RevTree};
 use std::alloc::{AllocError, Global};
@@ -94,9 +94,9 @@ const AMONG_MANY: &[Step] = &[
 #[test]
 fn revisions_among_many(rt: HostRuntime) -> Result<(), Fail> {
     let mut tree = RevTree::new(rt.alloc());
-    assert_eq!(rt; add_all(rt.alloc(), &mut tree, 700, on_first), 700);
-    assert_eq!(rt; known(rt.alloc(), &tree, 1400), 700);
-    assert_eq!(rt; first_wrong(rt.alloc(), &mut tree, AMONG_MANY), None);
+    same(&rt, &add_all(rt.alloc(), &mut tree, 700, on_first), &700);
+    same(&rt, &known(rt.alloc(), &tree, 1400), &700);
+    same(&rt, &first_wrong(rt.alloc(), &mut tree, AMONG_MANY), &None);
     Ok(())
 }
 
@@ -148,8 +148,8 @@ const AMONG_TEXTS: &[Step] = &[
 #[test]
 fn revisions_that_are_no_digests(rt: HostRuntime) -> Result<(), Fail> {
     let mut tree = RevTree::new(rt.alloc());
-    assert_eq!(rt; add_all(rt.alloc(), &mut tree, 400, text_alone), 400);
-    assert_eq!(rt; add_all(rt.alloc(), &mut tree, 400, on_text), 400);
-    assert_eq!(rt; first_wrong(rt.alloc(), &mut tree, AMONG_TEXTS), None);
+    same(&rt, &add_all(rt.alloc(), &mut tree, 400, text_alone), &400);
+    same(&rt, &add_all(rt.alloc(), &mut tree, 400, on_text), &400);
+    same(&rt, &first_wrong(rt.alloc(), &mut tree, AMONG_TEXTS), &None);
     Ok(())
 }

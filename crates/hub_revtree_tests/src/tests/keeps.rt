@@ -1,7 +1,7 @@
 //! What trees keep: each revision once.
 
 use crate::tests::Step::{Make, Merge, Nodes, Path};
-use crate::tests::{ADDED, KNOWN, Step, again, assert_steps, long_history, make, merge};
+use crate::tests::{ADDED, KNOWN, Step, again, assert_steps, long_history, make, merge, same};
 use hub_document::RevId;
 use hub_revtree::{MergeFault, Merged, RevTree};
 use std::alloc::{AllocError, Global};
@@ -96,10 +96,9 @@ fn line_of_edits_is_kept_once(rt: HostRuntime) -> Result<(), Fail> {
     let alloc = rt.alloc();
     let mut tree = RevTree::new(alloc);
     assert!(rt; grow(alloc, &mut tree, 5000));
-    assert_eq!(rt; tree.len(), 5000);
-    assert_eq!(rt; tree.nodes(), 5000);
+    same(&rt, &(tree.len(), tree.nodes()), &(5000, 5000));
     let len = again!(winner_line(alloc, &tree));
-    assert_eq!(rt; len, Some(5000));
+    same(&rt, &len, &Some(5000));
     Ok(())
 }
 
@@ -133,13 +132,14 @@ fn longest_path_is_kept_whole(rt: HostRuntime) -> Result<(), Fail> {
         return Err(Fail::new("no history"));
     };
     let mut tree = RevTree::new(alloc);
-    assert_eq!(rt;
-        merge(alloc, &mut tree, text.as_str()),
-        Some(Ok(Merged::Added))
+    same(
+        &rt,
+        &merge(alloc, &mut tree, text.as_str()),
+        &Some(Ok(Merged::Added)),
     );
-    assert_eq!(rt; tree.winner(), RevId::read("65535-a"));
-    assert_eq!(rt; tree.nodes(), 65535);
+    let found = (tree.winner(), tree.nodes());
+    same(&rt, &found, &(RevId::read("65535-a"), 65535));
     let whole = again!(is_longest(alloc, &tree));
-    assert_eq!(rt; whole, Some(true));
+    same(&rt, &whole, &Some(true));
     Ok(())
 }

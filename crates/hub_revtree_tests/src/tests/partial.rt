@@ -4,7 +4,7 @@ use crate::tests::Step::{
     Ancestors, Deleted, Knows, Leaves, Len, Make, Merge, Missing, Nodes, Path, Winner,
 };
 use crate::tests::{
-    ADDED, KNOWN, Step, add_all, again, assert_steps, first_wrong, has_path, merge,
+    ADDED, KNOWN, Step, add_all, again, assert_steps, first_wrong, has_path, merge, same,
 };
 use hub_document::RevId;
 use hub_revtree::{EditFault, MergeFault, RevTree};
@@ -135,7 +135,7 @@ fn room_alone(alloc: Global) -> Result<Option<usize>, AllocError> {
 
 #[test]
 fn path_has_room_for_its_revisions_alone(rt: HostRuntime) -> Result<(), Fail> {
-    assert_eq!(rt; again!(room_alone(rt.alloc())), Some(Some(1)));
+    same(&rt, &again!(room_alone(rt.alloc())), &Some(Some(1)));
     Ok(())
 }
 
@@ -223,7 +223,7 @@ fn a_line_with_three_joins(rt: HostRuntime) -> Result<(), Fail> {
         [BEHIND_F, BEHIND_H, BEHIND_D],
     ] {
         let wrong = first_wrong_behind(rt.alloc(), &told);
-        assert_eq!(rt; wrong, None);
+        same(&rt, &wrong, &None);
     }
     Ok(())
 }
@@ -340,10 +340,10 @@ fn count_leaves(alloc: Global, tree: &RevTree) -> Result<usize, AllocError> {
 #[test]
 fn many_revisions_get_parents(rt: HostRuntime) -> Result<(), Fail> {
     let mut tree = RevTree::new(rt.alloc());
-    assert_eq!(rt; add_all(rt.alloc(), &mut tree, 400, alone), 400);
-    assert_eq!(rt; add_all(rt.alloc(), &mut tree, 400, on_it), 400);
-    assert_eq!(rt; (tree.len(), tree.nodes()), (800, 1200));
-    assert_eq!(rt; again!(count_leaves(rt.alloc(), &tree)), Some(400));
-    assert_eq!(rt; count_parents(rt.alloc(), &tree, 400), 400);
+    same(&rt, &add_all(rt.alloc(), &mut tree, 400, alone), &400);
+    same(&rt, &add_all(rt.alloc(), &mut tree, 400, on_it), &400);
+    same(&rt, &(tree.len(), tree.nodes()), &(800, 1200));
+    same(&rt, &again!(count_leaves(rt.alloc(), &tree)), &Some(400));
+    same(&rt, &count_parents(rt.alloc(), &tree, 400), &400);
     Ok(())
 }

@@ -1,6 +1,6 @@
 //! Lines of so many edits that they share what stands behind them.
 
-use crate::tests::{ADDED, again, again_on, make, merge};
+use crate::tests::{ADDED, again, again_on, make, merge, same};
 use hub_document::{Body, DocId, RevId};
 use hub_revtree::RevTree;
 use std::alloc::{AllocError, Global};
@@ -109,10 +109,13 @@ fn two_lines_of_many_edits(rt: HostRuntime) -> Result<(), Fail> {
     assert!(rt; grow(alloc, &mut tree, &mut dead, true, 50));
     assert!(rt; grow_both(alloc, &mut tree, &mut live, &mut dead, 5));
     assert!(rt; grow(alloc, &mut tree, &mut live, false, 50));
-    assert_eq!(rt; tree.len(), 411);
-    assert_eq!(rt; tree.nodes(), 411);
+    same(&rt, &(tree.len(), tree.nodes()), &(411, 411));
     let ends = again!(ends(alloc, &tree));
-    assert_eq!(rt; ends, Some((live.last().copied(), dead.last().copied())));
+    same(
+        &rt,
+        &ends,
+        &Some((live.last().copied(), dead.last().copied())),
+    );
     Ok(())
 }
 
@@ -156,7 +159,7 @@ fn line_is_shared_with_an_edit_that_is_not_taken(rt: HostRuntime) -> Result<(), 
     assert!(rt; goes_on(alloc, &mut tree, &mut line));
     assert!(rt; has_line(alloc, &mut tree, line.as_slice()));
     assert!(rt; grow(alloc, &mut tree, &mut line, false, 20));
-    assert_eq!(rt; tree.len(), 321);
+    same(&rt, &tree.len(), &321);
     Ok(())
 }
 
@@ -199,6 +202,6 @@ fn line_that_gets_older_revisions(rt: HostRuntime) -> Result<(), Fail> {
     ];
     assert!(rt; tell(alloc, &mut tree, &mut line, TO_THE_FIRST, &oldest));
     assert!(rt; grow(alloc, &mut tree, &mut line, false, 20));
-    assert_eq!(rt; (tree.len(), tree.nodes()), (343, 347));
+    same(&rt, &(tree.len(), tree.nodes()), &(343, 347));
     Ok(())
 }

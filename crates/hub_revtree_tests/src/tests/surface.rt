@@ -1,6 +1,6 @@
 //! Edits that are looked at before they are taken, and what a tree shows of its winner and its edits.
 
-use crate::tests::{ADDED, again, again_on, merge};
+use crate::tests::{ADDED, again, again_on, merge, same};
 use hub_document::{Body, Doc, RevId};
 use hub_revtree::{MergeFault, Ready, RevTree, StoredEdit};
 use std::alloc::{AllocError, Global};
@@ -68,8 +68,8 @@ fn looks_change_nothing(rt: HostRuntime) {
             Ok(None) => Ok(None),
             Err(fault) => Err(*fault),
         };
-        assert_eq!(rt; found, Some(wanted), "{text}");
-        assert_eq!(rt; tree.len(), *count, "{text}");
+        let shown = (text, found, tree.len());
+        same(&rt, &shown, &(text, Some(wanted), *count));
     }
 }
 
@@ -118,21 +118,22 @@ fn winners_with_their_members(rt: HostRuntime) {
     let alloc = rt.alloc();
     let mut tree = RevTree::new(alloc);
     assert!(rt; tree.is_empty() && !tree.is_deleted() && tree.winner_body().is_none());
-    assert_eq!(rt; again!(alone(alloc, &tree)), Some((0, None)));
+    same(&rt, &again!(alone(alloc, &tree)), &Some((0, None)));
     for (text, (rev, deleted, members, _)) in EDITS {
-        assert_eq!(rt; merge(alloc, &mut tree, text), Some(ADDED), "{text}");
-        assert_eq!(rt;
-            again!(alone(alloc, &tree)),
-            Some((1, RevId::read(rev))),
-            "{text}"
+        same(
+            &rt,
+            &(text, merge(alloc, &mut tree, text)),
+            &(text, Some(ADDED)),
         );
-        let found = tree.winner_body().map(Body::as_bytes);
-        assert_eq!(rt; found, Some(members.as_bytes()), "{text}");
-        assert_eq!(rt;
-            (tree.is_empty(), tree.is_deleted()),
-            (false, *deleted),
-            "{text}"
+        same(
+            &rt,
+            &(text, again!(alone(alloc, &tree))),
+            &(text, Some((1, RevId::read(rev)))),
         );
+        let body = tree.winner_body().map(Body::as_bytes);
+        let found = (body, tree.is_empty(), tree.is_deleted());
+        let wanted = (Some(members.as_bytes()), false, *deleted);
+        same(&rt, &(text, found), &(text, wanted));
     }
 }
 
@@ -154,7 +155,11 @@ fn edits_by_their_numbers_and_revisions(rt: HostRuntime) {
     let alloc = rt.alloc();
     let mut tree = RevTree::new(alloc);
     for (text, _) in EDITS {
-        assert_eq!(rt; merge(alloc, &mut tree, text), Some(ADDED), "{text}");
+        same(
+            &rt,
+            &(text, merge(alloc, &mut tree, text)),
+            &(text, Some(ADDED)),
+        );
     }
     for (at, (text, edit)) in EDITS.iter().enumerate() {
         let rev = RevId::read(edit.0).expect(&rt, "a revision");
