@@ -1,9 +1,9 @@
 -- Numbers in the byte order of the ids that they stand for (own).
 use Rattle.std.specs.Prelude.{◌≡◌, ℕ, ◌+◌, ◌<◌, ◌≤◌, List, [], ◌∷◌, ◌++◌}
 use Rattle.std.specs.Prelude.{length, get_or, take, Bool, false, not}
-use Rattle.std.specs.Prelude.{Option, filter, find, Vec}
+use Rattle.std.specs.Prelude.{Option, filter, find, Vec, Result, OnOk, OnErr}
 use Rattle.std.specs.Cmp.Lexicographic.{slice_cmp}
-use Rattle.std.specs.List.{All, AllPairs, flat_map}
+use Rattle.std.specs.List.{All, AllPairs, flat_map, insert}
 use Rattle.std.specs.Ordering.{nat_cmp, is_lt, is_le}
 use Rattle.std.specs.Str.{bytes_eq}
 use Rattle.std.specs.declared.cmp.Ordering.{Ordering}
@@ -56,6 +56,14 @@ pub record IsNumberPage {Y : Type 0} (page : Vec ℕ Y) : Type 0 where
 -- each, place 3 of page 2 is place 403 of all.
 abbrev pub place_of : {Y : Type 0} → List (Vec ℕ Y) → ℕ → ℕ → ℕ
 place_of pages page at = length (numbers_of (take page pages)) + at
+
+-- One number more goes to a place among those of all pages; without memory they all stay. A page that has some
+-- numbers, and at most 256, stays such a page.
+pub record PutsAt {A E Y : Type 0} (result : Result A E) (old new : List (Vec ℕ Y)) (place number : ℕ) : Type 0
+  where
+    pub ok : OnOk result (numbers_of new ≡ insert (numbers_of old) place number)
+    pub err : OnErr result (numbers_of new ≡ numbers_of old)
+    pub pages : All IsNumberPage old → All IsNumberPage new
 
 -- whether the first number's id is this one or lies below it. Where the first number has the id b it is true
 -- for b and for c, and false for a; without a number it is false.

@@ -29,7 +29,12 @@ pub record IsPage (page : ℕ × List (Option ℕ)) : Type 0 where
   pub live : 0 < count_by is_some page.1
   pub fits : All (λ (row : ℕ × ℕ). row.0 < 2 ^ 64) (page_rows page)
 
--- pages that an index keeps, in the order of their numbers
+-- pages with rows, in the order of their numbers
+pub record AreLaid (pages : List (ℕ × List (Option ℕ))) : Type 0 where
+  pub each : All IsPage pages
+  pub rising : AllPairs (λ (a b : ℕ × List (Option ℕ)). a.0 < b.0) pages
+
+-- pages that an index keeps: they are laid in order, and their rows are those of an index
 pub record ArePages (pages : List (ℕ × List (Option ℕ))) : Type 0 where
   pub each : All IsPage pages
   pub rising : AllPairs (λ (a b : ℕ × List (Option ℕ)). a.0 < b.0) pages

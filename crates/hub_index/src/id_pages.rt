@@ -1,10 +1,10 @@
 //! Pages of numbers, in the order of the ids that the numbers stand for.
 
-ghost use Rattle.std.specs.Prelude.{◌≡◌, ◌+◌, ◌<◌, ◌≤◌, ◌++◌, ◌∷◌, [], length, filter, not};
+ghost use Rattle.std.specs.Prelude.{◌≡◌, ◌+◌, ◌<◌, ◌≤◌, length, filter, not};
 ghost use Rattle.std.specs.Prelude.{true, take, drop, slice_get, IsSomeAnd, OnOk, OnErr};
 ghost use Rattle.std.specs.List.{All, insert};
 ghost use Rattle.std.specs.Ordering.{is_gt};
-ghost use Rattle.hub_index.specs.Order.{IsNumberPage, IsOrder, begins_up_to, id_cmp};
+ghost use Rattle.hub_index.specs.Order.{IsNumberPage, IsOrder, PutsAt, begins_up_to, id_cmp};
 ghost use Rattle.hub_index.specs.Order.{lies_below, number_in, numbers_of, place_of};
 
 use crate::id_order::Named;
@@ -93,10 +93,7 @@ pub(crate) fn push_page(
     alloc: Global,
     number: u32,
 ) -> Result<(), AllocError>
-    requires pages { All IsNumberPage pages.old.items }
-    ensures ok { OnOk result (numbers_of pages.new.items ≡ numbers_of pages.old.items ++ number ∷ []) }
-    ensures err { OnErr result (numbers_of pages.new.items ≡ numbers_of pages.old.items) }
-    ensures pages { All IsNumberPage pages.new.items }
+    ensures { PutsAt result pages.old.items pages.new.items (length (numbers_of pages.old.items)) number }
 {
     let mut page = Vec::new(alloc);
     page.try_reserve_exact(STEP)?;
@@ -115,10 +112,9 @@ fn cut(numbers: &mut Vec<u32>)
 
 // Cuts a full page in two.
 fn split(pages: &mut Vec<Vec<u32>>, alloc: Global, page: usize) -> Result<(), AllocError>
-    requires full { IsSomeAnd (slice_get pages.old.items page) (λ numbers. length numbers.items ≡ 256) }
-    requires pages { All IsNumberPage pages.old.items }
+    requires { IsSomeAnd (slice_get pages.old.items page) (λ numbers. length numbers.items ≡ 256) }
     ensures numbers { numbers_of pages.new.items ≡ numbers_of pages.old.items }
-    ensures pages { All IsNumberPage pages.new.items }
+    ensures pages { All IsNumberPage pages.old.items → All IsNumberPage pages.new.items }
     ensures before { take page pages.new.items ≡ take page pages.old.items }
     ensures lower { OnOk result
         (IsSomeAnd (slice_get pages.new.items page) (λ numbers. length numbers.items ≡ 128)) }
@@ -151,13 +147,9 @@ fn put_within(
     at: usize,
     number: u32,
 ) -> Result<(), AllocError>
-    requires place { IsSomeAnd (slice_get pages.old.items page)
+    requires { IsSomeAnd (slice_get pages.old.items page)
         (λ numbers. (at ≤ length numbers.items) × (length numbers.items < 256)) }
-    requires pages { All IsNumberPage pages.old.items }
-    ensures ok { OnOk result (numbers_of pages.new.items
-        ≡ insert (numbers_of pages.old.items) (place_of pages.old.items page at) number) }
-    ensures err { OnErr result (numbers_of pages.new.items ≡ numbers_of pages.old.items) }
-    ensures pages { All IsNumberPage pages.new.items }
+    ensures { PutsAt result pages.old.items pages.new.items (place_of pages.old.items page at) number }
 {
     insert_at(&mut pages[page], at, number)
 }
@@ -174,10 +166,7 @@ pub(crate) fn put(
 ) -> Result<(), AllocError>
     requires place { IsSomeAnd (slice_get pages.old.items page) (λ numbers. at ≤ length numbers.items) }
     requires pages { All IsNumberPage pages.old.items }
-    ensures ok { OnOk result (numbers_of pages.new.items
-        ≡ insert (numbers_of pages.old.items) (place_of pages.old.items page at) number) }
-    ensures err { OnErr result (numbers_of pages.new.items ≡ numbers_of pages.old.items) }
-    ensures pages { All IsNumberPage pages.new.items }
+    ensures { PutsAt result pages.old.items pages.new.items (place_of pages.old.items page at) number }
 {
     let count = pages[page].len();
     if count < PAGE_SIZE {

@@ -8,7 +8,7 @@ ghost use Rattle.std.specs.List.Sorted.{IsPartitionPoint};
 ghost use Rattle.std.specs.Map.{remove_entry};
 ghost use Rattle.std.specs.BTreeMap.{is_at};
 ghost use Rattle.std.specs.Ordering.{nat_cmp};
-ghost use Rattle.hub_index.specs.Pages.{ArePages, IsPage, rows_of, page_count};
+ghost use Rattle.hub_index.specs.Pages.{AreLaid, ArePages, IsPage, rows_of, page_count};
 
 use crate::SeqIndex;
 use crate::page::{PAGE_SIZE, Page};
@@ -87,8 +87,7 @@ fn add_row(
     document: u32,
     seq: u64,
 ) -> Result<(), AllocError>
-    requires pages { All IsPage pages.old.items }
-    requires rising { AllPairs (λ a b. a.0 < b.0) pages.old.items }
+    requires laid { AreLaid pages.old.items }
     requires positive { 0 < seq }
     requires above { All (λ r. r.0 < seq) (rows_of pages.old.items) }
     ensures ok { OnOk result (rows_of pages.new.items ≡ rows_of pages.old.items ++ (seq, document) ∷ []) }
@@ -131,8 +130,7 @@ fn remove_row(pages: &mut Vec<(u64, Page)>, seq: u64)
 
 // The first row above a place.
 fn row_after(pages: &[(u64, Page)], place: u64) -> Option<(u64, u32)>
-    requires pages { All IsPage pages.now }
-    requires rising { AllPairs (λ a b. a.0 < b.0) pages.now }
+    requires { AreLaid pages.now }
     ensures { result ≡ find (λ r. nat_lt place r.0) (rows_of pages.now) }
 {
     for at in place_of(pages, place / PAGE_SIZE)..pages.len() {
@@ -146,8 +144,7 @@ fn row_after(pages: &[(u64, Page)], place: u64) -> Option<(u64, u32)>
 
 // The last row below a place.
 fn row_before(pages: &[(u64, Page)], place: u64) -> Option<(u64, u32)>
-    requires pages { All IsPage pages.now }
-    requires rising { AllPairs (λ a b. a.0 < b.0) pages.now }
+    requires { AreLaid pages.now }
     ensures { result ≡ find (λ r. nat_lt r.0 place) (reverse (rows_of pages.now)) }
 {
     let mut at = place_of(pages, place / PAGE_SIZE + 1);

@@ -65,7 +65,7 @@ impl FeedHost for UpdatesState {
 
     /// Constant time.
     fn life(&self) -> u64 {
-        self.log.life()
+        self.log.life
     }
 
     /// Constant time.
@@ -81,7 +81,7 @@ impl FeedHost for UpdatesState {
         if let Some(fault) = self.refusal() {
             return Err(fault);
         }
-        match self.feeds.open(params, self.log.len(), self.log.life()) {
+        match self.feeds.open(params, self.log.length(), self.log.life()) {
             Ok(feed) => Ok(feed),
             Err(AllocError) => Err(OpenFault::NoMemory),
         }

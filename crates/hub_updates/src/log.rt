@@ -182,13 +182,6 @@ impl Log {
         }
     }
 
-    /// How many notes there are. Constant time.
-    pub(crate) fn len(&self) -> u64
-        ensures { result ≡ length self.now.notes }
-    {
-        self.notes.len() as u64
-    }
-
     /// Adds a note at the end. It costs a copy of the name, one more for the first note of a pair, a
     /// look in the map of ids, and a move in the index of rows. An error leaves all as it was.
     pub(crate) fn note(&mut self, notice: &Notice) -> Result<(), AllocError>

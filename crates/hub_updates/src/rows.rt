@@ -58,7 +58,7 @@ impl Source for Log {
 
     /// Constant time.
     fn length(&self) -> u64 {
-        self.len()
+        self.notes.len() as u64
     }
 
     /// Constant time.
@@ -107,9 +107,7 @@ impl Source for Log {
         })
     }
 
-    fn seq(row: &UpdateRow) -> u64
-        ensures { result ≡ row.now.seq }
-    {
+    fn seq(row: &UpdateRow) -> u64 {
         row.seq
     }
 }

@@ -6,7 +6,7 @@ ghost use Rattle.hub_model.specs.Updates.{edits_of_log};
 use crate::log::Log;
 use crate::notice::Notice;
 use hub_document::Limits;
-use hub_feed::Feeds;
+use hub_feed::{Feeds, Source};
 use std::alloc::Global;
 use std::marker::Model;
 
@@ -68,7 +68,7 @@ impl UpdatesState {
     pub fn update_seq(&self) -> u64
         ensures { result ≡ length self.now.notes }
     {
-        self.log.len()
+        self.log.length()
     }
 
     /// Adds a notice at the end, under the next sequence, or hands it back: then nothing changed. The
@@ -81,7 +81,7 @@ impl UpdatesState {
             × (((e.1 ≡ NoteFault.NoMemory) × (length self.old.notes < self.old.limits.journal))
             ⊎ ((e.1 ≡ NoteFault.SequenceFull) × (self.old.limits.journal ≤ length self.old.notes)))) }
     {
-        if self.log.len() >= self.limits.journal {
+        if self.log.length() >= self.limits.journal {
             return Err((notice, NoteFault::SequenceFull));
         }
         match self.log.note(&notice) {

@@ -5,40 +5,28 @@ use Rattle.hub_index.specs.Order.{IsNumberPage}
 use Rattle.hub_index.proofs.IdPageLemmas.{page_put, page_same, page_kept, some_at}
 use Rattle.hub_index.proofs.id_pages.put_within.Goals as goal
 
-pub returns-clause-ok : goal.returns-clause-ok
-returns-clause-ok c =
+pub returns : goal.returns
+returns c =
     let x = c.index_mut.result.now in
     let f : Vec ℕ Global → List ℕ = λ v. v.items in
     let is =
     some_at (λ (v : Vec ℕ Global). (c.args.at ≤ length v.items) × (length v.items < 256))
-    c.args.pages.now.items c.args.page c.requires.place in
-    on_ok_weaker c.insert_at.result
-    (page_put f c.args.pages.now.items c.args.page x c.insert_at.new.numbers c.args.at c.args.number
-    is.0 c.index_mut.ensures.value (is.1 x c.index_mut.ensures.value).0)
-    c.insert_at.ensures.ok
-
-pub returns-clause-err : goal.returns-clause-err
-returns-clause-err c =
-    let x = c.index_mut.result.now in
-    let f : Vec ℕ Global → List ℕ = λ v. v.items in
-    let is =
-    some_at (λ (v : Vec ℕ Global). (c.args.at ≤ length v.items) × (length v.items < 256))
-    c.args.pages.now.items c.args.page c.requires.place in
-    MatchResult-weaker c.insert_at.result c.insert_at.ensures.err (λ u t. t)
-    (λ e same. page_same f c.args.pages.now.items c.args.page x c.insert_at.new.numbers is.0
-    c.index_mut.ensures.value same)
-
-pub returns-clause-pages : goal.returns-clause-pages
-returns-clause-pages c =
-    let x = c.index_mut.result.now in
-    let is =
-    some_at (λ (v : Vec ℕ Global). (c.args.at ≤ length v.items) × (length v.items < 256))
-    c.args.pages.now.items c.args.page c.requires.place in
+    c.args.pages.now.items c.args.page c.requires in
     let here = is.1 x c.index_mut.ensures.value in
-    let page : IsNumberPage x =
-    rw c.index_mut.ensures.value
-    (All-get_or IsNumberPage c.args.pages.now.items c.args.page x is.0 c.requires.pages) in
-    All-set IsNumberPage c.args.pages.now.items c.args.page c.insert_at.new.numbers
-    (page_kept c.insert_at.result x c.insert_at.new.numbers c.args.at c.args.number c.insert_at.ensures.ok
-    c.insert_at.ensures.err page here.0 here.1)
-    c.requires.pages
+    record {
+      ok =
+          on_ok_weaker c.insert_at.result
+          (page_put f c.args.pages.now.items c.args.page x c.insert_at.new.numbers c.args.at c.args.number
+          is.0 c.index_mut.ensures.value here.0)
+          c.insert_at.ensures.ok;
+      err =
+          MatchResult-weaker c.insert_at.result c.insert_at.ensures.err (λ u t. t)
+          (λ e same. page_same f c.args.pages.now.items c.args.page x c.insert_at.new.numbers is.0
+          c.index_mut.ensures.value same);
+      pages = λ pages. let page : IsNumberPage x =
+          rw c.index_mut.ensures.value (All-get_or IsNumberPage c.args.pages.now.items c.args.page x is.0 pages) in
+          All-set IsNumberPage c.args.pages.now.items c.args.page c.insert_at.new.numbers
+          (page_kept c.insert_at.result x c.insert_at.new.numbers c.args.at c.args.number c.insert_at.ensures.ok
+          c.insert_at.ensures.err page here.0 here.1)
+          pages;
+    }

@@ -24,28 +24,28 @@ pub returns-clause-numbers : goal.returns-clause-numbers
 returns-clause-numbers c =
     let f : Vec ℕ Global → List ℕ = λ v. v.items in
     let full =
-    some_at (λ (v : Vec ℕ Global). length v.items ≡ 256) c.args.pages.now.items c.args.page c.requires.full in
+    some_at (λ (v : Vec ℕ Global). length v.items ≡ 256) c.args.pages.now.items c.args.page c.requires in
     rw c.in_ok-insert.ensures.items
     (cut_numbers f c.args.pages.now.items c.args.page c.index.result.now c.index_mut.result.now
     c.cut.new.numbers c.in_ok-upper.upper full.0 c.index.ensures (full.1 c.index.result.now c.index.ensures)
     (upper c) (there c) c.cut.ensures)
 
 pub returns-clause-pages : goal.returns-clause-pages
-returns-clause-pages c =
+returns-clause-pages c pages =
     let f : Vec ℕ Global → List ℕ = λ v. v.items in
     let full =
-    some_at (λ (v : Vec ℕ Global). length v.items ≡ 256) c.args.pages.now.items c.args.page c.requires.full in
+    some_at (λ (v : Vec ℕ Global). length v.items ≡ 256) c.args.pages.now.items c.args.page c.requires in
     rw c.in_ok-insert.ensures.items
     (cut_pages f c.args.pages.now.items c.args.page
     c.index.result.now c.index_mut.result.now c.cut.new.numbers c.in_ok-upper.upper full.0 c.index.ensures
     (full.1 c.index.result.now c.index.ensures) (upper c) (there c) c.cut.ensures IsNumberPage
-    (λ z h. record { some = omega arith; few = omega arith }) c.requires.pages)
+    (λ z h. record { some = omega arith; few = omega arith }) pages)
 
 pub returns-clause-before : goal.returns-clause-before
 returns-clause-before c =
     let f : Vec ℕ Global → List ℕ = λ v. v.items in
     let full =
-    some_at (λ (v : Vec ℕ Global). length v.items ≡ 256) c.args.pages.now.items c.args.page c.requires.full in
+    some_at (λ (v : Vec ℕ Global). length v.items ≡ 256) c.args.pages.now.items c.args.page c.requires in
     rw c.in_ok-insert.ensures.items
     (cut_before f c.args.pages.now.items c.args.page c.index.result.now c.index_mut.result.now
     c.cut.new.numbers c.in_ok-upper.upper full.0 c.index.ensures (full.1 c.index.result.now c.index.ensures)
@@ -55,7 +55,7 @@ pub returns-clause-lower : goal.returns-clause-lower
 returns-clause-lower c =
     let f : Vec ℕ Global → List ℕ = λ v. v.items in
     let full =
-    some_at (λ (v : Vec ℕ Global). length v.items ≡ 256) c.args.pages.now.items c.args.page c.requires.full in
+    some_at (λ (v : Vec ℕ Global). length v.items ≡ 256) c.args.pages.now.items c.args.page c.requires in
     rw c.in_ok-insert.ensures.items
     (cut_lower f c.args.pages.now.items c.args.page c.index.result.now c.index_mut.result.now
     c.cut.new.numbers c.in_ok-upper.upper full.0 c.index.ensures (full.1 c.index.result.now c.index.ensures)
@@ -65,7 +65,7 @@ pub returns-clause-upper : goal.returns-clause-upper
 returns-clause-upper c =
     let f : Vec ℕ Global → List ℕ = λ v. v.items in
     let full =
-    some_at (λ (v : Vec ℕ Global). length v.items ≡ 256) c.args.pages.now.items c.args.page c.requires.full in
+    some_at (λ (v : Vec ℕ Global). length v.items ≡ 256) c.args.pages.now.items c.args.page c.requires in
     rw c.in_ok-insert.ensures.items
     (cut_upper f c.args.pages.now.items c.args.page c.index.result.now c.index_mut.result.now
     c.cut.new.numbers c.in_ok-upper.upper full.0 c.index.ensures (full.1 c.index.result.now c.index.ensures)

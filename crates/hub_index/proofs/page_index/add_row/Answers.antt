@@ -21,7 +21,7 @@ returns-then-index-number-clause-ok c =
     let is : 256 * x.0 + c.slot_of-number.result.1 + 1 ≡ c.args.seq =
     omega (arith, number, c.slot_of-number.ensures.seq) in
     ap (λ (w : List (Option ℕ)). rows_of (set es at (x.0, w))) c.fill.ensures
-    ∙ pages_filled es at x l c.index_mut.ensures.value c.requires.pages c.slot_of-number.result.1 c.args.seq
+    ∙ pages_filled es at x l c.index_mut.ensures.value c.requires.laid.each c.slot_of-number.result.1 c.args.seq
     c.slot_of-number.ensures.slot is (omega (arith, c.len-end.ensures)) c.requires.above c.args.document
 
 pub returns-then-index-number-clause-pages : goal.returns-then-index-number-clause-pages
@@ -37,7 +37,7 @@ returns-then-index-number-clause-pages c =
     omega (arith, number, c.slot_of-number.ensures.seq) in
     subst (λ (w : List (Option ℕ)). All IsPage (set es at (x.0, w))) (sym c.fill.ensures)
     (pages_filled_are es at x l c.index_mut.ensures.value
-    c.requires.pages c.slot_of-number.result.1 c.args.seq c.slot_of-number.ensures.slot is
+    c.requires.laid.each c.slot_of-number.result.1 c.args.seq c.slot_of-number.ensures.slot is
     (omega (arith, c.len-end.ensures)) c.requires.above c.args.document (omega (arith, c.ranges.seq.fits)))
 
 -- the pages, with the new one
@@ -63,7 +63,7 @@ returns-clause-pages c =
     c.in_ok-push.ensures.items c.fill-2.ensures))
     (added_is c.slot_of-number.result.0 c.slot_of-number.result.1 c.args.seq c.slot_of-number.ensures.slot
     c.slot_of-number.ensures.seq c.args.document c.in_ok-page.page c.in_ok-page.ensures.size
-    c.in_ok-page.ensures.empty c.args.pages.now.items (omega (arith, c.ranges.seq.fits)) c.requires.pages)
+    c.in_ok-page.ensures.empty c.args.pages.now.items (omega (arith, c.ranges.seq.fits)) c.requires.laid.each)
 
 pub returns-clause-rising : goal.returns-clause-rising
 returns-clause-rising c =
@@ -75,7 +75,7 @@ returns-clause-rising c =
           omega (arith, c.len-end.ensures, w.if-end-gt0.true) in
           below_new k c.slot_of-number.result.1 c.args.seq c.slot_of-number.ensures.slot
           c.slot_of-number.ensures.seq es (c.len-end.result - 1) w.index.result.now last w.index.ensures
-          w.if-index-number.false c.requires.rising c.requires.pages c.requires.above
+          w.if-index-number.false c.requires.laid.rising c.requires.laid.each c.requires.above
       | else-end-gt0-via-else-end-gt0 w ↦
           λ z d l. absurd (omega (arith, l, c.len-end.ensures, w.if-end-gt0.false))
     ] in
@@ -84,4 +84,4 @@ returns-clause-rising c =
     (set c.in_ok-page.page c.slot_of-number.result.1 (Some c.args.document))
     c.in_ok-push.ensures.items c.fill-2.ensures))
     (all_pairs_push (λ (a b : ℕ × List (Option ℕ)). a.0 < b.0) es
-    (k, set c.in_ok-page.page c.slot_of-number.result.1 (Some c.args.document)) c.requires.rising low)
+    (k, set c.in_ok-page.page c.slot_of-number.result.1 (Some c.args.document)) c.requires.laid.rising low)

@@ -8,7 +8,7 @@ pub loop-at-init : goal.loop-at-init
 loop-at-init c =
     find_same (λ (row : ℕ × ℕ). nat_lt c.args.place row.0) (rows_of c.args.pages.now)
     (rows_of (drop c.place_of-at.result c.args.pages.now))
-    (from_page c.args.place c.place_of-at.result c.args.pages.now c.requires.pages
+    (from_page c.args.place c.place_of-at.result c.args.pages.now c.requires.each
     c.place_of-at.ensures.within c.place_of-at.ensures.parted.0)
 
 pub returns-in-Some : goal.returns-in-Some

@@ -11,7 +11,7 @@ loop-at-init c = record {
   rest =
       find_reverse_same (λ (row : ℕ × ℕ). nat_lt row.0 c.args.place) (rows_of c.args.pages.now)
       (rows_of (take c.place_of-at.result c.args.pages.now))
-      (upto_page c.args.place c.place_of-at.result c.args.pages.now c.requires.pages
+      (upto_page c.args.place c.place_of-at.result c.args.pages.now c.requires.each
       c.place_of-at.ensures.within c.place_of-at.ensures.parted.1);
 }
 
