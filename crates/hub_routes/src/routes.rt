@@ -38,8 +38,8 @@ fn target_of(request: &Request) -> (&[u8], &[u8])
     cut(request.target.as_slice(), b'?')
 }
 
-// The id of the document that a path of this kind names, where it may be asked for so; empty where it names no
-// document. An id that was read already is not read again.
+// The id of the document that a path of this kind names, where it may be asked for so; empty where there is
+// none. An id that was read already is not read again.
 fn document_id<'p>(
     alloc: Global,
     kind: Kind,
