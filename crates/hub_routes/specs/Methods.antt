@@ -6,13 +6,12 @@ use Rattle.hub_routes.specs.declared.kind.Kind.{Kind}
 use Rattle.hub_routes.specs.declared.kind.Kind.TheVariants as kind
 use Rattle.hub_routes.specs.declared.method.Method.{Method}
 use Rattle.hub_routes.specs.declared.method.Method.TheVariants.{Get, Head, Put, Post, Delete, Other}
-use Rattle.hub_routes.specs.declared.route.Route.{Route}
-use Rattle.hub_routes.specs.declared.route.Route.TheVariants.{Welcome, AllDbs, DbUpdates, PutDatabase}
-use Rattle.hub_routes.specs.declared.route.Route.TheVariants.{DeleteDatabase, Database}
-use Rattle.hub_routes.specs.declared.route.Call.TheVariants.{Info, BulkDocs, Changes, RevsDiff, FullCommit}
+use Rattle.hub_routes.specs.declared.route.Call.{Call}
+use Rattle.hub_routes.specs.declared.route.Call.TheVariants.{Welcome, AllDbs, DbUpdates}
+use Rattle.hub_routes.specs.declared.route.Call.TheVariants.{Info, PutDatabase, DeleteDatabase, BulkDocs}
+use Rattle.hub_routes.specs.declared.route.Call.TheVariants.{Changes, RevsDiff, FullCommit}
 use Rattle.hub_routes.specs.declared.route.Call.TheVariants.{GetDocument, PutDocument, DeleteDocument}
 use Rattle.hub_routes.specs.declared.route.Call.TheVariants.{GetLocal, PutLocal}
-use Rattle.hub_routes.specs.declared.route.Parts.{Parts}
 
 -- the method of a name, letter by letter
 unfoldable pub method_of : List ℕ → Method
@@ -24,26 +23,25 @@ method_of name =
     else (if bytes_eq name (codes "DELETE") then Delete
     else Other))))
 
--- what a method asks of a path of this kind: a route, made of the request's parts; None where the path does
--- not take the method
-unfoldable pub asked_of : Kind → Method → Option (Parts → Route)
-asked_of kind.Welcome Get = Some (λ parts. Welcome)
-asked_of kind.AllDbs Get = Some (λ parts. AllDbs)
-asked_of kind.DbUpdates Get = Some (λ parts. DbUpdates parts.query)
-asked_of kind.Database Get = Some (λ parts. Database parts.db Info)
-asked_of kind.Database Head = Some (λ parts. Database parts.db Info)
-asked_of kind.Database Put = Some (λ parts. PutDatabase parts.db)
-asked_of kind.Database Delete = Some (λ parts. DeleteDatabase parts.db)
-asked_of kind.BulkDocs Post = Some (λ parts. Database parts.db BulkDocs)
-asked_of kind.Changes Get = Some (λ parts. Database parts.db (Changes parts.query))
-asked_of kind.Changes Post = Some (λ parts. Database parts.db (Changes parts.query))
-asked_of kind.RevsDiff Post = Some (λ parts. Database parts.db RevsDiff)
-asked_of kind.FullCommit Post = Some (λ parts. Database parts.db FullCommit)
-asked_of kind.Document Get = Some (λ parts. Database parts.db (GetDocument parts.id parts.query))
-asked_of kind.Document Put = Some (λ parts. Database parts.db (PutDocument parts.id parts.query))
-asked_of kind.Document Delete = Some (λ parts. Database parts.db (DeleteDocument parts.id parts.query))
-asked_of kind.Local Get = Some (λ parts. Database parts.db (GetLocal parts.id))
-asked_of kind.Local Put = Some (λ parts. Database parts.db (PutLocal parts.id))
+-- what a method asks of a path of this kind; None where the path does not take the method
+unfoldable pub asked_of : Kind → Method → Option Call
+asked_of kind.Welcome Get = Some Welcome
+asked_of kind.AllDbs Get = Some AllDbs
+asked_of kind.DbUpdates Get = Some DbUpdates
+asked_of kind.Database Get = Some Info
+asked_of kind.Database Head = Some Info
+asked_of kind.Database Put = Some PutDatabase
+asked_of kind.Database Delete = Some DeleteDatabase
+asked_of kind.BulkDocs Post = Some BulkDocs
+asked_of kind.Changes Get = Some Changes
+asked_of kind.Changes Post = Some Changes
+asked_of kind.RevsDiff Post = Some RevsDiff
+asked_of kind.FullCommit Post = Some FullCommit
+asked_of kind.Document Get = Some GetDocument
+asked_of kind.Document Put = Some PutDocument
+asked_of kind.Document Delete = Some DeleteDocument
+asked_of kind.Local Get = Some GetLocal
+asked_of kind.Local Put = Some PutLocal
 asked_of other method = None
 
 -- a path of this kind names one document

@@ -1,6 +1,7 @@
 -- Where requests go (CouchDB API reference, the paths of the server, databases and documents; own for the
 -- order of refusals).
-use Rattle.std.specs.Prelude.{◌≡◌, ◌⊎◌, ℕ, true, false, List, Some, None, Result, Ok, Err, IsSome}
+use Rattle.std.specs.Prelude.{◌≡◌, ◌⊎◌, ℕ, true, false, List, [], Some, None, Result, Ok, Err, IsSome}
+use Rattle.std.specs.Prelude.{if◌then◌else◌}
 use Rattle.std.specs.Cow.{cow_str_bytes}
 use Rattle.std.specs.Str.{IsUtf8}
 use Rattle.hub_http.specs.Stream.{Asked}
@@ -9,7 +10,6 @@ use Rattle.hub_routes.specs.Paths.{NeedsRoomForKind}
 use Rattle.hub_routes.specs.Methods.{method_of, asked_of, has_document, takes_id, takes_body}
 use Rattle.hub_routes.specs.declared.kind.Kind.{Kind}
 use Rattle.hub_routes.specs.declared.route.Route.{Route}
-use Rattle.hub_routes.specs.declared.route.Parts.{Parts}
 use Rattle.hub_routes.specs.declared.route.RouteFault.{RouteFault}
 use Rattle.hub_routes.specs.declared.route.RouteFault.TheVariants.{NoMemory, Missing, MethodNotAllowed}
 use Rattle.hub_routes.specs.declared.route.RouteFault.TheVariants.{BadName, BadId, LengthMissing}
@@ -43,23 +43,16 @@ pub data NeedsRoom (asked : Asked) : Type 0 where
   document : (k : Kind) → IsServed asked k → has_document k ≡ true → IsUtf8 (database_of asked)
       → HasPercent (id_part (path_of asked.target)) → NeedsRoom asked
 
--- these are the parts of a request whose path is of this kind; the id of a document may be asked for
-pub record AreParts (asked : Asked) (kind : Kind) (parts : Parts) : Type 0 where
-  pub name : cow_str_bytes parts.db ≡ database_of asked
-  pub query : parts.query.now ≡ query_of asked.target
-  pub document : has_document kind ≡ true
-      → (cow_str_bytes parts.id ≡ document_of asked) × (takes_id kind (document_of asked) ≡ true)
-
--- this is the route of a request: that of the table, made of its parts
+-- this is the route of a request: what the table and the method say, with the parts of the request
 pub record IsRoute (a : Asked) (route : Route) : Type 0 where
   pub kind : Kind
-  pub parts : Parts
-  pub make : Parts → Route
   pub path : kind_of (path_of a.target) ≡ Some kind
-  pub asked : asked_of kind (method_of a.method) ≡ Some make
-  pub made : route ≡ make parts
-  pub lent : AreParts a kind parts
+  pub asked : asked_of kind (method_of a.method) ≡ Some route.call
   pub length : (takes_body kind ≡ true) → (a.has_length ≡ true)
+  pub name : cow_str_bytes route.db ≡ database_of a
+  pub id : cow_str_bytes route.id ≡ (if has_document kind then document_of a else [])
+  pub good : IsGoodId kind (document_of a)
+  pub query : route.query.now ≡ query_of a.target
 
 -- where a request goes, or why nowhere
 abbrev pub GoesTo : Asked → Result Route RouteFault → Type 0

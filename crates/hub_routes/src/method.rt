@@ -1,11 +1,11 @@
 //! What methods ask of paths (CouchDB API reference, the methods of each path).
 
-ghost use Rattle.std.specs.Prelude.{◌≡◌, IfSome, is_some, bytes_eq};
+ghost use Rattle.std.specs.Prelude.{◌≡◌, bytes_eq};
 ghost use Rattle.hub_routes.specs.Methods.{method_of, asked_of, has_document, takes_id, takes_body};
 
 use crate::kind::Kind;
 use crate::path::is_id;
-use crate::route::{Call, Parts, Route};
+use crate::route::Call;
 
 /// A request's method.
 #[derive(Clone, Copy, Debug, PartialEq, Eq)]
@@ -50,48 +50,29 @@ pub fn method_of(name: &[u8]) -> Method
     }
 }
 
-/// Whether a path of this kind takes the method.
+/// What the method asks of a path of this kind; none where the path does not take it.
 #[tactic(auto, unfolding(crate::specs::Methods::asked_of))]
-pub fn takes_method(kind: Kind, method: Method) -> bool
-    ensures { result ≡ is_some (asked_of kind method) }
+pub fn asked_of(kind: Kind, method: Method) -> Option<Call>
+    ensures { result ≡ asked_of kind method }
 {
-    match kind {
-        Kind::Welcome | Kind::AllDbs | Kind::DbUpdates => method == Method::Get,
-        Kind::Database => matches!(
-            method,
-            Method::Get | Method::Head | Method::Put | Method::Delete
-        ),
-        Kind::Changes => matches!(method, Method::Get | Method::Post),
-        Kind::BulkDocs | Kind::RevsDiff | Kind::FullCommit => method == Method::Post,
-        Kind::Document => matches!(method, Method::Get | Method::Put | Method::Delete),
-        Kind::Local => matches!(method, Method::Get | Method::Put),
+    match (kind, method) {
+        (Kind::Welcome, Method::Get) => Some(Call::Welcome),
+        (Kind::AllDbs, Method::Get) => Some(Call::AllDbs),
+        (Kind::DbUpdates, Method::Get) => Some(Call::DbUpdates),
+        (Kind::Database, Method::Get | Method::Head) => Some(Call::Info),
+        (Kind::Database, Method::Put) => Some(Call::PutDatabase),
+        (Kind::Database, Method::Delete) => Some(Call::DeleteDatabase),
+        (Kind::BulkDocs, Method::Post) => Some(Call::BulkDocs),
+        (Kind::Changes, Method::Get | Method::Post) => Some(Call::Changes),
+        (Kind::RevsDiff, Method::Post) => Some(Call::RevsDiff),
+        (Kind::FullCommit, Method::Post) => Some(Call::FullCommit),
+        (Kind::Document, Method::Get) => Some(Call::GetDocument),
+        (Kind::Document, Method::Put) => Some(Call::PutDocument),
+        (Kind::Document, Method::Delete) => Some(Call::DeleteDocument),
+        (Kind::Local, Method::Get) => Some(Call::GetLocal),
+        (Kind::Local, Method::Put) => Some(Call::PutLocal),
+        _ => None,
     }
-}
-
-/// The route of a path of this kind, by a method that it takes.
-#[tactic(auto, unfolding(crate::specs::Methods::asked_of))]
-pub fn route_to<'r>(kind: Kind, method: Method, parts: Parts<'r>) -> Route<'r>
-    ensures { IfSome (asked_of kind method) (λ make. result ≡ make parts.entry) }
-{
-    let Parts { db, id, query } = parts;
-    let call = match (kind, method) {
-        (Kind::Welcome, _) => return Route::Welcome,
-        (Kind::AllDbs, _) => return Route::AllDbs,
-        (Kind::DbUpdates, _) => return Route::DbUpdates { query },
-        (Kind::Database, Method::Put) => return Route::PutDatabase { db },
-        (Kind::Database, Method::Delete) => return Route::DeleteDatabase { db },
-        (Kind::Database, _) => Call::Info,
-        (Kind::BulkDocs, _) => Call::BulkDocs,
-        (Kind::Changes, _) => Call::Changes { query },
-        (Kind::RevsDiff, _) => Call::RevsDiff,
-        (Kind::FullCommit, _) => Call::FullCommit,
-        (Kind::Document, Method::Put) => Call::PutDocument { id, query },
-        (Kind::Document, Method::Delete) => Call::DeleteDocument { id, query },
-        (Kind::Document, _) => Call::GetDocument { id, query },
-        (Kind::Local, Method::Put) => Call::PutLocal { id },
-        (Kind::Local, _) => Call::GetLocal { id },
-    };
-    Route::Database { db, call }
 }
 
 /// Whether a path of this kind names one document.

@@ -84,5 +84,8 @@ pub fn is_id(id: &[u8]) -> bool
 pub fn is_local(id: &[u8]) -> bool
     ensures { result ≡ is_local id.now }
 {
-    id.starts_with(b"_local/") && id.len() > 7
+    match id {
+        [b'_', name @ ..] => name.starts_with(b"local/") && name.len() > 6,
+        _ => false,
+    }
 }

@@ -6,97 +6,54 @@ use hub_http::Refusal;
 use std::alloc::AllocError;
 use std::borrow::CowStr;
 
-/// Where a request goes. Names and ids are parts of the path with their escapes read (an id may
-/// have any length), and are still to be looked up. A query is what stands behind the first `?`
-/// of the target, as it was sent; empty where there is none. All of them are lent by the request:
-/// a name or an id is a text of its own only where an escape was read in it.
-#[derive(Debug, Drop)]
-pub enum Route<'r> {
+/// What a request asks for.
+#[derive(Clone, Copy, Debug, PartialEq, Eq)]
+pub enum Call {
     /// `GET /`
     Welcome,
     /// `GET /_all_dbs`
     AllDbs,
     /// `GET /_db_updates`
-    DbUpdates {
-        /// The query.
-        query: &'r [u8],
-    },
-    /// `PUT /{db}`
-    PutDatabase {
-        /// The name of the database.
-        db: CowStr<'r>,
-    },
-    /// `DELETE /{db}`
-    DeleteDatabase {
-        /// The name of the database.
-        db: CowStr<'r>,
-    },
-    /// A call on a database.
-    Database {
-        /// The name of the database.
-        db: CowStr<'r>,
-        /// What is asked of it.
-        call: Call<'r>,
-    },
-}
-
-/// What a request asks of a database, with ids and queries that the request lends.
-#[derive(Debug, Drop)]
-pub enum Call<'r> {
+    DbUpdates,
     /// `GET /{db}`, `HEAD /{db}`
     Info,
+    /// `PUT /{db}`
+    PutDatabase,
+    /// `DELETE /{db}`
+    DeleteDatabase,
     /// `POST /{db}/_bulk_docs`
     BulkDocs,
     /// `GET /{db}/_changes`, `POST /{db}/_changes`
-    Changes {
-        /// The query.
-        query: &'r [u8],
-    },
+    Changes,
     /// `POST /{db}/_revs_diff`
     RevsDiff,
     /// `POST /{db}/_ensure_full_commit`
     FullCommit,
     /// `GET /{db}/{id}`, `GET /{db}/_design/{name}`
-    GetDocument {
-        /// The document's id, with `_design/` where it has that.
-        id: CowStr<'r>,
-        /// The query.
-        query: &'r [u8],
-    },
+    GetDocument,
     /// `PUT /{db}/{id}`, `PUT /{db}/_design/{name}`
-    PutDocument {
-        /// The document's id, with `_design/` where it has that.
-        id: CowStr<'r>,
-        /// The query.
-        query: &'r [u8],
-    },
+    PutDocument,
     /// `DELETE /{db}/{id}`, `DELETE /{db}/_design/{name}`
-    DeleteDocument {
-        /// The document's id, with `_design/` where it has that.
-        id: CowStr<'r>,
-        /// The query.
-        query: &'r [u8],
-    },
+    DeleteDocument,
     /// `GET /{db}/_local/{name}`
-    GetLocal {
-        /// The document's id, with `_local/`.
-        id: CowStr<'r>,
-    },
+    GetLocal,
     /// `PUT /{db}/_local/{name}`
-    PutLocal {
-        /// The document's id, with `_local/`.
-        id: CowStr<'r>,
-    },
+    PutLocal,
 }
 
-/// What a request lends to its route. Where its kind asks for no document, the id is empty.
-#[derive(Drop)]
-pub struct Parts<'r> {
-    /// The name of the database.
+/// Where a request goes: a call, with what the request lends to it. The name and the id are parts of the path
+/// with their escapes read (an id may have any length), and are still to be looked up. Each is a text of its
+/// own only where an escape was read in it.
+#[derive(Debug, Drop)]
+pub struct Route<'r> {
+    /// What is asked for.
+    pub call: Call,
+    /// The name of the database: the first part of the path.
     pub db: CowStr<'r>,
-    /// The id of the document.
+    /// The document's id, with `_design/` or `_local/` where it has that. It is empty where the call asks for
+    /// no document.
     pub id: CowStr<'r>,
-    /// The query.
+    /// What stands behind the first `?` of the target, as it was sent; empty where there is none.
     pub query: &'r [u8],
 }
 

@@ -1,21 +1,22 @@
 //! Where requests go (CouchDB API reference, the paths of the server, databases and documents).
 
-ghost use Rattle.std.specs.Prelude.{◌≡◌, ◌⊎◌, IfSome, IfOk, IfErr, OnOk, OnErr, true, option_map};
+ghost use Rattle.std.specs.Prelude.{◌≡◌, ◌⊎◌, [], if◌then◌else◌, IfSome, IfOk, IfErr, OnOk, OnErr};
+ghost use Rattle.std.specs.Prelude.{true, option_map};
 ghost use Rattle.std.specs.Option.{ForSome};
 ghost use Rattle.std.specs.Cow.{cow_str_bytes, cow_slice_items};
 ghost use Rattle.std.specs.Str.{IsUtf8};
 ghost use Rattle.percent_encoding.specs.Percent.{percent_decode};
 ghost use Rattle.hub_http.specs.Stream.{asked_by};
 ghost use Rattle.hub_routes.specs.Table.{table, kind_at};
-ghost use Rattle.hub_routes.specs.Paths.{path_of, query_of, id_of, kind_of, HasPercent};
+ghost use Rattle.hub_routes.specs.Paths.{path_of, query_of, id_part, id_of, kind_of, HasPercent};
 ghost use Rattle.hub_routes.specs.Paths.{NeedsRoomForKind};
 ghost use Rattle.hub_routes.specs.Methods.{has_document};
 ghost use Rattle.hub_routes.specs.Routes.{IsGoodId, IsBadId, GoesTo};
 
 use crate::kind::{Kind, refined, table};
-use crate::method::{has_document, method_of, route_to, takes_body, takes_id, takes_method};
+use crate::method::{asked_of, has_document, method_of, takes_body, takes_id};
 use crate::path::{cut, decoded, parts, text_of};
-use crate::route::{Parts, Route, RouteFault};
+use crate::route::{Route, RouteFault};
 use hub_http::Request;
 use matchit::Router;
 use percent_encoding::{AsciiSet, percent_encode};
@@ -37,8 +38,8 @@ fn target_of(request: &Request) -> (&[u8], &[u8])
     cut(request.target.as_slice(), b'?')
 }
 
-// The id of the document that a path of this kind names, where it may be asked for so; none where it names no
-// document. An id that was read already is not read again.
+// The id of the document that a path of this kind names, where it may be asked for so; empty where there is
+// none. An id that was read already is not read again.
 fn document_id<'p>(
     alloc: Global,
     kind: Kind,
@@ -46,8 +47,8 @@ fn document_id<'p>(
     read: Option<CowSlice<'p, u8>>,
 ) -> Result<CowStr<'p>, RouteFault>
     requires { ForSome read (λ id. cow_slice_items id ≡ percent_decode part.now) }
-    ensures value { IfOk result (λ s. has_document kind ≡ true
-        → cow_str_bytes s ≡ percent_decode part.now) }
+    ensures value { IfOk result
+        (λ s. cow_str_bytes s ≡ (if has_document kind then percent_decode part.now else [])) }
     ensures good { OnOk result (IsGoodId kind (percent_decode part.now)) }
     ensures none { IfErr result (λ e.
         ((e ≡ RouteFault.NoMemory) × (has_document kind ≡ true) × HasPercent part.now)
@@ -89,9 +90,15 @@ impl Routes {
         }
     }
 
-    // An id is read only where it may be a local document's.
+    // What a path names, which has this part for an id. That is read only where it may be a local document's.
     #[tactic(auto, unfolding(crate::specs::Paths::ascii_path))]
-    fn named<'p>(&self, alloc: Global, path: &'p [u8]) -> Result<Option<Named<'p>>, AllocError>
+    fn named<'p>(
+        &self,
+        alloc: Global,
+        path: &'p [u8],
+        part: &'p [u8],
+    ) -> Result<Option<Named<'p>>, AllocError>
+        requires { part.now ≡ id_part path.now }
         ensures kind { IfOk result (λ n. option_map (λ n. n.kind) n ≡ kind_of path.now) }
         ensures id { IfOk result
             (λ n. IfSome n (λ n. IfSome n.id (λ id. cow_slice_items id ≡ id_of path.now))) }
@@ -100,7 +107,6 @@ impl Routes {
         let text = percent_encode(path, AsciiSet::EMPTY).into_cow(alloc)?;
         match self.kind_at(text.as_str()) {
             Some(Kind::Document) => {
-                let (_, part) = parts(path);
                 let id = decoded(alloc, part)?;
                 Ok(Some(Named {
                     kind: refined(Kind::Document, id.as_slice()),
@@ -121,14 +127,13 @@ impl Routes {
         ensures { GoesTo (asked_by request.now) result }
     {
         let (path, query) = target_of(request);
-        let Some(Named { kind, id: read }) = self.named(alloc, path)? else {
+        let (name, part) = parts(path);
+        let Some(Named { kind, id: read }) = self.named(alloc, path, part)? else {
             return Err(RouteFault::Missing);
         };
-        let method = method_of(request.method.as_slice());
-        if !takes_method(kind, method) {
+        let Some(call) = asked_of(kind, method_of(request.method.as_slice())) else {
             return Err(RouteFault::MethodNotAllowed);
-        }
-        let (name, part) = parts(path);
+        };
         let Some(db) = text_of(decoded(alloc, name)?) else {
             return Err(RouteFault::BadName);
         };
@@ -139,6 +144,11 @@ impl Routes {
             Ok(id) => id,
             Err(e) => return Err(e),
         };
-        Ok(route_to(kind, method, Parts { db, id, query }))
+        Ok(Route {
+            call,
+            db,
+            id,
+            query,
+        })
     }
 }

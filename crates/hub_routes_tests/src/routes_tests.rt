@@ -263,31 +263,36 @@ fn text(bytes: &[u8]) -> &str {
     str::from_utf8(bytes).unwrap_or("no text")
 }
 
-fn called(alloc: Global, db: &str, call: &Call<'_>) -> Result<String, AllocError> {
+fn gone(alloc: Global, route: &Route<'_>) -> Result<String, AllocError> {
+    let Route {
+        call,
+        db,
+        id,
+        query,
+    } = route;
+    let query = text(query);
     match call {
+        Call::Welcome => format!(in alloc; "welcome"),
+        Call::AllDbs => format!(in alloc; "list"),
+        Call::DbUpdates => format!(in alloc; "updates ?{query}"),
         Call::Info => format!(in alloc; "get {db}"),
+        Call::PutDatabase => format!(in alloc; "put {db}"),
+        Call::DeleteDatabase => format!(in alloc; "delete {db}"),
         Call::BulkDocs => format!(in alloc; "bulk {db}"),
-        Call::Changes { query } => format!(in alloc; "changes {db} ?{}", text(query)),
+        Call::Changes => format!(in alloc; "changes {db} ?{query}"),
         Call::RevsDiff => format!(in alloc; "diff {db}"),
         Call::FullCommit => format!(in alloc; "commit {db}"),
-        Call::GetDocument { id, query } => { format!(in alloc; "get {db} {id} ?{}", text(query)) }
-        Call::PutDocument { id, query } => { format!(in alloc; "put {db} {id} ?{}", text(query)) }
-        Call::DeleteDocument { id, query } => {
-            format!(in alloc; "delete {db} {id} ?{}", text(query))
-        }
-        Call::GetLocal { id } => format!(in alloc; "get local {db} {id}"),
-        Call::PutLocal { id } => format!(in alloc; "put local {db} {id}"),
+        Call::GetDocument => format!(in alloc; "get {db} {id} ?{query}"),
+        Call::PutDocument => format!(in alloc; "put {db} {id} ?{query}"),
+        Call::DeleteDocument => format!(in alloc; "delete {db} {id} ?{query}"),
+        Call::GetLocal => format!(in alloc; "get local {db} {id}"),
+        Call::PutLocal => format!(in alloc; "put local {db} {id}"),
     }
 }
 
 fn shown(alloc: Global, answer: &Result<Route<'_>, RouteFault>) -> Result<String, AllocError> {
     match answer {
-        Ok(Route::Welcome) => format!(in alloc; "welcome"),
-        Ok(Route::AllDbs) => format!(in alloc; "list"),
-        Ok(Route::DbUpdates { query }) => { format!(in alloc; "updates ?{}", text(query)) }
-        Ok(Route::PutDatabase { db }) => format!(in alloc; "put {db}"),
-        Ok(Route::DeleteDatabase { db }) => format!(in alloc; "delete {db}"),
-        Ok(Route::Database { db, call }) => called(alloc, db.as_str(), call),
+        Ok(route) => gone(alloc, route),
         Err(fault) => format!(in alloc; "{}", Refusal::from(*fault).reason()),
     }
 }
@@ -408,28 +413,9 @@ fn is_owned(text: &CowStr<'_>) -> bool {
     matches!(text, CowStr::Owned(_))
 }
 
-fn has_own_id(call: &Call<'_>) -> bool {
-    match call {
-        Call::Info
-        | Call::BulkDocs
-        | Call::Changes { query: _ }
-        | Call::RevsDiff
-        | Call::FullCommit => false,
-        Call::GetDocument { id, query: _ }
-        | Call::PutDocument { id, query: _ }
-        | Call::DeleteDocument { id, query: _ }
-        | Call::GetLocal { id }
-        | Call::PutLocal { id } => is_owned(id),
-    }
-}
-
 // Whether a route has a name of its own, and whether it has an id of its own.
 fn own_texts(route: &Route<'_>) -> (bool, bool) {
-    match route {
-        Route::Welcome | Route::AllDbs | Route::DbUpdates { query: _ } => (false, false),
-        Route::PutDatabase { db } | Route::DeleteDatabase { db } => (is_owned(db), false),
-        Route::Database { db, call } => (is_owned(db), has_own_id(call)),
-    }
+    (is_owned(&route.db), is_owned(&route.id))
 }
 
 #[test]

@@ -11,17 +11,20 @@ use Rattle.hub_databases.specs.Names.{is_name}
 use Rattle.hub_http.specs.Stream.{Asked}
 use Rattle.hub_http.specs.declared.refusal.Refusal.{Refusal}
 use Rattle.hub_http.specs.declared.refusal.Refusal.TheVariants.{BadName, Exists, TooMany, Absent}
-use Rattle.hub_http.specs.declared.refusal.Refusal.TheVariants.{SequenceFull}
+use Rattle.hub_http.specs.declared.refusal.Refusal.TheVariants.{NoMemory, SequenceFull}
 use Rattle.hub_http.specs.declared.reply.Reply.TheVariants.{Done, Refused}
 use Rattle.hub_params.specs.DocParams.{doc_asked}
 use Rattle.hub_replies.specs.Bodies.{welcome_body, ok_body, names_body}
 use Rattle.hub_routes.specs.Routes.{GoesTo}
 use Rattle.hub_routes.specs.RouteRefusals.{of_route_fault}
 use Rattle.hub_routes.specs.declared.route.Route.{Route}
-use Rattle.hub_routes.specs.declared.route.Route.TheVariants as route
 use Rattle.hub_routes.specs.declared.route.RouteFault.{RouteFault}
 use Rattle.hub_routes.specs.declared.route.Call.{Call}
-use Rattle.hub_routes.specs.declared.route.Call.TheVariants as call
+use Rattle.hub_routes.specs.declared.route.Call.TheVariants.{Welcome, AllDbs, DbUpdates}
+use Rattle.hub_routes.specs.declared.route.Call.TheVariants.{Info, PutDatabase, DeleteDatabase, BulkDocs}
+use Rattle.hub_routes.specs.declared.route.Call.TheVariants.{Changes, RevsDiff, FullCommit}
+use Rattle.hub_routes.specs.declared.route.Call.TheVariants.{GetDocument, PutDocument, DeleteDocument}
+use Rattle.hub_routes.specs.declared.route.Call.TheVariants.{GetLocal, PutLocal}
 use Rattle.hub_session.specs.declared.service.Answer.{Answer}
 use Rattle.hub_session.specs.declared.service.Answer.TheVariants as answer
 use Rattle.hub_service.specs.Bulk.{batch_in}
@@ -35,25 +38,6 @@ use Rattle.hub_service.specs.Said.{Body, IsSaid, IsWant, Says}
 use Rattle.hub_service.specs.declared.response.Response.{Response}
 use Rattle.hub_service.specs.declared.response.Response.TheVariants as response
 use Rattle.hub_service.specs.declared.sent.Sent.{Sent}
-
--- what a call on the database of a name, with this body, is answered
-abbrev pub AnswersCall : Call → List ℕ → List ℕ → Result Response Refusal → Type 0
-AnswersCall call.Info name body r = IsRead (λ db. says_info name db) r
-AnswersCall call.BulkDocs name body r = IsWritten (λ db. stores db (batch_in body)) r
-AnswersCall (call.Changes query) name body r = Begins BeginsChanges query.now body r
-AnswersCall call.RevsDiff name body r = IsRead (λ db. says_diffs db.journal (asked_by body)) r
-AnswersCall call.FullCommit name body r = IsSaid says_commit r
-AnswersCall (call.GetDocument id query) name body r =
-    IsRead (λ db. gets_doc db.journal (cow_str_bytes id) (doc_asked query.now)) r
-AnswersCall (call.PutDocument id query) name body r =
-    let asked = doc_asked query.now in
-    IsWritten (λ db. puts_doc db (put_in (cow_str_bytes id) asked.rev asked.new_edits body)) r
-AnswersCall (call.DeleteDocument id query) name body r =
-    IsDeletion (cow_str_bytes id) query.now r
-AnswersCall (call.GetLocal id) name body r =
-    IsRead (λ db. says_local (local_of db.locals (cow_str_bytes id))) r
-AnswersCall (call.PutLocal id) name body r =
-    IsRead (λ db. puts_local db (local_in (cow_str_bytes id) body)) r
 
 -- a bad name is refused as that, and nothing else is
 abbrev pub AtName : List ℕ → (Result Response Refusal → Type 0) → Result Response Refusal → Type 0
@@ -74,20 +58,45 @@ IsListed r =
     ((names : List (List ℕ)) × AreNames most_databases names × Says r (Body 200 (names_body names)))
     ⊎ IsWant r
 
--- a call was answered by the database of the name, or there was none
-abbrev pub IsCalled : Call → List ℕ → List ℕ → Result Response Refusal → Type 0
-IsCalled call name body r = AnswersCall call name body r ⊎ ((r ≡ Err Absent) ⊎ IsWant r)
+-- the database of the name answered, or there was none of it
+abbrev pub AtDatabase : List ℕ → (Result Response Refusal → Type 0) → Result Response Refusal → Type 0
+AtDatabase name answers r = AtName name (λ r. answers r ⊎ ((r ≡ Err Absent) ⊎ IsWant r)) r
+
+-- why no database of the name is found
+abbrev pub IsNoDatabase : List ℕ → Refusal → Type 0
+IsNoDatabase name e =
+    ((is_name name ≡ false) × (e ≡ BadName))
+    ⊎ ((is_name name ≡ true) × ((e ≡ Absent) ⊎ (e ≡ NoMemory)))
+
+-- what a call is answered, with the name, the id and the query of its request, and this body
+abbrev pub AnswersCall : Call → List ℕ → List ℕ → List ℕ → List ℕ → Result Response Refusal → Type 0
+AnswersCall Welcome name id query body r = IsSaid (Body 200 welcome_body) r
+AnswersCall AllDbs name id query body r = IsListed r
+AnswersCall DbUpdates name id query body r = Begins BeginsUpdates query body r
+AnswersCall PutDatabase name id query body r = AtName name IsMade r
+AnswersCall DeleteDatabase name id query body r = AtName name IsRemoved r
+AnswersCall Info name id query body r = AtDatabase name (IsRead (λ db. says_info name db)) r
+AnswersCall BulkDocs name id query body r = AtDatabase name (IsWritten (λ db. stores db (batch_in body))) r
+AnswersCall Changes name id query body r = AtDatabase name (Begins BeginsChanges query body) r
+AnswersCall RevsDiff name id query body r =
+    AtDatabase name (IsRead (λ db. says_diffs db.journal (asked_by body))) r
+AnswersCall FullCommit name id query body r = AtDatabase name (IsSaid says_commit) r
+AnswersCall GetDocument name id query body r =
+    AtDatabase name (IsRead (λ db. gets_doc db.journal id (doc_asked query))) r
+AnswersCall PutDocument name id query body r =
+    let asked = doc_asked query in
+    AtDatabase name (IsWritten (λ db. puts_doc db (put_in id asked.rev asked.new_edits body))) r
+AnswersCall DeleteDocument name id query body r = AtDatabase name (IsDeletion id query) r
+AnswersCall GetLocal name id query body r =
+    AtDatabase name (IsRead (λ db. says_local (local_of db.locals id))) r
+AnswersCall PutLocal name id query body r =
+    AtDatabase name (IsRead (λ db. puts_local db (local_in id body))) r
 
 -- what a request that goes there, with this body, is answered
 abbrev pub Responds : List ℕ → Result Route RouteFault → Result Response Refusal → Type 0
 Responds body (Err fault) r = r ≡ Err (of_route_fault fault)
-Responds body (Ok route.Welcome) r = IsSaid (Body 200 welcome_body) r
-Responds body (Ok (route.PutDatabase name)) r = AtName (cow_str_bytes name) IsMade r
-Responds body (Ok (route.DeleteDatabase name)) r = AtName (cow_str_bytes name) IsRemoved r
-Responds body (Ok route.AllDbs) r = IsListed r
-Responds body (Ok (route.DbUpdates query)) r = Begins BeginsUpdates query.now body r
-Responds body (Ok (route.Database name c)) r =
-    AtName (cow_str_bytes name) (λ r. IsCalled c (cow_str_bytes name) body r) r
+Responds body (Ok route) r =
+    AnswersCall route.call (cow_str_bytes route.db) (cow_str_bytes route.id) route.query.now body r
 
 -- the response is sent so, and what is being sent is then this: a feed that is begun takes the place of none
 abbrev pub IsSent : Result Response Refusal → Answer → Option Sent → Option Sent → Type 0

@@ -1,12 +1,13 @@
 //! Connections: what a client is answered, request by request.
 
-ghost use Rattle.std.specs.Prelude.{◌≡◌, None, Ok, Result, Some, true};
+ghost use Rattle.std.specs.Prelude.{◌≡◌, IfErr, IfOk, None, Ok, Result, Some, true};
+ghost use Rattle.hub_databases.specs.Names.{is_name as is_database_name};
 ghost use Rattle.hub_http.specs.Stream.{asked_by};
 ghost use Rattle.hub_routes.specs.Routes.{GoesTo};
 ghost use Rattle.hub_routes.specs.declared.route.Route.{Route};
 ghost use Rattle.hub_routes.specs.declared.route.RouteFault.{RouteFault};
 ghost use Rattle.hub_service.specs.Laws.{connection_rules};
-ghost use Rattle.hub_service.specs.Requests.{AtName, IsCalled, IsListed, IsMade};
+ghost use Rattle.hub_service.specs.Requests.{AnswersCall, AtName, IsNoDatabase, IsListed, IsMade};
 ghost use Rattle.hub_service.specs.Requests.{IsRemoved, IsSent, Responds};
 
 use crate::context::Context;
@@ -17,7 +18,7 @@ use crate::response::{Response, created, ok};
 use crate::rooms::JsonRooms;
 use crate::sent::Sent;
 use crate::{bulk, diff, documents, feeds, locals};
-use hub_databases::{Hub, is_name};
+use hub_databases::{Hub, HubDb, is_name};
 use hub_http::{Refusal, Reply, Request, StatusCode};
 use hub_replies::{commit_body, names_body, ok_body, welcome_body};
 use hub_routes::{Call, Route, Routes};
@@ -110,38 +111,49 @@ impl<'h, N: Wait, P: Pumping> Connection<'h, N, P> {
         ok(names_body(self.context.alloc, names.as_slice()))
     }
 
-    // A call on the database of a name, with this body. A commit has nothing to do: every edit that was
+    // The database of a name.
+    fn database(&self, name: &str) -> Result<HubDb, Refusal>
+        ensures own { IfOk result (λ db. (db ≡ name.now) × (is_database_name name.now ≡ true)) }
+        ensures err { IfErr result (λ e. IsNoDatabase name.now e) }
+    {
+        match self.context.hub.find(self.context.rt, name) {
+            Ok(db) => Ok(db),
+            Err(fault) => Err(unnamed(fault)),
+        }
+    }
+
+    // The answer to a call, with what a request lends to it. A commit has nothing to do: every edit that was
     // answered is stored.
-    fn call(&self, name: &str, call: Call<'_>, body: &[u8]) -> Result<Response, Refusal>
-        ensures { AtName name.now (λ r. IsCalled call.entry name.now body.now r) result }
+    fn call(
+        &self,
+        call: Call,
+        name: &str,
+        id: &str,
+        query: &[u8],
+        body: &[u8],
+    ) -> Result<Response, Refusal>
+        ensures { AnswersCall call name.now id.now query.now body.now result }
     {
         let context = &self.context;
-        let db = match context.hub.find(context.rt, name) {
-            Ok(db) => db,
-            Err(fault) => return Err(unnamed(fault)),
-        };
         match call {
-            Call::Info => info(context, &db),
-            Call::BulkDocs => bulk::store(context, &db, body),
-            Call::Changes { query } => feeds::begin(context, &db, query, body),
-            Call::RevsDiff => diff::revs_diff(context, &db, body),
-            Call::FullCommit => created(Vec::from_slice(context.alloc, commit_body())),
-            Call::GetDocument { id, query } => documents::get(context, &db, id.as_str(), query),
-            Call::PutDocument { id, query } => documents::put(
-                context,
-                &db,
-                id.as_str(),
-                query,
-                body,
-            ),
-            Call::DeleteDocument { id, query } => documents::delete(
-                context,
-                &db,
-                id.as_str(),
-                query,
-            ),
-            Call::GetLocal { id } => locals::get(context, &db, id.as_str()),
-            Call::PutLocal { id } => locals::put(context, &db, id.as_str(), body),
+            Call::Welcome => ok(Vec::from_slice(context.alloc, welcome_body())),
+            Call::AllDbs => self.list(),
+            Call::DbUpdates => feeds::begin_updates(context, query, body),
+            Call::PutDatabase => self.create(name),
+            Call::DeleteDatabase => self.remove(name),
+            Call::Info => info(context, &self.database(name)?),
+            Call::BulkDocs => bulk::store(context, &self.database(name)?, body),
+            Call::Changes => feeds::begin(context, &self.database(name)?, query, body),
+            Call::RevsDiff => diff::revs_diff(context, &self.database(name)?, body),
+            Call::FullCommit => {
+                self.database(name)?;
+                created(Vec::from_slice(context.alloc, commit_body()))
+            }
+            Call::GetDocument => documents::get(context, &self.database(name)?, id, query),
+            Call::PutDocument => documents::put(context, &self.database(name)?, id, query, body),
+            Call::DeleteDocument => documents::delete(context, &self.database(name)?, id, query),
+            Call::GetLocal => locals::get(context, &self.database(name)?, id),
+            Call::PutLocal => locals::put(context, &self.database(name)?, id, body),
         }
     }
 
@@ -152,12 +164,13 @@ impl<'h, N: Wait, P: Pumping> Connection<'h, N, P> {
     {
         let body = request.body.as_slice();
         match self.routes.route(self.context.alloc, request) {
-            Ok(Route::Welcome) => ok(Vec::from_slice(self.context.alloc, welcome_body())),
-            Ok(Route::PutDatabase { db }) => self.create(db.as_str()),
-            Ok(Route::DeleteDatabase { db }) => self.remove(db.as_str()),
-            Ok(Route::AllDbs) => self.list(),
-            Ok(Route::DbUpdates { query }) => feeds::begin_updates(&self.context, query, body),
-            Ok(Route::Database { db, call }) => self.call(db.as_str(), call, body),
+            Ok(route) => self.call(
+                route.call,
+                route.db.as_str(),
+                route.id.as_str(),
+                route.query,
+                body,
+            ),
             Err(fault) => Err(Refusal::from(fault)),
         }
     }

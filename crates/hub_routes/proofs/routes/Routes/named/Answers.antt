@@ -15,4 +15,4 @@ unfolding ascii_path
 returns-in_err-id-in-Some-Document-clause-memory c =
     let document : kind_at (ascii_path c.args.path.now) ≡ Some Document = search rules in
     at_any_error _ (NeedsRoomForKind c.args.path.now)
-    (inr (document, rw c.parts.ensures.id at c.in_err-id-in-Some-Document.ensures.memory))
+    (inr (document, rw c.requires at c.in_err-id-in-Some-Document.ensures.memory))
