@@ -28,10 +28,6 @@ use Rattle.hub_revtree.specs.Winner.{winner_of}
 use Rattle.hub_revtree.proofs.BranchLemmas.{any_map}
 use Rattle.hub_revtree.proofs.TreeLemmas.{all_of_one, known_by, wins}
 
-pub not_false : (b : Bool) → not b ≡ false → b ≡ true
-not_false true e = refl
-not_false false e = absurd (cc)
-
 -- the path that a named revision stands for, by a slice of the branches
 module _ (branches : List Branch) (edits : List Edit) (same : edits_in branches ≡ edits)
     (revision : Revision) where

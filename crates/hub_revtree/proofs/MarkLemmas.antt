@@ -250,7 +250,7 @@ index_same : (index : Index) (stems others : List Stem) → map plain stems ≡ 
     → IsIndex index stems → IsIndex index others
 index_same index stems others same i = (
   told_to (Has stems) (Has others) (has_on stems others same) (has_on others stems (sym same))
-      (entry_in index) (other_in index)
+      (entry_in index.firsts) (other_in index.firsts)
       (first_to (Has others) (Has stems) (has_on others stems (sym same)) (has_on stems others same)) i.0,
   linked_same stems others (link_in index) same i.1,
 )

@@ -420,11 +420,11 @@ none_found P (stem ∷ stems) f =
     let g = or_false (P stem) (list_any P stems) f in rw g.0 (none_found P stems g.1)
 
 -- a stem that is found is one
-pub found_falls : (stems : List Stem) → AreStems stems → (rev : Revision) (stem : Stem)
-    → Some stem ≡ find (λ other. is_first rev other.revisions) stems → IsPath stem.revisions
-found_falls stems a rev stem e =
-    let i = find_is (λ (other : Stem). is_first rev other.revisions) stems stem (sym e) in
-    a.falling i.1.0 stem (slice_get_read stems _ i.1.0 stem refl i.1.1 (sym i.1.2))
+pub found_head : (stems : List Stem) (rev : Revision) (stem : Stem)
+    → Some stem ≡ find (λ other. is_first rev other.revisions) stems → slice_get stem.revisions 0 ≡ Some rev
+found_head stems rev stem e =
+    first_there 0 stem.revisions rev
+    (find_is (λ (other : Stem). is_first rev other.revisions) stems stem (sym e)).0
 
 pub read_stem : (stems : List Stem) (k : ℕ) (stem : Stem) → k < length stems → stem ≡ get_or stems k stem
     → slice_get stems k ≡ Some stem

@@ -11,7 +11,7 @@
 use Rattle.std.specs.Prelude.{◌≡◌, ℕ, ◌+◌, ◌-◌, ◌<◌, ◌≤◌, ◌⊎◌, List, length, map, slice_get, nat_eq, true}
 use Rattle.std.specs.Prelude.{Option, Some, None, IsSome}
 use Rattle.std.specs.HashMap.{get}
-use Rattle.std.specs.BTreeMap.{get as ordered_get}
+use Rattle.std.specs.BTreeMap.{BTreeMap, get as ordered_get}
 use Rattle.hex.specs.Hex.{encode_lower}
 use Rattle.hub_model.specs.Revision.{Revision, revision_cmp}
 use Rattle.hub_model.specs.Path.{names}
@@ -20,17 +20,22 @@ use Rattle.hub_revtree.specs.Branch.{edits_in}
 use Rattle.hub_revtree.specs.Extend.{line_to}
 use Rattle.hub_revtree.specs.Stem.{Stem, AreStems, branches_of, rev_at, revisions_at}
 use Rattle.hub_revtree.specs.declared.stem.Place.{Place}
+use Rattle.hub_revtree.specs.declared.index.Firsts.{Firsts}
 use Rattle.hub_revtree.specs.declared.index.Index.{Index}
 
--- the entry at a key, the other at a revision, and its link
-abbrev pub entry_in : Index → ℕ → Option ℕ
-entry_in index key = get nat_eq index.stems key
+-- the number that a map has at a revision
+abbrev pub number_in : BTreeMap Revision ℕ → Revision → Option ℕ
+number_in map revision = ordered_get revision_cmp map revision
 
-abbrev pub other_in : Index → Revision → Option ℕ
-other_in index revision = ordered_get revision_cmp index.others revision
+-- the entry at a key, the other at a revision, and its link
+abbrev pub entry_in : Firsts → ℕ → Option ℕ
+entry_in firsts key = get nat_eq firsts.stems key
+
+abbrev pub other_in : Firsts → Revision → Option ℕ
+other_in firsts = number_in firsts.others
 
 abbrev pub link_in : Index → Revision → Option ℕ
-link_in index revision = ordered_get revision_cmp index.links revision
+link_in index = number_in index.links
 
 -- the stem of this number has revision
 abbrev pub Has : List Stem → ℕ → Revision → Type 0
@@ -87,7 +92,8 @@ pub record AreLinked (has : ℕ → Revision → Type 0) (stems : List Stem)
 -- the index tells and links all revisions of the stems
 abbrev pub IsIndex : Index → List Stem → Type 0
 IsIndex index stems =
-    AreTold (Has stems) (entry_in index) (other_in index) × AreLinked (Has stems) stems (link_in index)
+    AreTold (Has stems) (entry_in index.firsts) (other_in index.firsts)
+    × AreLinked (Has stems) stems (link_in index)
 
 -- the newest revision of the stem that came last, if there is one
 abbrev pub newest_rev : List Stem → Option Revision
@@ -108,13 +114,18 @@ abbrev pub IsIndexed : Option Index → List Stem → Type 0
 IsIndexed None stems = Unit {0}
 IsIndexed (Some index) stems = IsIndex index stems × IsNewestLine index.line stems
 
--- the second index has the entries, the others and the links of the first
-pub record HasSameEntries (before after : Index) : Type 0 where
-  pub stems : after.stems ≡ before.stems
-  pub others : after.others ≡ before.others
-  pub links : after.links ≡ before.links
+-- these are stems of a tree, and each of their revisions is told
+pub record AreToldOf (list : List Stem) (firsts : Firsts) : Type 0 where
+  pub stems : AreStems list
+  pub told : AreTold (Has list) (entry_in firsts) (other_in firsts)
 
 -- these are stems of a tree, and the last of them has this number
 pub record IsLastOf (list : List Stem) (number : ℕ) : Type 0 where
   pub stems : AreStems list
   pub newest : number + 1 ≡ length list
+
+-- the same, and each of their revisions is told
+pub record IsLastTold (list : List Stem) (firsts : Firsts) (number : ℕ) : Type 0 where
+  pub stems : AreStems list
+  pub newest : number + 1 ≡ length list
+  pub told : AreTold (Has list) (entry_in firsts) (other_in firsts)

@@ -1,7 +1,7 @@
 -- The premises of a look at the stems of a tree (own). An example: the three stems of the example in `Stem`
 -- are indexed without an index, and with one that tells each of their revisions. They are so up to generation
 -- 3, and up to 4, but not up to 2. Place 1 of stem 0 is one of a revision, 1-a; place 2 of stem 0 is none.
-use Rattle.std.specs.Prelude.{◌≡◌, ℕ, List, Option, IfSome, false}
+use Rattle.std.specs.Prelude.{◌≡◌, ◌<◌, ℕ, List, Option, IfSome, false, length}
 use Rattle.std.specs.List.{list_any}
 use Rattle.hub_model.specs.Journal.{IsLegal}
 use Rattle.hub_model.specs.Path.{IsPath}
@@ -13,6 +13,11 @@ use Rattle.hub_revtree.specs.declared.index.Index.{Index}
 use Rattle.hub_revtree.specs.declared.stem.Place.{Place}
 use Rattle.hub_revtree.specs.declared.stem.Standing.{Standing}
 
+-- these are stems of a tree, and one of them has this number
+pub record IsNumberIn (list : List Stem) (number : ℕ) : Type 0 where
+  pub stems : AreStems list
+  pub within : number < length list
+
 -- these are stems of a tree, and one of their revisions stands at the place
 pub record IsPlaceIn (list : List Stem) (place : Place) : Type 0 where
   pub stems : AreStems list
@@ -23,10 +28,11 @@ pub record AreIndexed (list : List Stem) (told : Option Index) : Type 0 where
   pub stems : AreStems list
   pub index : IsIndexed told list
 
--- the same, and none of their revisions is of a generation above this one
+-- the same; their edits are a legal journal, and none of their revisions is of a generation above this one
 pub record AreIndexedUpTo (list : List Stem) (told : Option Index) (most : ℕ) : Type 0 where
   pub stems : AreStems list
   pub index : IsIndexed told list
+  pub legal : IsLegal (edits_in (branches_of list))
   pub highest : AreUpTo list most
 
 -- these are stems of a tree with its index, as above; their edits are a legal journal; and one of their

@@ -1,6 +1,6 @@
 -- The tree of one document, seen as the journal of its edits (CouchDB API reference, document revisions and
 -- conflicts).
-use Rattle.std.specs.Prelude.{◌≡◌, ℕ, List, [], Bool, Option, Some}
+use Rattle.std.specs.Prelude.{◌≡◌, ◌≤◌, ℕ, List, [], Bool, IfOk, Option, Result, Some, length}
 use Rattle.hub_model.specs.Revision.{Revision}
 use Rattle.hub_model.specs.Path.{IsFirst}
 use Rattle.hub_model.specs.Journal.{Edit, IsKnown, IsLegal, edits_of, head_of}
@@ -20,6 +20,12 @@ pub record IsRevTree (edits : List Edit) : Type 0 where
 -- an edit whose document's id is left out
 abbrev pub nameless : List Revision → Bool → List ℕ → Edit
 nameless path deleted body = record { id = []; path = path; deleted = deleted; body = body }
+
+-- a look changes no edit, and an edit that it makes ready is this one, for which the tree has memory
+pub record MakesReady {E : Type 0} (before after : Tree) (edit : Edit) (result : Result Edit E) : Type 0 where
+  pub edits : after.edits ≡ before.edits
+  pub ready : IfOk result (λ ready. ready ≡ edit)
+  pub room : IfOk result (λ ready. length ready.path ≤ after.room)
 
 -- what is lent of an edit: its revision, whether it deletes the document, and its members
 pub record Tip : Type 0 where

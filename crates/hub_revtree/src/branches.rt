@@ -57,6 +57,8 @@ impl Model for Branches {
     ghost Value = { Storage };
 
     ghost use Rattle.std.specs.Prelude.{IfSome};
+    ghost use Rattle.hub_model.specs.Journal.{IsLegal};
+    ghost use Rattle.hub_revtree.specs.Branch.{edits_in};
     ghost use Rattle.hub_revtree.specs.Candidates.{AreCandidates, candidates_in};
     ghost use Rattle.hub_revtree.specs.Index.{IsIndexed};
     ghost use Rattle.hub_revtree.specs.Mark.{AreMarked};
@@ -68,7 +70,8 @@ impl Model for Branches {
     ghost invariant = { λ a. AreStems a.stems.items × AreUpTo a.stems.items a.highest
         × IsIndexed (option_map (λ i. i.value) a.index) a.stems.items × AreMarked a.stems.items
         × IfSome (candidates_in (option_map (λ i. i.value) a.index))
-        (AreCandidates (branches_of a.stems.items)) };
+        (AreCandidates (branches_of a.stems.items))
+        × IsLegal (edits_in (branches_of a.stems.items)) };
 }
 
 // The index as it is lent, if there is one.
@@ -81,16 +84,15 @@ fn lent(index: &Option<Box<Index>>) -> Option<&Index>
     }
 }
 
-// An edit as it is lent.
-fn stored(stem: &Stem) -> StoredEdit<'_>
-    requires { IsPath stem.now.revisions }
-    ensures rev { slice_get stem.now.revisions 0 ≡ Some result.rev }
+// An edit as it is lent, with this revision.
+fn stored(stem: &Stem, rev: RevId) -> StoredEdit<'_>
+    ensures rev { result.rev ≡ rev }
     ensures deleted { result.deleted ≡ stem.now.deleted }
     ensures body { result.body.now ≡ stem.now.body }
     ensures count { result.count ≡ stem.now.count }
 {
     StoredEdit {
-        rev: stem.head(),
+        rev,
         deleted: stem.mark().deleted(),
         body: stem.body(),
         count: stem.count(),
@@ -122,7 +124,7 @@ fn without_line(index: Option<Box<Index>>) -> Option<Box<Index>>
 {
     match index {
         Some(mut index) => {
-            index.drop_line();
+            index.line = None;
             Some(index)
         }
         None => None,
@@ -180,7 +182,8 @@ impl Branches {
 
     /// How many there are.
     pub(crate) fn len(&self) -> usize
-        ensures { result ≡ length self.now.list }
+        ensures length { result ≡ length self.now.list }
+        ensures legal { IsLegal (edits_in self.now.list) }
     {
         self.stems.len()
     }
@@ -207,7 +210,7 @@ impl Branches {
         ensures some { IfSome result (λ e. 1 ≤ e.count) }
     {
         let stem = self.stems.as_slice().get(at)?;
-        Some(stored(stem))
+        Some(stored(stem, stem.head()))
     }
 
     /// The edit that the revision heads. One find.
@@ -218,7 +221,7 @@ impl Branches {
             ≡ option_map (λ b. length b.path) (find (λ b. is_first rev.now b.path) self.now.list) }
     {
         let stem = headed(self.stems.as_slice(), lent(&self.index), rev)?;
-        Some(stored(stem))
+        Some(stored(stem, *rev))
     }
 
     /// The revision of the edit of this number, and its mark. Constant time.
@@ -226,10 +229,10 @@ impl Branches {
         requires { at < length self.now.list }
         ensures { option_and_then head_in (slice_get self.now.list at) ≡ Some result }
     {
-        let edit = stored(&self.stems[at]);
+        let stem = &self.stems[at];
         Winner {
-            rev: edit.rev,
-            deleted: edit.deleted,
+            rev: stem.head(),
+            deleted: stem.mark().deleted(),
         }
     }
 
@@ -307,7 +310,6 @@ impl Branches {
     /// How many revisions this one and all that stand behind it are; 0 where no path names it. It costs a
     /// find; and for each chain that ends above the first generation a step a stem of it, and a find.
     pub(crate) fn line_length(&self, rev: &RevId) -> u16
-        requires { IsLegal (edits_in self.now.list) }
         ensures { result ≡ length (line_to (edits_in self.now.list) (Some rev.now)) }
     {
         // They are no more than the revision's generation.
@@ -323,7 +325,6 @@ impl Branches {
     /// path names it. It costs a find, the length of what it puts there, and for each join of the line a look
     /// for the edit that goes on: two looks in the index, or a look at each edit where there is none.
     pub(crate) fn append_line(&self, rev: &RevId, line: &mut Vec<RevId>) -> Result<(), AllocError>
-        requires { IsLegal (edits_in self.now.list) }
         ensures { OnOk result
             (line.new.items ≡ line.old.items ++ line_to (edits_in self.now.list) (Some rev.now)) }
     {
@@ -342,7 +343,6 @@ impl Branches {
         rev: &RevId,
         digests: &mut Vec<[u8; 16]>,
     ) -> Result<bool, AllocError>
-        requires { IsLegal (edits_in self.now.list) }
         ensures { IfOk result (λ all. IsTrue all
             → map encode_lower digests.new.items
             ≡ map encode_lower digests.old.items
@@ -363,12 +363,11 @@ impl Branches {
     /// The digests of the revision and of all that stands behind it, where it is that of the newest edit, and
     /// these are kept to be shared. Constant time.
     pub(crate) fn newest_line(&self, rev: &RevId) -> Option<&Line>
-        requires { IsLegal (edits_in self.now.list) }
         ensures { IfSome result (λ line.
             map encode_lower line.now ≡ map (λ r. r.hash) (line_to (edits_in self.now.list) (Some rev.now))) }
     {
         let index = lent(&self.index)?;
-        let line = index.line()?;
+        let line = index.line.as_ref()?;
         if !is_newest(self.stems.as_slice(), rev) {
             return None;
         }
@@ -379,8 +378,7 @@ impl Branches {
     /// the last that is new, or behind which no edit has the next one. None where it does not agree. It costs
     /// what `agreeing` does.
     pub(crate) fn new_count(&self, path: &Path) -> Option<usize>
-        requires legal { IsLegal (edits_in self.now.list) }
-        requires history { IsHistory path.now }
+        requires { IsHistory path.now }
         ensures agrees { is_some result ≡ list_all (λ b. agrees_with path.now b.path) self.now.list }
         ensures within { IfSome result (λ n. n ≤ length path.now) }
     {
@@ -399,7 +397,7 @@ impl Branches {
     {
         let alloc = self.allocator();
         match &mut self.index {
-            Some(index) => Some(index.take_candidates(alloc)),
+            Some(index) => Some(index.candidates.take().unwrap_or(Candidates::new(alloc))),
             None => None,
         }
     }
@@ -410,7 +408,7 @@ impl Branches {
         ensures { self.new.list ≡ self.old.list }
     {
         if let Some(index) = &mut self.index {
-            index.put_candidates(candidates);
+            index.candidates = Some(candidates);
         }
     }
 
@@ -432,7 +430,6 @@ impl Branches {
     /// memory given back, else that memory is cut to what they need. It costs what `new_count` does, and what
     /// `renewed` does; and where some of those revisions were known, a find for each of them.
     pub(crate) fn push(&mut self, path: Run, run: Run, deleted: bool, body: Body)
-        requires legal { IsLegal (edits_in self.old.list) }
         requires acceptable { IsAcceptable (edits_in self.old.list) (nameless path deleted body) }
         requires front { run ≡ take (length run) path }
         requires room { 1 ≤ self.old.spare }

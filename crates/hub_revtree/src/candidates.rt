@@ -4,7 +4,6 @@ ghost use Rattle.std.specs.Prelude.{◌≡◌, ◌<◌, ◌+◌, [], List, Some,
 ghost use Rattle.std.specs.Prelude.{option_and_then, refl, slice_get, IfOk, OnOk};
 ghost use Rattle.std.specs.Ordering.{eq_by_cmp};
 ghost use Rattle.std.specs.Cmp.{partial_equiv_from_equiv, partial_order_from_total};
-ghost use Rattle.hub_model.specs.Journal.{IsLegal};
 ghost use Rattle.hub_model.specs.Leaves.{leaves_of};
 ghost use Rattle.hub_revtree.specs.Branch.{Branch, edits_in};
 ghost use Rattle.hub_revtree.specs.Candidate.{candidate_cmp, candidates_level, candidates_total};
@@ -133,34 +132,22 @@ impl Candidates {
         }
     }
 
-    // Looks at the next edit: where its revision is a leaf, it becomes a candidate. At most log n
-    // comparisons of revisions.
-    fn add_next(&mut self, branches: &Branches) -> Result<(), AllocError>
-        requires candidates { AreCandidates branches.now.list self.old }
-        requires more { self.old.count < length branches.now.list }
-        ensures candidates { OnOk result (AreCandidates branches.now.list self.new) }
-        ensures count { OnOk result (self.new.count ≡ self.old.count + 1) }
-    {
-        let _edits_at_most = branches.len();
-        let at = self.count;
-        let leaf = branches.head(at);
-        if !branches.is_head_inner(at) {
-            let number = kept_number(at)?;
-            let candidate = Candidate::new(branches.allocator(), &leaf, number)?;
-            self.heap.push(candidate)?;
-        }
-        self.count = at + 1;
-        Ok(())
-    }
-
-    /// Looks at all edits that came since the last time. It costs what `add_next` does for each.
+    /// Looks at all edits that came since the last time: where the revision of one is a leaf, it becomes a
+    /// candidate. At most log n comparisons of revisions for each.
     pub(crate) fn add_newer(&mut self, branches: &Branches) -> Result<(), AllocError>
         requires { AreCandidates branches.now.list self.old }
         ensures candidates { OnOk result (AreCandidates branches.now.list self.new) }
         ensures all { OnOk result (self.new.count ≡ length branches.now.list) }
     {
         while self.count < branches.len() {
-            self.add_next(branches)?;
+            let at = self.count;
+            let leaf = branches.head(at);
+            if !branches.is_head_inner(at) {
+                let number = kept_number(at)?;
+                let candidate = Candidate::new(branches.allocator(), &leaf, number)?;
+                self.heap.push(candidate)?;
+            }
+            self.count = at + 1;
         }
         Ok(())
     }
@@ -171,11 +158,11 @@ impl Candidates {
     pub(crate) fn best(&mut self, branches: &Branches) -> usize
         requires candidates { AreCandidates branches.now.list self.old }
         requires all { self.old.count ≡ length branches.now.list }
-        requires legal { IsLegal (edits_in branches.now.list) }
         ensures candidates { AreCandidates branches.now.list self.new }
         ensures best { option_and_then head_in (slice_get branches.now.list result)
             ≡ winner_of (leaves_of (edits_in branches.now.list) []) }
     {
+        let edits = branches.len();
         while let Some(top) = self.heap.peek() {
             let number = top.number as usize;
             if !branches.is_head_inner(number) {
@@ -183,6 +170,6 @@ impl Candidates {
             }
             drop(self.heap.pop());
         }
-        branches.len()
+        edits
     }
 }

@@ -10,7 +10,7 @@ ghost use Rattle.hub_model.specs.Journal.{Edit, IsAcceptable, head_of};
 ghost use Rattle.hub_model.specs.Leaves.{leaves_of};
 ghost use Rattle.hub_model.specs.Path.{IsHistory};
 ghost use Rattle.hub_revtree.specs.Extend.{draft, extends, line_to};
-ghost use Rattle.hub_revtree.specs.Tree.{IsRevTree, nameless};
+ghost use Rattle.hub_revtree.specs.Tree.{IsRevTree, MakesReady, nameless};
 
 use crate::fault::EditFault;
 use crate::line::Line;
@@ -51,28 +51,20 @@ fn generation(rev: &Option<RevId>) -> u16
 }
 
 impl RevTree {
-    // The leaf that is named. One find.
-    fn leaf(&self, rev: RevId) -> Result<Option<RevId>, EditFault>
-        ensures tree { IsRevTree self.now.edits }
+    // The revision that an edit extends, or nothing: the leaf that is named; without a name the winner where
+    // it is deleted, and nothing of a tree with no edit. One find where one is named.
+    fn extended(&self, parent: Option<RevId>) -> Result<Option<RevId>, EditFault>
         ensures line { option_map (line_to self.now.edits) (result_ok result)
-            ≡ extended_in self.now.edits [] (leaves_of self.now.edits []) (Some rev) }
+            ≡ extended_in self.now.edits [] (leaves_of self.now.edits []) parent }
         ensures first { IfOk result (λ older. parent_of (line_to self.now.edits older) ≡ older) }
         ensures conflict { IfErr result (λ e. e ≡ EditFault.Conflict) }
     {
-        if !self.branches().is_leaf(&rev) {
-            return Err(EditFault::Conflict);
+        if let Some(rev) = parent {
+            if !self.branches().is_leaf(&rev) {
+                return Err(EditFault::Conflict);
+            }
+            return Ok(Some(rev));
         }
-        Ok(Some(rev))
-    }
-
-    // The winner where it is deleted, and nothing of a tree with no edit.
-    fn dead(&self) -> Result<Option<RevId>, EditFault>
-        ensures tree { IsRevTree self.now.edits }
-        ensures line { option_map (line_to self.now.edits) (result_ok result)
-            ≡ extended_in self.now.edits [] (leaves_of self.now.edits []) None }
-        ensures first { IfOk result (λ older. parent_of (line_to self.now.edits older) ≡ older) }
-        ensures conflict { IfErr result (λ e. e ≡ EditFault.Conflict) }
-    {
         let Some(winner) = self.best() else {
             return Ok(None);
         };
@@ -80,20 +72,6 @@ impl RevTree {
             return Err(EditFault::Conflict);
         }
         Ok(Some(winner.rev))
-    }
-
-    // The revision that an edit extends, or nothing.
-    fn extended(&self, parent: Option<RevId>) -> Result<Option<RevId>, EditFault>
-        ensures tree { IsRevTree self.now.edits }
-        ensures line { option_map (line_to self.now.edits) (result_ok result)
-            ≡ extended_in self.now.edits [] (leaves_of self.now.edits []) parent }
-        ensures first { IfOk result (λ older. parent_of (line_to self.now.edits older) ≡ older) }
-        ensures conflict { IfErr result (λ e. e ≡ EditFault.Conflict) }
-    {
-        match parent {
-            Some(rev) => self.leaf(rev),
-            None => self.dead(),
-        }
     }
 
     // The path with the revision in front of the known one, as digests; None where one of the revisions is
@@ -187,10 +165,8 @@ impl RevTree {
         body: Body,
     ) -> Result<Ready, AllocError>
         requires { IsHistory (rev.now ∷ line_to self.old.edits older.now) }
-        ensures edits { self.new.edits ≡ self.old.edits }
-        ensures ready { IfOk result
-            (λ ready. ready ≡ nameless (rev.now ∷ line_to self.old.edits older.now) deleted body) }
-        ensures room { IfOk result (λ ready. length ready.path ≤ self.new.room) }
+        ensures { MakesReady self.old self.new
+            (nameless (rev.now ∷ line_to self.old.edits older.now) deleted body) result }
     {
         let alloc = self.branches().allocator();
         let path = self.path_on(alloc, rev, older)?;

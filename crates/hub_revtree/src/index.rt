@@ -2,15 +2,13 @@
 
 ghost use Rattle.std.specs.Prelude.{◌≡◌, ℕ, [], ◌+◌, ◌-◌, ◌<◌, ◌≤◌, List, Some, false, None, length};
 ghost use Rattle.std.specs.Prelude.{nat_eq, option_map, take, unwrap_or, IfNone, IfOk, IfSome, OnOk};
-ghost use Rattle.std.specs.BTreeMap.{get as ordered_get};
 ghost use Rattle.std.specs.Ordering.{eq_by_cmp};
 ghost use Rattle.hub_model.specs.Revision.{Revision, revision_cmp};
-ghost use Rattle.hub_revtree.specs.Branch.{Branch};
-ghost use Rattle.hub_revtree.specs.Candidates.{AreCandidates, candidates_in};
+ghost use Rattle.hub_revtree.specs.Candidates.{candidates_in};
 ghost use Rattle.hub_revtree.specs.First.{first_put};
-ghost use Rattle.hub_revtree.specs.Index.{AreLinked, AreTold, Has, HasSameEntries, HasTo, IsFirstPlace};
-ghost use Rattle.hub_revtree.specs.Index.{IsIndex, IsIndexed, IsLastOf, IsNewestLine, entry_in, link_in};
-ghost use Rattle.hub_revtree.specs.Index.{other_in};
+ghost use Rattle.hub_revtree.specs.Index.{AreLinked, AreTold, AreToldOf, Has, HasTo, IsFirstPlace};
+ghost use Rattle.hub_revtree.specs.Index.{IsIndex, IsIndexed, IsLastOf, IsLastTold, IsNewestLine};
+ghost use Rattle.hub_revtree.specs.Index.{entry_in, link_in, number_in, other_in};
 ghost use Rattle.hub_revtree.specs.Stem.{AreStems, has_revision, revisions_at};
 
 use crate::candidates::Candidates;
@@ -28,31 +26,38 @@ use std::collections::{BTreeMap, HashMap};
 // and many documents with fewer edits shall have no more memory.
 const TURN: usize = 256;
 
-/// What a tree of many edits has so that looks need not pass over all of them. A look costs constant time
-/// where the revision's hash is a digest's text and no earlier stem has another one with the same first eight
-/// bytes; else at most log n comparisons of revisions, where n counts those of which this does not hold.
+/// Which of the stems is the first that has each revision. A look costs constant time where the revision's
+/// hash is a digest's text and no earlier stem has another one with the same first eight bytes; else at most
+/// log n comparisons of revisions, where n counts those of which this does not hold.
 #[derive(Debug, Drop)]
-pub(crate) struct Index {
+pub(crate) struct Firsts {
     /// From the key of a digest to the number of the first stem that has a revision with that key. It takes
     /// some 30 to 60 bytes for each of them.
     stems: HashMap<u64, u32>,
     /// From the other revisions to the first stem that has each. It takes some 100 to 200 bytes for each, and
     /// none before there is one.
     others: BTreeMap<RevKey, u32>,
+}
+
+/// What a tree of many edits has so that looks need not pass over all of them.
+#[derive(Debug, Drop)]
+pub(crate) struct Index {
+    /// The first stem that has each revision.
+    pub(crate) firsts: Firsts,
     /// From a revision behind which nothing stands in the first stem that has it to one in which something
-    /// does. It takes as much for each.
+    /// does. It takes some 100 to 200 bytes for each.
     links: BTreeMap<RevKey, u32>,
     /// The newest stem's newest revision and all that stands behind it, for the next one that stands on it;
     /// None where it was not made so, and where the memory for it was not to be had.
-    line: Option<Line>,
+    pub(crate) line: Option<Line>,
     /// What was looked at so that the best leaf is found soon; None before one was sought that
     /// costs a look at each edit, and where the memory for it was not to be had.
-    candidates: Option<Candidates>,
+    pub(crate) candidates: Option<Candidates>,
 }
 
 // The number that the map has at the revision. At most log n comparisons of revisions.
 fn number_at(map: &BTreeMap<RevKey, u32>, rev: &RevId) -> Option<u32>
-    ensures { result ≡ ordered_get revision_cmp map.now rev.now }
+    ensures { result ≡ number_in map.now rev.now }
 {
     map.get(&RevKey::new(rev)).copied()
 }
@@ -61,8 +66,7 @@ fn number_at(map: &BTreeMap<RevKey, u32>, rev: &RevId) -> Option<u32>
 fn put_at(map: &mut BTreeMap<RevKey, u32>, rev: &RevId, number: u32) -> Result<(), AllocError>
     ensures { OnOk result
         ((r : Revision)
-        → ordered_get revision_cmp map.new r
-        ≡ first_put (eq_by_cmp revision_cmp) (ordered_get revision_cmp map.old) rev.now number r) }
+        → number_in map.new r ≡ first_put (eq_by_cmp revision_cmp) (number_in map.old) rev.now number r) }
 {
     let key = RevKey::new(rev);
     if map.contains_key(&key) {
@@ -82,7 +86,7 @@ pub(crate) fn kept_number(number: usize) -> Result<u32, AllocError>
     }
 }
 
-impl Index {
+impl Firsts {
     // Puts the stem's number under the key where there is none, and answers the one that is there. Constant
     // time.
     fn put(&mut self, key: u64, number: u32) -> Result<u32, AllocError>
@@ -90,8 +94,6 @@ impl Index {
         ensures entries { OnOk result
             ((q : ℕ) → entry_in self.new q ≡ first_put nat_eq (entry_in self.old) key number q) }
         ensures others { self.new.others ≡ self.old.others }
-        ensures links { self.new.links ≡ self.old.links }
-        ensures candidates { self.new.candidates ≡ self.old.candidates }
     {
         let other = self.stems.insert(key, number)?;
         let Some(first) = other else {
@@ -107,10 +109,8 @@ impl Index {
         requires last { IsLastOf stems.now number }
         requires within { at < length (revisions_at stems.now number) }
         requires told { AreTold (HasTo stems.now number at) (entry_in self.old) (other_in self.old) }
-        ensures told { OnOk result
+        ensures { OnOk result
             (AreTold (HasTo stems.now number (at + 1)) (entry_in self.new) (other_in self.new)) }
-        ensures links { self.new.links ≡ self.old.links }
-        ensures candidates { self.new.candidates ≡ self.old.candidates }
     {
         let run = stems[number as usize].run();
         let Some(key) = run.key_at(at) else {
@@ -131,9 +131,7 @@ impl Index {
     fn add_all(&mut self, stems: &[Stem], number: u32) -> Result<(), AllocError>
         requires last { IsLastOf stems.now number }
         requires told { AreTold (Has (take number stems.now)) (entry_in self.old) (other_in self.old) }
-        ensures told { OnOk result (AreTold (Has stems.now) (entry_in self.new) (other_in self.new)) }
-        ensures links { self.new.links ≡ self.old.links }
-        ensures candidates { self.new.candidates ≡ self.old.candidates }
+        ensures { OnOk result (AreTold (Has stems.now) (entry_in self.new) (other_in self.new)) }
     {
         for at in 0..stems[number as usize].run().len() {
             self.add_at(stems, number, at)?;
@@ -141,107 +139,9 @@ impl Index {
         Ok(())
     }
 
-    // Links the revision at this place of the newest stem, where its first stem does not go on behind it, and
-    // this one does. It costs a find, and at most log n comparisons of revisions.
-    fn link_at(&mut self, stems: &[Stem], number: u32, at: usize) -> Result<(), AllocError>
-        requires last { IsLastOf stems.now number }
-        requires within { at < length (revisions_at stems.now number) }
-        requires told { AreTold (Has stems.now) (entry_in self.old) (other_in self.old) }
-        requires linked { AreLinked (HasTo stems.now number at) stems.now (link_in self.old) }
-        ensures linked { OnOk result
-            (AreLinked (HasTo stems.now number (at + 1)) stems.now (link_in self.new)) }
-        ensures entries { self.new.stems ≡ self.old.stems }
-        ensures others { self.new.others ≡ self.old.others }
-        ensures candidates { self.new.candidates ≡ self.old.candidates }
-    {
-        let rev = stems[number as usize].run().at(at);
-        let Some(place) = self.place(stems, &rev) else {
-            return Ok(());
-        };
-        if behind_in(stems, place.stem, &Sought::once(&rev)).is_some() {
-            return Ok(());
-        }
-        if behind_in(stems, number as usize, &Sought::once(&rev)).is_none() {
-            return Ok(());
-        }
-        put_at(&mut self.links, &rev, number)
-    }
-
-    // Links the revisions of the newest stem, which has this number. It costs what `link_at` does for each.
-    fn link_all(&mut self, stems: &[Stem], number: u32) -> Result<(), AllocError>
-        requires last { IsLastOf stems.now number }
-        requires told { AreTold (Has stems.now) (entry_in self.old) (other_in self.old) }
-        requires linked { AreLinked (Has (take number stems.now)) (take number stems.now) (link_in self.old) }
-        ensures index { OnOk result (IsIndex self.new stems.now) }
-        ensures candidates { self.new.candidates ≡ self.old.candidates }
-    {
-        for at in 0..stems[number as usize].run().len() {
-            self.link_at(stems, number, at)?;
-        }
-        Ok(())
-    }
-
-    // Takes in the newest of the stems, of all others of which it is an index. It costs what
-    // `add_at` does for each of its revisions, and where it joins others what `link_at` does.
-    fn add(&mut self, stems: &[Stem]) -> Result<(), AllocError>
-        requires stems { AreStems stems.now }
-        requires some { 1 ≤ length stems.now }
-        requires index { IsIndex self.old (take (length stems.now - 1) stems.now) }
-        ensures index { OnOk result (IsIndex self.new stems.now) }
-        ensures candidates { self.new.candidates ≡ self.old.candidates }
-    {
-        let newest = stems.len() - 1;
-        let number = kept_number(newest)?;
-        self.add_all(stems, number)?;
-        if !stems[newest].joins() {
-            return Ok(());
-        }
-        self.link_all(stems, number)
-    }
-
-    /// The newest revision and all that stands behind it, if these are kept.
-    pub(crate) fn line(&self) -> Option<&Line>
-        ensures { option_map (λ l. l.now) result ≡ self.now.line }
-    {
-        self.line.as_ref()
-    }
-
-    /// Gives up the path, so that whoever shares it may have it alone.
-    pub(crate) fn drop_line(&mut self)
-        ensures same { HasSameEntries self.old self.new }
-        ensures candidates { self.new.candidates ≡ self.old.candidates }
-        ensures line { self.new.line ≡ None }
-    {
-        self.line = None;
-    }
-
-    /// The candidates, which it gives up; those of no edit where there are none.
-    pub(crate) fn take_candidates(&mut self, alloc: Global) -> Candidates
-        ensures same { HasSameEntries self.old self.new }
-        ensures line { self.new.line ≡ self.old.line }
-        ensures candidates { self.new.candidates ≡ None }
-        ensures taken { (branches : List Branch) → IfSome self.old.candidates (AreCandidates branches)
-            → AreCandidates branches result }
-    {
-        match self.candidates.take() {
-            Some(candidates) => candidates,
-            None => Candidates::new(alloc),
-        }
-    }
-
-    /// Keeps the candidates.
-    pub(crate) fn put_candidates(&mut self, candidates: Candidates)
-        ensures same { HasSameEntries self.old self.new }
-        ensures line { self.new.line ≡ self.old.line }
-        ensures candidates { self.new.candidates ≡ Some candidates }
-    {
-        self.candidates = Some(candidates);
-    }
-
     // The place of the revision in the stem that the others tell. At most log n comparisons of revisions.
     fn place_other(&self, stems: &[Stem], rev: &RevId) -> Option<Place>
-        requires stems { AreStems stems.now }
-        requires told { AreTold (Has stems.now) (entry_in self.now) (other_in self.now) }
+        requires { AreToldOf stems.now self.now }
         ensures found { IfSome result (IsFirstPlace stems.now rev.now) }
         ensures none { IfNone result (other_in self.now rev.now ≡ None) }
     {
@@ -255,8 +155,7 @@ impl Index {
     /// where its hash is a digest's text and that stem is the first with its first eight bytes; else at most
     /// log n comparisons of revisions.
     pub(crate) fn place(&self, stems: &[Stem], rev: &RevId) -> Option<Place>
-        requires stems { AreStems stems.now }
-        requires told { AreTold (Has stems.now) (entry_in self.now) (other_in self.now) }
+        requires { AreToldOf stems.now self.now }
         ensures found { IfSome result (IsFirstPlace stems.now rev.now) }
         ensures none { IfNone result (has_revision stems.now rev.now ≡ false) }
     {
@@ -270,6 +169,72 @@ impl Index {
             Some(place) => Some(place),
             None => self.place_other(stems, rev),
         }
+    }
+
+    // Links the revision at this place of the newest stem, where its first stem does not go on behind it, and
+    // this one does. It costs a find, and at most log n comparisons of revisions.
+    fn link_at(
+        &self,
+        links: &mut BTreeMap<RevKey, u32>,
+        stems: &[Stem],
+        number: u32,
+        at: usize,
+    ) -> Result<(), AllocError>
+        requires last { IsLastTold stems.now self.now number }
+        requires within { at < length (revisions_at stems.now number) }
+        requires linked { AreLinked (HasTo stems.now number at) stems.now (number_in links.old) }
+        ensures { OnOk result
+            (AreLinked (HasTo stems.now number (at + 1)) stems.now (number_in links.new)) }
+    {
+        let rev = stems[number as usize].run().at(at);
+        let Some(place) = self.place(stems, &rev) else {
+            return Ok(());
+        };
+        if behind_in(stems, place.stem, &Sought::once(&rev)).is_some() {
+            return Ok(());
+        }
+        if behind_in(stems, number as usize, &Sought::once(&rev)).is_none() {
+            return Ok(());
+        }
+        put_at(links, &rev, number)
+    }
+
+    // Links the revisions of the newest stem, which has this number. It costs what `link_at` does for each.
+    fn link_all(
+        &self,
+        links: &mut BTreeMap<RevKey, u32>,
+        stems: &[Stem],
+        number: u32,
+    ) -> Result<(), AllocError>
+        requires last { IsLastTold stems.now self.now number }
+        requires linked { AreLinked (Has (take number stems.now)) (take number stems.now)
+            (number_in links.old) }
+        ensures { OnOk result (AreLinked (Has stems.now) stems.now (number_in links.new)) }
+    {
+        for at in 0..stems[number as usize].run().len() {
+            self.link_at(links, stems, number, at)?;
+        }
+        Ok(())
+    }
+}
+
+impl Index {
+    // Takes in the newest of the stems, of all others of which it is an index. It costs what
+    // `add_at` does for each of its revisions, and where it joins others what `link_at` does.
+    fn add(&mut self, stems: &[Stem]) -> Result<(), AllocError>
+        requires stems { AreStems stems.now }
+        requires some { 1 ≤ length stems.now }
+        requires index { IsIndex self.old (take (length stems.now - 1) stems.now) }
+        ensures index { OnOk result (IsIndex self.new stems.now) }
+        ensures candidates { self.new.candidates ≡ self.old.candidates }
+    {
+        let newest = stems.len() - 1;
+        let number = kept_number(newest)?;
+        self.firsts.add_all(stems, number)?;
+        if !stems[newest].joins() {
+            return Ok(());
+        }
+        self.firsts.link_all(&mut self.links, stems, number)
     }
 
     /// The number of a later stem that goes on behind the revision, where the first one that has it does not.
@@ -291,8 +256,10 @@ fn empty(alloc: Global, capacity: usize) -> Result<Index, AllocError>
 {
     let stems = HashMap::with_capacity(alloc, capacity)?;
     Ok(Index {
-        stems,
-        others: BTreeMap::new(alloc),
+        firsts: Firsts {
+            stems,
+            others: BTreeMap::new(alloc),
+        },
         links: BTreeMap::new(alloc),
         line: None,
         candidates: None,
@@ -310,26 +277,6 @@ fn built(alloc: Global, stems: &[Stem]) -> Result<Box<Index>, AllocError>
         index.add(&stems[..count + 1])?;
     }
     Ok(Box::new(alloc, index)?)
-}
-
-// The index with the newest of the stems, of all others of which it is one, and with the newest one's path.
-fn with_newest(mut index: Box<Index>, stems: &[Stem], line: Option<Line>) -> Option<Box<Index>>
-    requires stems { AreStems stems.now }
-    requires index { IsIndex index.value (take (length stems.now - 1) stems.now) }
-    ensures index { IfSome result (λ i. IsIndex i.value stems.now) }
-    ensures line { IfSome result (λ i. i.value.line ≡ line) }
-    ensures candidates { IfSome result (λ i. i.value.candidates ≡ index.value.candidates) }
-{
-    if stems.is_empty() {
-        return None;
-    }
-    match index.add(stems) {
-        Ok(()) => {
-            index.line = line;
-            Some(index)
-        }
-        Err(_) => None,
-    }
 }
 
 // An index of the stems where they are so many that it is time for one, and there is memory for it.
@@ -367,8 +314,12 @@ pub(crate) fn renewed(
     ensures candidates { IfSome (candidates_in (option_map (λ i. i.value) result))
         (λ c. candidates_in (option_map (λ i. i.value) index) ≡ Some c) }
 {
-    match index {
-        Some(index) => with_newest(index, stems, line),
-        None => begun(alloc, stems, line),
+    let Some(mut index) = index else {
+        return begun(alloc, stems, line);
+    };
+    if stems.is_empty() || index.add(stems).is_err() {
+        return None;
     }
+    index.line = line;
+    Some(index)
 }

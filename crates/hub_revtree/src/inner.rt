@@ -55,26 +55,19 @@ fn note_headed(stems: &mut [Stem], index: Option<&Index>, rev: &RevId)
     }
 }
 
-// Notes the stems as inner whose newest revisions are among these behind the first. A find for each of these.
-fn note_rest(stems: &mut [Stem], index: Option<&Index>, run: &Run)
-    requires indexed { AreIndexed stems.old (option_map (λ i. i.now) index) }
-    requires run { IsPath run.now }
-    ensures { NotesOnly stems.old (λ r. names (drop 1 run.now) r) stems.new }
-{
-    for at in (1..run.len()).rev() {
-        note_headed(stems, index, &run.at(at));
-    }
-}
-
-// The same, where one of these may be known.
+// Notes the stems as inner whose newest revisions are among these behind the first, where one of these may be
+// known. A find for each of these.
 fn note_joined(stems: &mut [Stem], index: Option<&Index>, run: &Run, joins: bool)
     requires indexed { AreIndexed stems.old (option_map (λ i. i.now) index) }
     requires run { IsPath run.now }
     requires fresh { joins ≡ false → list_any (has_revision stems.old) run.now ≡ false }
     ensures { NotesOnly stems.old (λ r. names (drop 1 run.now) r) stems.new }
 {
-    if joins {
-        note_rest(stems, index, run);
+    if !joins {
+        return;
+    }
+    for at in (1..run.len()).rev() {
+        note_headed(stems, index, &run.at(at));
     }
 }
 

@@ -4,7 +4,6 @@ ghost use Rattle.std.specs.Prelude.{◌≡◌, ◌<◌, [], Some, length, map, o
 ghost use Rattle.std.specs.Prelude.{option_map, reverse, slice_get, List, IfOk, IfSome};
 ghost use Rattle.std.specs.List.{list_any};
 ghost use Rattle.hub_model.specs.Revision.{revision_cmp};
-ghost use Rattle.hub_model.specs.Journal.{IsLegal};
 ghost use Rattle.hub_model.specs.Leaves.{Leaf, leaf_cmp, leaves_among, leaves_of, best_first, with_leaf};
 ghost use Rattle.hub_revtree.specs.Branch.{earlier_branches, edit_of, edits_in};
 ghost use Rattle.hub_revtree.specs.Winner.{HasWinner, has_below, head_in};
@@ -79,7 +78,6 @@ pub(crate) fn best_leaf(branches: &Branches) -> usize
 // The same by the candidates; None where there is no memory for them. Each edit becomes a candidate
 // once at most, and is given up once, at log n comparisons of revisions each time.
 fn best_candidate(branches: &mut Branches) -> Option<usize>
-    requires { IsLegal (edits_in branches.old.list) }
     ensures list { branches.new.list ≡ branches.old.list }
     ensures best { IfSome result (λ best. option_and_then head_in (slice_get branches.old.list best)
         ≡ winner_of (leaves_of (edits_in branches.old.list) [])) }
@@ -99,7 +97,6 @@ fn best_candidate(branches: &mut Branches) -> Option<usize>
 /// what `best_leaf` does.
 pub(crate) fn best_with_newest(branches: &mut Branches, best: usize) -> usize
     requires some { 0 < length branches.old.list }
-    requires legal { IsLegal (edits_in branches.old.list) }
     requires winner { HasWinner (edits_in (earlier_branches branches.old.list))
         (option_and_then head_in (slice_get (earlier_branches branches.old.list) best)) }
     ensures list { branches.new.list ≡ branches.old.list }

@@ -68,25 +68,6 @@ fn digests_of(alloc: Global, revisions: &[RevId]) -> Result<Option<Vec<[u8; 16]>
     Ok(Some(digests))
 }
 
-// The first of the revisions, so many, as they take the least memory.
-fn kept_of(alloc: Global, revisions: &[RevId], count: usize) -> Result<Kept, AllocError>
-    requires path { IsPath revisions.now }
-    requires within { count ≤ length revisions.now }
-    ensures { IfOk result (λ kept. kept_in kept ≡ take count revisions.now) }
-{
-    let newest = &revisions[0];
-    if count == 1 {
-        if let Some(digest) = newest.digest() {
-            return Ok(Kept::One(newest.generation(), digest));
-        }
-    }
-    let front = &revisions[..count];
-    match digests_of(alloc, front)? {
-        Some(digests) => Ok(Kept::Digests(newest.generation(), digests)),
-        None => Ok(Kept::Texts(Vec::from_slice(alloc, front)?)),
-    }
-}
-
 // The first of a list, so many, in its own memory, which gives the rest back.
 fn cut_list<T: Drop>(mut list: Vec<T>, count: usize) -> Vec<T>
     ensures { result.items ≡ take count list.items }
@@ -167,8 +148,18 @@ impl Run {
         requires within { count ≤ length revisions.now }
         ensures { IfOk result (λ run. run ≡ take count revisions.now) }
     {
-        let kept = kept_of(alloc, revisions, count)?;
-        Ok(Run { kept })
+        let newest = &revisions[0];
+        if count == 1 {
+            if let Some(digest) = newest.digest() {
+                let kept = Kept::One(newest.generation(), digest);
+                return Ok(Run { kept });
+            }
+        }
+        let front = &revisions[..count];
+        match digests_of(alloc, front)? {
+            Some(digests) => Ok(Run::from_digests(newest.generation(), digests)),
+            None => Ok(Run::whole(Vec::from_slice(alloc, front)?)),
+        }
     }
 
     /// One revision. It takes no memory.

@@ -13,7 +13,7 @@ ghost use Rattle.hub_revtree.specs.Branch.{edits_in};
 ghost use Rattle.hub_revtree.specs.Common.{common as common_of, last_in};
 ghost use Rattle.hub_revtree.specs.Extend.{line_to};
 ghost use Rattle.hub_revtree.specs.Index.{AreLinked, GoesOn, Has, IsIndex, IsIndexed, link_in};
-ghost use Rattle.hub_revtree.specs.Lookup.{AreIndexed, AreIndexedUpTo, IsLineStart, IsPlaceIn};
+ghost use Rattle.hub_revtree.specs.Lookup.{AreIndexed, AreIndexedUpTo, IsLineStart, IsNumberIn, IsPlaceIn};
 ghost use Rattle.hub_revtree.specs.Stem.{Stem as StemModel, AreStems, AreUpTo, IsBrought};
 ghost use Rattle.hub_revtree.specs.Stem.{IsBehind, IsWithin, StandsAt, branches_of, chain_from, chains_of};
 ghost use Rattle.hub_revtree.specs.Stem.{has_revision, own_path, rev_at, revisions_at};
@@ -24,21 +24,6 @@ use crate::sought::Sought;
 use crate::stem::{Place, Stem};
 use hub_document::RevId;
 use std::alloc::AllocError;
-
-// Where the revision stands. One look an edit, from the newest on up to the one that brought it.
-fn place_among(stems: &[Stem], rev: &RevId) -> Option<Place>
-    requires { AreStems stems.now }
-    ensures found { IfSome result (StandsAt stems.now rev.now) }
-    ensures none { IfNone result (has_revision stems.now rev.now ≡ false) }
-{
-    let sought = Sought::among(rev, stems.len());
-    for number in (0..stems.len()).rev() {
-        if let Some(at) = stems[number].run().position(&sought) {
-            return Some(Place { stem: number, at });
-        }
-    }
-    None
-}
 
 /// Where the revision stands in the stem of this number, if it does. Constant time.
 pub(crate) fn place_in(stems: &[Stem], number: usize, rev: &RevId) -> Option<Place>
@@ -65,10 +50,16 @@ pub(crate) fn place_of(stems: &[Stem], index: Option<&Index>, rev: &RevId) -> Op
     ensures found { IfSome result (StandsAt stems.now rev.now) }
     ensures none { IfNone result (has_revision stems.now rev.now ≡ false) }
 {
-    match index {
-        Some(index) => index.place(stems, rev),
-        None => place_among(stems, rev),
+    if let Some(index) = index {
+        return index.firsts.place(stems, rev);
     }
+    let sought = Sought::among(rev, stems.len());
+    for number in (0..stems.len()).rev() {
+        if let Some(at) = stems[number].run().position(&sought) {
+            return Some(Place { stem: number, at });
+        }
+    }
+    None
 }
 
 /// The same of stems with no revision of a generation above the highest. Constant time for a revision of
@@ -89,11 +80,25 @@ pub(crate) fn place_up_to(
     place_of(stems, index, rev)
 }
 
-// The stem whose newest revision this is. One look an edit, from the newest on up to that one.
-fn headed_among<'a>(stems: &'a [Stem], rev: &RevId) -> Option<&'a Stem>
-    requires { AreStems stems.now }
+/// The stem whose newest revision this is. With an index it is the first one that has the revision, since no
+/// stem's newest revision is one of an earlier stem, and costs what `place_of` does; else one look an edit,
+/// from the newest on up to that one.
+pub(crate) fn headed<'a>(stems: &'a [Stem], index: Option<&Index>, rev: &RevId) -> Option<&'a Stem>
+    requires { AreIndexed stems.now (option_map (λ i. i.now) index) }
     ensures { option_map (λ s. s.now) result ≡ find (λ s. is_first rev.now s.revisions) stems.now }
 {
+    if let Some(index) = index {
+        return match index.firsts.place(stems, rev) {
+            Some(place) => {
+                if place.at == 0 {
+                    Some(&stems[place.stem])
+                } else {
+                    None
+                }
+            }
+            None => None,
+        };
+    }
     let sought = Sought::among(rev, stems.len());
     for number in (0..stems.len()).rev() {
         let stem = &stems[number];
@@ -102,37 +107,6 @@ fn headed_among<'a>(stems: &'a [Stem], rev: &RevId) -> Option<&'a Stem>
         }
     }
     None
-}
-
-// The stem that the revision heads, which is the first one that has it: no stem's newest revision
-// is one of an earlier stem. It costs a look in the index.
-fn headed_by<'a>(stems: &'a [Stem], index: &Index, rev: &RevId) -> Option<&'a Stem>
-    requires stems { AreStems stems.now }
-    requires index { IsIndex index.now stems.now }
-    ensures { option_map (λ s. s.now) result ≡ find (λ s. is_first rev.now s.revisions) stems.now }
-{
-    match index.place(stems, rev) {
-        Some(place) => {
-            if place.at == 0 {
-                Some(&stems[place.stem])
-            } else {
-                None
-            }
-        }
-        None => None,
-    }
-}
-
-/// The stem whose newest revision this is. With an index it costs what `place_of` does; else one
-/// look an edit, from the newest on up to that one.
-pub(crate) fn headed<'a>(stems: &'a [Stem], index: Option<&Index>, rev: &RevId) -> Option<&'a Stem>
-    requires { AreIndexed stems.now (option_map (λ i. i.now) index) }
-    ensures { option_map (λ s. s.now) result ≡ find (λ s. is_first rev.now s.revisions) stems.now }
-{
-    match index {
-        Some(index) => headed_by(stems, index, rev),
-        None => headed_among(stems, rev),
-    }
 }
 
 /// Whether the revision is the newest of the newest stem. Constant time.
@@ -228,8 +202,7 @@ fn end_of(stems: &[Stem], place: Place) -> RevId
 
 /// The place directly behind the revision in what the stem of this number brought. Constant time.
 pub(crate) fn behind_in(stems: &[Stem], number: usize, sought: &Sought) -> Option<Place>
-    requires stems { AreStems stems.now }
-    requires within { number < length stems.now }
+    requires { IsNumberIn stems.now number }
     ensures found { IfSome result (IsBehind stems.now sought.now) }
     ensures none { IfNone result
         ((stem : StemModel) (r : Revision) → slice_get stems.now number ≡ Some stem
@@ -252,21 +225,6 @@ pub(crate) fn behind_in(stems: &[Stem], number: usize, sought: &Sought) -> Optio
     }
 }
 
-// The place directly behind the revision in what a stem brought. One look a stem.
-fn behind_among(stems: &[Stem], rev: &RevId) -> Option<Place>
-    requires stems { AreStems stems.now }
-    ensures found { IfSome result (IsBehind stems.now rev.now) }
-    ensures none { IfNone result ((r : Revision) → ¬ IsBrought stems.now r rev.now) }
-{
-    let sought = Sought::among(rev, stems.len());
-    for number in 0..stems.len() {
-        if let Some(place) = behind_in(stems, number, &sought) {
-            return Some(place);
-        }
-    }
-    None
-}
-
 // The place directly behind the revision in what the stem of its link brought, if it has one. At most log n
 // comparisons of revisions.
 fn linked(stems: &[Stem], index: &Index, rev: &RevId) -> Option<Place>
@@ -286,23 +244,6 @@ fn linked(stems: &[Stem], index: &Index, rev: &RevId) -> Option<Place>
     }
 }
 
-// The place directly behind the revision in what the first stem that has it brought, or else the one of its
-// link. It costs two looks in the index at most.
-fn behind_by(stems: &[Stem], index: &Index, rev: &RevId) -> Option<Place>
-    requires stems { AreStems stems.now }
-    requires index { IsIndex index.now stems.now }
-    ensures found { IfSome result (IsBehind stems.now rev.now) }
-    ensures none { IfNone result ((r : Revision) → ¬ IsBrought stems.now r rev.now) }
-{
-    let Some(place) = index.place(stems, rev) else {
-        return None;
-    };
-    match behind_in(stems, place.stem, &Sought::once(rev)) {
-        Some(behind) => Some(behind),
-        None => linked(stems, index, rev),
-    }
-}
-
 /// The place directly behind the revision in what a stem brought. With an index it costs what
 /// `place_of` does, and where the first stem that has the revision has none behind it one more look
 /// there, at most log n comparisons of revisions; else one look a stem.
@@ -311,10 +252,22 @@ pub(crate) fn place_behind(stems: &[Stem], index: Option<&Index>, rev: &RevId) -
     ensures found { IfSome result (IsBehind stems.now rev.now) }
     ensures none { IfNone result ((r : Revision) → ¬ IsBrought stems.now r rev.now) }
 {
-    match index {
-        Some(index) => behind_by(stems, index, rev),
-        None => behind_among(stems, rev),
+    if let Some(index) = index {
+        let Some(place) = index.firsts.place(stems, rev) else {
+            return None;
+        };
+        return match behind_in(stems, place.stem, &Sought::once(rev)) {
+            Some(behind) => Some(behind),
+            None => linked(stems, index, rev),
+        };
     }
+    let sought = Sought::among(rev, stems.len());
+    for number in 0..stems.len() {
+        if let Some(place) = behind_in(stems, number, &sought) {
+            return Some(place);
+        }
+    }
+    None
 }
 
 // Where the revision stands that is directly behind the last one of the chain from the place on, if there is
@@ -429,7 +382,6 @@ pub(crate) fn agreeing(
     revisions: &[RevId],
 ) -> Option<usize>
     requires indexed { AreIndexedUpTo stems.now (option_map (λ i. i.now) index) highest }
-    requires legal { IsLegal (edits_in (branches_of stems.now)) }
     requires history { IsHistory revisions.now }
     ensures agrees { is_some result ≡ list_all (λ b. agrees_with revisions.now b.path)
         (branches_of stems.now) }
@@ -515,8 +467,7 @@ pub(crate) fn met_by(stems: &[Stem], index: Option<&Index>, highest: u16, path: 
 /// How many of the revisions that the stem of this number keeps none of the earlier ones has. Constant time
 /// where it joins none; else a look an edit for each of them.
 pub(crate) fn new_in(stems: &[Stem], number: usize) -> usize
-    requires stems { AreStems stems.now }
-    requires within { number < length stems.now }
+    requires { IsNumberIn stems.now number }
     ensures { (stem : StemModel) → slice_get stems.now number ≡ Some stem
         → result ≡ length (filter (λ r. not (has_revision (take number stems.now) r)) stem.revisions) }
 {
@@ -527,7 +478,7 @@ pub(crate) fn new_in(stems: &[Stem], number: usize) -> usize
     }
     let mut count = 0usize;
     for at in 0..run.len() {
-        if place_among(&stems[..number], &run.at(at)).is_none() {
+        if place_of(&stems[..number], None, &run.at(at)).is_none() {
             count += 1;
         }
     }

@@ -10,7 +10,7 @@ ghost use Rattle.hub_model.specs.Path.{IsHistory};
 ghost use Rattle.hub_model.specs.Row.{doc_of, is_deleted};
 ghost use Rattle.hub_revtree.specs.Branch.{edits_in};
 ghost use Rattle.hub_revtree.specs.Count.{revision_count};
-ghost use Rattle.hub_revtree.specs.Tree.{HasKnownHead, IsRevTree, nameless};
+ghost use Rattle.hub_revtree.specs.Tree.{HasKnownHead, IsRevTree, MakesReady, nameless};
 ghost use Rattle.hub_revtree.specs.Winner.{winner_of};
 
 use crate::branches::Branches;
@@ -113,24 +113,6 @@ impl RevTree {
         }
     }
 
-    // The edit, with memory for it, and the first of its revisions, so many, which are new.
-    pub(crate) fn made_ready(
-        &mut self,
-        path: Path,
-        new: usize,
-        deleted: bool,
-        body: Body,
-    ) -> Result<Ready, AllocError>
-        requires { new ≤ length path }
-        ensures edits { self.new.edits ≡ self.old.edits }
-        ensures ready { IfOk result (λ ready. ready ≡ nameless path deleted body) }
-        ensures room { IfOk result (λ ready. length ready.path ≤ self.new.room) }
-    {
-        let _head = path.head();
-        let run = Run::front(self.branches.allocator(), path.revisions(), new)?;
-        self.ready_with(Run::whole(path.into_revisions()), run, deleted, body)
-    }
-
     // The edit on a path, of which the run is the front, with a place for it.
     pub(crate) fn ready_with(
         &mut self,
@@ -141,9 +123,7 @@ impl RevTree {
     ) -> Result<Ready, AllocError>
         requires history { IsHistory path }
         requires front { run ≡ take (length run) path }
-        ensures edits { self.new.edits ≡ self.old.edits }
-        ensures ready { IfOk result (λ ready. ready ≡ nameless path deleted body) }
-        ensures room { IfOk result (λ ready. length ready.path ≤ self.new.room) }
+        ensures { MakesReady self.old self.new (nameless path deleted body) result }
     {
         // A path has no more revisions than its head's generation, so that one place has room for it.
         let _revisions_at_most = path.generation();
@@ -279,7 +259,8 @@ impl RevTree {
         let Some(new) = self.branches.new_count(&path) else {
             return Err(MergeFault::Contradicts);
         };
-        let ready = self.made_ready(path, new, deleted, body)?;
+        let run = Run::front(self.branches.allocator(), path.revisions(), new)?;
+        let ready = self.ready_with(Run::whole(path.into_revisions()), run, deleted, body)?;
         Ok(Some(ready))
     }
 

@@ -3,10 +3,4 @@ use Rattle.hub_revtree.proofs.branches.without_line.Goals as goal
 pub returns-in-Some-clause-index : goal.returns-in-Some-clause-index
 returns-in-Some-clause-index c = λ stems i.
     let own = rw c.in-Some.is at i in
-    rw (
-      c.drop_line.ensures.line,
-      c.drop_line.ensures.same.stems,
-      c.drop_line.ensures.same.others,
-      c.drop_line.ensures.same.links,
-      c.deref_mut.ensures.value,
-    ) (own.0, tt)
+    rw c.deref_mut.ensures.value (own.0, tt)

@@ -5,7 +5,7 @@ use Rattle.hub_revtree.proofs.leaf.best_leaf.Goals as goal
 pub loop-at-init : goal.loop-at-init
 loop-at-init c =
     none_yet c.args.branches.now.list c.len-at.result c.len-number.result
-    c.len-at.ensures c.len-number.ensures
+    c.len-at.ensures.length c.len-number.ensures.length
 
 pub loop-at-preserved-then-not-is_better : goal.loop-at-preserved-then-not-is_better
 loop-at-preserved-then-not-is_better c = (

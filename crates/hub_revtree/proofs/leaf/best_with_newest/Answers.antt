@@ -7,14 +7,15 @@ use Rattle.hub_revtree.proofs.leaf.best_with_newest.Goals as goal
 
 pub returns-then-best-newest-clause-best : goal.returns-then-best-newest-clause-best
 returns-then-best-newest-clause-best c =
-    first_wins c.args.branches.now.list c.requires.legal c.args.best c.requires.winner c.len-newest.result
-    c.len-newest.ensures c.requires.some c.head-leaf.result c.head-leaf.ensures c.if-best-newest.true
+    first_wins c.args.branches.now.list c.len-newest.ensures.legal c.args.best c.requires.winner
+    c.len-newest.result c.len-newest.ensures.length c.requires.some c.head-leaf.result c.head-leaf.ensures
+    c.if-best-newest.true
 
 pub returns-then-is_gt-clause-best : goal.returns-then-is_gt-clause-best
 returns-then-is_gt-clause-best c =
-    better_wins c.args.branches.now.list c.requires.legal c.args.best c.requires.winner c.len-newest.result
-    c.len-newest.ensures c.requires.some c.head-leaf.result c.head-leaf.ensures c.if-best-newest.false
-    c.head-winner.result c.head-winner.ensures
+    better_wins c.args.branches.now.list c.len-newest.ensures.legal c.args.best c.requires.winner
+    c.len-newest.result c.len-newest.ensures.length c.requires.some c.head-leaf.result c.head-leaf.ensures
+    c.if-best-newest.false c.head-winner.result c.head-winner.ensures
     (ap is_gt (sym c.leaf_order.ensures) ∙ (sym c.is_gt.ensures ∙ c.if-is_gt.true))
 
 pub returns-in-None-clause-best : goal.returns-in-None-clause-best
@@ -24,8 +25,8 @@ returns-in-None-clause-best c =
 
 pub returns-clause-best : goal.returns-clause-best
 returns-clause-best c =
-    still_wins c.args.branches.now.list c.requires.legal c.args.best c.requires.winner c.len-newest.result
-    c.len-newest.ensures c.requires.some c.head-leaf.result c.head-leaf.ensures c.if-best-newest.false
-    c.head-winner.result c.head-winner.ensures
+    still_wins c.args.branches.now.list c.len-newest.ensures.legal c.args.best c.requires.winner
+    c.len-newest.result c.len-newest.ensures.length c.requires.some c.head-leaf.result c.head-leaf.ensures
+    c.if-best-newest.false c.head-winner.result c.head-winner.ensures
     (ap is_gt (sym c.leaf_order.ensures) ∙ (sym c.is_gt.ensures ∙ c.if-is_gt.false))
     (sym (c.is_head_inner.ensures c.head-winner.result c.head-winner.ensures) ∙ c.if-is_head_inner.false)

@@ -20,26 +20,30 @@ goes c = record {
 }
 
 pub loop-at-init : goal.loop-at-init
-loop-at-init c = agrees_none c.args.stems.now c.requires.indexed.stems c.requires.legal c.args.revisions.now
+loop-at-init c =
+    agrees_none c.args.stems.now c.requires.indexed.stems c.requires.indexed.legal c.args.revisions.now
 
 pub returns-in_err-count-in-Some-clause-agrees : goal.returns-in_err-count-in-Some-clause-agrees
 returns-in_err-count-in-Some-clause-agrees c =
     ap is_some c.from_residual.ensures
-    ∙ differs c.args.stems.now c.requires.indexed.stems c.requires.legal c.args.revisions.now c.loop-at.at
+    ∙ differs c.args.stems.now c.requires.indexed.stems c.requires.indexed.legal c.args.revisions.now
+    c.loop-at.at
     c.loop-at.told c.in-Some.place (goes (goal.at.returns-in_err-count-in-Some-clause-agrees c).In-Some)
     c.requires.history (sym c.common.ensures ∙ c.in_err-count-in-Some.was)
 
 pub returns-then-count-revisions-clause-agrees : goal.returns-then-count-revisions-clause-agrees
 returns-then-count-revisions-clause-agrees c =
-    agree_all c.args.stems.now c.requires.indexed.stems c.requires.legal c.args.revisions.now
-    (all_agree c.args.stems.now c.requires.indexed.stems c.requires.legal c.args.revisions.now c.loop-at.at
+    agree_all c.args.stems.now c.requires.indexed.stems c.requires.indexed.legal c.args.revisions.now
+    (all_agree c.args.stems.now c.requires.indexed.stems c.requires.indexed.legal c.args.revisions.now
+    c.loop-at.at
     c.loop-at.told c.in-Some.place (goes (goal.at.returns-then-count-revisions-clause-agrees c).In-Some)
     c.in_ok-count-in-Some.count (sym c.common.ensures ∙ c.in_ok-count-in-Some.was) (omega arith))
 
 pub overflow_add-at : goal.overflow_add-at
 overflow_add-at c = omega (
   arith,
-  within_common c.args.stems.now c.requires.indexed.stems c.requires.legal c.args.revisions.now c.loop-at.at
+  within_common c.args.stems.now c.requires.indexed.stems c.requires.indexed.legal c.args.revisions.now
+      c.loop-at.at
       c.loop-at.told c.in-Some.place (goes (goal.at.overflow_add-at c).In-Some) c.in_ok-count-in-Some.count
       (sym c.common.ensures ∙ c.in_ok-count-in-Some.was),
 )
@@ -47,14 +51,14 @@ overflow_add-at c = omega (
 pub loop-at-smaller-in-Some : goal.loop-at-smaller-in-Some
 loop-at-smaller-in-Some c = omega (
   arith,
-  some_common c.args.stems.now c.requires.indexed.stems c.requires.legal c.args.revisions.now
+  some_common c.args.stems.now c.requires.indexed.stems c.requires.indexed.legal c.args.revisions.now
       c.loop-at.at c.loop-at.told c.in-Some.place (goes (goal.at.loop-at-smaller-in-Some c).In-Some)
       c.in_ok-count-in-Some.count (sym c.common.ensures ∙ c.in_ok-count-in-Some.was),
 )
 
 pub loop-at-preserved-in-Some : goal.loop-at-preserved-in-Some
 loop-at-preserved-in-Some c =
-    agrees_more c.args.stems.now c.requires.indexed.stems c.requires.legal c.args.revisions.now
+    agrees_more c.args.stems.now c.requires.indexed.stems c.requires.indexed.legal c.args.revisions.now
     c.loop-at.at c.loop-at.told c.in-Some.place (goes (goal.at.loop-at-preserved-in-Some c).In-Some)
     c.in_ok-count-in-Some.count (sym c.common.ensures ∙ c.in_ok-count-in-Some.was)
     c.beyond-told.result (λ z. omega (arith, z, c.if-count-revisions.false)) c.beyond-told.ensures.within
@@ -62,12 +66,12 @@ loop-at-preserved-in-Some c =
 
 pub loop-at-preserved : goal.loop-at-preserved
 loop-at-preserved c =
-    agrees_unknown c.args.stems.now c.requires.indexed.stems c.requires.legal c.args.revisions.now c.loop-at.at
-    c.loop-at.told c.index-revisions-at.result c.loop-at.invariant c.in-None.ensures.told
+    agrees_unknown c.args.stems.now c.requires.indexed.stems c.requires.indexed.legal c.args.revisions.now
+    c.loop-at.at c.loop-at.told c.index-revisions-at.result c.loop-at.invariant c.in-None.ensures.told
     (slice_get_read c.args.revisions.now _ c.loop-at.at c.index-revisions-at.result refl c.loop-at-test.true
     c.index-revisions-at.is) c.in-None.ensures.none
 
 pub returns-clause-agrees : goal.returns-clause-agrees
 returns-clause-agrees c =
-    agrees_whole c.args.stems.now c.requires.indexed.stems c.requires.legal c.args.revisions.now c.loop-at.at
-    c.loop-at.told c.loop-at.invariant c.loop-at-test.false
+    agrees_whole c.args.stems.now c.requires.indexed.stems c.requires.indexed.legal c.args.revisions.now
+    c.loop-at.at c.loop-at.told c.loop-at.invariant c.loop-at-test.false

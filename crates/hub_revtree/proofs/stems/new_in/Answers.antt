@@ -22,8 +22,8 @@ returns-then-not-joins c = λ stem e.
     ∙ ap (λ (s : Stem). length (new_of (take c.args.number xs) s.revisions))
     (same_Some c.index-stems-number.result stem (sym there ∙ e))
 
-pub place_among-requires : goal.place_among-requires
-place_among-requires c = are_taken c.args.number c.args.stems.now c.requires.stems
+pub place_of-requires : goal.place_of-requires
+place_of-requires c = record { stems = are_taken c.args.number c.args.stems.now c.requires.stems; index = tt }
 
 pub overflow_add-count : goal.overflow_add-count
 overflow_add-count c =
@@ -43,8 +43,8 @@ pub loop-at-preserved : goal.loop-at-preserved
 loop-at-preserved c =
     let earlier = take c.args.number c.args.stems.now in
     let placed =
-    is_placed earlier c.at.result c.place_among.result c.place_among.ensures.found
-    c.place_among.ensures.none in
+    is_placed earlier c.at.result c.place_of.result c.place_of.ensures.found
+    c.place_of.ensures.none in
     elim c.if-is_none.branch [
       | then-is_none w ↦
           w.count-is

@@ -9,7 +9,7 @@ append_from-requires c =
     (record {
       stems = c.self.invariant.0;
       index = rw c.lent-index.ensures c.self.invariant.2;
-      legal = rw (sym c.self.view_is) at c.requires;
+      legal = c.self.invariant.5;
       within =
           rev_within c.self.inside.stems.items c.in-Some.place c.args.rev.now
           (rw c.as_slice.ensures.value at c.in-Some.ensures.found);

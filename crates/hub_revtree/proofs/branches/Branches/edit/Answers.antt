@@ -8,8 +8,8 @@ returns-in_err-stem-clause-tip c =
     (sym (no_edit c.self.inside.stems.items c.self.invariant.0 c.args.at
     (rw c.as_slice.ensures.value at c.in_err-stem.ensures.lookup.3)))
 
-pub stored-requires : goal.stored-requires
-stored-requires c =
+pub head-requires : goal.head-requires
+head-requires c =
     let found = rw c.as_slice.ensures.value at c.in_ok-stem.ensures.lookup.3 in
     c.self.invariant.0.falling c.args.at c.in_ok-stem.stem.now
     (read_stem c.self.inside.stems.items c.args.at c.in_ok-stem.stem.now found.0
@@ -23,7 +23,7 @@ returns-clause-tip c =
     c.args.at c.in_ok-stem.stem.now c.stored.result.rev c.stored.result.deleted c.stored.result.body.now
     (read_stem c.self.inside.stems.items c.args.at c.in_ok-stem.stem.now found.0
     (found.1 c.in_ok-stem.stem.now))
-    c.stored.ensures.rev c.stored.ensures.deleted c.stored.ensures.body)
+    (rw c.stored.ensures.rev c.head.ensures) c.stored.ensures.deleted c.stored.ensures.body)
 
 pub returns-in_err-stem-clause-count : goal.returns-in_err-stem-clause-count
 returns-in_err-stem-clause-count c =

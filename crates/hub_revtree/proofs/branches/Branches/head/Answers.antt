@@ -3,28 +3,28 @@ use Rattle.hub_revtree.specs.Branch.{Storage}
 use Rattle.hub_revtree.proofs.StemLooks.{head_at, low_stem, read_stem}
 use Rattle.hub_revtree.proofs.branches.Branches.head.Goals as goal
 
-pub index-requires : goal.index-requires
-index-requires c =
+pub index-stem-requires : goal.index-stem-requires
+index-stem-requires c =
     let low =
     low_stem c.self.inside.stems.items c.args.self.now.list c.args.at
     (ap (λ (storage : Storage). storage.list) c.self.view_is) c.requires in
     omega (arith, low, c.self.inside.stems.ok.0)
 
-pub stored-edit-requires : goal.stored-edit-requires
-stored-edit-requires c =
+pub head-requires : goal.head-requires
+head-requires c =
     let low =
     low_stem c.self.inside.stems.items c.args.self.now.list c.args.at
     (ap (λ (storage : Storage). storage.list) c.self.view_is) c.requires in
-    c.self.invariant.0.falling c.args.at c.index.result.now
-    (read_stem c.self.inside.stems.items c.args.at c.index.result.now low c.index.ensures)
+    c.self.invariant.0.falling c.args.at c.index-stem.result.now
+    (read_stem c.self.inside.stems.items c.args.at c.index-stem.result.now low c.index-stem.ensures)
 
 pub returns : goal.returns
 returns c =
     let low =
     low_stem c.self.inside.stems.items c.args.self.now.list c.args.at
     (ap (λ (storage : Storage). storage.list) c.self.view_is) c.requires in
-    rw (sym c.self.view_is, c.stored-edit.ensures.deleted)
+    rw (sym c.self.view_is, c.deleted.ensures, c.mark.ensures.deletes)
     (head_at c.self.inside.stems.items c.self.invariant.0
-    c.args.at c.index.result.now c.stored-edit.result.rev
-    (read_stem c.self.inside.stems.items c.args.at c.index.result.now low c.index.ensures)
-    c.stored-edit.ensures.rev)
+    c.args.at c.index-stem.result.now c.head.result
+    (read_stem c.self.inside.stems.items c.args.at c.index-stem.result.now low c.index-stem.ensures)
+    c.head.ensures)

@@ -12,7 +12,7 @@ pub line_length-requires : goal.line_length-requires
 line_length-requires c =
     let xs = c.self.inside.stems.items in
     let found = rw c.as_slice.ensures.value at c.in-Some.ensures.found in
-    let legal = rw (sym c.self.view_is) at c.requires in
+    let legal = c.self.invariant.5 in
     let few = line_short (edits_in (branches_of xs)) c.args.rev.now legal in
     let short : length (line_to (edits_in (branches_of xs)) (Some c.args.rev.now)) < 2 ^ 16 = omega
     (arith, few, c.generation-revisions_at_most.ensures.value, c.generation-revisions_at_most.type_inv) in

@@ -11,7 +11,7 @@ pub returns : goal.returns
 returns c =
     let stems = c.self.inside.stems.items in
     let indexed = subst (λ o. IsIndexed o stems) (sym c.in_ok-index.ensures) c.self.invariant.2 in
-    let newest = subst (λ o. IsNewestLine o stems) (sym c.in_ok-line.ensures) indexed.1 in
+    let newest = subst (λ o. IsNewestLine o stems) (sym c.in_ok-line.ensures.value) indexed.1 in
     let first = sym (rw c.as_slice.ensures.value at c.is_newest.ensures) ∙ c.if-not-is_newest.false in
     rw (sym c.self.view_is)
     (newest

@@ -1,4 +1,5 @@
 use Rattle.std.proofs.Common.{◌≡◌, ◌++◌, ◌∷◌, [], ◌∙◌, refl, sym, ap, false, max, arith}
+use Rattle.hub_model.proofs.Legal.{legal_more}
 use Rattle.hub_revtree.specs.Branch.{edits_in}
 use Rattle.hub_revtree.specs.Index.{IsNewestLine}
 use Rattle.hub_revtree.specs.Stem.{Stem, branches_of}
@@ -22,7 +23,7 @@ standing_of-standing-requires-clause-short c =
 pub standing_of-standing-requires-clause-reach : goal.standing_of-standing-requires-clause-reach
 standing_of-standing-requires-clause-reach c =
     let xs = c.self.inside.stems.items in
-    let legal = rw (sym c.self.view_is) at c.requires.legal in
+    let legal = c.self.invariant.5 in
     let ok = rw (sym c.self.view_is) at c.requires.acceptable in
     let met = rw c.as_slice-stems.ensures.value at c.met_by-met.ensures in
     let is : Meets xs c.args.path c.met_by-met.result.at c.met_by-met.result.place c.met_by-met.result.behind
@@ -45,7 +46,7 @@ standing_of-standing-requires-clause-reach c =
 pub kept-run-requires-clause-some : goal.kept-run-requires-clause-some
 kept-run-requires-clause-some c =
     let xs = c.self.inside.stems.items in
-    let legal = rw (sym c.self.view_is) at c.requires.legal in
+    let legal = c.self.invariant.5 in
     let ok = rw (sym c.self.view_is) at c.requires.acceptable in
     let met = rw c.as_slice-stems.ensures.value at c.met_by-met.ensures in
     let is : Meets xs c.args.path c.met_by-met.result.at c.met_by-met.result.place c.met_by-met.result.behind
@@ -64,7 +65,7 @@ kept-run-requires-clause-some c =
 pub new-requires-clause-stands : goal.new-requires-clause-stands
 new-requires-clause-stands c =
     let xs = c.self.inside.stems.items in
-    let legal = rw (sym c.self.view_is) at c.requires.legal in
+    let legal = c.self.invariant.5 in
     let ok = rw (sym c.self.view_is) at c.requires.acceptable in
     let met = rw c.as_slice-stems.ensures.value at c.met_by-met.ensures in
     let is : Meets xs c.args.path c.met_by-met.result.at c.met_by-met.result.place c.met_by-met.result.behind
@@ -98,7 +99,7 @@ stem_of c = record {
 brings : (c : Joined-drop) → Brings c.self.inside.stems.items c.args.path (stem_of c)
 brings c =
     let xs = c.self.inside.stems.items in
-    let legal = rw (sym c.self.view_is) at c.requires.legal in
+    let legal = c.self.invariant.5 in
     let ok = rw (sym c.self.view_is) at c.requires.acceptable in
     let met = rw c.as_slice-stems.ensures.value at c.met_by-met.ensures in
     let is : Meets xs c.args.path c.met_by-met.result.at c.met_by-met.result.place c.met_by-met.result.behind
@@ -121,7 +122,7 @@ brings c =
 line_of : (c : Joined-drop) → IsNewestLine c.if-whole.line2 (c.self.inside.stems.items ++ stem_of c ∷ [])
 line_of c =
     let xs = c.self.inside.stems.items in
-    let legal = rw (sym c.self.view_is) at c.requires.legal in
+    let legal = c.self.invariant.5 in
     let ok = rw (sym c.self.view_is) at c.requires.acceptable in
     let ends = rw c.as_slice-stems.ensures.value at c.ends-whole.ensures in
     elim c.if-whole.branch [
@@ -135,7 +136,7 @@ line_of c =
 pub note_inner-requires-clause-comes : goal.note_inner-requires-clause-comes
 note_inner-requires-clause-comes c =
     let xs = c.self.inside.stems.items in
-    let legal = rw (sym c.self.view_is) at c.requires.legal in
+    let legal = c.self.invariant.5 in
     let ok = rw (sym c.self.view_is) at c.requires.acceptable in
     let met = rw c.as_slice-stems.ensures.value at c.met_by-met.ensures in
     let is : Meets xs c.args.path c.met_by-met.result.at c.met_by-met.result.place c.met_by-met.result.behind
@@ -164,7 +165,7 @@ pub renewed-requires-clause-stems : goal.renewed-requires-clause-stems
 renewed-requires-clause-stems c =
     let xs = c.self.inside.stems.items in
     let ys = c.note_inner.new.stems.items in
-    let legal = rw (sym c.self.view_is) at c.requires.legal in
+    let legal = c.self.invariant.5 in
     let ok = rw (sym c.self.view_is) at c.requires.acceptable in
     let met = rw c.as_slice-stems.ensures.value at c.met_by-met.ensures in
     let is : Meets xs c.args.path c.met_by-met.result.at c.met_by-met.result.place c.met_by-met.result.behind
@@ -211,7 +212,7 @@ edits_more c =
     let xs = c.self.inside.stems.items in
     let ys = c.note_inner.new.stems.items in
     let stem = stem_of c in
-    let legal = rw (sym c.self.view_is) at c.requires.legal in
+    let legal = c.self.invariant.5 in
     let ok = rw (sym c.self.view_is) at c.requires.acceptable in
     let same = plain_more xs ys stem c.note_inner.ensures.notes.plain in
     ap edits_in (sym (branches_same (xs ++ stem ∷ []) (ys ++ stem ∷ []) same))
@@ -223,7 +224,7 @@ invariant_of-self c =
     let ys = c.note_inner.new.stems.items in
     let stem = stem_of c in
     let path = brings c in
-    let legal = rw (sym c.self.view_is) at c.requires.legal in
+    let legal = c.self.invariant.5 in
     let ok = rw (sym c.self.view_is) at c.requires.acceptable in
     let more =
     brought_stems xs c.self.invariant.0 legal c.args.path c.args.deleted c.args.body ok stem path in
@@ -243,6 +244,7 @@ invariant_of-self c =
       candidates_more (branches_of xs) (branches_of (ys ++ stem ∷ []))
           (nameless c.args.path c.args.deleted c.args.body) _ _ (edits_more c) c.renewed.ensures.candidates
           (rw (c.without_line-index.ensures.candidates, c.take.ensures.value) c.self.invariant.4),
+      rw (edits_more c) (legal_more _ _ legal ok),
     )
 
 pub returns : goal.returns

@@ -1,24 +1,31 @@
 use Rattle.std.proofs.Common.{sym}
 use Rattle.hub_revtree.proofs.branches.Branches.put_candidates.Goals as goal
-use Rattle.hub_revtree.proofs.branches.Branches.put_candidates.Goals.{in-Some, in_default}
+use Rattle.hub_revtree.proofs.branches.Branches.put_candidates.Goals.{in-Some+in-Some-1, in_default}
+use Rattle.hub_revtree.proofs.branches.Branches.put_candidates.Goals.{in-Some+in-None-1}
 
 pub invariant_of-self : goal.invariant_of-self
-invariant_of-self c = elim c.match-self.branch [
-  | in-Some w ↦
-      let own = rw w.in-Some.is at c.self.invariant.2 in
-      let are = rw (sym c.self.view_is) at c.requires in
-      rw w.self-inside-is (
-        c.self.invariant.0,
-        c.self.invariant.1,
-        rw (
-          w.put_candidates.ensures.same.stems,
-          w.put_candidates.ensures.same.others,
-          w.put_candidates.ensures.same.links,
-          w.put_candidates.ensures.line,
-          w.deref_mut.ensures.value,
-        ) own,
-        c.self.invariant.3,
-        rw w.put_candidates.ensures.candidates are,
-      )
-  | in_default w ↦ rw w.self-inside-is c.self.invariant
-]
+invariant_of-self c =
+    let are = rw (sym c.self.view_is) at c.requires in
+    elim c.match-self.branch [
+      | in-Some+in-Some-1 w ↦
+          let own = rw w.in-Some.is at c.self.invariant.2 in
+          rw w.self-inside-is (
+            c.self.invariant.0,
+            c.self.invariant.1,
+            rw w.deref_mut.ensures.value own,
+            c.self.invariant.3,
+            are,
+            c.self.invariant.5,
+          )
+      | in-Some+in-None-1 w ↦
+          let own = rw w.in-Some.is at c.self.invariant.2 in
+          rw w.self-inside-is (
+            c.self.invariant.0,
+            c.self.invariant.1,
+            rw w.deref_mut.ensures.value own,
+            c.self.invariant.3,
+            are,
+            c.self.invariant.5,
+          )
+      | in_default w ↦ rw w.self-inside-is c.self.invariant
+    ]

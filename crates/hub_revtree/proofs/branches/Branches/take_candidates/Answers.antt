@@ -8,15 +8,10 @@ invariant_of-self c = elim c.match-self.branch [
       rw w.self-inside-is (
         c.self.invariant.0,
         c.self.invariant.1,
-        rw (
-          w.take_candidates.ensures.same.stems,
-          w.take_candidates.ensures.same.others,
-          w.take_candidates.ensures.same.links,
-          w.take_candidates.ensures.line,
-          w.deref_mut.ensures.value,
-        ) own,
+        rw w.deref_mut.ensures.value own,
         c.self.invariant.3,
-        rw w.take_candidates.ensures.candidates tt,
+        rw w.take.ensures.after tt,
+        c.self.invariant.5,
       )
   | in-None w ↦ rw w.self-inside-is c.self.invariant
 ]

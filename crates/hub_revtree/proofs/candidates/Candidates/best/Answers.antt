@@ -30,7 +30,7 @@ returns-then-not-is_head_inner-clause-best c =
     sym (c.is_head_inner.ensures (winner_in top) (number ∙ are.heads top there))
     ∙ c.if-not-is_head_inner.true in
     number
-    ∙ top_wins bs c.requires.legal c.loop-top.self are c.loop-top.invariant.all top there
+    ∙ top_wins bs c.len-edits.ensures.legal c.loop-top.self are c.loop-top.invariant.all top there
     (below_bound top _ (c.in-Some.ensures.greatest are.ordered)) leads
 
 pub loop-top-preserved : goal.loop-top-preserved
@@ -56,5 +56,6 @@ loop-top-preserved c =
 
 pub returns-clause-best : goal.returns-clause-best
 returns-clause-best c =
-    none_wins c.args.branches.now.list c.requires.legal c.loop-top.self c.loop-top.invariant.candidates
-    c.loop-top.invariant.all (nothing_in _ c.in_default.ensures.item.3) c.len.result c.len.ensures
+    none_wins c.args.branches.now.list c.len-edits.ensures.legal c.loop-top.self
+    c.loop-top.invariant.candidates c.loop-top.invariant.all (nothing_in _ c.in_default.ensures.item.3)
+    c.len-edits.result c.len-edits.ensures.length

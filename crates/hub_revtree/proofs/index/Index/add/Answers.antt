@@ -1,4 +1,5 @@
 use Rattle.std.proofs.Common.{◌≡◌, ◌∙◌, ◌-◌, ◌+◌, length, take, sym, subst, arith}
+use Rattle.std.proofs.lemmas.Result.{on_ok_weaker}
 use Rattle.hub_revtree.specs.Index.{AreLinked, Has, link_in}
 use Rattle.hub_revtree.proofs.LinkLemmas.{link_fresh, link_start}
 use Rattle.hub_revtree.proofs.StemLooks.{read_stem}
@@ -15,10 +16,9 @@ returns-then-not-joins-clause-index c =
     let linked : AreLinked (Has (take n xs)) (take n xs) (link_in c.args.self.now) =
     subst (λ k. AreLinked (Has (take k xs)) (take k xs) (link_in c.args.self.now))
     (sym same) c.requires.index.1 in (
-      c.in_ok-add_all.ensures.told,
-      rw c.add_all.ensures.links
-          (link_fresh xs c.requires.stems n c.index-stems-newest.result (link_in c.args.self.now) long there
-          (sym c.joins.ensures ∙ c.if-not-joins.true) (link_start xs n (link_in c.args.self.now) linked)),
+      c.in_ok-add_all.ensures,
+      link_fresh xs c.requires.stems n c.index-stems-newest.result (link_in c.args.self.now) long there
+          (sym c.joins.ensures ∙ c.if-not-joins.true) (link_start xs n (link_in c.args.self.now) linked),
     )
 
 pub link_all-requires-clause-linked : goal.link_all-requires-clause-linked
@@ -26,6 +26,9 @@ link_all-requires-clause-linked c =
     let xs = c.args.stems.now in
     let n = c.in_ok-number.number in
     let same : n ≡ length xs - 1 = omega (arith, c.in_ok-number.ensures) in
-    rw c.add_all.ensures.links
-    (subst (λ k. AreLinked (Has (take k xs)) (take k xs) (link_in c.args.self.now))
-    (sym same) c.requires.index.1)
+    subst (λ k. AreLinked (Has (take k xs)) (take k xs) (link_in c.args.self.now))
+    (sym same) c.requires.index.1
+
+pub returns-clause-index : goal.returns-clause-index
+returns-clause-index c =
+    on_ok_weaker c.link_all.result (λ linked. (c.in_ok-add_all.ensures, linked)) c.link_all.ensures

@@ -10,18 +10,10 @@ push-requires c =
     let room : length c.args.ready.path ≤ 65535 * c.self.inside.branches.spare =
     rw (sym c.self.view_is) at c.requires.room in
     record {
-      legal = c.self.invariant.legal;
       acceptable = ok;
       front = c.ready.invariant.0;
       room = omega (arith, room, some_history c.args.ready.path c.requires.acceptable.history);
     }
-
-pub best_with_newest-self-inside-requires-clause-legal :
-    goal.best_with_newest-self-inside-requires-clause-legal
-best_with_newest-self-inside-requires-clause-legal c =
-    rw c.push.ensures
-    (legal_more _ _ c.self.invariant.legal
-    (rw (sym c.self.view_is, sym c.ready.view_is) at c.requires.acceptable))
 
 pub best_with_newest-self-inside-requires-clause-winner :
     goal.best_with_newest-self-inside-requires-clause-winner

@@ -14,7 +14,7 @@ returns-then-self-len-clause-tree c = rw (sym c.self.view_is) (rev_tree _ c.self
 pub returns-then-self-len-clause-mark : goal.returns-then-self-len-clause-mark
 returns-then-self-len-clause-mark c =
     let past : length c.self.inside.branches.list ≤ c.self.inside.best =
-    omega (arith, c.len.ensures, c.if-self-len.true) in
+    omega (arith, c.len.ensures.length, c.if-self-len.true) in
     rw (sym c.self.view_is)
     (sym (no_winner (leaves_of (edits_in c.self.inside.branches.list) [])
     (sym c.self.invariant.first ∙ no_head c.self.inside.branches.list c.self.inside.best past)).1)

@@ -17,7 +17,7 @@ returns-then-knows-clause-err c =
     c.in-Ok.ensures.ok
     ∙ ap (made (draft c.args.id.now c.args.parent c.args.deleted c.args.body)) (sym first) in
     inr (known_conflicts c.args.self.now.edits
-    c.in_ok-older.ensures.tree c.args.id.now c.args.parent c.args.deleted c.args.body line
+    c.branches.ensures.tree c.args.id.now c.args.parent c.args.deleted c.args.body line
     (sym c.in_ok-older.ensures.line) (subst (λ z. generation_of z < 65535) (sym first) c.in-Ok.ensures.below)
     (is_taken c.args.self.now.edits c.rev.result _ c.knows.result c.knows.ensures
     (c.rev.ensures ∙ rev) c.if-knows.true))
@@ -30,7 +30,7 @@ ready_on-requires c =
     ∙ ap (made (draft c.args.id.now c.args.parent c.args.deleted c.args.body))
     (sym c.in_ok-older.ensures.first) in
     subst (λ z. IsHistory (z ∷ line)) (sym rev)
-    (next_history c.args.self.now.edits c.in_ok-older.ensures.tree c.args.id.now c.args.parent c.args.deleted
+    (next_history c.args.self.now.edits c.branches.ensures.tree c.args.id.now c.args.parent c.args.deleted
     c.args.body line (sym c.in_ok-older.ensures.line))
 
 pub returns-clause-ok : goal.returns-clause-ok
@@ -43,7 +43,7 @@ returns-clause-ok c =
     let new =
     is_new c.args.self.now.edits c.rev.result _ c.knows.result c.knows.ensures
     (c.rev.ensures ∙ rev) c.if-knows.false in
-    new_extends c.args.self.now.edits c.in_ok-older.ensures.tree c.args.id.now
+    new_extends c.args.self.now.edits c.branches.ensures.tree c.args.id.now
     c.args.parent c.args.deleted c.args.body line (sym c.in_ok-older.ensures.line)
     (subst (λ z. generation_of z < 65535) (sym first) c.in-Ok.ensures.below) new
     ∙ sym (ap Ok (c.in_ok-ready.ensures.ready ∙ ap (λ z. nameless (z ∷ line) c.args.deleted c.args.body) rev))
@@ -60,5 +60,5 @@ returns-clause-acceptable c =
     (c.rev.ensures ∙ rev) c.if-knows.false in
     subst (IsAcceptable c.args.self.now.edits)
     (sym (c.in_ok-ready.ensures.ready ∙ ap (λ z. nameless (z ∷ line) c.args.deleted c.args.body) rev))
-    (next_acceptable c.args.self.now.edits c.in_ok-older.ensures.tree c.args.id.now c.args.parent
+    (next_acceptable c.args.self.now.edits c.branches.ensures.tree c.args.id.now c.args.parent
     c.args.deleted c.args.body line (sym c.in_ok-older.ensures.line) new)

@@ -13,9 +13,6 @@ returns-then-is_named-clause-known c =
       λ _. refl,
     )
 
-pub made_ready-requires : goal.made_ready-requires
-made_ready-requires c = c.in-Some.ensures.within
-
 pub returns-in_default-clause-tree : goal.returns-in_default-clause-tree
 returns-in_default-clause-tree c = rw (sym c.self.view_is) (rev_tree _ c.self.invariant.legal)
 
@@ -30,9 +27,19 @@ returns-in_default-clause-contradicts c =
           c.args.deleted c.args.body refl,
     ))
 
+pub returns-in_err-run-clause-tree : goal.returns-in_err-run-clause-tree
+returns-in_err-run-clause-tree c =
+    rw (sym c.self.view_is) (rev_tree _ c.self.invariant.legal)
+
+pub returns-in_err-run-clause-memory : goal.returns-in_err-run-clause-memory
+returns-in_err-run-clause-memory c =
+    rw (sym c.self.view_is) (λ _. acceptable c.self.inside.branches.list c.args.path c.head-head.result
+    c.head-head.ensures.value c.is_named.result c.is_named.ensures true c.in-Some.ensures.agrees
+    c.args.deleted c.args.body c.self.invariant.legal c.head-head.ensures.good c.if-is_named.false refl)
+
 pub returns-in_err-ready-clause-tree : goal.returns-in_err-ready-clause-tree
 returns-in_err-ready-clause-tree c =
-    rw (c.made_ready.ensures.edits, sym c.self.view_is) (rev_tree _ c.self.invariant.legal)
+    rw (c.ready_with.ensures.edits, sym c.self.view_is) (rev_tree _ c.self.invariant.legal)
 
 pub returns-in_err-ready-clause-memory : goal.returns-in_err-ready-clause-memory
 returns-in_err-ready-clause-memory c =
@@ -42,7 +49,7 @@ returns-in_err-ready-clause-memory c =
 
 pub returns-clause-tree : goal.returns-clause-tree
 returns-clause-tree c =
-    rw (c.made_ready.ensures.edits, sym c.self.view_is) (rev_tree _ c.self.invariant.legal)
+    rw (c.ready_with.ensures.edits, sym c.self.view_is) (rev_tree _ c.self.invariant.legal)
 
 pub returns-clause-known : goal.returns-clause-known
 returns-clause-known c =
@@ -54,7 +61,7 @@ returns-clause-known c =
 
 pub returns-clause-acceptable : goal.returns-clause-acceptable
 returns-clause-acceptable c =
-    rw (c.in_ok-ready.ensures.ready, sym c.self.view_is)
+    rw (c.in_ok-ready.ensures.ready, c.whole.ensures, c.into_revisions.ensures, sym c.self.view_is)
     (acceptable c.self.inside.branches.list c.args.path c.head-head.result c.head-head.ensures.value
     c.is_named.result c.is_named.ensures true c.in-Some.ensures.agrees c.args.deleted c.args.body
     c.self.invariant.legal c.head-head.ensures.good c.if-is_named.false refl)

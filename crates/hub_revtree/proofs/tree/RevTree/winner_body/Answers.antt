@@ -8,7 +8,7 @@ use Rattle.hub_revtree.proofs.tree.RevTree.winner_body.Goals as goal
 pub returns-then-self-len : goal.returns-then-self-len
 returns-then-self-len c =
     let past : length c.self.inside.branches.list ≤ c.self.inside.best =
-    omega (arith, c.len.ensures, c.if-self-len.true) in
+    omega (arith, c.len.ensures.length, c.if-self-len.true) in
     rw (sym c.self.view_is)
     (sym (no_doc (leaves_of (edits_in c.self.inside.branches.list) [])
     (sym c.self.invariant.first ∙ no_head c.self.inside.branches.list c.self.inside.best past)))

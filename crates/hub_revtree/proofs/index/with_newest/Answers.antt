@@ -1,4 +1,0 @@
-use Rattle.hub_revtree.proofs.index.with_newest.Goals as goal
-
-pub returns-in-Ok-clause-index : goal.returns-in-Ok-clause-index
-returns-in-Ok-clause-index c = rw c.deref_mut-in-Ok.ensures.value c.in-Ok.ensures.index
