@@ -266,26 +266,36 @@ fn empty(alloc: Global, capacity: usize) -> Result<Index, AllocError>
     })
 }
 
-// An index of the stems where they are so many that it is time for one. It costs what `add` does for each.
-fn begun(
-    alloc: Global,
-    stems: &[Stem],
-    line: Option<Line>,
-) -> Result<Option<Box<Index>>, AllocError>
+// An index of the stems. It costs what `add` does for each.
+fn built(alloc: Global, stems: &[Stem]) -> Result<Box<Index>, AllocError>
     requires { AreStems stems.now }
-    ensures index { IfOk result (λ begun. IfSome begun (λ i. IsIndex i.value stems.now)) }
-    ensures line { IfOk result (λ begun. IfSome begun (λ i. i.value.line ≡ line)) }
-    ensures candidates { IfOk result (λ begun. IfSome begun (λ i. i.value.candidates ≡ None)) }
+    ensures index { IfOk result (λ i. IsIndex i.value stems.now) }
+    ensures candidates { IfOk result (λ i. i.value.candidates ≡ None) }
 {
-    if stems.len() < TURN || !stems.len().is_power_of_two() {
-        return Ok(None);
-    }
     let mut index = empty(alloc, stems.len())?;
     for count in 0..stems.len() {
         index.add(&stems[..count + 1])?;
     }
-    index.line = line;
-    Ok(Some(Box::new(alloc, index)?))
+    Ok(Box::new(alloc, index)?)
+}
+
+// An index of the stems where they are so many that it is time for one, and there is memory for it.
+fn begun(alloc: Global, stems: &[Stem], line: Option<Line>) -> Option<Box<Index>>
+    requires { AreStems stems.now }
+    ensures index { IfSome result (λ i. IsIndex i.value stems.now) }
+    ensures line { IfSome result (λ i. i.value.line ≡ line) }
+    ensures candidates { IfSome result (λ i. i.value.candidates ≡ None) }
+{
+    if stems.len() < TURN || !stems.len().is_power_of_two() {
+        return None;
+    }
+    match built(alloc, stems) {
+        Ok(mut index) => {
+            index.line = line;
+            Some(index)
+        }
+        Err(_) => None,
+    }
 }
 
 /// The index of the stems, of one of all but the newest, with the newest one's path where it is given. Where
@@ -305,10 +315,7 @@ pub(crate) fn renewed(
         (λ c. candidates_in (option_map (λ i. i.value) index) ≡ Some c) }
 {
     let Some(mut index) = index else {
-        return match begun(alloc, stems, line) {
-            Ok(begun) => begun,
-            Err(_) => None,
-        };
+        return begun(alloc, stems, line);
     };
     if stems.is_empty() || index.add(stems).is_err() {
         return None;

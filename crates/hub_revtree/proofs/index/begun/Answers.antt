@@ -1,14 +1,4 @@
-use Rattle.std.proofs.Common.{◌+◌, sym, subst, arith}
-use Rattle.hub_revtree.specs.Index.{IsIndex}
-use Rattle.hub_revtree.proofs.CountLemmas.{are_taken}
-use Rattle.hub_revtree.proofs.IndexLemmas.{one_shorter}
 use Rattle.hub_revtree.proofs.index.begun.Goals as goal
 
-pub add-requires-clause-stems : goal.add-requires-clause-stems
-add-requires-clause-stems c = are_taken (c.loop-count.count + 1) c.args.stems.now c.requires
-
-pub add-requires-clause-index : goal.add-requires-clause-index
-add-requires-clause-index c =
-    subst (IsIndex c.loop-count.index)
-    (sym (one_shorter c.args.stems.now c.loop-count.count (omega (arith, c.loop-count-test.true))))
-    c.loop-count.invariant.index
+pub returns-in-Ok-clause-index : goal.returns-in-Ok-clause-index
+returns-in-Ok-clause-index c = rw c.deref_mut.ensures.value c.in-Ok.ensures.index

@@ -1,6 +1,6 @@
 use Rattle.std.proofs.Common.{◌≡◌, None, take}
 use Rattle.hub_revtree.specs.Index.{IsIndex}
-use Rattle.hub_revtree.proofs.index.begun.Given as goal
+use Rattle.hub_revtree.proofs.index.built.Given as goal
 
 abbrev pub invariant-loop-count : goal.invariant-loop-count
 invariant-loop-count l = record {
