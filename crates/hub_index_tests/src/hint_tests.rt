@@ -2,6 +2,7 @@
 
 ghost use Rattle.std.specs.Prelude.{map, string_bytes};
 
+use crate::tests::same;
 use hub_index::{IdHints, Named};
 use std::alloc::{AllocError, Global};
 use std::test::Fail;
@@ -47,8 +48,8 @@ fn found(ids: &Ids, hints: &IdHints) -> usize {
 #[test]
 fn nothing_is_remembered_at_first(rt: HostRuntime) -> Result<(), Fail> {
     let (ids, hints) = ids_of(rt.alloc(), 0)?;
-    assert_eq!(rt; hints.find(&ids, "00000"), None);
-    assert_eq!(rt; hints.find(&ids, ""), None);
+    let found = [hints.find(&ids, "00000"), hints.find(&ids, "")];
+    same(&rt, &found, &[None, None]);
     Ok(())
 }
 
@@ -67,9 +68,9 @@ fn another_id_is_not_found(rt: HostRuntime) -> Result<(), Fail> {
     let (ids, hints) = ids_of(rt.alloc(), 1000)?;
     for number in 1000..9999u32 {
         let id = format!(in rt.alloc(); "{:05}", number)?;
-        assert_eq!(rt; hints.find(&ids, id.as_str()), None);
+        same(&rt, &hints.find(&ids, id.as_str()), &None);
     }
-    assert_eq!(rt; hints.find(&ids, ""), None);
+    same(&rt, &hints.find(&ids, ""), &None);
     Ok(())
 }
 
@@ -89,10 +90,10 @@ fn of_ids_that_collide_each_place_has_one(rt: HostRuntime) -> Result<(), Fail> {
         hints.remember(id, number);
         ids.list.push(String::from_str(rt.alloc(), id)?)?;
     }
-    assert_eq!(rt; found(&ids, &hints), 8);
-    assert_eq!(rt; hints.find(&ids, "00001"), None);
-    assert_eq!(rt; hints.find(&ids, "00011"), Some(1));
-    assert_eq!(rt; hints.find(&ids, "00043"), Some(11));
+    same(&rt, &found(&ids, &hints), &8);
+    for (id, number) in [("00001", None), ("00011", Some(1)), ("00043", Some(11))] {
+        same(&rt, &(id, hints.find(&ids, id)), &(id, number));
+    }
     Ok(())
 }
 
@@ -100,7 +101,7 @@ fn of_ids_that_collide_each_place_has_one(rt: HostRuntime) -> Result<(), Fail> {
 fn a_number_of_another_id_is_not_given(rt: HostRuntime) -> Result<(), Fail> {
     let (ids, mut hints) = ids_of(rt.alloc(), 4)?;
     hints.remember("00007", 3);
-    assert_eq!(rt; hints.find(&ids, "00007"), None);
-    assert_eq!(rt; hints.find(&ids, "00003"), Some(3));
+    let found = [hints.find(&ids, "00007"), hints.find(&ids, "00003")];
+    same(&rt, &found, &[None, Some(3)]);
     Ok(())
 }

@@ -3,6 +3,7 @@
 ghost use Rattle.std.specs.Prelude.{map, string_bytes, OnOk};
 ghost use Rattle.hub_index.specs.Order.{IsOrder};
 
+use crate::tests::same;
 use hub_index::{IdOrder, Named};
 use std::alloc::{AllocError, Global};
 use std::collections::BTreeMap;
@@ -80,8 +81,8 @@ fn nothing_is_found_among_none(rt: HostRuntime) -> Result<(), Fail> {
         list: Vec::new(rt.alloc()),
     };
     let order = IdOrder::new(rt.alloc());
-    assert_eq!(rt; order.find(&ids, "a"), None);
-    assert_eq!(rt; order.find(&ids, ""), None);
+    let found = [order.find(&ids, "a"), order.find(&ids, "")];
+    same(&rt, &found, &[None, None]);
     Ok(())
 }
 

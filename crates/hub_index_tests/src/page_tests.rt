@@ -3,7 +3,7 @@
 ghost use Rattle.std.specs.Prelude.{◌≡◌, ◌+◌, ◌^◌, ◌<◌, ◌≤◌, ◌∷◌, [], IfOk, OnOk};
 ghost use Rattle.std.specs.List.{All};
 
-use crate::tests::{four_moves, move_again, move_both, room_for, seq_in};
+use crate::tests::{four_moves, move_again, move_both, room_for, same, seq_in};
 use hub_index::{PageIndex, SeqIndex, TreeIndex};
 use std::alloc::{AllocError, Global};
 use std::test::Fail;
@@ -18,6 +18,15 @@ fn border_rows(alloc: Global) -> Result<PageIndex, AllocError>
     move_again(&mut index, 3, None, 512)?;
     move_again(&mut index, 4, None, 513)?;
     Ok(index)
+}
+
+// The first row behind a place, the last before it, and how many there are behind it.
+fn around(index: &PageIndex, place: u64) -> (Option<(u64, u32)>, Option<(u64, u32)>, u64) {
+    (
+        index.next_after(place, None),
+        index.last_before(place),
+        index.count_after(place),
+    )
 }
 
 #[test]
@@ -35,9 +44,11 @@ fn rows_are_read_across_borders(rt: HostRuntime) -> Result<(), Fail> {
         (514, None, Some((513, 4)), 0),
         (u64::MAX, None, Some((513, 4)), 0),
     ] {
-        assert_eq!(rt; index.next_after(place, None), next, "after {place}");
-        assert_eq!(rt; index.last_before(place), last, "before {place}");
-        assert_eq!(rt; index.count_after(place), count, "above {place}");
+        same(
+            &rt,
+            &(place, around(&index, place)),
+            &(place, (next, last, count)),
+        );
     }
     Ok(())
 }
@@ -56,59 +67,65 @@ fn bounds_end_rows_within_a_page(rt: HostRuntime) -> Result<(), Fail> {
         (512, 512, None),
         (513, u64::MAX, None),
     ] {
-        assert_eq!(rt;
-            index.next_after(place, Some(bound)),
-            wanted,
-            "after {place}, up to {bound}"
+        same(
+            &rt,
+            &(place, bound, index.next_after(place, Some(bound))),
+            &(place, bound, wanted),
         );
     }
     Ok(())
 }
 
+// Removes the row at a sequence: how many pages and rows are left.
+fn left_without(index: &mut PageIndex, seq: u64) -> (u64, u64)
+    requires { 0 < seq }
+{
+    index.remove(seq);
+    (index.pages(), index.count_after(0))
+}
+
 #[test]
 fn rows_are_removed_with_their_pages(rt: HostRuntime) -> Result<(), Fail> {
     let mut index = border_rows(rt.alloc())?;
-    index.remove(300);
-    assert_eq!(rt; (index.pages(), index.count_after(0)), (3, 4));
-    index.remove(256);
-    assert_eq!(rt; (index.pages(), index.count_after(0)), (2, 3));
-    index.remove(257);
-    assert_eq!(rt; (index.pages(), index.count_after(0)), (2, 2));
-    index.remove(512);
-    assert_eq!(rt; (index.pages(), index.count_after(0)), (1, 1));
-    assert_eq!(rt; index.next_after(0, None), Some((513, 4)));
+    same(&rt, &left_without(&mut index, 300), &(3, 4));
+    same(&rt, &left_without(&mut index, 256), &(2, 3));
+    same(&rt, &left_without(&mut index, 257), &(2, 2));
+    same(&rt, &left_without(&mut index, 512), &(1, 1));
+    same(&rt, &index.next_after(0, None), &Some((513, 4)));
     Ok(())
+}
+
+// How many pages there are, and the first row.
+fn front(index: &PageIndex) -> (u64, Option<(u64, u32)>) {
+    (index.pages(), index.next_after(0, None))
 }
 
 #[test]
 fn a_page_goes_with_its_last_row(rt: HostRuntime) -> Result<(), Fail> {
     let mut index = border_rows(rt.alloc())?;
-    assert_eq!(rt; index.pages(), 3);
+    same(&rt, &index.pages(), &3);
     move_again(&mut index, 1, Some(256), 514)?;
-    assert_eq!(rt; index.pages(), 2);
-    assert_eq!(rt; index.next_after(0, None), Some((257, 2)));
+    same(&rt, &front(&index), &(2, Some((257, 2))));
     move_again(&mut index, 2, Some(257), 515)?;
     move_again(&mut index, 3, Some(512), 516)?;
-    assert_eq!(rt; index.pages(), 1);
-    assert_eq!(rt; index.next_after(0, None), Some((513, 4)));
+    same(&rt, &front(&index), &(1, Some((513, 4))));
     Ok(())
 }
 
 #[test]
 fn an_index_may_have_one_row(rt: HostRuntime) -> Result<(), Fail> {
     let mut index = PageIndex::new(rt.alloc());
-    assert_eq!(rt; index.pages(), 0);
+    same(&rt, &index.pages(), &0);
     move_again(&mut index, 7, None, 256)?;
     move_again(&mut index, 7, Some(256), 257)?;
-    assert_eq!(rt; index.last_before(257), None);
+    same(&rt, &index.last_before(257), &None);
     move_again(&mut index, 7, Some(257), 258)?;
-    assert_eq!(rt; index.pages(), 1);
+    same(&rt, &index.pages(), &1);
     move_again(&mut index, 7, Some(258), u64::MAX)?;
-    assert_eq!(rt; index.pages(), 1);
-    assert_eq!(rt; index.next_after(u64::MAX - 1, None), Some((u64::MAX, 7)));
-    assert_eq!(rt; index.next_after(u64::MAX, None), None);
-    assert_eq!(rt; index.last_before(u64::MAX), None);
-    assert_eq!(rt; index.count_after(u64::MAX - 1), 1);
+    same(&rt, &index.pages(), &1);
+    let last = u64::MAX;
+    same(&rt, &around(&index, last - 1), &(Some((last, 7)), None, 1));
+    same(&rt, &around(&index, last), &(None, None, 0));
     Ok(())
 }
 
@@ -137,12 +154,11 @@ fn pages_without_a_row_are_given_back(rt: HostRuntime) -> Result<(), Fail> {
     let mut index = PageIndex::new(alloc);
     let mut plain = room_for(alloc, 600)?;
     move_in_order(&mut index, &mut plain, 0, 600)?;
-    assert_eq!(rt; index.pages(), 3);
+    same(&rt, &index.pages(), &3);
     move_in_order(&mut index, &mut plain, 600, 256)?;
-    assert_eq!(rt; index.pages(), 3);
-    assert_eq!(rt; index.count_after(300), 556);
-    assert_eq!(rt; index.next_after(0, None), Some((257, 257)));
-    assert_eq!(rt; index.next_after(0, Some(256)), None);
+    same(&rt, &front(&index), &(3, Some((257, 257))));
+    let found = (index.count_after(300), index.next_after(0, Some(256)));
+    same(&rt, &found, &(556, None));
     Ok(())
 }
 
@@ -215,6 +231,6 @@ fn random_moves_agree_with_a_tree(rt: HostRuntime) -> Result<(), Fail> {
             );
         }
     }
-    assert_eq!(rt; pages.count_after(0), 97);
+    same(&rt, &pages.count_after(0), &97);
     Ok(())
 }

@@ -9,7 +9,14 @@ ghost use Rattle.hub_index.specs.Rows.{seq_of, moved};
 
 use hub_index::{SeqIndex, TreeIndex};
 use std::alloc::{AllocError, Global};
+use std::fmt::Debug;
+use std::process::Abort;
 use std::test::Fail;
+
+/// The value that was found is the one that is wanted. The comparison is proved here, and not in each test.
+pub(crate) fn same<T: PartialEq + Debug>(rt: &impl Abort, found: &T, wanted: &T) {
+    assert_eq!(rt; *found, *wanted);
+}
 
 // The first row of any index, and the last.
 fn first_row<I: SeqIndex>(index: &I) -> Option<(u64, u32)> {
@@ -69,7 +76,7 @@ pub(crate) fn four_moves<I: SeqIndex>(index: &mut I) -> Result<(), AllocError>
 fn rows_come_in_order(rt: HostRuntime) -> Result<(), Fail> {
     let mut index = TreeIndex::new(rt.alloc());
     four_moves(&mut index)?;
-    assert_eq!(rt; first_row(&index), Some((2, 8)));
+    same(&rt, &first_row(&index), &Some((2, 8)));
     for (place, wanted) in [
         (0u64, Some((2u64, 8u32))),
         (1, Some((2, 8))),
@@ -78,7 +85,11 @@ fn rows_come_in_order(rt: HostRuntime) -> Result<(), Fail> {
         (4, None),
         (u64::MAX, None),
     ] {
-        assert_eq!(rt; index.next_after(place, None), wanted, "after {place}");
+        same(
+            &rt,
+            &(place, index.next_after(place, None)),
+            &(place, wanted),
+        );
     }
     Ok(())
 }
@@ -100,10 +111,10 @@ fn bounds_end_the_rows(rt: HostRuntime) -> Result<(), Fail> {
         (0, 1, None),
         (0, 2, Some((2, 8))),
     ] {
-        assert_eq!(rt;
-            index.next_after(place, Some(bound)),
-            wanted,
-            "after {place}, up to {bound}"
+        same(
+            &rt,
+            &(place, bound, index.next_after(place, Some(bound))),
+            &(place, bound, wanted),
         );
     }
     Ok(())
@@ -113,7 +124,7 @@ fn bounds_end_the_rows(rt: HostRuntime) -> Result<(), Fail> {
 fn rows_come_from_the_end(rt: HostRuntime) -> Result<(), Fail> {
     let mut index = TreeIndex::new(rt.alloc());
     four_moves(&mut index)?;
-    assert_eq!(rt; last_row(&index), Some((4, 7)));
+    same(&rt, &last_row(&index), &Some((4, 7)));
     for (place, wanted) in [
         (0u64, None),
         (1, None),
@@ -123,7 +134,7 @@ fn rows_come_from_the_end(rt: HostRuntime) -> Result<(), Fail> {
         (5, Some((4, 7))),
         (u64::MAX, Some((4, 7))),
     ] {
-        assert_eq!(rt; index.last_before(place), wanted, "before {place}");
+        same(&rt, &(place, index.last_before(place)), &(place, wanted));
     }
     Ok(())
 }
@@ -133,7 +144,7 @@ fn rows_above_are_counted(rt: HostRuntime) -> Result<(), Fail> {
     let mut index = TreeIndex::new(rt.alloc());
     four_moves(&mut index)?;
     for (place, wanted) in [(0u64, 3u64), (1, 3), (2, 2), (3, 1), (4, 0), (u64::MAX, 0)] {
-        assert_eq!(rt; index.count_after(place), wanted, "after {place}");
+        same(&rt, &(place, index.count_after(place)), &(place, wanted));
     }
     Ok(())
 }
@@ -141,10 +152,10 @@ fn rows_above_are_counted(rt: HostRuntime) -> Result<(), Fail> {
 #[test]
 fn an_empty_index_has_no_row(rt: HostRuntime) -> Result<(), Fail> {
     let index = TreeIndex::new(rt.alloc());
-    assert_eq!(rt; first_row(&index), None);
-    assert_eq!(rt; index.next_after(0, Some(9)), None);
-    assert_eq!(rt; index.last_before(9), None);
-    assert_eq!(rt; index.count_after(0), 0);
+    let rows = (first_row(&index), index.next_after(0, Some(9)));
+    same(&rt, &rows, &(None, None));
+    let others = (index.last_before(9), index.count_after(0));
+    same(&rt, &others, &(None, 0));
     Ok(())
 }
 
@@ -214,6 +225,6 @@ fn random_moves_agree_with_a_list(rt: HostRuntime) -> Result<(), Fail> {
             );
         }
     }
-    assert_eq!(rt; index.count_after(0), 97);
+    same(&rt, &index.count_after(0), &97);
     Ok(())
 }
