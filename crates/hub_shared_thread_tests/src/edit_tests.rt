@@ -1,6 +1,5 @@
 //! Edits without receipts: what a handle answers to them.
 
-use crate::tests::same;
 use hub_database::DbFault;
 use hub_document::{Doc, Limits};
 use hub_model::{Fault, Outcome};
@@ -33,14 +32,14 @@ fn an_edit_is_refused_as_the_database_says(rt: HostRuntime) -> Result<(), Fail> 
     limits.journal = 1;
     let (_db, mut handle) = Db::new(alloc, limits, 1, Plain)?;
     let rev = handle.write_one(&rt, doc(alloc, A)?)?;
-    same(&rt, &rev.generation(), &1);
+    assert_eq!(rt; rev.generation(), 1);
     for (text, fault) in [(A, Fault::Conflict), (B, Fault::SequenceFull)] {
         let refused = handle.write_one(&rt, doc(alloc, text)?).err();
-        same(&rt, &refused, &Some(DbFault::Refused(fault)));
+        assert_eq!(rt; refused, Some(DbFault::Refused(fault)));
     }
     handle.delete(&rt)?;
     let refused = handle.write_one(&rt, doc(alloc, A)?).err();
-    same(&rt, &refused, &Some(DbFault::Refused(Fault::Deleted)));
+    assert_eq!(rt; refused, Some(DbFault::Refused(Fault::Deleted)));
     Ok(())
 }
 

@@ -1,8 +1,7 @@
 //! Sessions as tables: what a follower does between two databases, and what is found behind each step.
 
 use crate::tests::{
-    LIFE, again, checkpoint, copy_all, edits, leaves, recorded, round, round_into, same, start,
-    write,
+    LIFE, again, checkpoint, copy_all, edits, leaves, recorded, round, round_into, start, write,
 };
 use hub_document::{Asked, RevId};
 use hub_follower::{DbPeer, FollowFault, Follower, Peer, Round, Seq};
@@ -193,7 +192,7 @@ pub(crate) fn assert_session<R: Abort + Wait>(
     steps: &[Step],
 ) -> Result<(), Fail> {
     let count = session_count(rt, alloc, peers, session_id, steps)?;
-    same(rt, &count, &steps.len());
+    assert_eq!(rt; count, steps.len());
     assert!(rt; count > 0);
     Ok(())
 }

@@ -140,9 +140,10 @@ fn assert_unchanged<R: Abort + Clock + Net<Listener = TcpListener, Stream = TcpS
 ) -> Result<(), Fail> {
     let info = writer.answered("GET /d", "")?;
     assert!(rt; info.body.as_str().contains("\"doc_count\":1,"));
-    writer.assert_shows(rt, "GET /_all_dbs", "[\"d\"]\n")?;
+    let names = writer.answered("GET /_all_dbs", "")?;
+    assert_eq!(rt; names.body.as_str(), "[\"d\"]\n");
     let feeds = crowd(rt, alloc, address, Going::InFeed)?;
-    writer.assert_gets(rt, "GET /d/_changes", "", "503")?;
+    assert!(rt; writer.gets("GET /d/_changes", "", "503")?);
     drop(feeds);
     Ok(())
 }
@@ -151,8 +152,8 @@ fn assert_unchanged<R: Abort + Clock + Net<Listener = TcpListener, Stream = TcpS
 fn write_document(rt: &impl Abort, alloc: Global, writer: &mut Client) -> Result<(), Fail> {
     let text = four_thousand(alloc)?;
     let document = format!(in alloc; r#"{{"text":"{text}{text}{text}"}}"#)?;
-    writer.assert_gets(rt, "PUT /d", "", "201")?;
-    writer.assert_gets(rt, "PUT /d/a", document.as_str(), "201")?;
+    assert!(rt; writer.gets("PUT /d", "", "201")?);
+    assert!(rt; writer.gets("PUT /d/a", document.as_str(), "201")?);
     Ok(())
 }
 
