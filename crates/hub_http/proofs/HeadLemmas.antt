@@ -16,7 +16,7 @@ use Rattle.hub_http.specs.declared.fault.HttpFault.TheVariants.{Version, Coding,
 use Rattle.hub_http.specs.Heads.{Pair, is_digits, body_limit, length_of, asked, is_target, values_named}
 use Rattle.hub_http.specs.Heads.{Begins, BeginsFaulty, BeginsTooLong, NeverHasHead, length_by}
 use Rattle.hub_http.specs.Exclusions.{IsHeadFault}
-use Rattle.hub_http.specs.Looking.{LookFaults}
+use Rattle.hub_http.specs.Looking.{LookFaults, LooksWithin}
 
 -- a head has bytes
 pub head_has_bytes : (buf : List ℕ) (head : RequestHead) (rest : List ℕ) → ReadsRequest buf head rest
@@ -42,14 +42,14 @@ too_long buf headers spans x far = (
 
 -- the head that was found has few enough fields
 few_fields : (buf : List ℕ) (headers : List HeaderSpan) (spans : RequestSpans) (head : RequestHead)
-    → length headers ≡ 64
+    → length headers ≤ 64
     → map (header_bytes buf) (take spans.headers headers) ≡ map name_and_value head.fields
     → length head.fields ≤ 64
 few_fields buf headers spans head room e = grind (arith, common_steps, ap length e)
 
 pub begins : (buf : List ℕ) (headers : List HeaderSpan) (spans : RequestSpans)
     (x : IsRequestOf buf headers spans)
-    → length headers ≡ 64 → spans.len ≤ 16384 → Begins buf x.0 (drop spans.len buf)
+    → length headers ≤ 64 → spans.len ≤ 16384 → Begins buf x.0 (drop spans.len buf)
 begins buf headers spans x room short = record {
   reads = x.1.reads;
   len = omega (arith, x.1.len, short);
@@ -66,7 +66,7 @@ asked_is buf headers spans x =
     ∙ ap (λ ps. asked x.0.minor x.0.target ps) x.1.fields
 
 pub begins_faulty : (buf : List ℕ) (headers : List HeaderSpan) (spans : RequestSpans) (fault : HttpFault)
-    → IsRequestOf buf headers spans → length headers ≡ 64 → spans.len ≤ 16384
+    → IsRequestOf buf headers spans → length headers ≤ 64 → spans.len ≤ 16384
     → asked spans.version (span_bytes buf spans.path)
     (map (header_bytes buf) (take spans.headers headers)) ≡ Err fault → BeginsFaulty buf fault
 begins_faulty buf headers spans fault x room short h =
@@ -124,3 +124,15 @@ look_faults buf IoFault a b =
       | inl x ↦ elim x [ inl y ↦ cc | inr y ↦ cc ]
       | inr x ↦ elim x [ inl y ↦ cc | inr y ↦ cc ]
     ])
+
+-- a fault is one whatever the room is
+pub faults_within : (room : ℕ) (buf : List ℕ) (fault : HttpFault) → LookFaults buf fault
+    → LooksWithin room buf (Err fault)
+faults_within room buf NoMemory f = f
+faults_within room buf BadHead f = f
+faults_within room buf HeadTooLong f = λ _. f
+faults_within room buf BodyTooLong f = f
+faults_within room buf Version f = f
+faults_within room buf Coding f = f
+faults_within room buf Ended f = f
+faults_within room buf IoFault f = f

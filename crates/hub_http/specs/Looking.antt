@@ -6,10 +6,11 @@ use Rattle.std.specs.Str.Parse.{digits_value}
 use Rattle.std.specs.Io.KnownBytes.{IsAtEnd}
 use Rattle.httparse.specs.Grammar.{RequestHead, print_request}
 use Rattle.hub_http.specs.declared.fault.HttpFault.{HttpFault}
-use Rattle.hub_http.specs.declared.fault.HttpFault.TheVariants.{NoMemory, BadHead}
+use Rattle.hub_http.specs.declared.fault.HttpFault.TheVariants.{NoMemory, BadHead, HeadTooLong}
 use Rattle.hub_http.specs.declared.fault.HttpFault.TheVariants.{BodyTooLong, Ended, IoFault}
 use Rattle.hub_http.specs.declared.head.Head.{Head}
-use Rattle.hub_http.specs.Heads.{body_limit, is_digits, length_by, close_by, Begins, GoesOn, HasHeadFault}
+use Rattle.hub_http.specs.Heads.{body_limit, field_limit, is_digits, length_by, close_by, Begins, GoesOn}
+use Rattle.hub_http.specs.Heads.{HasHeadFault}
 use Rattle.hub_http.specs.Heads.{IsPartOfHead}
 
 -- the values seen so far, the first of them if there is one, of all of which these are left
@@ -44,6 +45,13 @@ abbrev pub Looks : List ℕ → Result (Option Head) HttpFault → Type 0
 Looks buf (Ok None) = GoesOn buf
 Looks buf (Ok (Some f)) = (head : RequestHead) × IsHeadAt buf f head
 Looks buf (Err e) = LookFaults buf e
+
+-- what looking for a head with room for so many fields answers: the same, but that with less room than the
+-- limit a head may also be found to be too long for the room alone. With room for 16 a head of 20 fields is
+-- HeadTooLong, and one of 3 fields is found.
+abbrev pub LooksWithin : ℕ → List ℕ → Result (Option Head) HttpFault → Type 0
+LooksWithin room buf (Err HeadTooLong) = room ≡ field_limit → LookFaults buf HeadTooLong
+LooksWithin room buf looked = Looks buf looked
 
 -- what a fault of looking for a head says of the bytes that are held and those that are left: that of the
 -- table, or out of memory, an end in the middle or the reader's failure
