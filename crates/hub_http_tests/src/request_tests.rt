@@ -282,6 +282,8 @@ fn a_body_that_is_too_long_is_not_waited_for(rt: HostRuntime) {
 /// How many fields a head has and how long the value of each is, how many requests it makes, and why
 /// no more come. The head with no field has 18 bytes, and a field of a value of n bytes has 5 + n.
 const LIMITS: &[(usize, usize, usize, Option<HttpFault>)] = &[
+    (16, 1, 1, None),
+    (17, 1, 1, None),
     (64, 1, 1, None),
     (65, 1, 0, Some(HttpFault::HeadTooLong)),
     (1, 16_384 - 18 - 5, 1, None),
