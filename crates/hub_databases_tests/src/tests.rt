@@ -18,6 +18,8 @@ use hub_model::Outcome;
 use hub_params::FeedParams;
 use hub_shared::{Answer, Gate, Point, Question};
 use std::alloc::{AllocError, Global};
+use std::fmt::Debug;
+use std::process::Abort;
 use std::sync::Wait;
 use std::test::Fail;
 
@@ -40,6 +42,11 @@ macro_rules! again {
 }
 
 pub(crate) use again;
+
+/// The value that was found is the one that is wanted. The comparison is proved here, and not in each test.
+pub(crate) fn same<T: PartialEq + Debug>(rt: &impl Abort, found: &T, wanted: &T) {
+    assert_eq!(rt; *found, *wanted);
+}
 
 // A hub within these limits that has no databases yet.
 fn hub_within(alloc: Global, limits: Limits) -> Result<Hub, AllocError> {

@@ -24,6 +24,8 @@ use hub_document::{Doc, Limits, OpenRevs};
 use hub_follower::{CallFault, DbPeer, FailedStart, FollowFault, Follower, Peer, Round, Seq};
 use hub_shared::{Db, Plain};
 use std::alloc::{AllocError, Global};
+use std::fmt::Debug;
+use std::process::Abort;
 use std::sync::Wait;
 use std::test::Fail;
 
@@ -52,6 +54,11 @@ macro_rules! again {
 }
 
 pub(crate) use again;
+
+/// The value that was found is the one that is wanted. The comparison is proved here, and not in each test.
+pub(crate) fn same<T: PartialEq + Debug>(rt: &impl Abort, found: &T, wanted: &T) {
+    assert_eq!(rt; *found, *wanted);
+}
 
 // A database without documents, within these limits and of the life of this number.
 fn database_within(alloc: Global, limits: Limits, life: u64) -> Result<Db<Plain>, AllocError> {

@@ -19,11 +19,23 @@ use hub_document::Limits;
 use hub_server::{Uptime, run_server};
 use hub_shared::{Gate, Point};
 use std::alloc::Global;
+use std::fmt::Debug;
 use std::net::{Net, SocketAddr, TcpListener, TcpStream};
+use std::process::Abort;
 use std::sync::Wait;
 use std::test::Fail;
 use std::thread::{self, JoinHandle, Threads};
 use std::time;
+
+/// The value that was found is the one that is wanted. The comparison is proved here, and not in each test.
+pub(crate) fn same<T: PartialEq + Debug>(rt: &impl Abort, found: &T, wanted: &T) {
+    assert_eq!(rt; *found, *wanted);
+}
+
+/// The text that was found is the one that is wanted. The comparison is proved here, and not in each test.
+pub(crate) fn same_text(rt: &impl Abort, found: &str, wanted: &str) {
+    assert_eq!(rt; found, wanted);
+}
 
 /// A gate that holds nobody.
 #[derive(Drop)]

@@ -1,5 +1,6 @@
 //! Edits without receipts: what a handle answers to them.
 
+use crate::tests::same;
 use hub_database::DbFault;
 use hub_document::{Doc, Limits};
 use hub_model::{Fault, Outcome};
@@ -32,14 +33,14 @@ fn an_edit_is_refused_as_the_database_says(rt: HostRuntime) -> Result<(), Fail> 
     limits.journal = 1;
     let (_db, mut handle) = Db::new(alloc, limits, 1, Plain)?;
     let rev = handle.write_one(&rt, doc(alloc, A)?)?;
-    assert_eq!(rt; rev.generation(), 1);
+    same(&rt, &rev.generation(), &1);
     for (text, fault) in [(A, Fault::Conflict), (B, Fault::SequenceFull)] {
         let refused = handle.write_one(&rt, doc(alloc, text)?).err();
-        assert_eq!(rt; refused, Some(DbFault::Refused(fault)));
+        same(&rt, &refused, &Some(DbFault::Refused(fault)));
     }
     handle.delete(&rt)?;
     let refused = handle.write_one(&rt, doc(alloc, A)?).err();
-    assert_eq!(rt; refused, Some(DbFault::Refused(Fault::Deleted)));
+    same(&rt, &refused, &Some(DbFault::Refused(Fault::Deleted)));
     Ok(())
 }
 

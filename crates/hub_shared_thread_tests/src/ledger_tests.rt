@@ -3,7 +3,7 @@
 
 ghost use Rattle.std.specs.Prelude.{◌≡◌, true, IfOk, vec_len};
 
-use crate::tests::{Counting, Stepping};
+use crate::tests::{Counting, Stepping, same};
 use hub_database::{DbFault, Lookup};
 use hub_document::{ChangeRow, Doc, Limits};
 use hub_model::Item;
@@ -312,7 +312,11 @@ fn a_feed_shows_what_two_threads_write(rt: HostRuntime) -> Result<(), Fail> {
         are_found: true,
         are_read: true,
     };
-    assert_eq!(rt; report_of_four(&rt, alloc, params, docs)?, (wanted, true));
+    same(
+        &rt,
+        &report_of_four(&rt, alloc, params, docs)?,
+        &(wanted, true),
+    );
     Ok(())
 }
 
@@ -337,6 +341,6 @@ fn two_joined_handles_know_the_length(rt: HostRuntime) -> Result<(), Fail> {
         are_found: true,
         are_read: true,
     };
-    assert_eq!(rt; report_of_two(&rt, alloc, first, second)?, wanted);
+    same(&rt, &report_of_two(&rt, alloc, first, second)?, &wanted);
     Ok(())
 }

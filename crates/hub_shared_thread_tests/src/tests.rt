@@ -25,10 +25,17 @@ use hub_model::Item;
 use hub_params::FeedParams;
 use hub_shared::{Accepted, Clock, Db, Feed, Gate, Handle, Plain, Point, pump};
 use std::alloc::Global;
+use std::fmt::Debug;
+use std::process::Abort;
 use std::sync::Wait;
 use std::sync::atomic::{AtomicU64, Ordering};
 use std::test::Fail;
 use std::{thread, time};
+
+/// The value that was found is the one that is wanted. The comparison is proved here, and not in each test.
+pub(crate) fn same<T: PartialEq + Debug>(rt: &impl Abort, found: &T, wanted: &T) {
+    assert_eq!(rt; *found, *wanted);
+}
 
 // A gate that counts how often the lock was held, and holds nobody.
 #[derive(Drop)]

@@ -2,13 +2,15 @@
 
 use crate::tests::names::Call::{Create, Find, List, Remove};
 use crate::tests::{
-    FIRST, again, create, created, edits, found, hub, hub_within, remove, shown, stored, write,
+    FIRST, again, create, created, edits, found, hub, hub_within, remove, same, shown, stored,
+    write,
 };
 use hub_databases::{Hub, HubDb, HubFault, is_name};
 use hub_document::Limits;
 use hub_model::{Fault, Outcome};
 use hub_updates::NoteFault;
 use std::alloc::{AllocError, Global};
+use std::process::Abort;
 use std::sync::Wait;
 use std::test::Fail;
 
@@ -64,6 +66,12 @@ fn count<R: Wait>(rt: &R, hub: &Hub, calls: &[Call]) -> usize {
     calls.len()
 }
 
+// Asserts that these calls have their answers. Where one has another, the count that the assertion shows is
+// its place.
+fn assert_calls<R: Abort + Wait>(rt: &R, hub: &Hub, calls: &[Call]) {
+    same(rt, &count(rt, hub, calls), &calls.len());
+}
+
 const TWO: &[Call] = &[
     List(&[]),
     Create("", Err(HubFault::BadName)),
@@ -92,7 +100,7 @@ fn names_are_refused_in_order(rt: HostRuntime) -> Result<(), Fail> {
     let mut limits = Limits::full();
     limits.databases = 2;
     let hub = hub_within(rt.alloc(), limits)?;
-    assert_eq!(rt; count(&rt, &hub, TWO), TWO.len());
+    assert_calls(&rt, &hub, TWO);
     Ok(())
 }
 
@@ -112,12 +120,12 @@ fn a_full_log_refuses_what_it_would_note(rt: HostRuntime) -> Result<(), Fail> {
     let mut limits = Limits::full();
     limits.journal = 1;
     let hub = hub_within(rt.alloc(), limits)?;
-    assert_eq!(rt; count(&rt, &hub, ONE), ONE.len());
+    assert_calls(&rt, &hub, ONE);
     let db = found(&rt, &hub, "a")?;
     let written = write(&rt, rt.alloc(), &hub, &db, FIRST)?;
-    assert_eq!(rt; written.lapsed, Some(NoteFault::SequenceFull));
-    assert_eq!(rt; stored(&written), 1);
-    assert_eq!(rt; edits(&rt, &db), Some(1));
+    let told = (written.lapsed, stored(&written));
+    same(&rt, &told, &(Some(NoteFault::SequenceFull), 1));
+    same(&rt, &edits(&rt, &db), &Some(1));
     Ok(())
 }
 
@@ -139,7 +147,7 @@ fn too_many_names_are_told_before_a_full_log(rt: HostRuntime) -> Result<(), Fail
     limits.databases = 1;
     limits.journal = 1;
     let hub = hub_within(rt.alloc(), limits)?;
-    assert_eq!(rt; count(&rt, &hub, FULL), FULL.len());
+    assert_calls(&rt, &hub, FULL);
     Ok(())
 }
 
@@ -163,12 +171,12 @@ fn lives_are_numbered_as_databases_are_made(rt: HostRuntime) -> Result<(), Fail>
     limits.databases = 1;
     let hub = hub_within(rt.alloc(), limits)?;
     let first = created(&rt, &hub, "d")?;
-    assert_eq!(rt; count(&rt, &hub, REFUSED), REFUSED.len());
-    assert_eq!(rt; life(&rt, &first), Some(1));
+    assert_calls(&rt, &hub, REFUSED);
+    same(&rt, &life(&rt, &first), &Some(1));
     for made in 2..5 {
-        assert_eq!(rt; count(&rt, &hub, AGAIN), AGAIN.len());
-        assert_eq!(rt; count(&rt, &hub, REFUSED), REFUSED.len());
-        assert_eq!(rt; life(&rt, &found(&rt, &hub, "d")?), Some(made));
+        assert_calls(&rt, &hub, AGAIN);
+        assert_calls(&rt, &hub, REFUSED);
+        same(&rt, &life(&rt, &found(&rt, &hub, "d")?), &Some(made));
     }
     Ok(())
 }
@@ -186,7 +194,7 @@ const UNORDERED: &[Call] = &[
 #[test]
 fn names_are_listed_in_byte_order(rt: HostRuntime) -> Result<(), Fail> {
     let hub = hub(rt.alloc())?;
-    assert_eq!(rt; count(&rt, &hub, UNORDERED), UNORDERED.len());
+    assert_calls(&rt, &hub, UNORDERED);
     Ok(())
 }
 
@@ -195,17 +203,14 @@ fn names_are_listed_in_byte_order(rt: HostRuntime) -> Result<(), Fail> {
 fn a_removed_database_refuses_writes(rt: HostRuntime) -> Result<(), Fail> {
     let hub = hub(rt.alloc())?;
     let old = created(&rt, &hub, "a")?;
-    assert_eq!(rt; remove(&rt, &hub, "a")?, Ok(()));
+    same(&rt, &remove(&rt, &hub, "a")?, &Ok(()));
     let new = created(&rt, &hub, "a")?;
     let written = write(&rt, rt.alloc(), &hub, &old, FIRST)?;
     let replies = written.batch.replies.as_slice();
-    assert_eq!(rt; replies.len(), 1);
-    assert_eq!(rt;
-        replies.first().copied(),
-        Some(Outcome::Refused(Fault::Deleted))
-    );
+    let told = (replies.len(), replies.first().copied());
+    same(&rt, &told, &(1, Some(Outcome::Refused(Fault::Deleted))));
     assert!(rt; written.lapsed.is_none());
-    assert_eq!(rt; edits(&rt, &new), Some(0));
+    same(&rt, &edits(&rt, &new), &Some(0));
     Ok(())
 }
 
@@ -237,12 +242,12 @@ fn long_text(alloc: Global, count: u64) -> Result<String, AllocError> {
 #[test]
 fn texts_that_are_names(rt: HostRuntime) -> Result<(), Fail> {
     for (text, is_one) in TEXTS {
-        assert_eq!(rt; is_name(text), is_one, "{text}");
+        same(&rt, &(text, is_name(text)), &(text, is_one));
     }
     let alloc = rt.alloc();
     for (count, is_one) in [(238, true), (239, false)] {
         let text = again!(long_text(alloc, count))?;
-        assert_eq!(rt; is_name(text.as_str()), is_one, "{count} letters");
+        same(&rt, &(count, is_name(text.as_str())), &(count, is_one));
     }
     Ok(())
 }

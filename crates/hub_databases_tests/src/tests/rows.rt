@@ -2,7 +2,7 @@
 //! again.
 
 use crate::tests::rows::Told::{End, Row};
-use crate::tests::{FIRST, Open, again, created, found, hub, params, remove, stored, write};
+use crate::tests::{FIRST, Open, again, created, found, hub, params, remove, same, stored, write};
 use hub_databases::{Hub, HubDb};
 use hub_document::UpdateRow;
 use hub_model::Item;
@@ -106,7 +106,7 @@ fn noted<R: Wait>(rt: &R, alloc: Global) -> Result<Hub, Fail> {
 fn the_log_has_a_row_for_each_kind(rt: HostRuntime) -> Result<(), Fail> {
     let alloc = rt.alloc();
     let hub = noted(&rt, alloc)?;
-    assert_eq!(rt; remove(&rt, &hub, "d")?, Ok(()));
+    same(&rt, &remove(&rt, &hub, "d")?, &Ok(()));
     let first = [
         Row(Created, "d", 1),
         Row(Updated, "d", 2),
@@ -168,7 +168,7 @@ fn a_feed_of_the_log_shows_every_database(rt: HostRuntime) -> Result<(), Fail> {
 fn the_log_is_of_life_0(rt: HostRuntime) -> Result<(), Fail> {
     let alloc = rt.alloc();
     let hub = noted(&rt, alloc)?;
-    assert_eq!(rt; open(&rt, alloc, &hub, "")?.label().life(), 0);
+    same(&rt, &open(&rt, alloc, &hub, "")?.label().life(), &0);
     let behind = [Row(Updated, "d", 2), End(2, 0)];
     assert!(rt; shows(&rt, alloc, &hub, "since=1-0", &behind)?);
     let all = [Row(Created, "d", 1), Row(Updated, "d", 2), End(2, 0)];
@@ -224,13 +224,13 @@ fn a_database_that_is_made_again_begins_anew(rt: HostRuntime) -> Result<(), Fail
     let alloc = rt.alloc();
     let hub = noted(&rt, alloc)?;
     let first = found(&rt, &hub, "d")?;
-    assert_eq!(rt; begun(&rt, alloc, &first, "since=1-1")?, (1, 1, 0));
-    assert_eq!(rt; remove(&rt, &hub, "d")?, Ok(()));
+    same(&rt, &begun(&rt, alloc, &first, "since=1-1")?, &(1, 1, 0));
+    same(&rt, &remove(&rt, &hub, "d")?, &Ok(()));
     let second = created(&rt, &hub, "d")?;
     let _written = write(&rt, alloc, &hub, &second, FIRST)?;
-    assert_eq!(rt; begun(&rt, alloc, &second, "since=1-1")?, (2, 0, 1));
-    assert_eq!(rt; begun(&rt, alloc, &second, "since=1-2")?, (2, 1, 0));
-    assert_eq!(rt; begun(&rt, alloc, &second, "since=1")?, (2, 1, 0));
+    same(&rt, &begun(&rt, alloc, &second, "since=1-1")?, &(2, 0, 1));
+    same(&rt, &begun(&rt, alloc, &second, "since=1-2")?, &(2, 1, 0));
+    same(&rt, &begun(&rt, alloc, &second, "since=1")?, &(2, 1, 0));
     Ok(())
 }
 
@@ -241,12 +241,12 @@ fn a_feed_of_a_removed_database_ends(rt: HostRuntime) -> Result<(), Fail> {
     let hub = noted(&rt, alloc)?;
     let db = found(&rt, &hub, "d")?;
     let mut feed = follow(&rt, alloc, &db, "feed=continuous&since=now")?;
-    assert_eq!(rt; hand(&rt, &db, &feed)?, Handed::Nothing);
-    assert_eq!(rt; remove(&rt, &hub, "d")?, Ok(()));
-    assert_eq!(rt; hand(&rt, &db, &feed)?, Handed::End);
+    same(&rt, &hand(&rt, &db, &feed)?, &Handed::Nothing);
+    same(&rt, &remove(&rt, &hub, "d")?, &Ok(()));
+    same(&rt, &hand(&rt, &db, &feed)?, &Handed::End);
     let Some(Item::End { last_seq, .. }) = feed.take(&rt) else {
         return Err(Fail::new("no end"));
     };
-    assert_eq!(rt; last_seq, 1);
+    same(&rt, &last_seq, &1);
     Ok(())
 }

@@ -2,7 +2,7 @@
 
 use crate::tests::rows::Told::{End, Row};
 use crate::tests::rows::shows;
-use crate::tests::{created, edits, hub, hub_within, remove, shown};
+use crate::tests::{created, edits, hub, hub_within, remove, same, shown};
 use hub_database::DbFault;
 use hub_databases::{Edited, Hub, HubDb};
 use hub_document::{Doc, Limits};
@@ -90,8 +90,12 @@ fn edited<R: Wait>(rt: &R, alloc: Global) -> Result<(Hub, HubDb), Fail> {
 fn an_edit_is_noted_where_it_is_stored(rt: HostRuntime) -> Result<(), Fail> {
     let alloc = rt.alloc();
     let (hub, db) = edited(&rt, alloc)?;
-    assert_eq!(rt; refusal(&rt, alloc, &hub, &db, A)?, Some(Fault::Conflict));
-    assert_eq!(rt; edits(&rt, &db), Some(1));
+    same(
+        &rt,
+        &refusal(&rt, alloc, &hub, &db, A)?,
+        &Some(Fault::Conflict),
+    );
+    same(&rt, &edits(&rt, &db), &Some(1));
     let told = [Row(Created, "d", 1), Row(Updated, "d", 2), End(2, 0)];
     assert!(rt; shows(&rt, alloc, &hub, "", &told)?);
     Ok(())
@@ -108,14 +112,19 @@ fn a_full_log_lets_the_note_of_an_edit_lapse(rt: HostRuntime) -> Result<(), Fail
     let Ok(edited) = edit(&rt, alloc, &hub, &db, A)? else {
         return Err(Fail::new("not stored"));
     };
-    assert_eq!(rt; edited.lapsed, Some(NoteFault::SequenceFull));
-    assert_eq!(rt; edits(&rt, &db), Some(1));
-    assert_eq!(rt;
-        refusal(&rt, alloc, &hub, &db, B)?,
-        Some(Fault::SequenceFull)
+    same(&rt, &edited.lapsed, &Some(NoteFault::SequenceFull));
+    same(&rt, &edits(&rt, &db), &Some(1));
+    same(
+        &rt,
+        &refusal(&rt, alloc, &hub, &db, B)?,
+        &Some(Fault::SequenceFull),
     );
-    assert_eq!(rt; refusal(&rt, alloc, &hub, &db, A)?, Some(Fault::Conflict));
-    assert_eq!(rt; edits(&rt, &db), Some(1));
+    same(
+        &rt,
+        &refusal(&rt, alloc, &hub, &db, A)?,
+        &Some(Fault::Conflict),
+    );
+    same(&rt, &edits(&rt, &db), &Some(1));
     Ok(())
 }
 
@@ -124,9 +133,13 @@ fn a_full_log_lets_the_note_of_an_edit_lapse(rt: HostRuntime) -> Result<(), Fail
 fn a_removed_database_refuses_an_edit(rt: HostRuntime) -> Result<(), Fail> {
     let alloc = rt.alloc();
     let (hub, db) = edited(&rt, alloc)?;
-    assert_eq!(rt; remove(&rt, &hub, "d")?, Ok(()));
+    same(&rt, &remove(&rt, &hub, "d")?, &Ok(()));
     for text in [A, B] {
-        assert_eq!(rt; refusal(&rt, alloc, &hub, &db, text)?, Some(Fault::Deleted));
+        same(
+            &rt,
+            &refusal(&rt, alloc, &hub, &db, text)?,
+            &Some(Fault::Deleted),
+        );
     }
     Ok(())
 }

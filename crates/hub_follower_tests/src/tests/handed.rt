@@ -1,7 +1,7 @@
 //! Which items are an answer to a follower that asks for changes.
 
 use crate::tests::handed::Shown::{Beat, End, Row};
-use crate::tests::{FIVE, LIFE, TRIES, again, docs};
+use crate::tests::{FIVE, LIFE, TRIES, again, docs, same};
 use hub_database::DbState;
 use hub_document::{ChangeRow, Changes, DocId, Limits, RevId, Revisions};
 use hub_feed::{FeedHost, FeedId, Next, OpenFault};
@@ -209,7 +209,7 @@ const FEEDS: &[(u64, &[&str], usize)] = &[
 #[test]
 fn what_feeds_hand_is_right(rt: HostRuntime) -> Result<(), Fail> {
     for (since, between, count) in FEEDS {
-        assert_eq!(rt; handed(rt.alloc(), *since, *between)?, (true, *count));
+        same(&rt, &handed(rt.alloc(), *since, *between)?, &(true, *count));
     }
     Ok(())
 }
@@ -320,7 +320,7 @@ fn others_behind(
 #[test]
 fn cases_are_decided(rt: HostRuntime) -> Result<(), Fail> {
     let others = others_behind(rt.alloc(), &FIVE, CASES)?;
-    assert_eq!(rt; others, (None, None));
+    same(&rt, &others, &(None, None));
     Ok(())
 }
 
@@ -353,7 +353,7 @@ const LATE_CASES: &[(u64, &[Shown], bool)] = &[
 #[test]
 fn rows_before_a_parent_came_are_decided(rt: HostRuntime) -> Result<(), Fail> {
     let others = others_behind(rt.alloc(), &LATE, LATE_CASES)?;
-    assert_eq!(rt; others, (None, None));
+    same(&rt, &others, &(None, None));
     Ok(())
 }
 
@@ -391,7 +391,7 @@ fn a_hundred_rows_at_most(rt: HostRuntime) -> Result<(), Fail> {
     for (count, right) in [(100, true), (101, false)] {
         let mut db = DbState::new(rt.alloc(), Limits::full(), LIFE);
         let found = are_right(rt.alloc(), &mut db, count)?;
-        assert_eq!(rt; found, right);
+        same(&rt, &found, &right);
     }
     Ok(())
 }

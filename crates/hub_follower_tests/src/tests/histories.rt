@@ -2,7 +2,7 @@
 
 use crate::tests::sessions::Step::{self, Copies, HaveLeaves, Rounds, Writes};
 use crate::tests::sessions::{assert_session, copy_unrecorded, have_leaves};
-use crate::tests::{LIFE, again, database, edits, write};
+use crate::tests::{LIFE, again, database, edits, same, write};
 use hub_follower::Round;
 use hub_shared::{Db, Plain};
 use std::alloc::Global;
@@ -72,7 +72,7 @@ const GOING_ON: &[Growth] = &[
 fn a_leaf_that_goes_on_is_copied(rt: HostRuntime) -> Result<(), Fail> {
     let (source, target) = (database(rt.alloc())?, database(rt.alloc())?);
     let count = grown_count(&rt, rt.alloc(), (&source, &target), GOING_ON)?;
-    assert_eq!(rt; count, GOING_ON.len());
+    same(&rt, &count, &GOING_ON.len());
     Ok(())
 }
 
@@ -104,7 +104,7 @@ const LATE: &[Step] = &[
 fn a_parent_that_comes_later_is_copied(rt: HostRuntime) -> Result<(), Fail> {
     let (source, target) = (database(rt.alloc())?, database(rt.alloc())?);
     let peers = (&source, &target);
-    assert_eq!(rt; grown_count(&rt, rt.alloc(), peers, BOTH)?, 1);
+    same(&rt, &grown_count(&rt, rt.alloc(), peers, BOTH)?, &1);
     assert_session(&rt, rt.alloc(), peers, "S", LATE)
 }
 
@@ -126,6 +126,6 @@ const DELETING: &[Growth] = &[
 fn a_deleted_leaf_is_copied(rt: HostRuntime) -> Result<(), Fail> {
     let (source, target) = (database(rt.alloc())?, database(rt.alloc())?);
     let count = grown_count(&rt, rt.alloc(), (&source, &target), DELETING)?;
-    assert_eq!(rt; count, DELETING.len());
+    same(&rt, &count, &DELETING.len());
     Ok(())
 }

@@ -1,5 +1,6 @@
 //! How a user of the libraries copies one database into another.
 
+use crate::tests::same;
 use hub_follower::{DbPeer, FollowFault, Follower, Round};
 use hub_shared::{Db, Plain};
 use std::alloc::Global;
@@ -54,7 +55,7 @@ fn a_database_is_copied(rt: HostRuntime) -> Result<(), Fail> {
         ("2026-01-02", "2026-01-02T12"),
     ] {
         assert!(rt; copies(&rt, rt.alloc(), &source, &target, session_ids));
-        assert_eq!(rt; crate::tests::edits(&rt, &target)?, 2);
+        same(&rt, &crate::tests::edits(&rt, &target)?, &2);
     }
     Ok(())
 }

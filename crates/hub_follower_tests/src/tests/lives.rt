@@ -5,7 +5,7 @@ use crate::tests::sessions::Step::{self, Records, Rounds};
 use crate::tests::sessions::{assert_session, copy_up_to};
 use crate::tests::{
     LIFE, LOG, TWO, again, agree, at, begin, checkpoint, database, database_within, recorded,
-    round, round_into, write,
+    round, round_into, same, write,
 };
 use hub_databases::{Hub, HubDb, HubFault};
 use hub_document::{Limits, LocalDoc};
@@ -137,13 +137,15 @@ fn round_again<R: Wait>(rt: &R, alloc: Global, tells_lives: bool) -> Result<(Don
 #[test]
 fn a_source_that_is_made_again_is_copied_anew(rt: HostRuntime) -> Result<(), Fail> {
     let place = Some(Seq::of_life(3, 3));
-    assert_eq!(rt;
-        round_again(&rt, rt.alloc(), true)?,
-        ((Round::Moved, place, 3), true)
+    same(
+        &rt,
+        &round_again(&rt, rt.alloc(), true)?,
+        &((Round::Moved, place, 3), true),
     );
-    assert_eq!(rt;
-        round_again(&rt, rt.alloc(), false)?,
-        ((Round::Moved, place, 1), false)
+    same(
+        &rt,
+        &round_again(&rt, rt.alloc(), false)?,
+        &((Round::Moved, place, 1), false),
     );
     Ok(())
 }
@@ -204,10 +206,12 @@ fn rounds_of_empty<R: Wait>(rt: &R, alloc: Global) -> Result<(Done, Done, Done),
 // The place becomes 0 of the new life, though nothing moved, and then the new source's.
 #[test]
 fn a_source_that_is_made_again_is_empty_at_first(rt: HostRuntime) -> Result<(), Fail> {
-    let (first, second, third) = rounds_of_empty(&rt, rt.alloc())?;
-    assert_eq!(rt; first, (Round::Moved, at(2), 2));
-    assert_eq!(rt; second, (Round::Idle, Some(Seq::of_life(0, 3)), 2));
-    assert_eq!(rt; third, (Round::Moved, Some(Seq::of_life(3, 3)), 5));
+    let wanted = (
+        (Round::Moved, at(2), 2),
+        (Round::Idle, Some(Seq::of_life(0, 3)), 2),
+        (Round::Moved, Some(Seq::of_life(3, 3)), 5),
+    );
+    same(&rt, &rounds_of_empty(&rt, rt.alloc())?, &wanted);
     Ok(())
 }
 
@@ -242,7 +246,7 @@ fn changes_begin_in_the_life_of_the_source(rt: HostRuntime) -> Result<(), Fail> 
     let mut peer = DbPeer::new(&rt, rt.alloc(), source.handle()?);
     for (n, life, count) in ASKED {
         let answer = asked(&mut peer, Seq { n: *n, life: *life });
-        assert_eq!(rt; answer, Some((*count, 2, LIFE)), "above {n}");
+        same(&rt, &(n, answer), &(n, Some((*count, 2, LIFE))));
     }
     Ok(())
 }
@@ -330,10 +334,10 @@ fn a_session_goes_on_from_logs_of_its_life(rt: HostRuntime) -> Result<(), Fail> 
     for (source_log, target_log, (n, life), count) in RECORDED {
         let found = copied_from(&rt, rt.alloc(), (*source_log, *target_log))?;
         let place = Seq { n: *n, life: *life };
-        assert_eq!(rt;
-            found,
-            (Some(place), *count),
-            "from {source_log} and {target_log}"
+        same(
+            &rt,
+            &(source_log, target_log, found),
+            &(source_log, target_log, (Some(place), *count)),
         );
     }
     Ok(())

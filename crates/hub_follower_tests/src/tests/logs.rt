@@ -1,6 +1,6 @@
 //! Replication logs.
 
-use crate::tests::again;
+use crate::tests::{again, same};
 use hub_follower::{HistoryEntry, Log, Seq, common_sequence};
 use std::alloc::{AllocError, Global};
 use std::test::Fail;
@@ -77,10 +77,14 @@ fn agreed_alone(alloc: Global, entries: &[(&str, Seq)]) -> Result<(Seq, Seq), Al
 #[test]
 fn sequences_up_to_which_logs_agree(rt: HostRuntime) -> Result<(), Fail> {
     let alloc = rt.alloc();
-    assert_eq!(rt; again!(agreed(alloc, SOURCE, TARGET))?, FOUR);
-    assert_eq!(rt; again!(agreed(alloc, SOURCE, LATER_TARGET))?, SEVEN);
+    same(&rt, &again!(agreed(alloc, SOURCE, TARGET))?, &FOUR);
+    same(&rt, &again!(agreed(alloc, SOURCE, LATER_TARGET))?, &SEVEN);
     for entries in [SOURCE, LATER_TARGET] {
-        assert_eq!(rt; again!(agreed_alone(alloc, entries))?, (bare(0), bare(0)));
+        same(
+            &rt,
+            &again!(agreed_alone(alloc, entries))?,
+            &(bare(0), bare(0)),
+        );
     }
     Ok(())
 }
@@ -133,7 +137,7 @@ fn sequences_of_lives(rt: HostRuntime) -> Result<(), Fail> {
     for (source, target, n, life) in LIVES {
         for sessions in LAST_SESSIONS {
             let common = again!(agreed_of_lives(alloc, (*source, *target), *sessions))?;
-            assert_eq!(rt; common, Seq { n: *n, life: *life });
+            same(&rt, &common, &Seq { n: *n, life: *life });
         }
     }
     Ok(())
@@ -267,7 +271,11 @@ fn is_written(alloc: Global, seq: &str) -> Result<bool, AllocError> {
 fn sequences_that_are_written(rt: HostRuntime) -> Result<(), Fail> {
     let alloc = rt.alloc();
     for (seq, is_one) in WRITTEN {
-        assert_eq!(rt; again!(is_written(alloc, *seq))?, *is_one, "{seq}");
+        same(
+            &rt,
+            &(seq, again!(is_written(alloc, *seq))?),
+            &(seq, *is_one),
+        );
     }
     Ok(())
 }

@@ -4,7 +4,7 @@
 //! is refused, the next session goes on as behind any other failure, and the run is made again.
 
 use crate::tests::sessions::copy_in_session;
-use crate::tests::{FIVE, LOG, TRIES, agree, at, database, edits, recorded, write};
+use crate::tests::{FIVE, LOG, TRIES, agree, at, database, edits, recorded, same, write};
 use hub_follower::{DbPeer, FaultPeer, FollowFault, Follower, Loss, Peer, Round};
 use hub_shared::{Db, Plain};
 use std::alloc::Global;
@@ -174,7 +174,7 @@ fn whatever_is_lost_all_is_copied(rt: HostRuntime) -> Result<(), Fail> {
         ids: &["a", "b", "x"],
     };
     for loss in [Loss::Before, Loss::After] {
-        assert_eq!(rt; count(&rt, rt.alloc(), writes, loss)?, (7, 4));
+        same(&rt, &count(&rt, rt.alloc(), writes, loss)?, &(7, 4));
     }
     Ok(())
 }
@@ -210,7 +210,7 @@ fn whatever_is_lost_parents_are_copied(rt: HostRuntime) -> Result<(), Fail> {
         ids: &["x", "y", "z"],
     };
     for loss in [Loss::Before, Loss::After] {
-        assert_eq!(rt; count(&rt, rt.alloc(), writes, loss)?, (7, 4));
+        same(&rt, &count(&rt, rt.alloc(), writes, loss)?, &(7, 4));
     }
     Ok(())
 }

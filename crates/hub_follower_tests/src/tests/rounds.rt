@@ -2,7 +2,9 @@
 
 use crate::tests::sessions::Step::{self, Begins, HasNoLog, HaveLeaves, Refuses, Rounds, Stores};
 use crate::tests::sessions::assert_session;
-use crate::tests::{LIFE, LOG, TWO, again, begin, database, database_within, round, start, write};
+use crate::tests::{
+    LIFE, LOG, TWO, again, begin, database, database_within, round, same, start, write,
+};
 use hub_document::Limits;
 use hub_follower::{DbPeer, FollowFault, Follower, Peer, Round, Seq};
 use hub_model::Fault;
@@ -109,7 +111,7 @@ fn faults_without_source<R: Wait>(
 fn a_deleted_source_is_a_counted_fault(rt: HostRuntime) -> Result<(), Fail> {
     let (source, target) = (database(rt.alloc())?, database(rt.alloc())?);
     let found = faults_without_source(&rt, rt.alloc(), &source, &target)?;
-    assert_eq!(rt; found, (true, 1, 0));
+    same(&rt, &found, &(true, 1, 0));
     Ok(())
 }
 

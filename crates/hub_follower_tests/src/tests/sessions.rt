@@ -1,7 +1,8 @@
 //! Sessions as tables: what a follower does between two databases, and what is found behind each step.
 
 use crate::tests::{
-    LIFE, again, checkpoint, copy_all, edits, leaves, recorded, round, round_into, start, write,
+    LIFE, again, checkpoint, copy_all, edits, leaves, recorded, round, round_into, same, start,
+    write,
 };
 use hub_document::{Asked, RevId};
 use hub_follower::{DbPeer, FollowFault, Follower, Peer, Round, Seq};
@@ -192,7 +193,7 @@ pub(crate) fn assert_session<R: Abort + Wait>(
     steps: &[Step],
 ) -> Result<(), Fail> {
     let count = session_count(rt, alloc, peers, session_id, steps)?;
-    assert_eq!(rt; count, steps.len());
+    same(rt, &count, &steps.len());
     assert!(rt; count > 0);
     Ok(())
 }

@@ -1,6 +1,6 @@
 //! A follower's machine, driven by hand, and peers that come back.
 
-use crate::tests::{LOG, database};
+use crate::tests::{LOG, database, same};
 use hub_follower::{
     Answer, Call, DbPeer, FailedStart, FaultPeer, FollowCore, FollowFault, Follower, Log, Loss,
     Peer, Seq, Session,
@@ -132,7 +132,7 @@ fn steps(alloc: Global, core: &mut FollowCore) -> Result<bool, FollowFault> {
 #[test]
 fn a_machine_owes_its_calls(rt: HostRuntime) -> Result<(), Fail> {
     let mut core = FollowCore::new();
-    assert_eq!(rt; core.place(), None);
+    same(&rt, &core.place(), &None);
     assert!(rt; matches!(steps(rt.alloc(), &mut core), Ok(true)));
     Ok(())
 }
@@ -158,6 +158,6 @@ fn peers_come_back_from_a_failed_start(rt: HostRuntime) -> Result<(), Fail> {
         target,
     } = failed;
     assert!(rt; matches!(fault, FollowFault::Peer));
-    assert_eq!(rt; (counts(source), target.faults()), ((1, 0), 0));
+    same(&rt, &(counts(source), target.faults()), &((1, 0), 0));
     Ok(())
 }

@@ -1,6 +1,6 @@
 //! A follower beside a writer.
 
-use crate::tests::{LOG, agree, database, edits};
+use crate::tests::{LOG, agree, database, edits, same};
 use hub_document::Doc;
 use hub_follower::{DbPeer, FaultPeer, FollowFault, Follower, Loss, Peer, Round};
 use hub_shared::{Db, Plain};
@@ -139,7 +139,11 @@ fn agreed_count<R: Wait>(
 fn a_follower_beside_a_writer(rt: HostRuntime) -> Result<(), Fail> {
     let (source, target) = (database(rt.alloc())?, database(rt.alloc())?);
     assert!(rt; run(&rt, rt.alloc(), &source, &target).is_some());
-    assert_eq!(rt; edits(&rt, &source)?, EDITS);
-    assert_eq!(rt; agreed_count(&rt, rt.alloc(), &source, &target)?, DOCUMENTS);
+    same(&rt, &edits(&rt, &source)?, &EDITS);
+    same(
+        &rt,
+        &agreed_count(&rt, rt.alloc(), &source, &target)?,
+        &DOCUMENTS,
+    );
     Ok(())
 }

@@ -2,9 +2,10 @@
 
 use crate::tests::handed::Shown::{End, Row};
 use crate::tests::handed::{Shown, items_of};
-use crate::tests::{TWO, again, at, docs};
+use crate::tests::{TWO, again, at, docs, same};
 use hub_follower::{FollowEvent, FollowWorld, Seq};
 use std::alloc::{AllocError, Global};
+use std::process::Abort;
 use std::test::Fail;
 
 // A session of this id begins.
@@ -55,39 +56,38 @@ fn place(alloc: Global, signs: &str) -> Result<Option<Seq>, AllocError> {
     again!(try_place(alloc, signs))
 }
 
+// Behind this run the follower has this place.
+fn is_at(rt: &impl Abort, alloc: Global, signs: &str, wanted: Option<Seq>) -> Result<(), Fail> {
+    same(rt, &(signs, place(alloc, signs)?), &(signs, wanted));
+    Ok(())
+}
+
 // The logs; the changes, what is missing, two documents, the merge; and the two logs. A later session
 // begins where both logs agree.
 #[test]
 fn a_round_and_its_checkpoint(rt: HostRuntime) -> Result<(), Fail> {
-    assert_eq!(rt; place(rt.alloc(), "w1aaraaaaacaax2aa")?, at(2));
-    Ok(())
+    is_at(&rt, rt.alloc(), "w1aaraaaaacaax2aa", at(2))
 }
 
 // The merge's answer is lost: the next round finds that nothing is missing.
 #[test]
 fn a_merge_whose_answer_is_lost(rt: HostRuntime) -> Result<(), Fail> {
-    assert_eq!(rt; place(rt.alloc(), "w1aaraaaa>")?, Some(Seq::beginning()));
-    assert_eq!(rt; place(rt.alloc(), "w1aaraaaa>raa")?, at(2));
-    Ok(())
+    is_at(&rt, rt.alloc(), "w1aaraaaa>", Some(Seq::beginning()))?;
+    is_at(&rt, rt.alloc(), "w1aaraaaa>raa", at(2))
 }
 
 // The target's log is not written: the next session begins at 0. A session whose id was used does not.
 #[test]
 fn a_checkpoint_that_is_lost(rt: HostRuntime) -> Result<(), Fail> {
-    assert_eq!(rt;
-        place(rt.alloc(), "w1aaraaaaaca<x2aa")?,
-        Some(Seq::beginning())
-    );
-    assert_eq!(rt; place(rt.alloc(), "w1aax1aa")?, None);
-    Ok(())
+    is_at(&rt, rt.alloc(), "w1aaraaaaaca<x2aa", Some(Seq::beginning()))?;
+    is_at(&rt, rt.alloc(), "w1aax1aa", None)
 }
 
 // Two rows, made one after the other, are an answer, and the round goes on to its end. Where the first is
 // left out they are none, also where no changes are asked for: the answer that is due comes then.
 #[test]
 fn changes_that_are_handed(rt: HostRuntime) -> Result<(), Fail> {
-    assert_eq!(rt; place(rt.alloc(), "w1aaryaaaa")?, at(2));
-    assert_eq!(rt; place(rt.alloc(), "w1aarnaaaa")?, Some(Seq::beginning()));
-    assert_eq!(rt; place(rt.alloc(), "w1ayarnyyaaaa")?, at(2));
-    Ok(())
+    is_at(&rt, rt.alloc(), "w1aaryaaaa", at(2))?;
+    is_at(&rt, rt.alloc(), "w1aarnaaaa", Some(Seq::beginning()))?;
+    is_at(&rt, rt.alloc(), "w1ayarnyyaaaa", at(2))
 }

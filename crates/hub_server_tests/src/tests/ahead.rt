@@ -66,13 +66,12 @@ const WRITES: &[Write; 3] = &[
 fn assert_in_order(rt: &impl Abort, writer: &mut Client, reader: &mut Client) -> Result<(), Fail> {
     reader.send(AHEAD)?;
     for write in WRITES {
-        assert!(rt; writer.gets(write.line, write.body, "201")?);
-        assert_eq!(rt; reader.answer()?.body.as_str(), write.feed);
-        assert_eq!(rt; reader.answer()?.body.as_str(), write.read);
+        writer.assert_gets(rt, write.line, write.body, "201")?;
+        reader.assert_body(rt, write.feed)?;
+        reader.assert_body(rt, write.read)?;
     }
-    assert!(rt; reader.rest()?.is_empty());
-    let names = writer.answered("GET /_all_dbs", "")?;
-    assert_eq!(rt; names.body.as_str(), "[\"d\",\"e\"]\n");
+    reader.assert_rest(rt, "")?;
+    writer.assert_shows(rt, "GET /_all_dbs", "[\"d\",\"e\"]\n")?;
     Ok(())
 }
 
@@ -83,7 +82,8 @@ fn requests_behind_feeds(rt: HostRuntime) -> Result<(), Fail> {
     let server = serve(&rt, alloc, 2)?;
     let mut writer = Client::connect(&rt, alloc, server.address)?;
     let mut reader = Client::connect(&rt, alloc, server.address)?;
-    assert!(rt; writer.gets("PUT /d", "", "201")? && writer.gets("PUT /e", "", "201")?);
+    writer.assert_gets(&rt, "PUT /d", "", "201")?;
+    writer.assert_gets(&rt, "PUT /e", "", "201")?;
     assert_in_order(&rt, &mut writer, &mut reader)?;
     drop(reader);
     drop(writer);
@@ -107,11 +107,11 @@ fn assert_to_its_end(
 ) -> Result<(), Fail> {
     assert!(rt; reader.follows("GET /d/_changes?feed=continuous")?);
     reader.half_close()?;
-    assert!(rt; writer.gets("PUT /d/a", "{}", "201")?);
-    assert_eq!(rt; reader.chunk()?.as_str(), ROW);
-    assert!(rt; writer.gets("DELETE /d", "", "200")?);
-    assert_eq!(rt; reader.chunks()?.as_str(), END);
-    assert!(rt; reader.rest()?.is_empty());
+    writer.assert_gets(rt, "PUT /d/a", "{}", "201")?;
+    reader.assert_chunk(rt, ROW)?;
+    writer.assert_gets(rt, "DELETE /d", "", "200")?;
+    reader.assert_chunks(rt, END)?;
+    reader.assert_rest(rt, "")?;
     Ok(())
 }
 
@@ -122,7 +122,7 @@ fn a_client_that_ends_what_it_sends_in_a_feed(rt: HostRuntime) -> Result<(), Fai
     let server = serve(&rt, alloc, 2)?;
     let mut writer = Client::connect(&rt, alloc, server.address)?;
     let mut reader = Client::connect(&rt, alloc, server.address)?;
-    assert!(rt; writer.gets("PUT /d", "", "201")?);
+    writer.assert_gets(&rt, "PUT /d", "", "201")?;
     assert_to_its_end(&rt, &mut writer, &mut reader)?;
     drop(reader);
     drop(writer);

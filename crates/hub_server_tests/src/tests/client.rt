@@ -1,8 +1,10 @@
 //! Clients.
 
+use crate::tests::same_text;
 use std::alloc::Global;
 use std::io::{self, BufRead, BufReader, Read, Write};
 use std::net::{Net, Shutdown, SocketAddr, TcpListener, TcpStream};
+use std::process::Abort;
 use std::time::Duration;
 
 /// How long a client waits for its server, in seconds, before the test fails.
@@ -167,6 +169,61 @@ impl Client {
     pub(crate) fn gets(&mut self, line: &str, body: &str, status: &str) -> io::Result<bool> {
         let answer = self.answered(line, body)?;
         Ok(answer.is(status))
+    }
+
+    /// Asserts that the answer to a request has a status that begins so.
+    pub(crate) fn assert_gets(
+        &mut self,
+        rt: &impl Abort,
+        line: &str,
+        body: &str,
+        status: &str,
+    ) -> io::Result<()> {
+        let answer = self.answered(line, body)?;
+        assert!(rt; answer.is(status), "{line}: {}", answer.status);
+        Ok(())
+    }
+
+    /// Asserts that the next answer has a status that begins so.
+    pub(crate) fn assert_answer(&mut self, rt: &impl Abort, status: &str) -> io::Result<()> {
+        let answer = self.answer()?;
+        assert!(rt; answer.is(status), "{}", answer.status);
+        Ok(())
+    }
+
+    /// Asserts that the answer to a request without a body has this body.
+    pub(crate) fn assert_shows(
+        &mut self,
+        rt: &impl Abort,
+        line: &str,
+        body: &str,
+    ) -> io::Result<()> {
+        same_text(rt, self.answered(line, "")?.body.as_str(), body);
+        Ok(())
+    }
+
+    /// Asserts that the next answer has this body.
+    pub(crate) fn assert_body(&mut self, rt: &impl Abort, body: &str) -> io::Result<()> {
+        same_text(rt, self.answer()?.body.as_str(), body);
+        Ok(())
+    }
+
+    /// Asserts that the next chunk is this text.
+    pub(crate) fn assert_chunk(&mut self, rt: &impl Abort, text: &str) -> io::Result<()> {
+        same_text(rt, self.chunk()?.as_str(), text);
+        Ok(())
+    }
+
+    /// Asserts that the chunks that are left are this text.
+    pub(crate) fn assert_chunks(&mut self, rt: &impl Abort, text: &str) -> io::Result<()> {
+        same_text(rt, self.chunks()?.as_str(), text);
+        Ok(())
+    }
+
+    /// Asserts that this text is all that is left.
+    pub(crate) fn assert_rest(&mut self, rt: &impl Abort, text: &str) -> io::Result<()> {
+        same_text(rt, self.rest()?.as_str(), text);
+        Ok(())
     }
 
     /// Asks for a feed. Whether its answer has begun: then the first line was read, and else the whole.

@@ -54,7 +54,7 @@ fn assert_full<R: Abort + Clock + Net<Listener = TcpListener, Stream = TcpStream
     writer: &mut Client,
 ) -> Result<(), Fail> {
     let followers = followers(rt, alloc, address)?;
-    assert!(rt; writer.gets("GET /d/_changes", "", "503")?);
+    writer.assert_gets(rt, "GET /d/_changes", "", "503")?;
     drop(followers);
     Ok(())
 }
@@ -63,7 +63,7 @@ fn assert_full<R: Abort + Clock + Net<Listener = TcpListener, Stream = TcpStream
 fn write_three(rt: &impl Abort, alloc: Global, writer: &mut Client) -> Result<(), Fail> {
     for number in 0..3 {
         let line = format!(in alloc; "PUT /d/{number}")?;
-        assert!(rt; writer.gets(line.as_str(), "{}", "201")?);
+        writer.assert_gets(rt, line.as_str(), "{}", "201")?;
     }
     Ok(())
 }
@@ -77,7 +77,7 @@ fn two_hundred_clients_that_close(rt: HostRuntime) -> Result<(), Fail> {
     limits.feeds = CLIENTS;
     let server = Running::start(&rt, alloc, 1 + 2 * CLIENTS, Open, limits)?;
     let mut writer = Client::connect(&rt, alloc, server.address)?;
-    assert!(rt; writer.gets("PUT /d", "", "201")?);
+    writer.assert_gets(&rt, "PUT /d", "", "201")?;
     assert_full(&rt, alloc, server.address, &mut writer)?;
     write_three(&rt, alloc, &mut writer)?;
     assert_full(&rt, alloc, server.address, &mut writer)?;
@@ -103,10 +103,10 @@ pub(crate) fn large_batch(alloc: Global, id: u64) -> Result<String, Fail> {
 
 /// Makes `d`, with eight large documents.
 fn write_large(rt: &impl Abort, alloc: Global, writer: &mut Client) -> Result<(), Fail> {
-    assert!(rt; writer.gets("PUT /d", "", "201")?);
+    writer.assert_gets(rt, "PUT /d", "", "201")?;
     for id in 0..8 {
         let batch = large_batch(alloc, id)?;
-        assert!(rt; writer.gets("POST /d/_bulk_docs", batch.as_str(), "201")?);
+        writer.assert_gets(rt, "POST /d/_bulk_docs", batch.as_str(), "201")?;
     }
     Ok(())
 }
@@ -143,8 +143,7 @@ fn goes_in_chunk<R: Net<Listener = TcpListener, Stream = TcpStream>>(
 fn assert_unchanged(rt: &impl Abort, writer: &mut Client) -> Result<(), Fail> {
     let info = writer.answered("GET /d", "")?;
     assert!(rt; info.body.as_str().contains("\"doc_count\":8,"));
-    let names = writer.answered("GET /_all_dbs", "")?;
-    assert_eq!(rt; names.body.as_str(), "[\"d\"]\n");
+    writer.assert_shows(rt, "GET /_all_dbs", "[\"d\"]\n")?;
     Ok(())
 }
 

@@ -1,7 +1,7 @@
 //! Many connections at once, and slow ones.
 
 use crate::tests::client::Client;
-use crate::tests::{Open, Running, serve};
+use crate::tests::{Open, Running, same, same_text, serve};
 use hub_document::Limits;
 use std::alloc::Global;
 use std::net::{Net, SocketAddr, TcpListener, TcpStream};
@@ -128,13 +128,17 @@ fn assert_shown(
     let Some(lines) = as_lines(alloc, body.as_str()) else {
         return Err(Fail::new("no feed"));
     };
-    assert_eq!(rt; lines.as_str().lines().count() as u64, WRITERS * DOCUMENTS);
+    same(
+        rt,
+        &(lines.as_str().lines().count() as u64),
+        &(WRITERS * DOCUMENTS),
+    );
     for (at, text) in played.iter().enumerate() {
         let Some(text) = text else {
             return Err(Fail::new("a client did not get on"));
         };
         if at < 2 {
-            assert_eq!(rt; text.as_str(), lines.as_str());
+            same_text(rt, text.as_str(), lines.as_str());
         }
     }
     Ok(())
@@ -147,7 +151,7 @@ fn fifty_writers_beside_two_feeds(rt: HostRuntime) -> Result<(), Fail> {
     let server = serve(&rt, alloc, 3 + WRITERS)?;
     let address = server.address;
     let mut control = Client::connect(&rt, alloc, address)?;
-    assert!(rt; control.gets("PUT /d", "", "201")?);
+    control.assert_gets(&rt, "PUT /d", "", "201")?;
     let parts = parts(&rt, alloc, address)?;
     let played = thread::map_vec(&rt, parts, &|part| play(&rt, alloc, address, part))?;
     assert_shown(&rt, alloc, &mut control, played.as_slice())?;
@@ -197,19 +201,19 @@ fn assert_not_held(
     alloc: Global,
     (writer, slow, fast): (&mut Client, &mut Client, &mut Client),
 ) -> Result<(), Fail> {
-    assert!(rt; writer.gets("PUT /d", "", "201")?);
+    writer.assert_gets(rt, "PUT /d", "", "201")?;
     assert!(rt; slow.follows(LATE)?);
     assert!(rt; fast.follows(AT_ONCE)?);
     for seq in 1..=LARGE {
         let batch = large_batch(alloc, seq)?;
-        assert!(rt; writer.gets("POST /d/_bulk_docs", batch.as_str(), "201")?);
+        writer.assert_gets(rt, "POST /d/_bulk_docs", batch.as_str(), "201")?;
         assert!(rt; is_row(fast, alloc, seq)?);
     }
     for seq in 1..=LARGE {
         assert!(rt; is_row(slow, alloc, seq)?);
     }
     // The feeds end here. A client that goes in a feed is seen only when the next bytes are sent to it.
-    assert!(rt; writer.gets("DELETE /d", "", "200")?);
+    writer.assert_gets(rt, "DELETE /d", "", "200")?;
     Ok(())
 }
 

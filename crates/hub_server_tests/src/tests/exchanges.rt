@@ -44,7 +44,7 @@ fn the_beginning_of_the_stored_run(rt: HostRuntime) -> Result<(), Fail> {
     let mut client = Client::connect(&rt, rt.alloc(), server.address)?;
     client.send(STORED_ASKED)?;
     client.half_close()?;
-    assert_eq!(rt; client.rest()?.as_str(), STORED_ANSWERED);
+    client.assert_rest(&rt, STORED_ANSWERED)?;
     assert!(rt; server.ends(&rt));
     Ok(())
 }
@@ -56,13 +56,6 @@ const ROW: &str = concat!(
     "\n],\n\"last_seq\":\"1-1\",\"pending\":0}\n"
 );
 
-/// Asserts that a request's answer has this body.
-fn assert_body(rt: &impl Abort, client: &mut Client, line: &str, body: &str) -> Result<(), Fail> {
-    let answer = client.answered(line, "")?;
-    assert_eq!(rt; answer.body.as_str(), body);
-    Ok(())
-}
-
 const DOCUMENT: &str = "{\"_id\":\"a\",\"_rev\":\"1-91e3da135d1d0593e6703385cf55957a\",\"v\":7}\n";
 
 /// A document that is put is shown by the feed, and found.
@@ -70,10 +63,10 @@ const DOCUMENT: &str = "{\"_id\":\"a\",\"_rev\":\"1-91e3da135d1d0593e6703385cf55
 fn a_document_that_is_put(rt: HostRuntime) -> Result<(), Fail> {
     let server = serve(&rt, rt.alloc(), 1)?;
     let mut client = Client::connect(&rt, rt.alloc(), server.address)?;
-    assert!(rt; client.gets("PUT /d", "", "201")?);
-    assert!(rt; client.gets("PUT /d/a", r#"{"v":7}"#, "201")?);
-    assert_body(&rt, &mut client, "GET /d/_changes?include_docs=true", ROW)?;
-    assert_body(&rt, &mut client, "GET /d/a", DOCUMENT)?;
+    client.assert_gets(&rt, "PUT /d", "", "201")?;
+    client.assert_gets(&rt, "PUT /d/a", r#"{"v":7}"#, "201")?;
+    client.assert_shows(&rt, "GET /d/_changes?include_docs=true", ROW)?;
+    client.assert_shows(&rt, "GET /d/a", DOCUMENT)?;
     drop(client);
     assert!(rt; server.ends(&rt));
     Ok(())
@@ -93,7 +86,7 @@ fn requests(alloc: Global) -> Result<String, Fail> {
 fn assert_answered(rt: &impl Abort, client: &mut Client, requests: &str) -> Result<(), Fail> {
     client.send(requests)?;
     for _ in 0..51 {
-        assert!(rt; client.answer()?.is("201"));
+        client.assert_answer(rt, "201")?;
     }
     let info = client.answered("GET /d", "")?;
     assert!(rt; info.body.as_str().contains("\"doc_count\":50,"));
@@ -115,8 +108,8 @@ fn requests_behind_one_another(rt: HostRuntime) -> Result<(), Fail> {
 /// Asserts that a connection is closed as it asks.
 fn assert_closed(rt: &impl Abort, client: &mut Client) -> Result<(), Fail> {
     client.send("PUT /d HTTP/1.1\r\nConnection: close\r\n\r\nPUT /e HTTP/1.1\r\n\r\n")?;
-    assert!(rt; client.answer()?.is("201"));
-    assert!(rt; client.rest()?.is_empty());
+    client.assert_answer(rt, "201")?;
+    client.assert_rest(rt, "")?;
     Ok(())
 }
 
@@ -127,7 +120,7 @@ fn a_connection_that_asks_to_be_closed(rt: HostRuntime) -> Result<(), Fail> {
     let mut first = Client::connect(&rt, rt.alloc(), server.address)?;
     let mut second = Client::connect(&rt, rt.alloc(), server.address)?;
     assert_closed(&rt, &mut first)?;
-    assert_body(&rt, &mut second, "GET /_all_dbs", "[\"d\"]\n")?;
+    second.assert_shows(&rt, "GET /_all_dbs", "[\"d\"]\n")?;
     drop(first);
     drop(second);
     assert!(rt; server.ends(&rt));
@@ -153,8 +146,8 @@ fn a_body_that_is_too_long(rt: HostRuntime) -> Result<(), Fail> {
     let server = serve(&rt, alloc, 1)?;
     let mut client = Client::connect(&rt, alloc, server.address)?;
     send_long(alloc, &client)?;
-    assert!(rt; client.answer()?.is("413"));
-    assert!(rt; client.rest()?.is_empty());
+    client.assert_answer(&rt, "413")?;
+    client.assert_rest(&rt, "")?;
     drop(client);
     assert!(rt; server.ends(&rt));
     Ok(())
@@ -177,7 +170,7 @@ fn a_body_that_is_refused_while_it_is_sent(rt: HostRuntime) -> Result<(), Fail> 
     let server = serve(&rt, alloc, 1)?;
     let mut client = Client::connect(&rt, alloc, server.address)?;
     send_long_slowly(&rt, &client)?;
-    assert!(rt; client.answer()?.is("413"));
+    client.assert_answer(&rt, "413")?;
     drop(client);
     assert!(rt; server.ends(&rt));
     Ok(())

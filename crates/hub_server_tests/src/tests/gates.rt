@@ -83,12 +83,12 @@ fn assert_request_held<R: Abort + time::Clock>(
     first: &mut Client,
     second: &mut Client,
 ) -> Result<(), Fail> {
-    assert!(rt; second.gets("PUT /d", "", "201")?);
+    second.assert_gets(rt, "PUT /d", "", "201")?;
     first.ask("PUT /d/a", "{}")?;
     assert!(rt; is_held(rt, scene));
-    assert!(rt; second.gets("PUT /d/b", "{}", "201")?);
+    second.assert_gets(rt, "PUT /d/b", "{}", "201")?;
     scene.is_answered.store(true, Ordering::SeqCst);
-    assert!(rt; first.answer()?.is("201"));
+    first.assert_answer(rt, "201")?;
     assert!(rt; !scene.gave_up.load(Ordering::SeqCst));
     Ok(())
 }
@@ -119,15 +119,17 @@ fn assert_pump_held<R: Abort + time::Clock>(
     scene: &Scene,
     (reader, follower, writer): (&mut Client, &mut Client, &mut Client),
 ) -> Result<(), Fail> {
-    assert!(rt; reader.gets("PUT /x", "", "201")? && reader.gets("PUT /y", "", "201")?);
+    reader.assert_gets(rt, "PUT /x", "", "201")?;
+    reader.assert_gets(rt, "PUT /y", "", "201")?;
     follower.ask("GET /x/_changes", "")?;
     assert!(rt; is_held(rt, scene));
     writer.ask("PUT /x/a", "{}")?;
     // Long enough for the write to come to the lock.
     thread::sleep(rt, Duration::from_millis(200));
-    assert!(rt; reader.gets("GET /y", "", "200")? && reader.gets("PUT /z", "", "201")?);
+    reader.assert_gets(rt, "GET /y", "", "200")?;
+    reader.assert_gets(rt, "PUT /z", "", "201")?;
     scene.is_answered.store(true, Ordering::SeqCst);
-    assert!(rt; writer.answer()?.is("201"));
+    writer.assert_answer(rt, "201")?;
     assert!(rt; !scene.gave_up.load(Ordering::SeqCst));
     Ok(())
 }

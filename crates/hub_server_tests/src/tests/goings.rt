@@ -140,10 +140,9 @@ fn assert_unchanged<R: Abort + Clock + Net<Listener = TcpListener, Stream = TcpS
 ) -> Result<(), Fail> {
     let info = writer.answered("GET /d", "")?;
     assert!(rt; info.body.as_str().contains("\"doc_count\":1,"));
-    let names = writer.answered("GET /_all_dbs", "")?;
-    assert_eq!(rt; names.body.as_str(), "[\"d\"]\n");
+    writer.assert_shows(rt, "GET /_all_dbs", "[\"d\"]\n")?;
     let feeds = crowd(rt, alloc, address, Going::InFeed)?;
-    assert!(rt; writer.gets("GET /d/_changes", "", "503")?);
+    writer.assert_gets(rt, "GET /d/_changes", "", "503")?;
     drop(feeds);
     Ok(())
 }
@@ -152,8 +151,8 @@ fn assert_unchanged<R: Abort + Clock + Net<Listener = TcpListener, Stream = TcpS
 fn write_document(rt: &impl Abort, alloc: Global, writer: &mut Client) -> Result<(), Fail> {
     let text = four_thousand(alloc)?;
     let document = format!(in alloc; r#"{{"text":"{text}{text}{text}"}}"#)?;
-    assert!(rt; writer.gets("PUT /d", "", "201")?);
-    assert!(rt; writer.gets("PUT /d/a", document.as_str(), "201")?);
+    writer.assert_gets(rt, "PUT /d", "", "201")?;
+    writer.assert_gets(rt, "PUT /d/a", document.as_str(), "201")?;
     Ok(())
 }
 

@@ -39,15 +39,16 @@ fn assert_answered(rt: &impl Abort, alloc: Global, clients: &mut [Client]) -> Re
     for (number, client) in clients.iter_mut().enumerate() {
         let put = format!(in alloc; "PUT /y/{number}")?;
         let get = format!(in alloc; "GET /y/{number}")?;
-        assert!(rt; client.gets(put.as_str(), "{}", "201")?);
-        assert!(rt; client.gets(get.as_str(), "", "200")?);
+        client.assert_gets(rt, put.as_str(), "{}", "201")?;
+        client.assert_gets(rt, get.as_str(), "", "200")?;
     }
     Ok(())
 }
 
 /// Makes the databases `x` and `y`.
 fn make_databases(rt: &impl Abort, client: &mut Client) -> Result<(), Fail> {
-    assert!(rt; client.gets("PUT /x", "", "201")? && client.gets("PUT /y", "", "201")?);
+    client.assert_gets(rt, "PUT /x", "", "201")?;
+    client.assert_gets(rt, "PUT /y", "", "201")?;
     Ok(())
 }
 
@@ -87,7 +88,7 @@ where
         return assert_beside_held(rt, alloc, scene, others.as_mut_slice());
     }
     assert_beside_held(rt, alloc, scene, others.as_mut_slice())?;
-    assert!(rt; first.answer()?.is("201"));
+    first.assert_answer(rt, "201")?;
     Ok(())
 }
 
@@ -136,9 +137,9 @@ fn assert_lock_held<R: Abort + Clock>(
     thread::sleep(rt, Duration::from_millis(200));
     assert_answered(rt, alloc, others)?;
     scene.is_answered.store(true, Ordering::SeqCst);
-    assert!(rt; follower.answer()?.is("200"));
+    follower.assert_answer(rt, "200")?;
     for writer in writers.iter_mut() {
-        assert!(rt; writer.answer()?.is("201"));
+        writer.assert_answer(rt, "201")?;
     }
     assert!(rt; !scene.gave_up.load(Ordering::SeqCst));
     Ok(())

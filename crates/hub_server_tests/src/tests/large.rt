@@ -2,7 +2,7 @@
 
 use crate::tests::client::Client;
 use crate::tests::long::four_thousand;
-use crate::tests::serve;
+use crate::tests::{same, serve};
 use std::alloc::Global;
 use std::net::{Net, SocketAddr, TcpListener, TcpStream};
 use std::process::Abort;
@@ -51,8 +51,8 @@ fn assert_answered(
     for (number, client) in clients.iter_mut().enumerate() {
         let put = format!(in alloc; "PUT /e/{round}-{number}")?;
         let get = format!(in alloc; "GET /e/{round}-{number}")?;
-        assert!(rt; client.gets(put.as_str(), "{}", "201")?);
-        assert!(rt; client.gets(get.as_str(), "", "200")?);
+        client.assert_gets(rt, put.as_str(), "{}", "201")?;
+        client.assert_gets(rt, get.as_str(), "", "200")?;
     }
     Ok(())
 }
@@ -73,9 +73,10 @@ fn assert_beside(
     assert_answered(rt, alloc, small, 2)?;
     let answer = large.answer()?;
     assert!(rt; answer.is("201"));
-    assert_eq!(rt;
-        answer.body.as_str().matches("\"ok\":true").count() as u64,
-        DOCUMENTS
+    same(
+        rt,
+        &(answer.body.as_str().matches("\"ok\":true").count() as u64),
+        &DOCUMENTS,
     );
     let info = large.answered("GET /d", "")?;
     assert!(rt; info.body.as_str().contains("\"doc_count\":1250,"));
@@ -88,7 +89,8 @@ fn a_large_request_beside_small_ones(rt: HostRuntime) -> Result<(), Fail> {
     let alloc = rt.alloc();
     let server = serve(&rt, alloc, 1 + SMALL)?;
     let mut large = Client::connect(&rt, alloc, server.address)?;
-    assert!(rt; large.gets("PUT /d", "", "201")? && large.gets("PUT /e", "", "201")?);
+    large.assert_gets(&rt, "PUT /d", "", "201")?;
+    large.assert_gets(&rt, "PUT /e", "", "201")?;
     let mut small = small(&rt, alloc, server.address)?;
     assert_beside(&rt, alloc, &mut large, small.as_mut_slice())?;
     drop(small);

@@ -2,7 +2,7 @@
 
 use crate::tests::client::Client;
 use crate::tests::closes::large_batch;
-use crate::tests::{Open, Running, serve};
+use crate::tests::{Open, Running, same_text, serve};
 use hub_document::Limits;
 use std::alloc::Global;
 use std::net::{Net, SocketAddr, TcpListener, TcpStream};
@@ -35,7 +35,7 @@ fn assert_each_answered(rt: &impl Abort, alloc: Global, client: &mut Client) -> 
     for _ in 0..REQUESTS {
         let answer = client.answer()?;
         assert!(rt; answer.is("200"));
-        assert_eq!(rt; answer.body.as_str(), wanted.body.as_str());
+        same_text(rt, answer.body.as_str(), wanted.body.as_str());
     }
     Ok(())
 }
@@ -46,10 +46,10 @@ fn answers_that_fill_the_socket(rt: HostRuntime) -> Result<(), Fail> {
     let alloc = rt.alloc();
     let server = serve(&rt, alloc, 1)?;
     let mut client = Client::connect(&rt, alloc, server.address)?;
-    assert!(rt; client.gets("PUT /d", "", "201")?);
+    client.assert_gets(&rt, "PUT /d", "", "201")?;
     let text = four_thousand(alloc)?;
     let document = format!(in alloc; r#"{{"text":"{text}"}}"#)?;
-    assert!(rt; client.gets("PUT /d/a", document.as_str(), "201")?);
+    client.assert_gets(&rt, "PUT /d/a", document.as_str(), "201")?;
     assert_each_answered(&rt, alloc, &mut client)?;
     drop(client);
     assert!(rt; server.ends(&rt));
@@ -124,10 +124,10 @@ fn go_in_feeds<R: Clock + Net<Listener = TcpListener, Stream = TcpStream>>(
 
 /// Makes `d`, with the large documents.
 fn write_large(rt: &impl Abort, alloc: Global, writer: &mut Client) -> Result<(), Fail> {
-    assert!(rt; writer.gets("PUT /d", "", "201")?);
+    writer.assert_gets(rt, "PUT /d", "", "201")?;
     for id in 0..LARGE {
         let batch = large_batch(alloc, id)?;
-        assert!(rt; writer.gets("POST /d/_bulk_docs", batch.as_str(), "201")?);
+        writer.assert_gets(rt, "POST /d/_bulk_docs", batch.as_str(), "201")?;
     }
     Ok(())
 }

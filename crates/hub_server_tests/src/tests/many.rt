@@ -69,7 +69,7 @@ fn assert_row(
     let mut at = 0u64;
     for client in clients {
         let row = row(alloc, seq, at % DATABASES + 1)?;
-        assert_eq!(rt; client.chunk()?.as_str(), row.as_str());
+        client.assert_chunk(rt, row.as_str())?;
         at = at.saturating_add(1);
     }
     Ok(())
@@ -86,7 +86,7 @@ fn assert_end(
     for client in clients {
         let life = at % DATABASES + 1;
         let end = format!(in alloc; "{{\"last_seq\":\"{seq}-{life}\",\"pending\":0}}\n")?;
-        assert_eq!(rt; client.chunks()?.as_str(), end.as_str());
+        client.assert_chunks(rt, end.as_str())?;
         at = at.saturating_add(1);
     }
     Ok(())

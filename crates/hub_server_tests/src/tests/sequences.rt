@@ -162,7 +162,7 @@ fn assert_begins_anew(
     client: &mut Client,
     feed: &str,
 ) -> Result<(), Fail> {
-    assert!(rt; client.gets("DELETE /d", "", "200")?);
+    client.assert_gets(rt, "DELETE /d", "", "200")?;
     assert!(rt; makes_database(client)?);
     let Some(last) = sequence_of(feed, "last_seq") else {
         return Err(Fail::new("no sequence"));

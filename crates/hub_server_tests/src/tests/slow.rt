@@ -46,7 +46,7 @@ fn assert_sent_slowly(
         assert!(rt; is_answered(alloc, client, number)?);
     }
     slow.send(SENT_SLOWLY.get(fast.len()..).unwrap_or(""))?;
-    assert!(rt; slow.answer()?.is("201"));
+    slow.assert_answer(rt, "201")?;
     let stored = slow.answered("GET /d/slow", "")?;
     assert!(rt; stored.body.as_str().ends_with(",\"v\":7}\n"));
     Ok(())
@@ -58,7 +58,7 @@ fn a_client_that_sends_slowly(rt: HostRuntime) -> Result<(), Fail> {
     let alloc = rt.alloc();
     let server = serve(&rt, alloc, 1 + FAST)?;
     let mut slow = Client::connect(&rt, alloc, server.address)?;
-    assert!(rt; slow.gets("PUT /d", "", "201")?);
+    slow.assert_gets(&rt, "PUT /d", "", "201")?;
     let mut fast = fast(&rt, alloc, server.address)?;
     assert_sent_slowly(&rt, alloc, &mut slow, fast.as_mut_slice())?;
     drop(fast);
@@ -104,10 +104,11 @@ fn assert_read_slowly(
 
 /// Makes `d`, and `large` with large documents.
 fn write_large(rt: &impl Abort, alloc: Global, writer: &mut Client) -> Result<(), Fail> {
-    assert!(rt; writer.gets("PUT /d", "", "201")? && writer.gets("PUT /large", "", "201")?);
+    writer.assert_gets(rt, "PUT /d", "", "201")?;
+    writer.assert_gets(rt, "PUT /large", "", "201")?;
     for id in 0..LARGE {
         let batch = large_batch(alloc, id)?;
-        assert!(rt; writer.gets("POST /large/_bulk_docs", batch.as_str(), "201")?);
+        writer.assert_gets(rt, "POST /large/_bulk_docs", batch.as_str(), "201")?;
     }
     Ok(())
 }

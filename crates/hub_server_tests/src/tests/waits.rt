@@ -31,9 +31,9 @@ const ANSWERED: &str = concat!(
 fn assert_longpoll(rt: &impl Abort, writer: &mut Client, reader: &mut Client) -> Result<(), Fail> {
     assert!(rt; reader.follows("GET /d/_changes?feed=longpoll")?);
     reader.half_close()?;
-    assert!(rt; writer.gets("PUT /d/a", "{}", "201")?);
-    assert_eq!(rt; reader.chunks()?.as_str(), ANSWERED);
-    assert!(rt; reader.rest()?.is_empty());
+    writer.assert_gets(rt, "PUT /d/a", "{}", "201")?;
+    reader.assert_chunks(rt, ANSWERED)?;
+    reader.assert_rest(rt, "")?;
     Ok(())
 }
 
@@ -85,12 +85,12 @@ fn assert_continuous(
 ) -> Result<(), Fail> {
     assert!(rt; reader.follows("GET /d/_changes?feed=continuous&heartbeat=20")?);
     assert!(rt; are_beats(reader, 3)?);
-    assert!(rt; writer.gets("PUT /d/a", "{}", "201")?);
+    writer.assert_gets(rt, "PUT /d/a", "{}", "201")?;
     assert!(rt; is_behind_beats(reader, LINE)?);
     assert!(rt; are_beats(reader, 3)?);
-    assert!(rt; writer.gets("DELETE /d", "", "200")?);
+    writer.assert_gets(rt, "DELETE /d", "", "200")?;
     assert!(rt; is_behind_beats(reader, "{\"last_seq\":\"1-1\",\"pending\":0}\n")?);
-    assert!(rt; reader.chunk()?.is_empty());
+    reader.assert_chunk(rt, "")?;
     Ok(())
 }
 
@@ -110,12 +110,12 @@ fn a_continuous_feed_that_beats(rt: HostRuntime) -> Result<(), Fail> {
 
 /// Asserts that a feed of the log of updates tells that `d` was made, and ends.
 fn assert_updates(rt: &impl Abort, reader: &mut Client) -> Result<(), Fail> {
-    assert_eq!(rt;
-        reader.chunk()?.as_str(),
-        "{\"db_name\":\"d\",\"type\":\"created\",\"seq\":\"1-0\"}\n"
-    );
-    assert_eq!(rt; reader.chunk()?.as_str(), "{\"last_seq\":\"1-0\"}\n");
-    assert!(rt; reader.chunk()?.is_empty());
+    reader.assert_chunk(
+        rt,
+        "{\"db_name\":\"d\",\"type\":\"created\",\"seq\":\"1-0\"}\n",
+    )?;
+    reader.assert_chunk(rt, "{\"last_seq\":\"1-0\"}\n")?;
+    reader.assert_chunk(rt, "")?;
     Ok(())
 }
 

@@ -1,6 +1,6 @@
 //! What the calls of a handle answer with ample memory.
 
-use crate::tests::{database, params, store, write};
+use crate::tests::{database, params, same, store, write};
 use hub_database::{DbFault, Descending, Diff, Lookup, OpenRev};
 use hub_document::{Asked, Changes, LocalDoc, OpenRevs, RevId, Revisions, write_local};
 use hub_feed::OpenFault;
@@ -277,7 +277,7 @@ fn questions_are_answered(rt: HostRuntime) -> Result<(), Fail> {
     let (_db, mut handle) = conflicts(&rt, rt.alloc())?;
     for table in [DOCUMENTS, REVISIONS, FALLING] {
         let count = answer_count(&rt, rt.alloc(), &mut handle, table)?;
-        assert_eq!(rt; count, table.len());
+        same(&rt, &count, &table.len());
     }
     Ok(())
 }
@@ -306,12 +306,24 @@ const PUT_TWICE: &[(Asking, &str)] = &[
 #[test]
 fn local_documents_are_counted(rt: HostRuntime) -> Result<(), Fail> {
     let (_db, mut handle) = database(rt.alloc(), 64, 64)?;
-    assert_eq!(rt; answer_count(&rt, rt.alloc(), &mut handle, NO_LOCAL)?, 1);
+    same(
+        &rt,
+        &answer_count(&rt, rt.alloc(), &mut handle, NO_LOCAL)?,
+        &1,
+    );
     for count in 1u64..3 {
         let text = r#"{"v":{"w":[1,2]},"x":"y"}"#;
-        assert_eq!(rt; put_local(&rt, rt.alloc(), &mut handle, text)?, Ok(count));
+        same(
+            &rt,
+            &put_local(&rt, rt.alloc(), &mut handle, text)?,
+            &Ok(count),
+        );
     }
-    assert_eq!(rt; answer_count(&rt, rt.alloc(), &mut handle, PUT_TWICE)?, 2);
+    same(
+        &rt,
+        &answer_count(&rt, rt.alloc(), &mut handle, PUT_TWICE)?,
+        &2,
+    );
     Ok(())
 }
 
@@ -401,12 +413,12 @@ fn refused_count<R: Wait>(
 #[test]
 fn a_deleted_database_answers_nothing(rt: HostRuntime) -> Result<(), Fail> {
     let (_db, mut handle) = conflicts(&rt, rt.alloc())?;
-    assert_eq!(rt; handle.delete(&rt), Ok(()));
+    same(&rt, &handle.delete(&rt), &Ok(()));
     for table in [DOCUMENTS, REVISIONS, FALLING, NO_LOCAL] {
         let count = refused_count(&rt, rt.alloc(), &mut handle, table)?;
-        assert_eq!(rt; count, table.len());
+        same(&rt, &count, &table.len());
     }
-    assert_eq!(rt; handle.delete(&rt), Err(DELETED));
+    same(&rt, &handle.delete(&rt), &Err(DELETED));
     Ok(())
 }
 
@@ -434,9 +446,9 @@ fn is_write_refused<R: Wait>(
 #[test]
 fn a_deleted_database_takes_nothing(rt: HostRuntime) -> Result<(), Fail> {
     let (_db, mut handle) = conflicts(&rt, rt.alloc())?;
-    assert_eq!(rt; handle.delete(&rt), Ok(()));
+    same(&rt, &handle.delete(&rt), &Ok(()));
     let put = put_local(&rt, rt.alloc(), &mut handle, "{}")?;
-    assert_eq!(rt; put, Err(DELETED));
+    same(&rt, &put, &Err(DELETED));
     assert!(rt; is_feed_refused(&rt, rt.alloc(), &mut handle)?);
     assert!(rt; is_write_refused(&rt, rt.alloc(), &mut handle)?);
     Ok(())

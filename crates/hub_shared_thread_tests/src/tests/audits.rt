@@ -1,6 +1,6 @@
 //! What an audit of receipts tells.
 
-use crate::tests::{FIVE, database, write};
+use crate::tests::{FIVE, database, same, write};
 use hub_shared::{AuditFault, Handle, Plain};
 use std::alloc::Global;
 use std::sync::Wait;
@@ -43,7 +43,7 @@ fn audit_of<R: Wait>(
 #[test]
 fn a_receipt_of_another_sequence_is_told(rt: HostRuntime) -> Result<(), Fail> {
     let audit = audit_of(&rt, rt.alloc(), 2, 2)?;
-    assert_eq!(rt; audit, Err(AuditFault::WrongReceipt { at: 2 }));
+    same(&rt, &audit, &Err(AuditFault::WrongReceipt { at: 2 }));
     Ok(())
 }
 
@@ -52,7 +52,11 @@ fn a_receipt_of_another_sequence_is_told(rt: HostRuntime) -> Result<(), Fail> {
 fn a_receipt_of_no_sequence_is_told(rt: HostRuntime) -> Result<(), Fail> {
     for (at, seq) in [(0usize, 0u64), (4, 6)] {
         let audit = audit_of(&rt, rt.alloc(), at, seq)?;
-        assert_eq!(rt; audit, Err(AuditFault::WrongReceipt { at }), "at {at}");
+        same(
+            &rt,
+            &(at, audit),
+            &(at, Err(AuditFault::WrongReceipt { at })),
+        );
     }
     Ok(())
 }

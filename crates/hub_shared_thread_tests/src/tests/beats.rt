@@ -1,7 +1,7 @@
 //! A feed with a heartbeat whose clock stays below it.
 
 use crate::tests::Told::{self, Row};
-use crate::tests::{Counting, FIVE, Stepping, database, docs, next, open, pumps};
+use crate::tests::{Counting, FIVE, Stepping, database, docs, next, open, pumps, same};
 use hub_document::Doc;
 use hub_shared::{Feed, Handle, Plain};
 use std::sync::Wait;
@@ -42,6 +42,6 @@ fn no_heartbeat_comes_before_its_time(rt: HostRuntime) -> Result<(), Fail> {
         || first_behind_write(&rt, &gate, &mut handle, feed, written),
     );
     assert!(rt; is_ok);
-    assert_eq!(rt; first, Some(Row(1)));
+    same(&rt, &first, &Some(Row(1)));
     Ok(())
 }

@@ -2,7 +2,7 @@
 
 use crate::tests::Told::{Beat, End};
 use crate::tests::feeds::Step::{Pumps, Takes};
-use crate::tests::feeds::{Shown, assert_feed};
+use crate::tests::feeds::{Shown, assert_feeds};
 use crate::tests::{Counting, Stepping, database, next, open, pumps};
 use hub_shared::{Feed, Plain};
 use std::sync::Wait;
@@ -17,8 +17,7 @@ const WITHOUT_NEWS: Shown = (
 
 #[test]
 fn a_feed_without_news_comes_to_its_end(rt: HostRuntime) -> Result<(), Fail> {
-    let (db, mut handle) = database(rt.alloc(), 64, 64)?;
-    assert_feed(&rt, rt.alloc(), &db, &mut handle, WITHOUT_NEWS)
+    assert_feeds(&rt, rt.alloc(), 64, 64, &[WITHOUT_NEWS])
 }
 
 // Whether the first item is a heartbeat. The feed is finished behind it.

@@ -1,6 +1,10 @@
 //! Feeds as tables: what is done with a feed of a database, and what that answers.
 
-use crate::tests::{Counting, FIVE, Stepping, Told, open, pumps, put, take, told_of};
+ghost use Rattle.std.specs.Prelude.{◌<◌, ◌≤◌};
+
+use crate::tests::{
+    Counting, FIVE, Stepping, Told, database, open, pumps, put, same, store, take, told_of,
+};
 use hub_shared::{Db, Feed, Handed, Handle, Plain, Turn, hold};
 use std::alloc::Global;
 use std::process::Abort;
@@ -122,9 +126,9 @@ fn shown_count<R: Wait + time::Clock>(
     Ok(count)
 }
 
-/// Asserts that these steps, one at least, have their answers. Where one has another, the count that the
-/// assertion shows is its place.
-pub(crate) fn assert_feed<R: Abort + Wait + time::Clock>(
+// Asserts that these steps, one at least, have their answers. Where one has another, the count that the
+// assertion shows is its place.
+fn assert_feed<R: Abort + Wait + time::Clock>(
     rt: &R,
     alloc: Global,
     db: &Db<Plain>,
@@ -132,9 +136,45 @@ pub(crate) fn assert_feed<R: Abort + Wait + time::Clock>(
     shown: Shown,
 ) -> Result<(), Fail> {
     let count = shown_count(rt, alloc, db, handle, shown)?;
-    assert_eq!(rt; count, shown.2.len());
+    same(rt, &count, &shown.2.len());
     assert!(rt; count > 0);
     Ok(())
+}
+
+/// Asserts that feeds of a new database have their answers, one feed behind the other. The lanes of that
+/// database hold so many items, and one holding hands so many.
+pub(crate) fn assert_feeds<R: Abort + Wait + time::Clock>(
+    rt: &R,
+    alloc: Global,
+    lane: u64,
+    hold: u64,
+    feeds: &[Shown],
+) -> Result<(), Fail>
+    requires lane { 0 < lane × lane ≤ 64 }
+    requires hold { 0 < hold × hold ≤ 64 }
+{
+    let (db, mut handle) = database(alloc, lane, hold)?;
+    for shown in feeds {
+        assert_feed(rt, alloc, &db, &mut handle, *shown)?;
+    }
+    Ok(())
+}
+
+/// Asserts the same of one feed of such a database that has the documents that the texts are.
+pub(crate) fn assert_feed_of<R: Abort + Wait + time::Clock>(
+    rt: &R,
+    alloc: Global,
+    lane: u64,
+    hold: u64,
+    texts: &[&str],
+    shown: Shown,
+) -> Result<(), Fail>
+    requires lane { 0 < lane × lane ≤ 64 }
+    requires hold { 0 < hold × hold ≤ 64 }
+{
+    let (db, mut handle) = database(alloc, lane, hold)?;
+    store(rt, alloc, &mut handle, texts)?;
+    assert_feed(rt, alloc, &db, &mut handle, shown)
 }
 
 /// The first three items that a finished feed still has.

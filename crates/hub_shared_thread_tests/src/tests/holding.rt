@@ -2,7 +2,7 @@
 
 use crate::tests::Told::{End, Row};
 use crate::tests::feeds::Step::{Hands, Takes, Turns};
-use crate::tests::feeds::{Shown, assert_feed, finished, hand};
+use crate::tests::feeds::{Shown, assert_feed_of, assert_feeds, finished, hand};
 use crate::tests::{Counting, FIVE, database, open, store};
 use hub_document::Doc;
 use hub_model::Item;
@@ -28,17 +28,14 @@ const TWO_AT_ONCE: Shown = (
 
 #[test]
 fn a_holding_hands_as_many_items_as_it_may(rt: HostRuntime) -> Result<(), Fail> {
-    let (db, mut handle) = database(rt.alloc(), 64, 2)?;
-    store(&rt, rt.alloc(), &mut handle, &FIVE[..3])?;
-    assert_feed(&rt, rt.alloc(), &db, &mut handle, TWO_AT_ONCE)
+    assert_feed_of(&rt, rt.alloc(), 64, 2, &FIVE[..3], TWO_AT_ONCE)
 }
 
 const ENDED: Shown = ("", 0, &[Hands(Handed::End), Hands(Handed::Gone)]);
 
 #[test]
 fn a_feed_that_handed_its_end_is_gone(rt: HostRuntime) -> Result<(), Fail> {
-    let (db, mut handle) = database(rt.alloc(), 64, 2)?;
-    assert_feed(&rt, rt.alloc(), &db, &mut handle, ENDED)
+    assert_feeds(&rt, rt.alloc(), 64, 2, &[ENDED])
 }
 
 // Whether two holdings find a feed's lane full. Once the feed is finished it still has two rows, and is gone.
@@ -84,9 +81,7 @@ const NOT_READ: Shown = (
 
 #[test]
 fn a_feed_that_is_not_read_stops_and_goes_on(rt: HostRuntime) -> Result<(), Fail> {
-    let (db, mut handle) = database(rt.alloc(), 2, 64)?;
-    store(&rt, rt.alloc(), &mut handle, &FIVE)?;
-    assert_feed(&rt, rt.alloc(), &db, &mut handle, NOT_READ)
+    assert_feed_of(&rt, rt.alloc(), 2, 64, &FIVE, NOT_READ)
 }
 
 const WITH_ROOM: Shown = (
@@ -106,9 +101,7 @@ const WITH_ROOM: Shown = (
 // The lane has room as soon as the first item of its block is taken.
 #[test]
 fn a_lane_with_room_is_handed_on(rt: HostRuntime) -> Result<(), Fail> {
-    let (db, mut handle) = database(rt.alloc(), 2, 64)?;
-    store(&rt, rt.alloc(), &mut handle, &FIVE[..3])?;
-    assert_feed(&rt, rt.alloc(), &db, &mut handle, WITH_ROOM)
+    assert_feed_of(&rt, rt.alloc(), 2, 64, &FIVE[..3], WITH_ROOM)
 }
 
 const ONE_MORE: Shown = (
@@ -134,9 +127,7 @@ const ONE_MORE: Shown = (
 // Behind a full lane, room for one item more is handed one item more.
 #[test]
 fn items_wait_one_by_one(rt: HostRuntime) -> Result<(), Fail> {
-    let (db, mut handle) = database(rt.alloc(), 2, 1)?;
-    store(&rt, rt.alloc(), &mut handle, &FIVE[..3])?;
-    assert_feed(&rt, rt.alloc(), &db, &mut handle, ONE_MORE)
+    assert_feed_of(&rt, rt.alloc(), 2, 1, &FIVE[..3], ONE_MORE)
 }
 
 // The first heartbeat lies in the lane, and the second one waits.
@@ -155,8 +146,7 @@ const ONE_STEP: Shown = (
 
 #[test]
 fn one_turn_is_one_step(rt: HostRuntime) -> Result<(), Fail> {
-    let (db, mut handle) = database(rt.alloc(), 1, 64)?;
-    assert_feed(&rt, rt.alloc(), &db, &mut handle, ONE_STEP)
+    assert_feeds(&rt, rt.alloc(), 1, 64, &[ONE_STEP])
 }
 
 // The text of the document that the first row of a feed shows.

@@ -1,6 +1,6 @@
 //! Databases with lowered limits.
 
-use crate::tests::{FIVE, LIFE, docs};
+use crate::tests::{FIVE, LIFE, docs, same};
 use hub_document::Limits;
 use hub_feed::OpenFault;
 use hub_model::{Fault, Outcome};
@@ -41,7 +41,7 @@ fn second_feed<R: Wait>(
 fn a_database_has_as_many_feeds_as_its_limits_say(rt: HostRuntime) -> Result<(), Fail> {
     let mut handle = small(rt.alloc())?;
     let second = second_feed(&rt, rt.alloc(), &mut handle);
-    assert_eq!(rt; second, Some((OpenFault::TooManyFeeds, true)));
+    same(&rt, &second, &Some((OpenFault::TooManyFeeds, true)));
     Ok(())
 }
 
@@ -55,6 +55,6 @@ fn a_database_stores_as_many_edits_as_its_limits_say(rt: HostRuntime) -> Result<
     };
     assert!(rt; matches!(first, Outcome::Stored(_)));
     assert!(rt; matches!(second, Outcome::Refused(Fault::SequenceFull)));
-    assert_eq!(rt; accepted.receipts.len(), 1);
+    same(&rt, &accepted.receipts.len(), &1);
     Ok(())
 }

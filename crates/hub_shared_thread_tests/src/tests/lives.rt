@@ -2,7 +2,7 @@
 
 ghost use Rattle.std.specs.Prelude.{◌≡◌};
 
-use crate::tests::{FIVE, LIFE, database, docs, store};
+use crate::tests::{FIVE, LIFE, database, docs, same, store};
 use hub_document::{Doc, Limits};
 use hub_params::FeedParams;
 use hub_shared::{Count, Counted, Db, Handle, Plain, Updates};
@@ -59,7 +59,7 @@ fn first_other<C: Count, R: Wait>(
 fn feeds_of_a_plain_handle_begin_in_its_life(rt: HostRuntime) -> Result<(), Fail> {
     let (_db, mut handle) = database(rt.alloc(), 64, 64)?;
     store(&rt, rt.alloc(), &mut handle, &FIVE)?;
-    assert_eq!(rt; first_other(&rt, rt.alloc(), &mut handle), None);
+    same(&rt, &first_other(&rt, rt.alloc(), &mut handle), &None);
     Ok(())
 }
 
@@ -93,7 +93,7 @@ fn other_of_one<R: Wait>(
 #[test]
 fn feeds_of_a_handle_that_counts_begin_in_its_life(rt: HostRuntime) -> Result<(), Fail> {
     let docs = docs(rt.alloc(), &FIVE)?;
-    assert_eq!(rt; other_of_one(&rt, rt.alloc(), docs)?, (5, None));
+    same(&rt, &other_of_one(&rt, rt.alloc(), docs)?, &(5, None));
     Ok(())
 }
 
@@ -181,7 +181,11 @@ fn labels_of_one_database_have_one_life(rt: HostRuntime) -> Result<(), Fail> {
     let (first, _handle) = database(rt.alloc(), 4, 8)?;
     let (second, _other) = Db::new(rt.alloc(), Limits::full(), LIFE + 1, Plain)?;
     let count = run(&rt, rt.alloc(), &first, &second)?;
-    assert_eq!(rt; count, Some(THREADS * ROUNDS * 2 * QUERIES.len() as u64));
+    same(
+        &rt,
+        &count,
+        &Some(THREADS * ROUNDS * 2 * QUERIES.len() as u64),
+    );
     Ok(())
 }
 
@@ -205,7 +209,7 @@ fn labels_of_the_log_of_updates_have_the_life_0(rt: HostRuntime) -> Result<(), F
     let updates = Updates::of_updates(rt.alloc(), Limits::full())?;
     for query in QUERIES {
         let label = beginning_of_updates(&rt, rt.alloc(), &updates, *query);
-        assert_eq!(rt; label, Some((0, 0)));
+        same(&rt, &label, &Some((0, 0)));
     }
     Ok(())
 }

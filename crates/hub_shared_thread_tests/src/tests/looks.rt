@@ -1,6 +1,6 @@
 //! What one look at a database tells.
 
-use crate::tests::{database, store};
+use crate::tests::{database, same, store};
 use hub_database::DbFault;
 use hub_model::Fault;
 use hub_shared::{Handle, Plain};
@@ -29,17 +29,22 @@ fn keeps<R: Wait>(rt: &R, handle: &mut Handle<Plain>, id: &str) -> Result<bool, 
 #[test]
 fn a_look_tells_of_the_database_as_it_is(rt: HostRuntime) -> Result<(), Fail> {
     let (_db, mut handle) = database(rt.alloc(), 64, 64)?;
-    assert_eq!(rt;
-        (edits(&rt, &mut handle), has(&rt, &mut handle, "a")),
-        (Ok(0), Ok(false))
+    same(
+        &rt,
+        &(edits(&rt, &mut handle), has(&rt, &mut handle, "a")),
+        &(Ok(0), Ok(false)),
     );
     store(&rt, rt.alloc(), &mut handle, ONE)?;
-    assert_eq!(rt;
-        (edits(&rt, &mut handle), has(&rt, &mut handle, "a")),
-        (Ok(1), Ok(true))
+    same(
+        &rt,
+        &(edits(&rt, &mut handle), has(&rt, &mut handle, "a")),
+        &(Ok(1), Ok(true)),
     );
-    assert_eq!(rt; has(&rt, &mut handle, "b"), Ok(false));
-    assert_eq!(rt; keeps(&rt, &mut handle, "_local/x"), Ok(false));
+    let others = [
+        has(&rt, &mut handle, "b"),
+        keeps(&rt, &mut handle, "_local/x"),
+    ];
+    same(&rt, &others, &[Ok(false), Ok(false)]);
     Ok(())
 }
 
@@ -47,11 +52,12 @@ fn a_look_tells_of_the_database_as_it_is(rt: HostRuntime) -> Result<(), Fail> {
 fn a_look_passes_on_what_was_refused(rt: HostRuntime) -> Result<(), Fail> {
     let (_db, mut handle) = database(rt.alloc(), 64, 64)?;
     let none: Result<(), DbFault> = handle.look(&rt, |_state| Err(DbFault::NoMemory));
-    assert_eq!(rt; none, Err(DbFault::NoMemory));
-    assert_eq!(rt; handle.delete(&rt), Ok(()));
-    assert_eq!(rt;
-        edits(&rt, &mut handle),
-        Err(DbFault::Refused(Fault::Deleted))
+    same(&rt, &none, &Err(DbFault::NoMemory));
+    same(&rt, &handle.delete(&rt), &Ok(()));
+    same(
+        &rt,
+        &edits(&rt, &mut handle),
+        &Err(DbFault::Refused(Fault::Deleted)),
     );
     Ok(())
 }

@@ -1,9 +1,9 @@
 //! Feeds that are polled: what a poll gives, and when the feed is due.
 
+use crate::tests::FIVE;
 use crate::tests::Told::{Beat, End, Row};
 use crate::tests::feeds::Step::{Held, IsDue, IsOver, Polls, Writes};
-use crate::tests::feeds::{Shown, assert_feed};
-use crate::tests::{FIVE, database, store};
+use crate::tests::feeds::{Shown, assert_feed_of, assert_feeds};
 use std::test::Fail;
 
 const NORMAL: Shown = (
@@ -23,9 +23,7 @@ const NORMAL: Shown = (
 
 #[test]
 fn polls_hand_a_normal_feed_to_its_end(rt: HostRuntime) -> Result<(), Fail> {
-    let (db, mut handle) = database(rt.alloc(), 64, 64)?;
-    store(&rt, rt.alloc(), &mut handle, &FIVE)?;
-    assert_feed(&rt, rt.alloc(), &db, &mut handle, NORMAL)
+    assert_feed_of(&rt, rt.alloc(), 64, 64, &FIVE, NORMAL)
 }
 
 const THROUGH_A_LANE: Shown = (
@@ -50,9 +48,7 @@ const THROUGH_A_LANE: Shown = (
 // finds nothing more to hand, so that no holding is needed to see that the feed waits.
 #[test]
 fn a_full_lane_is_handed_on_by_polls(rt: HostRuntime) -> Result<(), Fail> {
-    let (db, mut handle) = database(rt.alloc(), 2, 64)?;
-    store(&rt, rt.alloc(), &mut handle, &FIVE)?;
-    assert_feed(&rt, rt.alloc(), &db, &mut handle, THROUGH_A_LANE)
+    assert_feed_of(&rt, rt.alloc(), 2, 64, &FIVE, THROUGH_A_LANE)
 }
 
 const BY_HOLDINGS: Shown = (
@@ -76,9 +72,7 @@ const BY_HOLDINGS: Shown = (
 // A holding hands two items.
 #[test]
 fn a_long_feed_is_handed_by_many_holdings(rt: HostRuntime) -> Result<(), Fail> {
-    let (db, mut handle) = database(rt.alloc(), 64, 2)?;
-    store(&rt, rt.alloc(), &mut handle, &FIVE)?;
-    assert_feed(&rt, rt.alloc(), &db, &mut handle, BY_HOLDINGS)
+    assert_feed_of(&rt, rt.alloc(), 64, 2, &FIVE, BY_HOLDINGS)
 }
 
 const WAITING: Shown = (
@@ -117,11 +111,7 @@ const ANSWERED: Shown = (
 // A feed that waits goes on waiting, however often it is polled, and a poll behind a write gives its row.
 #[test]
 fn a_feed_that_waits_gets_what_is_written(rt: HostRuntime) -> Result<(), Fail> {
-    let (db, mut handle) = database(rt.alloc(), 64, 64)?;
-    for shown in [WAITING, ANSWERED] {
-        assert_feed(&rt, rt.alloc(), &db, &mut handle, shown)?;
-    }
-    Ok(())
+    assert_feeds(&rt, rt.alloc(), 64, 64, &[WAITING, ANSWERED])
 }
 
 const BEATING: Shown = (
@@ -162,11 +152,7 @@ const BEHIND_A_ROW: Shown = (
 
 #[test]
 fn heartbeats_come_by_the_clock(rt: HostRuntime) -> Result<(), Fail> {
-    let (db, mut handle) = database(rt.alloc(), 64, 64)?;
-    for shown in [BEATING, BEHIND_A_ROW] {
-        assert_feed(&rt, rt.alloc(), &db, &mut handle, shown)?;
-    }
-    Ok(())
+    assert_feeds(&rt, rt.alloc(), 64, 64, &[BEATING, BEHIND_A_ROW])
 }
 
 const ALWAYS_DUE: Shown = (
@@ -183,8 +169,7 @@ const ALWAYS_DUE: Shown = (
 // A row comes before a heartbeat that is due as well.
 #[test]
 fn heartbeats_hold_up_no_row(rt: HostRuntime) -> Result<(), Fail> {
-    let (db, mut handle) = database(rt.alloc(), 64, 64)?;
-    assert_feed(&rt, rt.alloc(), &db, &mut handle, ALWAYS_DUE)
+    assert_feeds(&rt, rt.alloc(), 64, 64, &[ALWAYS_DUE])
 }
 
 const ENDING: Shown = (
@@ -213,9 +198,5 @@ const WITHOUT_NEWS: Shown = (
 
 #[test]
 fn feeds_end_by_the_clock(rt: HostRuntime) -> Result<(), Fail> {
-    let (db, mut handle) = database(rt.alloc(), 64, 64)?;
-    for shown in [ENDING, WITHOUT_NEWS] {
-        assert_feed(&rt, rt.alloc(), &db, &mut handle, shown)?;
-    }
-    Ok(())
+    assert_feeds(&rt, rt.alloc(), 64, 64, &[ENDING, WITHOUT_NEWS])
 }

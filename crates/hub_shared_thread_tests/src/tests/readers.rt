@@ -2,7 +2,7 @@
 
 use crate::tests::Told::{self, End, Row};
 use crate::tests::feeds::finished;
-use crate::tests::{Counting, FIVE, Stepping, database, docs, next, open, pumps, store};
+use crate::tests::{Counting, FIVE, Stepping, database, docs, next, open, pumps, same, store};
 use hub_document::Doc;
 use hub_shared::{Db, Feed, Handle, Plain, Question};
 use std::alloc::Global;
@@ -88,7 +88,7 @@ fn a_slow_reader_gets_every_row(rt: HostRuntime) -> Result<(), Fail> {
         move || rows_to_end(&rt, feed),
     );
     assert!(rt; is_ok);
-    assert_eq!(rt; rows, Some(50));
+    same(&rt, &rows, &Some(50));
     Ok(())
 }
 

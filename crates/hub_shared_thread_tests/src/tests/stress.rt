@@ -1,7 +1,7 @@
 //! Many writers, and feeds of each mode, at once: what each reader took is compared with the edits
 //! that the receipts tell.
 
-use crate::tests::{Counting, LIFE, database, pumps};
+use crate::tests::{Counting, LIFE, database, pumps, same};
 use hub_document::{ChangeRow, Doc, RevId};
 use hub_model::Item;
 use hub_params::FeedParams;
@@ -526,11 +526,14 @@ fn readers_take_what_writers_are_told(rt: HostRuntime) -> Result<(), Fail> {
         let Some(all) = journal(rt.alloc(), parts.as_slice()) else {
             return Err(Fail::new("the receipts are not of the journal"));
         };
-        assert_eq!(rt; all.len() as u64, writers * EDITS);
-        assert_eq!(rt;
-            first_wrong(rt.alloc(), all.as_slice(), parts.as_slice()),
-            None,
-            "with {writers}"
+        same(&rt, &(all.len() as u64), &(writers * EDITS));
+        same(
+            &rt,
+            &(
+                writers,
+                first_wrong(rt.alloc(), all.as_slice(), parts.as_slice()),
+            ),
+            &(writers, None),
         );
     }
     Ok(())

@@ -3,7 +3,7 @@
 use crate::tests::Told::{End, Row};
 use crate::tests::feeds::poll;
 use crate::tests::watches::Step::{Deletes, Finishes, HasNews, Polls, Rings, Watches, Writes};
-use crate::tests::{Counting, FIVE, Stepping, Told, database, open, put};
+use crate::tests::{Counting, FIVE, Stepping, Told, database, open, put, same};
 use hub_shared::{Bell, Feed, Handle, Plain, Watch};
 use std::alloc::Global;
 use std::process::Abort;
@@ -123,7 +123,7 @@ fn held_count<R: Wait>(rt: &R, alloc: Global, steps: &[Step]) -> Result<usize, F
 // Asserts that these steps have their answers. Where one has another, the count that the assertion shows is
 // its place.
 fn assert_steps<R: Abort + Wait>(rt: &R, alloc: Global, steps: &[Step]) -> Result<(), Fail> {
-    assert_eq!(rt; held_count(rt, alloc, steps)?, steps.len());
+    same(rt, &held_count(rt, alloc, steps)?, &steps.len());
     Ok(())
 }
 
