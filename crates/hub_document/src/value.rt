@@ -1,7 +1,7 @@
 //! Values that are read with room that is used again.
 //!
-//! `serde_json` clears 16 kB for each text that it reads. The kit's `json` reads into a tree that borrows from
-//! its text, with room of its caller's. The tree is then made into a value of `serde_json`.
+//! `serde_json` clears 16 kB for each text that it reads. The kit's `json` reads into a tree that borrows
+//! from its text, with room of its caller's. The tree is then made into a value of `serde_json`.
 
 ghost use Rattle.std.specs.Prelude.{◌≡◌, ◌⊎◌, None, Some, IfErr, IfOk, option_map};
 ghost use Rattle.json.specs.Value.{value_view, items_view as trees_view, members_view as tree_members_view};
@@ -20,8 +20,8 @@ use std::alloc::Global;
 /// How deep arrays and objects may nest, as `serde_json` takes them.
 const MAX_DEPTH: usize = 127;
 
-/// The longest text that is read with room of its caller's. To clear 16 kB costs little beside a longer one, and
-/// less than its tree.
+/// The longest text that is read with room of its caller's. To clear 16 kB costs little beside a longer
+/// one, and less than its tree.
 const SHORT: usize = 4_096;
 
 /// The number that a token of JSON writes; None where it is too large for a float. `-0` is a float.

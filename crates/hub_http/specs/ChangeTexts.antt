@@ -37,8 +37,8 @@ id_member id = codes ",\"id\":" ++ (quoted id ++ codes ",\"changes\":[")
 unfoldable pub row_head : (life seq : ℕ) → List ℕ → List ℕ
 row_head life seq id = codes "{\"seq\":" ++ (sequence_text seq life ++ id_member id)
 
--- The front of a row whose id needs no escape, as far as the id. In life 1 it is `{"seq":"3-1","id":"a` of the
--- row of a at 3.
+-- The front of a row whose id needs no escape, as far as the id. In life 1 it is `{"seq":"3-1","id":"a` of
+-- the row of a at 3.
 unfoldable pub plain_front : (life seq : ℕ) → List ℕ → List ℕ
 plain_front life seq id =
     codes "{\"seq\":\"" ++ (decimal seq ++ (codes "-" ++ (decimal life ++ (codes "\",\"id\":\"" ++ id))))

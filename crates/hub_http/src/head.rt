@@ -119,8 +119,8 @@ fn look_within(
     }
 }
 
-/// Looks for a head at the front of the bytes, `None` where more bytes have to come. It costs their length, and
-/// twice that where the head has more than 16 fields.
+/// Looks for a head at the front of the bytes, `None` where more bytes have to come. It costs their length,
+/// and twice that where the head has more than 16 fields.
 pub(crate) fn look(alloc: Global, buf: &[u8]) -> Result<Option<Head>, HttpFault>
     ensures { Looks buf.now result }
 {

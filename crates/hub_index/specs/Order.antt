@@ -57,9 +57,10 @@ pub record IsNumberPage {Y : Type 0} (page : Vec ℕ Y) : Type 0 where
 abbrev pub place_of : {Y : Type 0} → List (Vec ℕ Y) → ℕ → ℕ → ℕ
 place_of pages page at = length (numbers_of (take page pages)) + at
 
--- One number more goes to a place among those of all pages; without memory they all stay. A page that has some
--- numbers, and at most 256, stays such a page.
-pub record PutsAt {A E Y : Type 0} (result : Result A E) (old new : List (Vec ℕ Y)) (place number : ℕ) : Type 0
+-- One number more goes to a place among those of all pages; without memory they all stay. A page that has
+-- some numbers, and at most 256, stays such a page.
+pub record PutsAt {A E Y : Type 0} (result : Result A E) (old new : List (Vec ℕ Y)) (place number : ℕ) :
+    Type 0
   where
     pub ok : OnOk result (numbers_of new ≡ insert (numbers_of old) place number)
     pub err : OnErr result (numbers_of new ≡ numbers_of old)

@@ -9,8 +9,8 @@ use serde_json::Value;
 use std::alloc::{AllocError, Global};
 use std::sync::{Mutex, Wait};
 
-/// Room for reading the bodies of requests. There are as many rooms as requests were read at one time, each of
-/// some 16 kB, and 4 KiB more at most.
+/// Room for reading the bodies of requests. There are as many rooms as requests were read at one time, each
+/// of some 16 kB, and 4 KiB more at most.
 pub struct JsonRooms {
     alloc: Global,
     /// Those that no request uses.

@@ -9,7 +9,8 @@ pub put_before-dash_at-requires : goal.put_before-dash_at-requires
 put_before-dash_at-requires c = search (rules, length-decimal-le 20 c.args.life)
 
 pub write_digits-seq_at-requires : goal.write_digits-seq_at-requires
-write_digits-seq_at-requires c = search (rules, length-decimal-le 20 c.args.seq, length-decimal-le 20 c.args.life)
+write_digits-seq_at-requires c = search
+    (rules, length-decimal-le 20 c.args.seq, length-decimal-le 20 c.args.life)
 
 pub put_before-at-requires : goal.put_before-at-requires
 put_before-at-requires c = search (rules, length-decimal-le 20 c.args.seq, length-decimal-le 20 c.args.life)

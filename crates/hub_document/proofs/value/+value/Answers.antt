@@ -1,4 +1,5 @@
-use Rattle.std.proofs.Common.{◌≡◌, ◌+◌, [], ◌∷◌, Some, drop, option_map, string_bytes, sym, ap, ◌∙◌, arith, rules}
+use Rattle.std.proofs.Common.{◌≡◌, ◌+◌, [], ◌∷◌, Some, drop}
+use Rattle.std.proofs.Common.{option_map, string_bytes, sym, ap, ◌∙◌, arith, rules}
 use Rattle.std.proofs.lemmas.List.{drop_all, drop_more}
 use Rattle.json.specs.Value.{items_view as trees_view, members_view as tree_members_view}
 use Rattle.serde_json.specs.Data.{item, put}
@@ -18,7 +19,8 @@ items_of-loop-tree-preserved t c =
     let here : drop l.tree-index trees ≡ tree ∷ rest =
     drop_more trees l.tree-index tree (omega arith) ∙ ap (λ y. y ∷ rest) (sym c.tree-item.is) in
     let made = c.in_ok-item.item in
-    let read : of_items (trees_view (tree ∷ rest)) ≡ option_map (item (view made)) (of_items (trees_view rest)) =
+    let read : of_items (trees_view (tree ∷ rest)) ≡ option_map (item (view made))
+        (of_items (trees_view rest)) =
     item_read tree rest (view made) c.in_ok-item.ensures.ok in
     l.invariant ∙ ap (λ ts. option_map (items_before l.items.items) (of_items (trees_view ts))) here
     ∙ ap (option_map (items_before l.items.items)) read

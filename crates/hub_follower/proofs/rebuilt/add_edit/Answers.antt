@@ -14,7 +14,8 @@ returns c =
     ∙ (c.in_ok-push.ensures.items ∙ ap (λ (docs : List Doc). docs ++ doc ∷ []) c.new-docs.ensures.items) in
     record {
       ok =
-          added c.args.db.now.journal copy c.merged.new.db doc c.args.seq c.in_ok-merged.field-0 c.requires.copy
+          added c.args.db.now.journal copy c.merged.new.db doc c.args.seq c.in_ok-merged.field-0
+          c.requires.copy
           c.requires.next c.requires.within (sym c.in-Some.is ∙ c.in_ok-doc.ensures.doc)
           (ap (λ docs. merges_all copy.limits.journal copy.journal (map edit_of docs)) (sym one)
           ∙ c.in_ok-merged.ensures.ok) c.in_ok-merged.ensures.rest;

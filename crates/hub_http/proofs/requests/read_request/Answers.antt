@@ -45,5 +45,6 @@ returns-in-Err-take_body-clause-told g c =
     let found = rw c.in-Ok-Some.field-0-is at c.in-Ok-Some.ensures.found in
     rw c.in-Err-take_body.ensures.err
     (told_memory _ _ _ c.find_head.new.held c.fill.new.held c.in-Ok-Some.head
-    NoMemory c.in-Ok-Some.ensures.kept found c.in-Ok-true.ensures.filled.kept c.in-Ok-true.ensures.filled.grown
+    NoMemory c.in-Ok-Some.ensures.kept found c.in-Ok-true.ensures.filled.kept
+    c.in-Ok-true.ensures.filled.grown
     (inl refl))

@@ -24,9 +24,11 @@ returns c =
           (λ e same. page_same f c.args.pages.now.items c.args.page x c.insert_at.new.numbers is.0
           c.index_mut.ensures.value same);
       pages = λ pages. let page : IsNumberPage x =
-          rw c.index_mut.ensures.value (All-get_or IsNumberPage c.args.pages.now.items c.args.page x is.0 pages) in
+          rw c.index_mut.ensures.value
+          (All-get_or IsNumberPage c.args.pages.now.items c.args.page x is.0 pages) in
           All-set IsNumberPage c.args.pages.now.items c.args.page c.insert_at.new.numbers
-          (page_kept c.insert_at.result x c.insert_at.new.numbers c.args.at c.args.number c.insert_at.ensures.ok
+          (page_kept c.insert_at.result x c.insert_at.new.numbers c.args.at c.args.number
+          c.insert_at.ensures.ok
           c.insert_at.ensures.err page here.0 here.1)
           pages;
     }

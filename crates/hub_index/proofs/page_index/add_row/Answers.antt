@@ -21,7 +21,8 @@ returns-then-index-number-clause-ok c =
     let is : 256 * x.0 + c.slot_of-number.result.1 + 1 ≡ c.args.seq =
     omega (arith, number, c.slot_of-number.ensures.seq) in
     ap (λ (w : List (Option ℕ)). rows_of (set es at (x.0, w))) c.fill.ensures
-    ∙ pages_filled es at x l c.index_mut.ensures.value c.requires.laid.each c.slot_of-number.result.1 c.args.seq
+    ∙ pages_filled es at x l c.index_mut.ensures.value c.requires.laid.each c.slot_of-number.result.1
+    c.args.seq
     c.slot_of-number.ensures.slot is (omega (arith, c.len-end.ensures)) c.requires.above c.args.document
 
 pub returns-then-index-number-clause-pages : goal.returns-then-index-number-clause-pages

@@ -7,7 +7,8 @@ pub returns-then-len-from : goal.returns-then-len-from
 returns-then-len-from c _ x r last =
     let long : length c.args.path.now ≡ c.generation.result =
     sym c.len.ensures ∙ (c.if-len-from.true ∙ c.from.ensures) in
-    nothing_first c.args.stems.now c.requires.indexed.stems c.requires.legal c.args.path.now c.generation.result
+    nothing_first c.args.stems.now c.requires.indexed.stems c.requires.legal c.args.path.now
+    c.generation.result
     c.requires.path c.generation.ensures long x r last
 
 pub returns : goal.returns

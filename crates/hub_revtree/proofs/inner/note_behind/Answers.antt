@@ -13,7 +13,8 @@ note_joined-requires-clause-fresh c = c.requires.comes.fresh
 
 pub note_parent-requires-clause-stems : goal.note_parent-requires-clause-stems
 note_parent-requires-clause-stems c =
-    stems_same c.args.stems.now c.note_joined.new.stems (sym c.note_joined.ensures.plain) c.requires.indexed.stems
+    stems_same c.args.stems.now c.note_joined.new.stems (sym c.note_joined.ensures.plain)
+    c.requires.indexed.stems
 
 pub note_parent-requires-clause-within : goal.note_parent-requires-clause-within
 note_parent-requires-clause-within c =

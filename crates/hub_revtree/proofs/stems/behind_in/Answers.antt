@@ -18,7 +18,8 @@ returns-in_err-at-clause-none c =
     rw c.from_residual.ensures (λ stem r e.
     none_own c.args.stems.now c.requires.stems c.args.number stem e c.args.sought.now
     (subst (λ (z : Stem). names z.revisions c.args.sought.now ≡ false)
-    (same_Some c.index-stems-number.result stem (sym there ∙ e)) (rw c.run-run.ensures at c.in_err-at.ensures.absent)) r)
+    (same_Some c.index-stems-number.result stem (sym there ∙ e))
+    (rw c.run-run.ensures at c.in_err-at.ensures.absent)) r)
 
 pub overflow_add-result : goal.overflow_add-result
 overflow_add-result c =
@@ -49,9 +50,11 @@ returns-then-from-len-clause-found c =
     read_stem c.args.stems.now c.args.number c.index-stems-number.result c.requires.within
     c.index-stems-number.is in
     let low : c.in_ok-at.at + 1 < length c.index-stems-number.result.revisions =
-    grind (arith, common_steps, c.if-from-len.true, c.from.ensures, c.len.ensures, ap length c.run-run.ensures) in
+    grind (arith, common_steps, c.if-from-len.true, c.from.ensures, c.len.ensures, ap length
+    c.run-run.ensures) in
     inner_brought c.args.stems.now c.requires.stems
-    c.args.number c.index-stems-number.result there c.args.sought.now c.in_ok-at.at (rw c.run-run.ensures at c.in_ok-at.ensures.found)
+    c.args.number c.index-stems-number.result there c.args.sought.now c.in_ok-at.at
+    (rw c.run-run.ensures at c.in_ok-at.ensures.found)
     (record { stem = c.args.number; at = c.in_ok-at.at + 1 }) refl low
 
 pub returns-else-from-len-clause-found : goal.returns-else-from-len-clause-found
@@ -60,7 +63,8 @@ returns-else-from-len-clause-found c =
     read_stem c.args.stems.now c.args.number c.index-stems-number.result c.requires.within
     c.index-stems-number.is in
     let past : length c.index-stems-number.result.revisions ≤ c.in_ok-at.at + 1 =
-    grind (arith, common_steps, c.if-from-len.false, c.from.ensures, c.len.ensures, ap length c.run-run.ensures) in
+    grind (arith, common_steps, c.if-from-len.false, c.from.ensures, c.len.ensures, ap length
+    c.run-run.ensures) in
     rw c.parent.ensures
     (parent_brought c.args.stems.now c.requires.stems c.args.number c.index-stems-number.result there
     c.args.sought.now c.in_ok-at.at (rw c.run-run.ensures at c.in_ok-at.ensures.found) past)
@@ -71,7 +75,8 @@ returns-else-from-len-clause-none c =
     read_stem c.args.stems.now c.args.number c.index-stems-number.result c.requires.within
     c.index-stems-number.is in
     let past : length c.index-stems-number.result.revisions ≤ c.in_ok-at.at + 1 =
-    grind (arith, common_steps, c.if-from-len.false, c.from.ensures, c.len.ensures, ap length c.run-run.ensures) in
+    grind (arith, common_steps, c.if-from-len.false, c.from.ensures, c.len.ensures, ap length
+    c.run-run.ensures) in
     rw c.parent.ensures
     (none_parent c.args.stems.now c.requires.stems c.args.number c.index-stems-number.result
     there c.args.sought.now c.in_ok-at.at (rw c.run-run.ensures at c.in_ok-at.ensures.found) past)
@@ -91,7 +96,8 @@ returns-then-from-len-clause-goes c =
     read_stem c.args.stems.now c.args.number c.index-stems-number.result c.requires.within
     c.index-stems-number.is in
     let low : c.in_ok-at.at + 1 < length c.index-stems-number.result.revisions =
-    grind (arith, common_steps, c.if-from-len.true, c.from.ensures, c.len.ensures, ap length c.run-run.ensures) in
+    grind (arith, common_steps, c.if-from-len.true, c.from.ensures, c.len.ensures, ap length
+    c.run-run.ensures) in
     goes_inner c.args.stems.now c.requires.stems c.args.number c.index-stems-number.result
     there c.args.sought.now c.in_ok-at.at (rw c.run-run.ensures at c.in_ok-at.ensures.found) low
 
@@ -110,7 +116,8 @@ returns-else-from-len-clause-ends c =
     read_stem c.args.stems.now c.args.number c.index-stems-number.result c.requires.within
     c.index-stems-number.is in
     let past : length c.index-stems-number.result.revisions ≤ c.in_ok-at.at + 1 =
-    grind (arith, common_steps, c.if-from-len.false, c.from.ensures, c.len.ensures, ap length c.run-run.ensures) in
+    grind (arith, common_steps, c.if-from-len.false, c.from.ensures, c.len.ensures, ap length
+    c.run-run.ensures) in
     rw c.parent.ensures
     (ends_parent c.args.stems.now c.requires.stems c.args.number c.index-stems-number.result
     there c.args.sought.now c.in_ok-at.at (rw c.run-run.ensures at c.in_ok-at.ensures.found) past)

@@ -19,7 +19,8 @@ returns-in_err-count c =
     walk_on xs c.requires.stems c.loop-next.next c.in-Some.place s c.loop-next.invariant.within c.in-Some.is
     c.index-stems-place.is in
     let none : common_of (drop k p) own ≡ None =
-    ap (λ z. common_of z own) (sym (take_rest p k)) ∙ (sym (rw (c.from.ensures, c.run.ensures) at c.common.ensures) ∙ c.in_err-count.was) in
+    ap (λ z. common_of z own) (sym (take_rest p k)) ∙
+    (sym (rw (c.from.ensures, c.run.ensures) at c.common.ensures) ∙ c.in_err-count.was) in
     c.from_residual.ensures
     ∙ sym (so_far_none p own rest k _
     (c.loop-next.invariant.so_far ∙ ap (λ z. option_map (λ n. n + k) (common_of (drop k p) z)) on) none)
@@ -30,7 +31,8 @@ overflow_add-at c =
     let k = c.loop-next.at in
     let own = drop c.in-Some.place.at c.index-stems-place.result.revisions in
     let same : common_of (drop k p) own ≡ Some c.in_ok-count.count =
-    ap (λ z. common_of z own) (sym (take_rest p k)) ∙ (sym (rw (c.from.ensures, c.run.ensures) at c.common.ensures) ∙ c.in_ok-count.was) in
+    ap (λ z. common_of z own) (sym (take_rest p k)) ∙
+    (sym (rw (c.from.ensures, c.run.ensures) at c.common.ensures) ∙ c.in_ok-count.was) in
     let n = common_some (drop k p) own c.in_ok-count.count same in
     omega (arith, n.0, c.loop-next.invariant.short, length-drop k p)
 
@@ -46,7 +48,8 @@ returns-then-at-revisions c =
     walk_on xs c.requires.stems c.loop-next.next c.in-Some.place s c.loop-next.invariant.within c.in-Some.is
     c.index-stems-place.is in
     let same : common_of (drop k p) own ≡ Some c.in_ok-count.count =
-    ap (λ z. common_of z own) (sym (take_rest p k)) ∙ (sym (rw (c.from.ensures, c.run.ensures) at c.common.ensures) ∙ c.in_ok-count.was) in
+    ap (λ z. common_of z own) (sym (take_rest p k)) ∙
+    (sym (rw (c.from.ensures, c.run.ensures) at c.common.ensures) ∙ c.in_ok-count.was) in
     sym (so_far_all p own rest k _
     (c.loop-next.invariant.so_far ∙ ap (λ z. option_map (λ n. n + k) (common_of (drop k p) z)) on)
     c.in_ok-count.count same c.if-at-revisions.true)
@@ -69,7 +72,8 @@ loop-next-preserved c =
     walk_on xs c.requires.stems c.loop-next.next c.in-Some.place s c.loop-next.invariant.within c.in-Some.is
     c.index-stems-place.is in
     let same : common_of (drop k p) own ≡ Some c.in_ok-count.count =
-    ap (λ z. common_of z own) (sym (take_rest p k)) ∙ (sym (rw (c.from.ensures, c.run.ensures) at c.common.ensures) ∙ c.in_ok-count.was) in
+    ap (λ z. common_of z own) (sym (take_rest p k)) ∙
+    (sym (rw (c.from.ensures, c.run.ensures) at c.common.ensures) ∙ c.in_ok-count.was) in
     let n = common_some (drop k p) own c.in_ok-count.count same in
     rw c.parent-next.ensures (record {
       within =

@@ -17,5 +17,6 @@ returns c =
     low_stem c.self.inside.stems.items c.args.self.now.list c.args.at
     (ap (λ (storage : Storage). storage.list) c.self.view_is) c.requires in
     let there = read_stem c.self.inside.stems.items c.args.at c.index.result.now low c.index.ensures in
-    rw (sym c.self.view_is, c.is_inner.ensures, c.mark.ensures.inner) (λ w e. inner_at c.self.inside.stems.items c.self.invariant.0
+    rw (sym c.self.view_is, c.is_inner.ensures, c.mark.ensures.inner)
+    (λ w e. inner_at c.self.inside.stems.items c.self.invariant.0
     c.self.invariant.3 c.args.at c.index.result.now w there e)

@@ -5,7 +5,8 @@ use Rattle.hub_revtree.proofs.run.Run.position.Goals as goal
 pub returns-then-own-newest-clause-absent : goal.returns-then-own-newest-clause-absent
 returns-then-own-newest-clause-absent c =
     too_new c.args.self.now c.requires c.generation-newest.result c.generation-newest.ensures
-    c.args.sought.now (omega (arith, c.if-own-newest.true, rw c.rev.ensures at c.generation-own.ensures.value))
+    c.args.sought.now (omega
+    (arith, c.if-own-newest.true, rw c.rev.ensures at c.generation-own.ensures.value))
 
 pub returns-then-from-len-clause-absent : goal.returns-then-from-len-clause-absent
 returns-then-from-len-clause-absent c =
