@@ -26,7 +26,7 @@ use Rattle.hub_revtree.specs.Mark.{AreMarked, Notes, is_inner, plain, with_note}
 use Rattle.hub_revtree.specs.Stem.{Stem, Chain, AreStems, AreUpTo, IsWithin, branch_of, branches_of}
 use Rattle.hub_revtree.specs.Stem.{chain_of, chains_after, chains_of, has_revision, is_at}
 use Rattle.hub_revtree.specs.Stem.{is_behind_newest, rev_at, revisions_at, revisions_in, whole_in}
-use Rattle.hub_revtree.specs.Winner.{head_in}
+use Rattle.hub_revtree.specs.Winner.{IsHeadAt, head_in}
 use Rattle.hub_revtree.proofs.HighestLemmas.{behind_is_lower}
 use Rattle.hub_revtree.proofs.RunLemmas.{dropped_one, get_some}
 use Rattle.hub_revtree.proofs.StemLemmas.{any_at, any_place, get_front, get_last, get_pushed}
@@ -626,3 +626,12 @@ module _ (stems : List Stem) (a : AreStems stems) (marked : AreMarked stems) whe
       ap (λ (other : Winner). other.rev)
       (same_Some _ winner (sym (head_at stems a k stem head.0 e head.1) ∙ there)) in
       marked k stem winner.rev e (head.1 ∙ ap Some same) ∙ sym (behind_in stems a winner.rev)
+
+  -- an inner stem has a head, which stands behind that of another edit
+  pub inner_head : (k : ℕ) (stem : Stem) → slice_get stems k ≡ Some stem → stem.inner ≡ true
+      → (head : Winner) × IsHeadAt (branches_of stems) k head true
+  inner_head k stem e inner =
+      let rev = get_some stem.revisions 0 (some_path stem.revisions (a.falling k stem e)) in
+      let head : Winner = record { rev = rev.0; deleted = stem.deleted } in
+      let there = head_at stems a k stem rev.0 e rev.1 in
+      (head, (there, sym (inner_at k stem head e there) ∙ inner))

@@ -1,11 +1,11 @@
 -- The first of some leaves (CouchDB API reference, document revisions and conflicts).
 use Rattle.std.specs.Prelude.{◌≡◌, ℕ, List, [], ◌∷◌, map, nat_lt, Bool, true, Option, Some, None}
-use Rattle.std.specs.Prelude.{if◌then◌else◌, option_map, slice_get}
+use Rattle.std.specs.Prelude.{if◌then◌else◌, option_and_then, option_map, slice_get}
 use Rattle.std.specs.List.{list_any}
 use Rattle.std.specs.Ordering.{is_gt}
 use Rattle.hub_model.specs.Journal.{Edit, IsLegal}
-use Rattle.hub_model.specs.Leaves.{Leaf, leaf_cmp, leaves_of}
-use Rattle.hub_revtree.specs.Branch.{Branch}
+use Rattle.hub_model.specs.Leaves.{Leaf, is_behind_head, leaf_cmp, leaves_of}
+use Rattle.hub_revtree.specs.Branch.{Branch, edit_of}
 use Rattle.hub_revtree.specs.declared.leaf.Winner.{Winner}
 
 -- the revision and the mark of the first of the leaves
@@ -16,6 +16,13 @@ winner_of (leaf ∷ others) = Some (record { rev = leaf.rev; deleted = leaf.edit
 -- the first revision of a branch with its mark, if there is one
 abbrev pub head_in : Branch → Option Winner
 head_in branch = option_map (λ r. record { rev = r; deleted = branch.deleted }) (slice_get branch.path 0)
+
+-- The edit of this number has this head, and the mark says whether the head stands behind that of another
+-- edit. Of edits with the paths 1-a and 2-b 1-a the first has the head 1-a, with true.
+abbrev pub IsHeadAt : List Branch → ℕ → Winner → Bool → Type 0
+IsHeadAt branches number head inner =
+    (option_and_then head_in (slice_get branches number) ≡ Some head)
+    × (list_any (λ b. is_behind_head head.rev (edit_of b)) branches ≡ inner)
 
 -- what holds of a tree's edits and of the winner that it keeps. After edits with the paths 2-b 1-q, which
 -- deletes, 2-a 1-q and 1-z the winner that is kept is 2-a; after the first of them alone it is 2-b, deleted.

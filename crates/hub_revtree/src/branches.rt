@@ -2,7 +2,7 @@
 
 ghost use Rattle.std.specs.Prelude.{◌≡◌, ◌≤◌, ◌<◌, ◌+◌, ◌++◌, ◌∷◌, List, Some, [], ◌-◌, ◌^◌, length, map};
 ghost use Rattle.std.specs.Prelude.{min, take, is_some, false, find, not, ◌&&◌, option_map, option_and_then};
-ghost use Rattle.std.specs.Prelude.{slice_get, IfSome, IfOk, IsSomeAnd, IsTrue, OnOk, OnErr};
+ghost use Rattle.std.specs.Prelude.{slice_get, IfNone, IfSome, IfOk, IsSomeAnd, IsTrue, OnOk, OnErr, true};
 ghost use Rattle.std.specs.List.{list_any, list_all};
 ghost use Rattle.hex.specs.Hex.{encode_lower};
 ghost use Rattle.hub_document.specs.Changes.{IsDigestText};
@@ -10,7 +10,7 @@ ghost use Rattle.hub_model.specs.Journal.{IsAcceptable, IsLegal};
 ghost use Rattle.hub_model.specs.Leaves.{is_behind_head as stands_behind_head};
 ghost use Rattle.hub_model.specs.Missing.{highest as highest_of, missing as missing_from};
 ghost use Rattle.hub_model.specs.Path.{IsHistory, IsPath, agrees as agrees_with, is_first, names};
-ghost use Rattle.hub_revtree.specs.Winner.{head_in};
+ghost use Rattle.hub_revtree.specs.Winner.{IsHeadAt, head_in};
 ghost use Rattle.hub_revtree.specs.Branch.{edit_of, edits_in, unnamed_in};
 ghost use Rattle.hub_revtree.specs.Candidates.{AreCandidates, candidates_in};
 ghost use Rattle.hub_revtree.specs.Count.{revision_count as count_of};
@@ -234,6 +234,18 @@ impl Branches {
             rev: stem.head(),
             deleted: stem.mark().deleted(),
         }
+    }
+
+    /// The same, where it stands behind the revision of no other edit. An inner one is not made. Constant time.
+    pub(crate) fn head_if_leaf(&self, at: usize) -> Option<Winner>
+        requires { at < length self.now.list }
+        ensures leaf { IfSome result (λ head. IsHeadAt self.now.list at head false) }
+        ensures inner { IfNone result ((head : Winner) × IsHeadAt self.now.list at head true) }
+    {
+        if self.stems[at].mark().is_inner() {
+            return None;
+        }
+        Some(self.head(at))
     }
 
     /// The same, where there is an edit of this number. Constant time.

@@ -141,8 +141,7 @@ impl Candidates {
     {
         while self.count < branches.len() {
             let at = self.count;
-            let leaf = branches.head(at);
-            if !branches.is_head_inner(at) {
+            if let Some(leaf) = branches.head_if_leaf(at) {
                 let number = kept_number(at)?;
                 let candidate = Candidate::new(branches.allocator(), &leaf, number)?;
                 self.heap.push(candidate)?;

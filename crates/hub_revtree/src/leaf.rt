@@ -62,11 +62,10 @@ pub(crate) fn best_leaf(branches: &Branches) -> usize
     let mut best = None;
     let mut number = branches.len();
     for at in (0..branches.len()).rev() {
-        let leaf = branches.head(at);
-        if !is_better(&leaf, &best) {
+        let Some(leaf) = branches.head_if_leaf(at) else {
             continue;
-        }
-        if branches.is_head_inner(at) {
+        };
+        if !is_better(&leaf, &best) {
             continue;
         }
         best = Some(leaf);
@@ -137,10 +136,9 @@ pub(crate) fn best_leaves(alloc: Global, branches: &Branches) -> Result<Vec<Winn
 {
     let mut leaves = Vec::new(alloc);
     for at in (0..branches.len()).rev() {
-        let leaf = branches.head(at);
-        if branches.is_head_inner(at) {
+        let Some(leaf) = branches.head_if_leaf(at) else {
             continue;
-        }
+        };
         leaves.push(leaf)?;
     }
     put_in_order(leaves.as_mut_slice());

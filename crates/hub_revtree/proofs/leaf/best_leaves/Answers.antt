@@ -1,16 +1,16 @@
-use Rattle.std.proofs.Common.{sym, ◌∙◌}
+use Rattle.std.proofs.Common.{◌∙◌}
 use Rattle.hub_revtree.proofs.LeafLemmas.{found_behind, found_taken}
 use Rattle.hub_revtree.proofs.leaf.best_leaves.Goals as goal
 
-pub loop-at-preserved-then-is_head_inner : goal.loop-at-preserved-then-is_head_inner
-loop-at-preserved-then-is_head_inner c =
-    found_behind c.args.branches.now.list c.loop-at.at
-    c.head-leaf.result c.loop-at-test.true c.head-leaf.ensures c.loop-at.leaves.items c.loop-at.invariant
-    (sym (c.is_head_inner.ensures c.head-leaf.result c.head-leaf.ensures) ∙ c.if-is_head_inner.true)
+pub loop-at-preserved-in_default : goal.loop-at-preserved-in_default
+loop-at-preserved-in_default c =
+    let inner = c.in_default.ensures.inner in
+    found_behind c.args.branches.now.list c.loop-at.at inner.0 c.loop-at-test.true inner.1.0
+    c.loop-at.leaves.items c.loop-at.invariant inner.1.1
 
 pub loop-at-preserved : goal.loop-at-preserved
 loop-at-preserved c =
+    let head = c.in-Some.ensures.leaf in
     c.in_ok-push.ensures.items
-    ∙ found_taken c.args.branches.now.list c.loop-at.at
-    c.head-leaf.result c.loop-at-test.true c.head-leaf.ensures c.loop-at.leaves.items c.loop-at.invariant
-    (sym (c.is_head_inner.ensures c.head-leaf.result c.head-leaf.ensures) ∙ c.if-is_head_inner.false)
+    ∙ found_taken c.args.branches.now.list c.loop-at.at c.in-Some.leaf c.loop-at-test.true head.0
+    c.loop-at.leaves.items c.loop-at.invariant head.1
