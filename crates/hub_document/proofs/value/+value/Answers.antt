@@ -20,7 +20,7 @@ items_of-loop-tree-preserved t c =
     drop_more trees l.tree-index tree (omega arith) ∙ ap (λ y. y ∷ rest) (sym c.tree-item.is) in
     let made = c.in_ok-item.item in
     let read : of_items (trees_view (tree ∷ rest)) ≡ option_map (item (view made))
-        (of_items (trees_view rest)) =
+    (of_items (trees_view rest)) =
     item_read tree rest (view made) c.in_ok-item.ensures.ok in
     l.invariant ∙ ap (λ ts. option_map (items_before l.items.items) (of_items (trees_view ts))) here
     ∙ ap (option_map (items_before l.items.items)) read

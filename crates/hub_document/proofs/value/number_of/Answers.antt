@@ -30,7 +30,7 @@ returns-in-Some c =
 pub returns-in_default-to_i64 : goal.returns-in_default-to_i64
 returns-in_default-to_i64 c =
     let read : option_map number_view c.from_f64.result ≡ number_from true c.scan-numeral.result = search
-        rules in
+    rules in
     let minus : (get_or c.as_bytes.result.now 0 0 == 45) ≡ true = grind (arith, nat_tests, common_steps) in
     read ∙ ap (number_from true) c.scan-numeral.ensures.parts ∙ signed c.as_bytes.result.now minus
     ∙ ap number_of c.as_bytes.ensures.value
@@ -38,7 +38,7 @@ returns-in_default-to_i64 c =
 pub returns-in-Some-to_u64 : goal.returns-in-Some-to_u64
 returns-in-Some-to_u64 c =
     let read : Some (number_view c.from-in-Some-to_u64.result) ≡ number_from false
-        c.scan-numeral-in_default.result =
+    c.scan-numeral-in_default.result =
     search rules in
     let plain : (get_or c.as_bytes.result.now 0 0 == 45) ≡ false = search rules in
     read ∙ ap (number_from false) c.scan-numeral-in_default.ensures.parts ∙ unsigned c.as_bytes.result.now
@@ -48,7 +48,7 @@ returns-in-Some-to_u64 c =
 pub returns-in-None : goal.returns-in-None
 returns-in-None c =
     let read : option_map number_view c.from_f64-in-None.result ≡ number_from false
-        c.scan-numeral-in_default.result =
+    c.scan-numeral-in_default.result =
     search rules in
     let plain : (get_or c.as_bytes.result.now 0 0 == 45) ≡ false = grind (arith, nat_tests, common_steps) in
     read ∙ ap (number_from false) c.scan-numeral-in_default.ensures.parts ∙ unsigned c.as_bytes.result.now

@@ -14,7 +14,7 @@ returns-in-Err-asked c =
     let asks = sym c.asked.ensures ∙ c.in-Err-asked.is in
     let asks_path = rw c.of-target.ensures at asks in
     let few : length c.parse_request.new.headers ≤ 64 = omega
-        (arith, c.parse_request.auto.headers, c.requires) in
+    (arith, c.parse_request.auto.headers, c.requires) in
     let short : c.in-Ok-Complete.spans.len ≤ 16384 = omega arith in
     faults_within _ c.args.buf.now c.in-Err-asked.e
     (look_faults c.args.buf.now c.in-Err-asked.e (asked_faults _ _ _ _ asks)

@@ -9,8 +9,7 @@ loop-at-init c =
 
 pub loop-at-preserved-in_default : goal.loop-at-preserved-in_default
 loop-at-preserved-in_default c =
-    let inner = c.in_default.ensures.inner in
-    (
+    let inner = c.in_default.ensures.inner in (
       best_behind c.args.branches.now.list c.loop-at.at inner.0 c.loop-at-test.true inner.1.0
           c.loop-at.best c.loop-at.invariant.0 inner.1.1,
       c.loop-at.invariant.1,
@@ -26,8 +25,7 @@ loop-at-preserved-then-not-is_better c = (
 
 pub loop-at-preserved : goal.loop-at-preserved
 loop-at-preserved c =
-    let head = c.in-Some.ensures.leaf in
-    (
+    let head = c.in-Some.ensures.leaf in (
       best_taken c.args.branches.now.list c.loop-at.at c.in-Some.leaf c.loop-at-test.true head.0
           c.loop-at.best c.loop-at.invariant.0 head.1 (sym c.is_better.ensures ∙ c.if-not-is_better.false),
       head.0,

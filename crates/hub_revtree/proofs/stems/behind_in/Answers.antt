@@ -50,8 +50,15 @@ returns-then-from-len-clause-found c =
     read_stem c.args.stems.now c.args.number c.index-stems-number.result c.requires.within
     c.index-stems-number.is in
     let low : c.in_ok-at.at + 1 < length c.index-stems-number.result.revisions =
-    grind (arith, common_steps, c.if-from-len.true, c.from.ensures, c.len.ensures, ap length
-    c.run-run.ensures) in
+    grind (
+      arith,
+      common_steps,
+      c.if-from-len.true,
+      c.from.ensures,
+      c.len.ensures,
+      ap length
+          c.run-run.ensures,
+    ) in
     inner_brought c.args.stems.now c.requires.stems
     c.args.number c.index-stems-number.result there c.args.sought.now c.in_ok-at.at
     (rw c.run-run.ensures at c.in_ok-at.ensures.found)
@@ -63,8 +70,15 @@ returns-else-from-len-clause-found c =
     read_stem c.args.stems.now c.args.number c.index-stems-number.result c.requires.within
     c.index-stems-number.is in
     let past : length c.index-stems-number.result.revisions ≤ c.in_ok-at.at + 1 =
-    grind (arith, common_steps, c.if-from-len.false, c.from.ensures, c.len.ensures, ap length
-    c.run-run.ensures) in
+    grind (
+      arith,
+      common_steps,
+      c.if-from-len.false,
+      c.from.ensures,
+      c.len.ensures,
+      ap length
+          c.run-run.ensures,
+    ) in
     rw c.parent.ensures
     (parent_brought c.args.stems.now c.requires.stems c.args.number c.index-stems-number.result there
     c.args.sought.now c.in_ok-at.at (rw c.run-run.ensures at c.in_ok-at.ensures.found) past)
@@ -75,8 +89,15 @@ returns-else-from-len-clause-none c =
     read_stem c.args.stems.now c.args.number c.index-stems-number.result c.requires.within
     c.index-stems-number.is in
     let past : length c.index-stems-number.result.revisions ≤ c.in_ok-at.at + 1 =
-    grind (arith, common_steps, c.if-from-len.false, c.from.ensures, c.len.ensures, ap length
-    c.run-run.ensures) in
+    grind (
+      arith,
+      common_steps,
+      c.if-from-len.false,
+      c.from.ensures,
+      c.len.ensures,
+      ap length
+          c.run-run.ensures,
+    ) in
     rw c.parent.ensures
     (none_parent c.args.stems.now c.requires.stems c.args.number c.index-stems-number.result
     there c.args.sought.now c.in_ok-at.at (rw c.run-run.ensures at c.in_ok-at.ensures.found) past)
@@ -96,8 +117,15 @@ returns-then-from-len-clause-goes c =
     read_stem c.args.stems.now c.args.number c.index-stems-number.result c.requires.within
     c.index-stems-number.is in
     let low : c.in_ok-at.at + 1 < length c.index-stems-number.result.revisions =
-    grind (arith, common_steps, c.if-from-len.true, c.from.ensures, c.len.ensures, ap length
-    c.run-run.ensures) in
+    grind (
+      arith,
+      common_steps,
+      c.if-from-len.true,
+      c.from.ensures,
+      c.len.ensures,
+      ap length
+          c.run-run.ensures,
+    ) in
     goes_inner c.args.stems.now c.requires.stems c.args.number c.index-stems-number.result
     there c.args.sought.now c.in_ok-at.at (rw c.run-run.ensures at c.in_ok-at.ensures.found) low
 
@@ -116,8 +144,15 @@ returns-else-from-len-clause-ends c =
     read_stem c.args.stems.now c.args.number c.index-stems-number.result c.requires.within
     c.index-stems-number.is in
     let past : length c.index-stems-number.result.revisions ≤ c.in_ok-at.at + 1 =
-    grind (arith, common_steps, c.if-from-len.false, c.from.ensures, c.len.ensures, ap length
-    c.run-run.ensures) in
+    grind (
+      arith,
+      common_steps,
+      c.if-from-len.false,
+      c.from.ensures,
+      c.len.ensures,
+      ap length
+          c.run-run.ensures,
+    ) in
     rw c.parent.ensures
     (ends_parent c.args.stems.now c.requires.stems c.args.number c.index-stems-number.result
     there c.args.sought.now c.in_ok-at.at (rw c.run-run.ensures at c.in_ok-at.ensures.found) past)

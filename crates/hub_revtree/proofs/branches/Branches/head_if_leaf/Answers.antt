@@ -29,7 +29,9 @@ returns-clause-leaf c =
     (ap (λ (storage : Storage). storage.list) c.self.view_is) c.requires in
     let there = read_stem c.self.inside.stems.items c.args.at c.index.result.now low c.index.ensures in
     let leaf = rw (c.is_inner.ensures, c.mark.ensures.inner) at c.if-is_inner.false in
-    let head = rw (sym c.self.view_is) at c.head.ensures in
-    (c.head.ensures, rw (sym c.self.view_is)
-    (sym (inner_at c.self.inside.stems.items c.self.invariant.0
-    c.self.invariant.3 c.args.at c.index.result.now c.head.result there head) ∙ leaf))
+    let head = rw (sym c.self.view_is) at c.head.ensures in (
+      c.head.ensures,
+      rw (sym c.self.view_is)
+          (sym (inner_at c.self.inside.stems.items c.self.invariant.0
+          c.self.invariant.3 c.args.at c.index.result.now c.head.result there head) ∙ leaf),
+    )
