@@ -22,7 +22,7 @@ use hub_databases::{Hub, HubDb, is_name};
 use hub_http::{Refusal, Reply, Request, StatusCode};
 use hub_replies::{commit_body, names_body, ok_body, welcome_body};
 use hub_routes::{Call, Route, Routes};
-use hub_session::{Answer, Polled, Service, StreamItem};
+use hub_session::{Answer, Service, StreamItem};
 use hub_shared::{Watch, Watchable};
 use std::alloc::Global;
 use std::marker::Model;
@@ -239,23 +239,19 @@ impl<'h, N: Wait, P: Pumping> Service for Connection<'h, N, P> {
         true
     }
 
-    fn item(&mut self) -> Option<StreamItem> {
-        let item = match &mut self.sent {
-            Some(sent) => sent.next(&self.pumping),
-            None => None,
-        };
-        if matches!(&item, Some(item) if item.is_end()) {
+    fn item(&mut self, next: &mut Option<StreamItem>) {
+        match &mut self.sent {
+            Some(sent) => sent.next(&self.pumping, next),
+            None => *next = None,
+        }
+        if matches!(next, Some(item) if item.is_end()) {
             self.drop_stream();
         }
-        item
     }
 
-    fn poll_item(&mut self) -> Polled {
-        let given = self.item();
-        if given.is_none() && self.waits() {
-            return Polled::Waits;
-        }
-        Polled::Given(given)
+    fn poll_item(&mut self, next: &mut Option<StreamItem>) -> bool {
+        self.item(next);
+        next.is_some() || !self.waits()
     }
 
     fn drop_stream(&mut self) {

@@ -53,12 +53,14 @@ impl<'h, N: Wait> Pumping for ByTurns<'h, N> {
     fn pass_request(&self) {}
 
     fn next_item<S: FeedHost>(&self, feed: &mut HostFeed<S>) -> Option<Item<S::Row>> {
-        if let Some(item) = feed.take(self.rt) {
-            return Some(item);
+        let item = feed.take(self.rt);
+        if item.is_some() {
+            return item;
         }
         feed.hold(self.rt, Turn::Hand, &OpenGate).ok()?;
-        if let Some(item) = feed.take(self.rt) {
-            return Some(item);
+        let item = feed.take(self.rt);
+        if item.is_some() {
+            return item;
         }
         feed.hold(self.rt, Turn::Expire, &OpenGate).ok()?;
         feed.hold(self.rt, Turn::Hand, &OpenGate).ok()?;

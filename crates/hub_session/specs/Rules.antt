@@ -1,10 +1,8 @@
 -- own: what a service may do, and where a connection stands.
-use Rattle.std.specs.Prelude.{◌≡◌, ℕ, List, Option}
+use Rattle.std.specs.Prelude.{◌≡◌, ℕ, Bool, false, true, List, None, Option}
 use Rattle.hub_http.specs.Stream.{Asked}
 use Rattle.hub_session.specs.declared.item.StreamItem.{StreamItem}
 use Rattle.hub_session.specs.declared.service.Answer.{Answer}
-use Rattle.hub_session.specs.declared.service.Polled.{Polled}
-use Rattle.hub_session.specs.declared.service.Polled.TheVariants.{Given, Waits}
 
 -- what a service may do, each from a state to the one that it leaves
 pub record Rules (S : Type 0) : Type 1 where
@@ -15,11 +13,11 @@ pub record Rules (S : Type 0) : Type 1 where
   -- give back what its stream holds
   pub drops : S → S → Type 0
 
--- Asked not to wait, it goes on with this item, or with none where the stream stops; or it has none yet, and
--- stays as it is. A feed of which all was sent and to which nothing was written waits.
-abbrev pub GivesOrWaits : {S : Type 0} → Rules S → S → Polled → S → Type 0
-GivesOrWaits rules s (Given given) t = rules.gives s given t
-GivesOrWaits rules s Waits t = t ≡ s
+-- Asked not to wait, it answers (true) and goes on with this item, or with none where the stream stops; or it
+-- has none yet (false), and stays as it is. A feed of which all was sent and to which nothing was written waits.
+abbrev pub GivesOrWaits : {S : Type 0} → Rules S → S → Bool → Option StreamItem → S → Type 0
+GivesOrWaits rules s true given t = rules.gives s given t
+GivesOrWaits rules s false given t = (given ≡ None) × (t ≡ s)
 
 -- a moment of a connection: the state of its service, and the bytes that were written, where they are told
 pub record Moment (S : Type 0) : Type 0 where

@@ -158,10 +158,11 @@ pub(crate) fn send_items<W: Output, S: Service>(
 {
     let mut chunks = ChunkWriter::new(alloc);
     let mut rows = 0;
+    let mut next = None;
     for _ in 0..u64::MAX {
-        let given = service.item();
+        service.item(&mut next);
         let sending = Sending { mode, life, rows };
-        match send_given(&mut chunks, writer, service, sending, &given) {
+        match send_given(&mut chunks, writer, service, sending, &next) {
             Ok(sent) => rows = sent,
             Err(end) => return end,
         }

@@ -15,5 +15,5 @@ pub use closing::{Closing, StreamEnd};
 pub use feed::stream_feed;
 pub use item::StreamItem;
 pub use machine::{Session, Step};
-pub use service::{Answer, Polled, Service};
+pub use service::{Answer, Service};
 pub use serving::{serve, serve_one};

@@ -10,7 +10,7 @@ ghost use Rattle.hub_session.specs.Runs.{step_behind, with_gone, with_offered};
 use crate::answering::{Begun, after_stream, answer_fault, begin_answer};
 use crate::closing::{Closing, StreamEnd};
 use crate::feed::{Sending, send_given};
-use crate::service::{Polled, Service};
+use crate::service::Service;
 use hub_http::{ChunkWriter, Handed, HttpFault, Inbox, Next, Outbox, Request};
 use std::alloc::{AllocError, Global};
 use std::io::Write;
@@ -145,17 +145,17 @@ impl<S: Service> Session<S> {
             self.service.drop_stream();
             return self.go_behind(after_stream(close, StreamEnd::Exhausted));
         }
-        let polled = self.service.poll_item();
-        let Polled::Given(given) = &polled else {
+        let mut next = None;
+        if !self.service.poll_item(&mut next) {
             self.chunks = ChunkWriter::new(self.alloc);
             return Step::WantsNews;
-        };
+        }
         match send_given(
             &mut self.chunks,
             &mut self.outbox,
             &mut self.service,
             sending,
-            given,
+            &next,
         ) {
             Ok(rows) => {
                 self.place = Place::Within(Sending { rows, ..sending }, close);

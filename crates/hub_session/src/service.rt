@@ -16,15 +16,6 @@ pub enum Answer {
     Stream(Mode, u64),
 }
 
-/// What there is of a stream that is asked not to wait.
-#[derive(Debug, Drop)]
-pub enum Polled {
-    /// Its next item, `None` where the stream stops.
-    Given(Option<StreamItem>),
-    /// It has none yet.
-    Waits,
-}
-
 /// What answers requests.
 pub trait Service {
     /// What it may answer, what its stream may go on with, and how it may give back what that holds.
@@ -39,17 +30,18 @@ pub trait Service {
     /// until it comes. After an End it is not called.
     fn is_ready(&self) -> bool;
 
-    /// The next item of the stream that was answered last, `None` where the stream stops, as it does
-    /// out of memory. It may wait for one; after an End it is not called.
-    fn item(&mut self) -> Option<StreamItem>
-        ensures { rules.gives self.old result self.new };
+    /// Puts the next item of the stream that was answered last into `next`, which saves moves of it; `None`
+    /// where the stream stops, as it does out of memory. It may wait for one; after an End it is not called.
+    fn item(&mut self, next: &mut Option<StreamItem>)
+        ensures { rules.gives self.old next.new self.new };
 
-    /// The next item of the stream that was answered last, or `Waits` where there is none yet. A
-    /// service that can't tell may wait for one, as this body does. After an End it is not called.
-    fn poll_item(&mut self) -> Polled
-        ensures { GivesOrWaits rules self.old result self.new }
+    /// The same, and whether there is an answer: `false` where the stream has no item yet. A service that
+    /// can't tell may wait for one, as this body does. After an End it is not called.
+    fn poll_item(&mut self, next: &mut Option<StreamItem>) -> bool
+        ensures { GivesOrWaits rules self.old result next.new self.new }
     {
-        Polled::Given(self.item())
+        self.item(next);
+        true
     }
 
     /// The stream that was answered last is not sent on: what it holds is given back. After the End

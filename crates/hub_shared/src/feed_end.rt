@@ -77,9 +77,10 @@ impl<S: HostView> FeedEnd<S> {
         ensures allowed { IsAllowedBeginning
             (λ l items. S.right (params_in l.asked) l.since items) self.new }
     {
-        if let Some(item) = self.block.next() {
+        let front = self.block.next();
+        if let Some(_) = &front {
             let _label = self.receiver.label();
-            return Some(item);
+            return front;
         }
         let Some(block) = self.receiver.take(rt) else {
             self.block = Vec::new(self.alloc).into_iter();

@@ -12,7 +12,7 @@ loop-init g c = (went_none _ _ _ _, omega arith, omega arith, omega arith)
 pub returns-in-Err-clause-fed : goal.returns-in-Err-clause-fed
 returns-in-Err-clause-fed g c =
     went_ends g.S.Service.rules _ _ _ c.loop.counter c.loop.rows _ _ c.in-Err.end c.loop.invariant.0
-    (c.in-Err.ensures.sent c.loop.service c.loop.counter c.item-given.ensures)
+    (c.in-Err.ensures.sent c.loop.service c.loop.counter c.item.ensures)
 
 pub returns-in-Err-clause-counts : goal.returns-in-Err-clause-counts
 returns-in-Err-clause-counts g c =
@@ -24,7 +24,7 @@ returns-clause-counts g c = counts_only c.loop.invariant.1 c.loop.invariant.3 (Î
 pub loop-preserved : goal.loop-preserved
 loop-preserved g c = (
   went_more g.S.Service.rules _ _ _ c.loop.counter c.loop.rows _ _ _ c.loop.invariant.0
-      (c.in-Ok.ensures.sent c.loop.service c.loop.counter c.item-given.ensures),
+      (c.in-Ok.ensures.sent c.loop.service c.loop.counter c.item.ensures),
   omega (arith, c.loop.invariant.1, c.send_given.ensures.counts.faults),
   omega (arith, c.loop.invariant.2, c.in-Ok.ensures.bound),
   omega (arith, c.loop.invariant.3, c.send_given.ensures.counts.failures),

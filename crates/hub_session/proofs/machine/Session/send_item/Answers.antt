@@ -25,13 +25,13 @@ returns-then-sending-eq18446744073709551615-clause-broken g c = λ broken.
 
 pub returns-in-Ok-clause-told : goal.returns-in-Ok-clause-told
 returns-in-Ok-clause-told g c =
-    let given = rw c.in-Given.is at c.poll_item-polled.ensures in
+    let given = rw c.if-not-poll_item.false at c.poll_item.ensures in
     Steps.sends c.args.sending c.in-Ok.rows c.args.close c.requires refl refl refl refl
     (c.in-Ok.ensures.sent c.args.self.now.service 0 given)
 
 pub returns-clause-told : goal.returns-clause-told
 returns-clause-told g c =
-    let given = rw c.in-Given.is at c.poll_item-polled.ensures in
+    let given = rw c.if-not-poll_item.false at c.poll_item.ensures in
     let before = c.args.self.now in
     let mid =
     seen (record before {

@@ -14,22 +14,22 @@ pub invariant_of-self : goal.invariant_of-self
 invariant_of-self g c =
     let all = items_in c.self.inside.receiver.taken in
     let left = into_iter_items c.self.inside.block in
-    let rest = into_iter_items c.next.new.self in
+    let rest = into_iter_items c.next-front.new.self in
     let is =
-    c.self.invariant ∙ (ap (λ list. front_of all left ++ list) c.next.ensures.items
-    ∙ sym (append_assoc (front_of all left) (option_to_list c.next.result) rest)) in
-    front_whole all (front_of all left ++ option_to_list c.next.result) rest is
+    c.self.invariant ∙ (ap (λ list. front_of all left ++ list) c.next-front.ensures.items
+    ∙ sym (append_assoc (front_of all left) (option_to_list c.next-front.result) rest)) in
+    front_whole all (front_of all left ++ option_to_list c.next-front.result) rest is
 
 pub returns-in-Some-clause-allowed : goal.returns-in-Some-clause-allowed
 returns-in-Some-clause-allowed g c =
     let label = c.self.inside.receiver.label in
     let all = items_in c.self.inside.receiver.taken in
     let left = into_iter_items c.self.inside.block in
-    let rest = into_iter_items c.next.new.self in
+    let rest = into_iter_items c.next-front.new.self in
     let is =
-    c.self.invariant ∙ (ap (λ list. front_of all left ++ list) c.next.ensures.items
-    ∙ sym (append_assoc (front_of all left) (option_to_list c.next.result) rest)) in
-    let whole = front_whole all (front_of all left ++ option_to_list c.next.result) rest is in
+    c.self.invariant ∙ (ap (λ list. front_of all left ++ list) c.next-front.ensures.items
+    ∙ sym (append_assoc (front_of all left) (option_to_list c.next-front.result) rest)) in
+    let whole = front_whole all (front_of all left ++ option_to_list c.next-front.result) rest is in
     let allowed = c.label-label.ensures.allowed in (
       _,
       front_allowed (λ items. g.S.HostView.right (params_in label.asked) label.since items)
@@ -78,7 +78,7 @@ returns-clause-taken g c =
     let block =
     sym c.into_items.ensures.items ∙ (sym c.into_iter-items.ensures.rest ∙ c.next-item.ensures.items) in
     let gone =
-    subst (λ o. into_iter_steps c.self.inside.block o c.next.new.self) c.in_default.is c.next.ensures.cases in
+    subst (λ o. into_iter_steps c.self.inside.block o c.next-front.new.self) c.in_default.is c.next-front.ensures.cases in
     let empty =
     nil_from_length (into_iter_items c.self.inside.block) (sym c.self.inside.block.rest.ok.0 ∙ gone.0) in
     some_then c.next-item.result (λ item is. is ∙ ap (λ end. behind_take end item) c.self.view_is)
