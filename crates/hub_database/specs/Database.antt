@@ -36,7 +36,7 @@ abbrev pub contents_of : Database → Contents
 contents_of db =
     record { journal = db.journal; locals = db.locals; limits = db.limits; life = db.life }
 
--- a call is refused as one on a deleted database, and the database is deleted
+-- the database is deleted, and this tells it
 abbrev pub IsDeletedFault : Database → DbFault → Type 0
 IsDeletedFault db e = (db.deleted ≡ true) × (e ≡ Refused fault.Deleted)
 
@@ -47,14 +47,15 @@ abbrev pub GivesUp : Database → Type 0 → DbFault → Type 0
 GivesUp db needs e =
     IsDeletedFault db e ⊎ ((db.deleted ≡ false) × (e ≡ NoMemory) × needs)
 
--- What a call gives that reads a database: one that stands gives something that `is` holds of, and gives up only
--- where `needs` says that this takes memory; a deleted one refuses.
+-- What a call gives that reads a database: of one that stands something that `is` holds of. A deleted one is
+-- told. Memory runs out only where `needs` says that the answer takes some. So a document that is unknown is
+-- answered as that, however little memory is left.
 pub record IsRead {A : Type 0} (db : Database) (result : Result A DbFault) (is : A → Type 0)
     (needs : Type 0) : Type 0 where
   pub ok : IfOk result (λ found. (db.deleted ≡ false) × is found)
   pub err : IfErr result (GivesUp db needs)
 
--- the same of a call that takes no memory: a database that stands never gives up
+-- what a call gives that reads a database and takes no memory: only a deleted one makes it fail
 pub record IsFreeRead {A : Type 0} (db : Database) (result : Result A DbFault)
     (is : A → Type 0) : Type 0 where
   pub ok : IfOk result (λ found. (db.deleted ≡ false) × is found)

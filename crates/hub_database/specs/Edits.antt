@@ -55,9 +55,9 @@ pub record StopsAt (new_edits deleted : Bool) (journal : List Edit) (at : ℕ) (
   pub there : slice_get docs at ≡ Some doc
   pub needs : NeedsRoom new_edits journal doc
 
--- One edit was written to the contents of a database, or was not, as `stores` says: its outcome is answered, the
--- journal after it is kept, and nothing else changes. Where memory runs out nothing changes at all, and `needs`
--- says that the write takes some.
+-- What a write of one edit does to the contents of a database, of which `stores` says what is to come. Its
+-- outcome is answered, its journal is left, and nothing else changes. Where memory runs out nothing changes
+-- at all, and `needs` says that the write takes some. So a refused edit leaves the contents as they were.
 pub record IsStore (stores : Stores) (needs : Type 0) (before after : Contents)
     (result : Result (Outcome Revision) AllocError) : Type 0 where
   pub ok : IfOk result (λ outcome. stores ≡ record { outcome = outcome; journal = after.journal })
@@ -65,10 +65,10 @@ pub record IsStore (stores : Stores) (needs : Type 0) (before after : Contents)
   pub err : OnErr result (after ≡ before)
   pub memory : OnErr result needs
 
--- What a batch answers that was written between these journals, to a database that stands or was deleted: of
--- the documents that have a reply, the replies and the journal are those of writes one after the other; where it
--- did not stop each document has one, and where it stopped the next one took memory. So of three documents a
--- batch with two replies stopped, and left the third out.
+-- What a batch says that was written to a database, which stands or was deleted, and has these journals
+-- before and after it. The documents that have replies were written one after the other. Each has one, if
+-- the batch did not stop. If it did, the first document with no reply needed room. So of three documents a
+-- batch with two replies stopped at the third.
 pub record IsBatch (new_edits deleted : Bool) (limit : ℕ) (before after : List Edit) (docs : List Doc)
     (batch : Batch) : Type 0 where
   pub ok : writes new_edits deleted limit before (take (length batch.replies) docs)
