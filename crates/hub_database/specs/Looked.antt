@@ -86,10 +86,10 @@ NeedsRoomFrom journal id (Here rev) deleted body = HasNextRevision journal (draf
 abbrev pub NeedsRoomFor : List Edit → List ℕ → Incoming → Type 0
 NeedsRoomFor journal id edit = NeedsRoomFrom journal id edit.origin edit.deleted edit.body
 
--- What a look at a document's tree does for an incoming edit, where the journal is full or is not. It leaves the
--- tree's edits as they were, and says of the edit what `look_at` says. A tree has room then for an edit that is
--- to be stored. Memory runs out only where storing the edit takes some. So a look at an edit whose revision is
--- known never fails, and leaves the tree's edits.
+-- What a look at a document's tree does for an incoming edit, where the journal is full or is not. It leaves
+-- the tree's edits as they were, and says of the edit what `look_at` says. A tree has room then for an edit
+-- that is to be stored. Memory runs out only where storing the edit takes some. So a look at an edit whose
+-- revision is known never fails, and leaves the tree's edits.
 pub record IsLook (id : List ℕ) (full : Bool) (edit : Incoming) (before after : Tree)
     (result : Result Looked AllocError) : Type 0 where
   pub edits : after.edits ≡ before.edits
