@@ -1,9 +1,10 @@
 -- What a write changes, and what a feed of a database gives.
-use Rattle.std.proofs.Common.{◌≡◌, ℕ, ◌≤◌, List, [], ◌∷◌, ◌++◌, length, Bool, true, false, ap, refl, subst}
-use Rattle.std.proofs.Common.{arith, nat_le}
-use Rattle.std.specs.Prelude.{Option, Some, None, option_and_then, replicate, take, unwrap_or, if◌then◌else◌}
-use Rattle.std.proofs.lemmas.List.{length_push, length-replicate}
-use Rattle.std.proofs.Math.Seq.{take-length}
+use Rattle.std.proofs.Common.{◌≡◌, ℕ, ◌≤◌, List, [], ◌∷◌, ◌++◌, length, Bool, true, false, ap, refl, sym, subst, ◌∙◌}
+use Rattle.std.proofs.Common.{◌<◌, arith, get_or, nat_le, take}
+use Rattle.std.specs.Prelude.{Option, Some, None, option_and_then, replicate, unwrap_or, if◌then◌else◌}
+use Rattle.std.proofs.lemmas.List.{length-append, length_push, length-replicate}
+use Rattle.std.proofs.lemmas.Option.{slice_get_read}
+use Rattle.std.proofs.Math.Seq.{get_or-append_seam, take-append_seam, take-length}
 use Rattle.hub_model.specs.Current.{Current, current}
 use Rattle.hub_model.specs.Entries.{entry_in}
 use Rattle.hub_model.specs.Draft.{Draft, parent_of, generation_of, made, edit_of, extended, makes_on}
@@ -23,9 +24,10 @@ use Rattle.hub_feed.specs.Next.{next_of}
 use Rattle.hub_feed.specs.declared.next.Next.TheVariants.{Give}
 use Rattle.hub_document.specs.declared.doc.Doc.{Doc}
 use Rattle.hub_database.specs.Database.{Database}
-use Rattle.hub_database.specs.Edits.{draft_of, stores_doc, writes}
+use Rattle.hub_database.specs.Edits.{IsBatch, NeedsRoom, draft_of, stores_doc, writes}
 use Rattle.hub_database.specs.Edits as edits
 use Rattle.hub_database.specs.Hosting.{hosted_of}
+use Rattle.hub_database.specs.declared.batch.Batch.{Batch}
 
 -- a write takes no edit away
 adds_grow : (limit : ℕ) (journal : List Edit) (edit : Edit)
@@ -90,13 +92,48 @@ all_refused store journal (x ∷ xs) =
     (all_refused store journal xs)
 
 pub refused_batch : (new_edits deleted : Bool) (limit : ℕ) (journal : List Edit) (docs : List Doc) (n : ℕ)
-    (replies : List (Outcome Revision)) → deleted ≡ true → n ≡ length docs
-    → replies ≡ replicate n (outcome.Refused fault.Deleted)
-    → writes new_edits deleted limit journal (take (length replies) docs)
-    ≡ record { outcomes = replies; journal = journal }
-refused_batch new_edits deleted limit journal docs n replies t e r =
-    rw (t, r, length-replicate {A = Outcome Revision} n (outcome.Refused fault.Deleted), e, take-length docs)
-    (all_refused (stores_doc new_edits limit) journal docs)
+    (batch : Batch) → deleted ≡ true → n ≡ length docs
+    → (batch.replies ≡ replicate n (outcome.Refused fault.Deleted)) × (batch.stopped ≡ false)
+    → IsBatch new_edits deleted limit journal journal docs batch
+refused_batch new_edits deleted limit journal docs n batch t e is =
+    let many = length-replicate {A = Outcome Revision} n (outcome.Refused fault.Deleted) in
+    record {
+      ok = rw (t, is.0, many, e, take-length docs) (all_refused (stores_doc new_edits limit) journal docs);
+      whole = λ s. ap length is.0 ∙ (many ∙ e);
+      stopped = λ s. let no : true ≡ false = sym s ∙ is.1 in absurd (cc);
+      stops = λ s. let no : true ≡ false = sym s ∙ is.1 in absurd (cc);
+    }
+
+-- a batch stops at a document that needs room, behind those that have their replies
+pub stopped_batch : (new_edits : Bool) (limit : ℕ) (before now after : List Edit) (docs stored : List Doc)
+    (doc : Doc) (rest : List Doc) (replies : List (Outcome Revision))
+    → writes new_edits false limit before stored ≡ record { outcomes = replies; journal = now }
+    → stored ++ doc ∷ rest ≡ docs → length replies ≡ length stored → after ≡ now
+    → NeedsRoom new_edits now doc
+    → IsBatch new_edits false limit before after docs (record { replies = replies; stopped = true })
+stopped_batch new_edits limit before now after docs stored doc rest replies all are many stays needs =
+    record {
+      ok =
+          ap (λ n. writes new_edits false limit before (take n docs)) many
+          ∙ (ap (λ (list : List Doc). writes new_edits false limit before (take (length stored) list)) (sym are)
+          ∙ (ap (writes new_edits false limit before) (take-append_seam stored (doc ∷ rest))
+          ∙ (all ∙ ap (λ (edits : List Edit). record { outcomes = replies; journal = edits }) (sym stays))));
+      whole = λ s. absurd (cc);
+      stopped = λ s. few;
+      stops = λ s. record {
+        stands = refl;
+        doc = doc;
+        there =
+            slice_get_read docs (length docs) (length replies) doc refl few
+            (sym (ap (λ n. get_or docs n doc) many
+            ∙ (ap (λ (list : List Doc). get_or list (length stored) doc) (sym are)
+            ∙ get_or-append_seam stored doc rest doc)));
+        needs = subst (λ (edits : List Edit). NeedsRoom new_edits edits doc) (sym stays) needs;
+      };
+    }
+  where
+    few : length replies < length docs
+    few = omega (arith, many, sym (ap length are), length-append stored (doc ∷ rest))
 
 item_given : (show : Current → ChangeRow) (rows : List Current) (due : Due) (item : Item ChangeRow)
     → Give item ≡ next_of show rows due → item_of show rows due ≡ Some item

@@ -12,65 +12,62 @@ use Rattle.std.specs.declared.cmp.Ordering.{Ordering}
 use Rattle.std.specs.declared.cmp.Ordering.TheVariants.{Less, Equal, Greater}
 use Rattle.std.proofs.lemmas.Map.Text.{is_eq-slice_cmp}
 use Rattle.std.proofs.lemmas.Slice.Eq.{bytes_eq-Decides}
+use Rattle.hub_database.specs.Answers.{local_named}
 use Rattle.hub_database.specs.Database.{Local}
 use Rattle.hub_database.specs.Locals.{put_at, put_local}
 use Rattle.hub_database.specs.declared.local.Local as code
 use Rattle.hub_database.proofs.CountLemmas.{text_turned}
 
--- a local document with its id
-abbrev pub kept_as : List ℕ → code.Local → Local
-kept_as id local = record { id = id; count = local.count; body = local.body }
-
 abbrev pub entry_as : {Y : Type 0} → (String Y × code.Local) → Local
-entry_as e = kept_as (string_bytes e.0) e.1
+entry_as e = local_named (string_bytes e.0) e.1
 
 -- the same of one that is borrowed
 pub kept_behind : (id : List ℕ) (o : Option (Bor code.Local))
-    → option_map (λ l. record { id = id; count = l.now.count; body = l.now.body }) o
-    ≡ option_map (kept_as id) (option_copied o)
+    → option_map (λ l. local_named id l.now) o
+    ≡ option_map (local_named id) (option_copied o)
 kept_behind id None = refl
 kept_behind id (Some l) = refl
 
 -- the one that a look finds
 pub found_in : {Y : Type 0} (id : List ℕ) (es : List (String Y × code.Local))
-    → option_map (kept_as id) (lookup (is_at (λ k. slice_cmp nat_cmp id (string_bytes k))) es)
+    → option_map (local_named id) (lookup (is_at (λ k. slice_cmp nat_cmp id (string_bytes k))) es)
     ≡ find (λ (local : Local). bytes_eq local.id id) (map entry_as es)
 found_in id [] = refl
 found_in id (e ∷ es) =
-    ap (λ b. option_map (kept_as id)
+    ap (λ b. option_map (local_named id)
     (if b then Some e.1 else lookup (is_at (λ k. slice_cmp nat_cmp id (string_bytes k))) es))
     (is_eq-slice_cmp id (string_bytes e.0) ∙ text_turned id (string_bytes e.0))
     ∙ from (bytes_eq (string_bytes e.0) id) refl (found_in id es)
   where
     from : (b : Bool) → bytes_eq (string_bytes e.0) id ≡ b
-        → option_map (kept_as id) (lookup (is_at (λ k. slice_cmp nat_cmp id (string_bytes k))) es)
+        → option_map (local_named id) (lookup (is_at (λ k. slice_cmp nat_cmp id (string_bytes k))) es)
         ≡ find (λ (local : Local). bytes_eq local.id id) (map entry_as es)
-        → option_map (kept_as id)
+        → option_map (local_named id)
         (if b then Some e.1 else lookup (is_at (λ k. slice_cmp nat_cmp id (string_bytes k))) es)
         ≡ (if b then Some (entry_as e) else find (λ (local : Local). bytes_eq local.id id) (map entry_as es))
     from true t h =
-        ap (λ (i : List ℕ). Some (kept_as i e.1)) (sym ((bytes_eq-Decides (string_bytes e.0) id).0 t))
+        ap (λ (i : List ℕ). Some (local_named i e.1)) (sym ((bytes_eq-Decides (string_bytes e.0) id).0 t))
     from false t h = h
 
 -- the list with one put in
 pub put_in : {Y : Type 0} (es : List (String Y × code.Local)) (key : String Y) (local : code.Local)
     → map entry_as (insert_entry string_cmp es key local)
-    ≡ put_local (kept_as (string_bytes key) local) (map entry_as es)
+    ≡ put_local (local_named (string_bytes key) local) (map entry_as es)
 put_in [] key local = refl
 put_in (e ∷ es) key local =
     from (slice_cmp nat_cmp (string_bytes key) (string_bytes e.0)) refl (put_in es key local)
   where
     from : (ordering : Ordering) → slice_cmp nat_cmp (string_bytes key) (string_bytes e.0) ≡ ordering
         → map entry_as (insert_entry string_cmp es key local)
-        ≡ put_local (kept_as (string_bytes key) local) (map entry_as es)
+        ≡ put_local (local_named (string_bytes key) local) (map entry_as es)
         → map entry_as
         (match_ordering ordering ((key, local) ∷ e ∷ es) ((e.0, local) ∷ es)
         (e ∷ insert_entry string_cmp es key local))
-        ≡ put_at ordering (kept_as (string_bytes key) local) (entry_as e) (map entry_as es)
-        (put_local (kept_as (string_bytes key) local) (map entry_as es))
+        ≡ put_at ordering (local_named (string_bytes key) local) (entry_as e) (map entry_as es)
+        (put_local (local_named (string_bytes key) local) (map entry_as es))
     from Less t h = refl
     from Equal t h =
-        ap (λ (i : List ℕ). kept_as i local ∷ map entry_as es)
+        ap (λ (i : List ℕ). local_named i local ∷ map entry_as es)
         (sym ((bytes_eq-Decides (string_bytes key) (string_bytes e.0)).0
         (sym (is_eq-slice_cmp (string_bytes key) (string_bytes e.0)) ∙ ap is_eq t)))
     from Greater t h = ap (λ (locals : List Local). entry_as e ∷ locals) h

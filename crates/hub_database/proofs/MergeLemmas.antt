@@ -1,7 +1,7 @@
 -- What a look at a document's tree says of storing an edit in the journal.
 use Rattle.std.proofs.Common.{◌≡◌, ℕ, List, [], ◌∷◌, ◌++◌, length, Bool, true, false}
 use Rattle.std.proofs.Common.{ap, refl, sym, subst, ◌∙◌, ◌&&◌, not, ◌⊎◌, inl, inr}
-use Rattle.std.specs.Prelude.{IfOk, IfErr, Option, Some, None, Ok, Err, map, nat_le, unwrap_or, if◌then◌else◌}
+use Rattle.std.specs.Prelude.{IfOk, IfErr, Option, Some, None, Result, Ok, Err, map, nat_le, unwrap_or, if◌then◌else◌}
 use Rattle.std.specs.List.{list_all}
 use Rattle.std.proofs.lemmas.Bool.{cases_Bool}
 use Rattle.std.proofs.lemmas.List.Folds.{list_all-map}
@@ -21,8 +21,11 @@ use Rattle.hub_model.proofs.Tests.{head_known_is, is_known_from, acceptable_is, 
 use Rattle.hub_revtree.specs.Tree.{HasKnownHead, IsRevTree, nameless}
 use Rattle.hub_revtree.specs.Extend.{draft, extends_path}
 use Rattle.hub_revtree.specs.declared.fault.EditFault.TheVariants as edit_fault
+use Rattle.hub_document.specs.declared.doc.Doc.{Doc}
+use Rattle.hub_database.specs.declared.batch.DbFault.{DbFault}
 use Rattle.hub_database.specs.declared.batch.DbFault.TheVariants as db_fault
-use Rattle.hub_database.specs.Edits.{reply_of}
+use Rattle.hub_database.specs.Database.{Database}
+use Rattle.hub_database.specs.Edits.{draft_of, makes_one, reply_of, stores_doc}
 use Rattle.hub_database.specs.Filed.{named}
 use Rattle.hub_database.specs.Looked.{NeedsRoomFrom, stores_from, stores_edit, look_by, look_made}
 use Rattle.hub_database.specs.Looked.{look_from, look_at, unless_full, outcome_of, journal_after}
@@ -250,7 +253,7 @@ made_unknown limit journal draft other_journal h =
         (nat_le limit (length journal)) (draft_edit draft path) h
 
 -- what one edit that is made answers
-pub made_reply : (limit : ℕ) (journal : List Edit) (draft : Draft) (o : Outcome Revision)
+made_reply : (limit : ℕ) (journal : List Edit) (draft : Draft) (o : Outcome Revision)
     (other_journal : List Edit) → makes limit journal draft ≡ record { outcome = o; journal = other_journal }
     → IfOk (reply_of o) (λ r.
     makes limit journal draft ≡ record { outcome = outcome.Stored r; journal = other_journal })
@@ -302,6 +305,48 @@ made_reply limit journal draft (outcome.Refused f) other_journal h =
         from (nat_le 65535 (generation_of (parent_of path)))
         (is_known journal draft.id (made draft (parent_of path)))
         (nat_le limit (length journal)) (draft_edit draft path) h
+
+-- what a database that stands answers to one edit that is made
+pub one_reply : (old new : Database) (doc : Doc) (o : Outcome Revision) (r : Result Revision DbFault)
+    → old.deleted ≡ false → r ≡ reply_of o
+    → stores_doc true old.limits.journal old.journal doc ≡ record { outcome = o; journal = new.journal }
+    → new ≡ record old { journal = new.journal }
+    → IfOk r (λ rev. makes_one old.deleted old.limits.journal old.journal doc
+    ≡ record { outcome = outcome.Stored rev; journal = new.journal })
+    × IfErr r (λ e. (new ≡ old) × ((e ≡ db_fault.NoMemory)
+    ⊎ ((f : Fault) × (e ≡ db_fault.Refused f)
+    × (makes_one old.deleted old.limits.journal old.journal doc ≡ refuses old.journal f))))
+one_reply old new doc o r stands is stored rest =
+    let said = subst (λ (z : Result Revision DbFault). IfOk z (λ rev.
+    makes old.limits.journal old.journal (draft_of doc)
+    ≡ record { outcome = outcome.Stored rev; journal = new.journal })
+    × IfErr z (λ e. (new.journal ≡ old.journal) × ((e ≡ db_fault.NoMemory)
+    ⊎ ((f : Fault) × (e ≡ db_fault.Refused f)
+    × (makes old.limits.journal old.journal (draft_of doc) ≡ refuses old.journal f)))))
+    (sym is) (made_reply old.limits.journal old.journal (draft_of doc) o new.journal stored) in
+    by r said.0 said.1
+  where
+    same : makes_one old.deleted old.limits.journal old.journal doc
+        ≡ makes old.limits.journal old.journal (draft_of doc)
+    same = ap (λ b. makes_one b old.limits.journal old.journal doc) stands
+
+    stays : new.journal ≡ old.journal → new ≡ old
+    stays e = rest ∙ ap (λ (edits : List Edit). record old { journal = edits }) e
+
+    by : (z : Result Revision DbFault)
+        → IfOk z (λ rev. makes old.limits.journal old.journal (draft_of doc)
+        ≡ record { outcome = outcome.Stored rev; journal = new.journal })
+        → IfErr z (λ e. (new.journal ≡ old.journal) × ((e ≡ db_fault.NoMemory)
+        ⊎ ((f : Fault) × (e ≡ db_fault.Refused f)
+        × (makes old.limits.journal old.journal (draft_of doc) ≡ refuses old.journal f))))
+        → IfOk z (λ rev. makes_one old.deleted old.limits.journal old.journal doc
+        ≡ record { outcome = outcome.Stored rev; journal = new.journal })
+        × IfErr z (λ e. (new ≡ old) × ((e ≡ db_fault.NoMemory)
+        ⊎ ((f : Fault) × (e ≡ db_fault.Refused f)
+        × (makes_one old.deleted old.limits.journal old.journal doc ≡ refuses old.journal f))))
+    by (Ok rev) made none = (same ∙ made, tt)
+    by (Err e) none (still, inl want) = (tt, (stays still, inl want))
+    by (Err e) none (still, inr (f, told, refused)) = (tt, (stays still, inr (f, told, same ∙ refused)))
 
 -- one document more is stored after the others
 module _ {A : Type 0} (store : List Edit → A → Stores) where

@@ -1,5 +1,5 @@
 -- One database as its callers see it (own).
-use Rattle.std.specs.Prelude.{◌≡◌, ◌⊎◌, ℕ, List, Bool, true, false, if◌then◌else◌}
+use Rattle.std.specs.Prelude.{◌≡◌, ◌⊎◌, ℕ, List, Bool, true, false, Result, IfOk, IfErr}
 use Rattle.hub_model.specs.Journal.{Edit}
 use Rattle.hub_model.specs.Feed.{Feed}
 use Rattle.hub_model.specs.declared.outcomes.Fault.TheVariants as fault
@@ -36,13 +36,27 @@ abbrev pub contents_of : Database → Contents
 contents_of db =
     record { journal = db.journal; locals = db.locals; limits = db.limits; life = db.life }
 
--- why a call that reads gives up: once the database is deleted that is told before anything else
-abbrev pub reading_fault : Database → DbFault
-reading_fault db = if db.deleted then Refused fault.Deleted else NoMemory
+-- the database is deleted, and this tells it
+abbrev pub IsDeletedFault : Database → DbFault → Type 0
+IsDeletedFault db e = (db.deleted ≡ true) × (e ≡ Refused fault.Deleted)
 
 -- Why a call that reads gives up, where `needs` says that its answer takes memory: a deleted database is
 -- always told, and out of memory only by one that stands and whose answer takes memory. So an unknown
 -- document is never answered as out of memory.
 abbrev pub GivesUp : Database → Type 0 → DbFault → Type 0
 GivesUp db needs e =
-    ((db.deleted ≡ true) × (e ≡ Refused fault.Deleted)) ⊎ ((db.deleted ≡ false) × (e ≡ NoMemory) × needs)
+    IsDeletedFault db e ⊎ ((db.deleted ≡ false) × (e ≡ NoMemory) × needs)
+
+-- What a call gives that reads a database: of one that stands something that `is` holds of. A deleted one is
+-- told. Memory runs out only where `needs` says that the answer takes some. So a document that is unknown is
+-- answered as that, however little memory is left.
+pub record IsRead {A : Type 0} (db : Database) (result : Result A DbFault) (is : A → Type 0)
+    (needs : Type 0) : Type 0 where
+  pub ok : IfOk result (λ found. (db.deleted ≡ false) × is found)
+  pub err : IfErr result (GivesUp db needs)
+
+-- what a call gives that reads a database and takes no memory: only a deleted one makes it fail
+pub record IsFreeRead {A : Type 0} (db : Database) (result : Result A DbFault)
+    (is : A → Type 0) : Type 0 where
+  pub ok : IfOk result (λ found. (db.deleted ≡ false) × is found)
+  pub err : IfErr result (IsDeletedFault db)

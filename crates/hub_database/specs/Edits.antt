@@ -1,7 +1,8 @@
 -- What becomes of documents that are stored (CouchDB API reference, _bulk_docs, PUT and DELETE of a
 -- document).
-use Rattle.std.specs.Prelude.{◌≡◌, ℕ, List, [], Bool, true, false, unwrap_or, slice_get, Some, Result, Ok}
-use Rattle.std.specs.Prelude.{Err, if◌then◌else◌}
+use Rattle.std.specs.Prelude.{◌≡◌, ◌<◌, ℕ, List, [], length, take, slice_get, Bool, true, false, IsTrue}
+use Rattle.std.specs.Prelude.{if◌then◌else◌, unwrap_or, Some, Result, Ok, Err, IfOk, OnErr}
+use Rattle.std.specs.declared.alloc.AllocError.{AllocError}
 use Rattle.hub_model.specs.Journal.{Edit, IsAcceptable}
 use Rattle.hub_model.specs.Draft.{Draft, HasNextRevision, makes}
 use Rattle.hub_model.specs.Outcome.{Stores, StoresAll, merges, refuses, stores_all}
@@ -9,6 +10,8 @@ use Rattle.hub_model.specs.Revision.{Revision}
 use Rattle.hub_model.specs.declared.outcomes.Fault.TheVariants as fault
 use Rattle.hub_model.specs.declared.outcomes.Outcome.{Outcome}
 use Rattle.hub_model.specs.declared.outcomes.Outcome.TheVariants as outcome
+use Rattle.hub_database.specs.Database.{Contents}
+use Rattle.hub_database.specs.declared.batch.Batch.{Batch}
 use Rattle.hub_database.specs.declared.batch.DbFault.{DbFault}
 use Rattle.hub_database.specs.declared.batch.DbFault.TheVariants as db_fault
 use Rattle.hub_document.specs.declared.doc.Doc.{Doc}
@@ -51,6 +54,28 @@ pub record StopsAt (new_edits deleted : Bool) (journal : List Edit) (at : ℕ) (
   pub doc : Doc
   pub there : slice_get docs at ≡ Some doc
   pub needs : NeedsRoom new_edits journal doc
+
+-- What a write of one edit does to the contents of a database, of which `stores` says what is to come. Its
+-- outcome is answered, its journal is left, and nothing else changes. Where memory runs out nothing changes
+-- at all, and `needs` says that the write takes some. So a refused edit leaves the contents as they were.
+pub record IsStore (stores : Stores) (needs : Type 0) (before after : Contents)
+    (result : Result (Outcome Revision) AllocError) : Type 0 where
+  pub ok : IfOk result (λ outcome. stores ≡ record { outcome = outcome; journal = after.journal })
+  pub rest : after ≡ record before { journal = after.journal }
+  pub err : OnErr result (after ≡ before)
+  pub memory : OnErr result needs
+
+-- What a batch says that was written to a database, which stands or was deleted, and has these journals
+-- before and after it. The documents that have replies were written one after the other. Each has one, if
+-- the batch did not stop. If it did, the first document with no reply needed room. So of three documents a
+-- batch with two replies stopped at the third.
+pub record IsBatch (new_edits deleted : Bool) (limit : ℕ) (before after : List Edit) (docs : List Doc)
+    (batch : Batch) : Type 0 where
+  pub ok : writes new_edits deleted limit before (take (length batch.replies) docs)
+      ≡ record { outcomes = batch.replies; journal = after }
+  pub whole : batch.stopped ≡ false → length batch.replies ≡ length docs
+  pub stopped : IsTrue batch.stopped → length batch.replies < length docs
+  pub stops : IsTrue batch.stopped → StopsAt new_edits deleted after (length batch.replies) docs
 
 -- what a call answers whose one edit came so: as an edit that is made is never known before, Known is told as
 -- a conflict

@@ -1,8 +1,9 @@
 -- What a look at a document's tree says of an edit, and what the write of that edit leaves (own).
 use Rattle.std.specs.Prelude.{◌≡◌, ◌+◌, ◌≤◌, ℕ, List, [], ◌∷◌, ◌++◌, length, Bool, true, if◌then◌else◌}
-use Rattle.std.specs.Prelude.{nat_le, Option, Some, Result, Ok, Err, unwrap_or}
+use Rattle.std.specs.Prelude.{nat_le, Option, Some, Result, Ok, Err, IfOk, OnErr, unwrap_or}
 use Rattle.std.specs.Map.{update}
 use Rattle.std.specs.Str.{bytes_eq}
+use Rattle.std.specs.declared.alloc.AllocError.{AllocError}
 use Rattle.hub_model.specs.Revision.{Revision}
 use Rattle.hub_model.specs.Journal.{Edit, IsAcceptable, head_of, is_head_known, is_acceptable}
 use Rattle.hub_model.specs.declared.outcomes.Fault.TheVariants as fault
@@ -12,7 +13,7 @@ use Rattle.hub_model.specs.Outcome.{Stores, merges}
 use Rattle.hub_model.specs.Draft.{HasNextRevision, makes}
 use Rattle.hub_index.specs.Rows.{moved}
 use Rattle.hub_revtree.specs.Extend.{draft, extends}
-use Rattle.hub_revtree.specs.Tree.{nameless}
+use Rattle.hub_revtree.specs.Tree.{IsRevTree, Tree, nameless}
 use Rattle.hub_revtree.specs.declared.fault.EditFault.{EditFault}
 use Rattle.hub_revtree.specs.declared.fault.EditFault.TheVariants as edit_fault
 use Rattle.hub_database.specs.Filed.{Filed, named}
@@ -84,6 +85,19 @@ NeedsRoomFrom journal id (Here rev) deleted body = HasNextRevision journal (draf
 -- storing an incoming edit of the document takes memory
 abbrev pub NeedsRoomFor : List Edit → List ℕ → Incoming → Type 0
 NeedsRoomFor journal id edit = NeedsRoomFrom journal id edit.origin edit.deleted edit.body
+
+-- What a look at a document's tree does for an incoming edit, where the journal is full or is not. It leaves
+-- the tree's edits as they were, and says of the edit what `look_at` says. A tree has room then for an edit
+-- that is to be stored. Memory runs out only where storing the edit takes some. So a look at an edit whose
+-- revision is known never fails, and leaves the tree's edits.
+pub record IsLook (id : List ℕ) (full : Bool) (edit : Incoming) (before after : Tree)
+    (result : Result Looked AllocError) : Type 0 where
+  pub edits : after.edits ≡ before.edits
+  pub tree : IsRevTree before.edits
+  pub looked : IfOk result (λ looked. looked ≡ unless_full full (look_at id before.edits edit))
+  pub storable : IfOk result (IsStorable before.edits)
+  pub room : IfOk result (HasRoom after.room)
+  pub memory : OnErr result (NeedsRoomFor before.edits [] edit)
 
 -- what a write answers that was said this of
 abbrev pub outcome_of : Looked → Outcome Revision

@@ -1,17 +1,13 @@
 //! What a database keeps: its documents with their journal, and its local documents.
 
-ghost use Rattle.std.specs.Prelude.{[], ◌∷◌, ◌++◌, false, true, ◌≡◌, ◌⊎◌, ◌+◌, ◌<◌, ◌≤◌, ◌^◌};
-ghost use Rattle.std.specs.Prelude.{length, take, vec_len, vec_capacity, None, Err, IfOk, IfErr, OnOk, OnErr, IsTrue};
+ghost use Rattle.std.specs.Prelude.{[], ◌∷◌, ◌++◌, false, ◌≡◌, ◌+◌, ◌<◌, ◌≤◌, ◌^◌};
+ghost use Rattle.std.specs.Prelude.{length, vec_len, vec_capacity, None, IfOk, IfErr, OnOk, OnErr};
 ghost use Rattle.std.specs.List.{All};
 ghost use Rattle.hub_index.specs.Order.{IsOrder, number_in, with_number};
 ghost use Rattle.hub_index.specs.Rows.{seq_of, moved};
-ghost use Rattle.hub_model.specs.Journal.{IsLegal, edits_of};
-ghost use Rattle.hub_model.specs.Draft.{HasNextRevision, makes};
-ghost use Rattle.hub_model.specs.Outcome.{refuses};
-ghost use Rattle.hub_model.specs.declared.outcomes.Fault.{Fault};
-ghost use Rattle.hub_model.specs.declared.outcomes.Outcome.TheVariants.{Stored};
+ghost use Rattle.hub_model.specs.Journal.{edits_of};
 ghost use Rattle.hub_database.specs.Documents.{files, one_if};
-ghost use Rattle.hub_database.specs.Edits.{NeedsRoom, StopsAt, draft_of, stores_doc, writes, reply_of};
+ghost use Rattle.hub_database.specs.Edits.{IsBatch, IsStore, NeedsRoom, stores_doc};
 ghost use Rattle.hub_database.specs.Filed.{ids_of};
 ghost use Rattle.hub_database.specs.Looked.{NeedsRoomFor, stores_edit};
 ghost use Rattle.hub_database.specs.Reads.{info_of};
@@ -24,6 +20,7 @@ use crate::ids::Ids;
 use crate::local::Local;
 use crate::room::reserve_one;
 use hub_document::{Doc, DocId, Limits, RevId};
+use hub_feed::Source;
 use hub_index::{IdHints, IdOrder, PageIndex, SeqIndex};
 use hub_model::{Fault, Outcome};
 use std::alloc::{AllocError, Global};
@@ -70,17 +67,6 @@ impl Model for Contents {
     } };
 
     ghost invariant = { IsWhole };
-}
-
-// What a call answers whose edit came so. No edit that is made here was known before.
-fn reply(outcome: Outcome<RevId>) -> Result<RevId, DbFault>
-    ensures { result ≡ reply_of outcome }
-{
-    match outcome {
-        Outcome::Stored(rev) => Ok(rev),
-        Outcome::Refused(fault) => Err(DbFault::Refused(fault)),
-        Outcome::Known => Err(DbFault::Refused(Fault::Conflict)),
-    }
 }
 
 // The count of documents with a deleted winner, after a document whose winner was one, or was not,
@@ -144,10 +130,7 @@ fn enter(
 impl Contents {
     /// Those of a database with no document.
     pub(crate) fn new(alloc: Global, limits: Limits, life: u64) -> Contents
-        ensures journal { result.journal ≡ [] }
-        ensures locals { result.locals ≡ [] }
-        ensures limits { result.limits ≡ limits }
-        ensures life { result.life ≡ life }
+        ensures { result ≡ record { journal = []; locals = []; limits = limits; life = life } }
     {
         Contents {
             documents: Vec::new(alloc),
@@ -175,15 +158,6 @@ impl Contents {
         self.limits
     }
 
-    /// How many edits were accepted: the sequence of the last one.
-    pub fn update_seq(&self) -> u64
-        ensures value { result ≡ length self.now.journal }
-        ensures legal { IsLegal self.now.journal }
-        ensures within { result ≤ self.now.limits.journal }
-    {
-        self.journal.len() as u64
-    }
-
     /// How many documents there are, and how many edits. Constant time: the counts are kept.
     pub fn info(&self) -> Info
         ensures { result ≡ info_of self.now.journal self.now.life }
@@ -193,7 +167,7 @@ impl Contents {
         Info {
             doc_count: doc_count - doc_del_count,
             doc_del_count,
-            update_seq: self.update_seq(),
+            update_seq: self.length(),
             life: self.life,
         }
     }
@@ -202,11 +176,8 @@ impl Contents {
     // memory.
     fn insert(&mut self, id: DocId, edit: Incoming) -> Result<Outcome<RevId>, AllocError>
         requires new { edits_of self.old.journal id ≡ [] }
-        ensures ok { IfOk result (λ o. stores_edit self.old.limits.journal self.old.journal id edit
-            ≡ record { outcome = o; journal = self.new.journal }) }
-        ensures rest { self.new ≡ record self.old { journal = self.new.journal } }
-        ensures err { OnErr result (self.new ≡ self.old) }
-        ensures memory { OnErr result (NeedsRoomFor self.old.journal id edit) }
+        ensures { IsStore (stores_edit self.old.limits.journal self.old.journal id edit)
+            (NeedsRoomFor self.old.journal id edit) self.old self.new result }
     {
         let full = self.journal.len() as u64 >= self.limits.journal;
         let mut document = Document::new(self.alloc, id);
@@ -232,11 +203,8 @@ impl Contents {
 
     // Stores an edit of the document with this id.
     fn store(&mut self, id: DocId, edit: Incoming) -> Result<Outcome<RevId>, AllocError>
-        ensures ok { IfOk result (λ o. stores_edit self.old.limits.journal self.old.journal id edit
-            ≡ record { outcome = o; journal = self.new.journal }) }
-        ensures rest { self.new ≡ record self.old { journal = self.new.journal } }
-        ensures err { OnErr result (self.new ≡ self.old) }
-        ensures memory { OnErr result (NeedsRoomFor self.old.journal id edit) }
+        ensures { IsStore (stores_edit self.old.limits.journal self.old.journal id edit)
+            (NeedsRoomFor self.old.journal id edit) self.old self.new result }
     {
         let ids = Ids {
             documents: self.documents.as_slice(),
@@ -259,15 +227,12 @@ impl Contents {
         }
     }
 
-    // Stores one document: with `new_edits` its revision is made here. It costs a search of the id,
-    // what `RevTree::look_extend` or `RevTree::look_merge` does, what `SeqIndex::move_to` does, and
-    // what `RevTree::best` does.
-    fn write(&mut self, doc: Doc, new_edits: bool) -> Result<Outcome<RevId>, AllocError>
-        ensures ok { IfOk result (λ o. stores_doc new_edits self.old.limits.journal self.old.journal doc
-            ≡ record { outcome = o; journal = self.new.journal }) }
-        ensures rest { self.new ≡ record self.old { journal = self.new.journal } }
-        ensures err { OnErr result (self.new ≡ self.old) }
-        ensures memory { OnErr result (NeedsRoom new_edits self.old.journal doc) }
+    /// Stores one document: with `new_edits` its revision is made here. It costs a search of the id,
+    /// what `RevTree::look_extend` or `RevTree::look_merge` does, what `SeqIndex::move_to` does, and
+    /// what `RevTree::best` does.
+    pub(crate) fn write(&mut self, doc: Doc, new_edits: bool) -> Result<Outcome<RevId>, AllocError>
+        ensures { IsStore (stores_doc new_edits self.old.limits.journal self.old.journal doc)
+            (NeedsRoom new_edits self.old.journal doc) self.old self.new result }
     {
         let Doc {
             id,
@@ -301,15 +266,8 @@ impl Contents {
 
     /// Stores documents one after the other, as `DbState::write_edits` says.
     pub(crate) fn write_edits(&mut self, docs: Vec<Doc>, new_edits: bool) -> Result<Batch, DbFault>
-        ensures ok { IfOk result (λ batch. writes new_edits false self.old.limits.journal self.old.journal
-            (take (length batch.replies) docs.items)
-            ≡ record { outcomes = batch.replies; journal = self.new.journal }) }
-        ensures whole { IfOk result (λ batch. batch.stopped ≡ false
-            → length batch.replies ≡ length docs.items) }
-        ensures stopped { IfOk result (λ batch. IsTrue batch.stopped
-            → length batch.replies < length docs.items) }
-        ensures stops { IfOk result (λ batch. IsTrue batch.stopped
-            → StopsAt new_edits false self.new.journal (length batch.replies) docs.items) }
+        ensures batch { IfOk result
+            (IsBatch new_edits false self.old.limits.journal self.old.journal self.new.journal docs.items) }
         ensures rest { self.new ≡ record self.old { journal = self.new.journal } }
         ensures grows { length self.old.journal ≤ length self.new.journal }
         ensures err { IfErr result (λ e. (e ≡ DbFault.NoMemory) × (self.new ≡ self.old)) }
@@ -331,36 +289,5 @@ impl Contents {
             replies: Replies::new(list),
             stopped: false,
         })
-    }
-
-    /// Stores one edit whose revision is made here, as `DbState::write_one` says.
-    pub(crate) fn write_one(&mut self, doc: Doc) -> Result<RevId, DbFault>
-        ensures ok { IfOk result (λ rev. makes self.old.limits.journal self.old.journal (draft_of doc)
-            ≡ record { outcome = Stored rev; journal = self.new.journal }) }
-        ensures rest { self.new ≡ record self.old { journal = self.new.journal } }
-        ensures grows { length self.old.journal ≤ length self.new.journal }
-        ensures err { IfErr result (λ e. (self.new ≡ self.old) × ((e ≡ DbFault.NoMemory)
-            ⊎ ((fault : Fault) × (e ≡ DbFault.Refused fault)
-            × (makes self.old.limits.journal self.old.journal (draft_of doc)
-            ≡ refuses self.old.journal fault)))) }
-        ensures memory { result ≡ Err DbFault.NoMemory → HasNextRevision self.old.journal (draft_of doc) }
-    {
-        let Doc {
-            id,
-            rev,
-            path,
-            deleted,
-            body,
-        } = doc;
-        let origin = Origin::Here(rev);
-        let outcome = self.store(
-            id,
-            Incoming {
-                origin,
-                deleted,
-                body,
-            },
-        )?;
-        reply(outcome)
     }
 }

@@ -1,24 +1,22 @@
 //! One database, and its calls but those of its feeds.
 
-ghost use Rattle.std.specs.Prelude.{◌≡◌, ◌⊎◌, ◌<◌, ◌≤◌, ◌^◌, [], false, true, length, take, option_map};
-ghost use Rattle.std.specs.Prelude.{replicate, Err, IfOk, IfErr, IsSome, OnErr, OnOk, IsTrue};
+ghost use Rattle.std.specs.Prelude.{◌≡◌, ◌⊎◌, ◌<◌, ◌≤◌, ◌^◌, [], false, true, length, option_map};
+ghost use Rattle.std.specs.Prelude.{replicate, Err, IfOk, IfErr, OnErr, OnOk};
 ghost use Rattle.hub_model.specs.Descending.{descending};
 ghost use Rattle.hub_model.specs.Draft.{HasNextRevision};
 ghost use Rattle.hub_model.specs.Journal.{IsLegal};
-ghost use Rattle.hub_model.specs.Leaves.{leaves_of};
 ghost use Rattle.hub_model.specs.Missing.{diffs};
 ghost use Rattle.hub_model.specs.Outcome.{refuses};
 ghost use Rattle.hub_model.specs.declared.outcomes.Fault.{Fault};
 ghost use Rattle.hub_model.specs.declared.outcomes.Fault.TheVariants.{Deleted, SequenceFull};
 ghost use Rattle.hub_model.specs.declared.outcomes.Outcome.TheVariants.{Stored, Refused};
 ghost use Rattle.hub_params.specs.FeedModel.{params_of};
-ghost use Rattle.hub_revtree.specs.Winner.{winner_of};
-ghost use Rattle.hub_database.specs.Database.{GivesUp, contents_of, reading_fault};
-ghost use Rattle.hub_database.specs.Edits.{StopsAt, draft_of, writes, makes_one};
+ghost use Rattle.hub_database.specs.Answers.{local_named};
+ghost use Rattle.hub_database.specs.Database.{IsDeletedFault, IsFreeRead, IsRead, contents_of};
+ghost use Rattle.hub_database.specs.Edits.{IsBatch, draft_of, makes_one, reply_of};
 ghost use Rattle.hub_database.specs.Feeds.{deleted};
 ghost use Rattle.hub_database.specs.Locals.{local_of, put_local, written};
-ghost use Rattle.hub_database.specs.Reads.{HasDocument, entry_at, entry_doc_of, entry_of};
-ghost use Rattle.hub_database.specs.Reads.{info_of, lookup, open_revs as open_revs_of};
+ghost use Rattle.hub_database.specs.Reads.{HasDocument, info_of, lookup, open_revs as open_revs_of};
 
 use crate::answers::{Diff, Info, Lookup, OpenRev};
 use crate::batch::{Batch, DbFault, Replies};
@@ -27,11 +25,10 @@ use crate::descending::Descending;
 use crate::listing::Listing;
 use crate::local::Local;
 use hub_document::{Asked, Doc, Limits, LocalDoc, OpenRevs, RevId};
-use hub_feed::{Feeds, Source};
+use hub_feed::Feeds;
 use hub_model::{Fault, Outcome};
 use hub_params::FeedParams;
-use hub_revtree::Winner;
-use std::alloc::{AllocError, Global};
+use std::alloc::Global;
 use std::marker::Model;
 
 /// The state of one database: what it keeps, whether it was deleted, and its feeds.
@@ -93,6 +90,17 @@ fn refuse_all(alloc: Global, count: usize) -> Result<Batch, DbFault>
     })
 }
 
+// What a call answers whose edit came so. No edit that is made here was known before.
+fn reply(outcome: Outcome<RevId>) -> Result<RevId, DbFault>
+    ensures { result ≡ reply_of outcome }
+{
+    match outcome {
+        Outcome::Stored(rev) => Ok(rev),
+        Outcome::Refused(fault) => Err(DbFault::Refused(fault)),
+        Outcome::Known => Err(DbFault::Refused(Fault::Conflict)),
+    }
+}
+
 impl DbState {
     /// A database with no document, of the life of this number.
     pub fn new(alloc: Global, limits: Limits, life: u64) -> DbState
@@ -122,9 +130,7 @@ impl DbState {
     /// What it keeps, where it was not deleted. Each call below that refuses a deleted database asks
     /// this, once.
     pub fn standing(&self) -> Result<&Contents, DbFault>
-        ensures ok { IfOk result (λ contents. (self.now.deleted ≡ false)
-            × (contents.now ≡ contents_of self.now)) }
-        ensures err { IfErr result (λ e. (self.now.deleted ≡ true) × (e ≡ DbFault.Refused Deleted)) }
+        ensures { IsFreeRead self.now result (λ contents. contents.now ≡ contents_of self.now) }
     {
         if self.deleted {
             return Err(DbFault::Refused(Fault::Deleted));
@@ -138,47 +144,13 @@ impl DbState {
         ensures legal { IsLegal self.now.journal }
         ensures within { result ≤ self.now.limits.journal }
     {
-        self.contents.update_seq()
-    }
-
-    /// The number of its life.
-    pub fn life(&self) -> u64
-        ensures { result ≡ self.now.life }
-    {
-        self.contents.life()
-    }
-
-    /// The winner of a document, with its mark; None where there is no such document. It costs what
-    /// `Contents::winner` does.
-    pub fn winner(&self, id: &str) -> Option<Winner>
-        ensures { result ≡ winner_of (leaves_of self.now.journal id.now) }
-    {
-        self.contents.winner(id)
-    }
-
-    /// The id and the revision of the edit of this sequence; None of a sequence that no edit has.
-    /// Constant time.
-    pub fn entry(&self, seq: u64) -> Option<(&str, RevId)>
-        ensures { option_map (λ p. (p.0.now, p.1)) result ≡ entry_of self.now.journal seq }
-    {
-        self.contents.entry(seq)
-    }
-
-    /// The edit of this sequence, with the history that it came with; None of a sequence that no edit has.
-    /// It costs a copy of the edit.
-    pub fn entry_doc(&self, seq: u64) -> Result<Option<Doc>, AllocError>
-        ensures doc { IfOk result (λ doc. doc ≡ entry_doc_of self.now.journal seq) }
-        ensures memory { OnErr result (IsSome (entry_at self.now.journal seq)) }
-    {
-        self.contents.entry_doc(seq)
+        self.contents.journal.len() as u64
     }
 
     /// How many documents there are, and how many edits (CouchDB API reference, `GET /{db}`).
     /// Constant time: the counts are kept.
     pub fn info(&self) -> Result<Info, DbFault>
-        ensures ok { IfOk result (λ info.
-            (self.now.deleted ≡ false) × (info ≡ info_of self.now.journal self.now.life)) }
-        ensures err { IfErr result (λ e. (self.now.deleted ≡ true) × (e ≡ DbFault.Refused Deleted)) }
+        ensures { IsFreeRead self.now result (λ info. info ≡ info_of self.now.journal self.now.life) }
     {
         Ok(self.standing()?.info())
     }
@@ -186,10 +158,8 @@ impl DbState {
     /// A document: its winner, with its history where `revs` asks for it. It costs what
     /// `Contents::get` does.
     pub fn get(&self, id: &str, revs: bool) -> Result<Lookup, DbFault>
-        ensures ok { IfOk result (λ found. (self.now.deleted ≡ false)
-            × (found ≡ lookup self.now.journal id.now revs)) }
-        ensures err { IfErr result (λ e. e ≡ reading_fault self.now) }
-        ensures memory { IfErr result (GivesUp self.now (HasDocument self.now.journal id.now revs)) }
+        ensures { IsRead self.now result (λ found. found ≡ lookup self.now.journal id.now revs)
+            (HasDocument self.now.journal id.now revs) }
     {
         Ok(self.standing()?.get(id, revs)?)
     }
@@ -198,11 +168,8 @@ impl DbState {
     /// it. Of an unknown document there is no leaf, and each listed revision is missing. It costs
     /// what `Contents::open_revs` does.
     pub fn open_revs(&self, id: &str, which: &OpenRevs, revs: bool) -> Result<Vec<OpenRev>, DbFault>
-        ensures ok { IfOk result (λ found. (self.now.deleted ≡ false)
-            × (found.items ≡ open_revs_of self.now.journal id.now which.now revs)) }
-        ensures err { IfErr result (λ e. e ≡ reading_fault self.now) }
-        ensures memory { IfErr result (GivesUp self.now
-            (¬ (open_revs_of self.now.journal id.now which.now revs ≡ []))) }
+        ensures { let revisions = open_revs_of self.now.journal id.now which.now revs in
+            IsRead self.now result (λ found. found.items ≡ revisions) (¬ (revisions ≡ [])) }
     {
         Ok(self.standing()?.open_revs(id, which, revs)?)
     }
@@ -210,10 +177,8 @@ impl DbState {
     /// Which of the revisions asked for are missing, of the documents alone of which some are, in
     /// the order asked. It costs what `Contents::revs_diff` does.
     pub fn revs_diff(&self, asked: Vec<Asked>) -> Result<Vec<Diff>, DbFault>
-        ensures ok { IfOk result (λ found. (self.now.deleted ≡ false)
-            × (found.items ≡ diffs self.now.journal asked.items)) }
-        ensures err { IfErr result (λ e. e ≡ reading_fault self.now) }
-        ensures memory { IfErr result (GivesUp self.now (¬ (diffs self.now.journal asked.items ≡ []))) }
+        ensures { let missed = diffs self.now.journal asked.items in
+            IsRead self.now result (λ found. found.items ≡ missed) (¬ (missed ≡ [])) }
     {
         Ok(self.standing()?.revs_diff(asked)?)
     }
@@ -222,21 +187,16 @@ impl DbState {
     /// `limit`, `style`, `include_docs` and `filter` are looked at. It costs what
     /// `Contents::changes_descending` does.
     pub fn changes_descending(&self, params: &FeedParams) -> Result<Descending, DbFault>
-        ensures ok { IfOk result (λ answer. (self.now.deleted ≡ false)
-            × (answer ≡ descending self.now.journal self.now.life (params_of params.now))) }
-        ensures err { IfErr result (λ e. e ≡ reading_fault self.now) }
-        ensures memory { IfErr result (GivesUp self.now
-            (¬ ((descending self.now.journal self.now.life (params_of params.now)).rows ≡ []))) }
+        ensures { let falling = descending self.now.journal self.now.life (params_of params.now) in
+            IsRead self.now result (λ answer. answer ≡ falling) (¬ (falling.rows ≡ [])) }
     {
         Ok(self.standing()?.changes_descending(params)?)
     }
 
     /// The local document of this id. A look in the map of local documents.
     pub fn local_get(&self, id: &str) -> Result<Option<&Local>, DbFault>
-        ensures ok { IfOk result (λ found. (self.now.deleted ≡ false)
-            × (option_map (λ l. record { id = id.now; count = l.now.count; body = l.now.body }) found
-            ≡ local_of self.now.locals id.now)) }
-        ensures err { IfErr result (λ e. (self.now.deleted ≡ true) × (e ≡ DbFault.Refused Deleted)) }
+        ensures { IsFreeRead self.now result (λ found.
+            option_map (λ l. local_named id.now l.now) found ≡ local_of self.now.locals id.now) }
     {
         Ok(self.standing()?.local_get(id))
     }
@@ -251,7 +211,7 @@ impl DbState {
               locals = put_local (written self.old.locals doc) self.old.locals;
             })) }
         ensures err { IfErr result (λ e. (self.new ≡ self.old)
-            × (((self.old.deleted ≡ true) × (e ≡ DbFault.Refused Deleted))
+            × (IsDeletedFault self.old e
             ⊎ ((self.old.deleted ≡ false) × ((e ≡ DbFault.NoMemory)
             ⊎ ((e ≡ DbFault.Refused SequenceFull) × (2 ^ 64 ≤ (written self.old.locals doc).count)))))) }
         ensures memory { result ≡ Err DbFault.NoMemory
@@ -271,16 +231,8 @@ impl DbState {
     /// of its id, what `RevTree::look_extend` or `RevTree::look_merge` does, a move in the index of
     /// rows, and what `RevTree::best` does.
     pub fn write_edits(&mut self, docs: Vec<Doc>, new_edits: bool) -> Result<Batch, DbFault>
-        ensures ok { IfOk result (λ batch.
-            writes new_edits self.old.deleted self.old.limits.journal self.old.journal
-            (take (length batch.replies) docs.items)
-            ≡ record { outcomes = batch.replies; journal = self.new.journal }) }
-        ensures whole { IfOk result (λ batch. batch.stopped ≡ false
-            → length batch.replies ≡ length docs.items) }
-        ensures stopped { IfOk result (λ batch. IsTrue batch.stopped
-            → length batch.replies < length docs.items) }
-        ensures stops { IfOk result (λ batch. IsTrue batch.stopped
-            → StopsAt new_edits self.old.deleted self.new.journal (length batch.replies) docs.items) }
+        ensures batch { IfOk result (IsBatch new_edits self.old.deleted self.old.limits.journal
+            self.old.journal self.new.journal docs.items) }
         ensures rest { self.new ≡ record self.old { journal = self.new.journal } }
         ensures err { IfErr result (λ e. (e ≡ DbFault.NoMemory) × (self.new ≡ self.old)) }
         ensures memory { OnErr result (0 < length docs.items) }
@@ -318,7 +270,8 @@ impl DbState {
     {
         self.standing()?;
         self.listing.forget();
-        self.contents.write_one(doc)
+        let outcome = self.contents.write(doc, true)?;
+        reply(outcome)
     }
 
     /// Deletes the database, and ends its open feeds: what is left of each is its end. It takes no

@@ -1,13 +1,12 @@
 //! One document of a database.
 
-ghost use Rattle.std.specs.Prelude.{[], ◌∷◌, ◌++◌, None, Some, ◌≡◌, ◌+◌, ◌<◌, ◌≤◌};
+ghost use Rattle.std.specs.Prelude.{[], ◌∷◌, ◌++◌, false, None, Some, ◌≡◌, ◌+◌, ◌<◌, ◌≤◌};
 ghost use Rattle.std.specs.Prelude.{◌^◌, length, vec_len, vec_capacity, IfOk, OnErr};
 ghost use Rattle.std.specs.List.{All};
 ghost use Rattle.hub_index.specs.Rows.{seq_of};
 ghost use Rattle.hub_model.specs.Journal.{IsAcceptable, head_of};
 ghost use Rattle.hub_revtree.specs.Tree.{IsRevTree};
-ghost use Rattle.hub_database.specs.Looked.{IsStorable, IsWritten, NeedsRoomFrom, NeedsRoomFor};
-ghost use Rattle.hub_database.specs.Looked.{HasRoom, look_from, look_at, look_in, unless_full};
+ghost use Rattle.hub_database.specs.Looked.{IsLook, IsWritten, NeedsRoomFor, look_in, unless_full};
 ghost use Rattle.hub_database.specs.Documents.{filed, setting_of};
 ghost use Rattle.hub_database.specs.declared.document.Origin.TheVariants.{Elsewhere, Here};
 
@@ -78,12 +77,8 @@ fn look_merge(
     deleted: bool,
     body: Body,
 ) -> Result<Looked, AllocError>
-    ensures edits { tree.new.edits ≡ tree.old.edits }
-    ensures tree { IsRevTree tree.old.edits }
-    ensures looked { IfOk result (λ l. l ≡ look_from [] tree.old.edits (Elsewhere path) deleted body) }
-    ensures storable { IfOk result (IsStorable tree.old.edits) }
-    ensures room { IfOk result (HasRoom tree.new.room) }
-    ensures memory { OnErr result (NeedsRoomFrom tree.old.edits [] (Elsewhere path) deleted body) }
+    ensures { IsLook [] false (record { origin = Elsewhere path; deleted = deleted; body = body })
+        tree.old tree.new result }
 {
     match tree.look_merge(path, deleted, body) {
         Ok(None) => Ok(Looked::Known),
@@ -101,12 +96,8 @@ fn look_extend(
     deleted: bool,
     body: Body,
 ) -> Result<Looked, AllocError>
-    ensures edits { tree.new.edits ≡ tree.old.edits }
-    ensures tree { IsRevTree tree.old.edits }
-    ensures looked { IfOk result (λ l. l ≡ look_from id.now tree.old.edits (Here parent) deleted body) }
-    ensures storable { IfOk result (IsStorable tree.old.edits) }
-    ensures room { IfOk result (HasRoom tree.new.room) }
-    ensures memory { OnErr result (NeedsRoomFrom tree.old.edits [] (Here parent) deleted body) }
+    ensures { IsLook id.now false (record { origin = Here parent; deleted = deleted; body = body })
+        tree.old tree.new result }
 {
     match tree.look_extend(id, parent, deleted, body) {
         Ok(ready) => Ok(Looked::Ready(ready)),
@@ -124,12 +115,7 @@ pub(crate) fn look(
     full: bool,
     edit: Incoming,
 ) -> Result<Looked, AllocError>
-    ensures edits { tree.new.edits ≡ tree.old.edits }
-    ensures tree { IsRevTree tree.old.edits }
-    ensures looked { IfOk result (λ l. l ≡ unless_full full (look_at id.now tree.old.edits edit)) }
-    ensures storable { IfOk result (IsStorable tree.old.edits) }
-    ensures room { IfOk result (HasRoom tree.new.room) }
-    ensures memory { OnErr result (NeedsRoomFor tree.old.edits [] edit) }
+    ensures { IsLook id.now full edit tree.old tree.new result }
 {
     let Incoming {
         origin,

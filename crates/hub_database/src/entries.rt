@@ -5,6 +5,7 @@ ghost use Rattle.hub_revtree.specs.Extend.{path_to};
 ghost use Rattle.hub_database.specs.Reads.{bare_doc, doc_shown, entry_at, entry_of, entry_doc_of};
 
 use crate::contents::Contents;
+use crate::database::DbState;
 use crate::document::Document;
 use hub_document::{Doc, Path, RevId};
 use hub_revtree::StoredEdit;
@@ -39,13 +40,15 @@ impl Contents {
         };
         Some((document, edit))
     }
+}
 
+impl DbState {
     /// The id and the revision of the edit of this sequence; None of a sequence that no edit has.
     /// Constant time.
     pub fn entry(&self, seq: u64) -> Option<(&str, RevId)>
         ensures { option_map (λ p. (p.0.now, p.1)) result ≡ entry_of self.now.journal seq }
     {
-        let Some((document, edit)) = self.edit(seq) else {
+        let Some((document, edit)) = self.contents.edit(seq) else {
             return None;
         };
         Some((document.id.as_str(), edit.rev))
@@ -57,8 +60,8 @@ impl Contents {
         ensures doc { IfOk result (λ doc. doc ≡ entry_doc_of self.now.journal seq) }
         ensures memory { OnErr result (IsSome (entry_at self.now.journal seq)) }
     {
-        let alloc = self.alloc;
-        let Some((document, edit)) = self.edit(seq) else {
+        let alloc = self.contents.alloc();
+        let Some((document, edit)) = self.contents.edit(seq) else {
             return Ok(None);
         };
         let path = document.tree.path(alloc, &edit.rev)?;

@@ -10,7 +10,7 @@ ghost use Rattle.hub_database.specs.Hosting.{hosted_of, with_hosted};
 
 use crate::database::DbState;
 use hub_document::ChangeRow;
-use hub_feed::{FeedId, Next};
+use hub_feed::{FeedId, Next, Source};
 use hub_model::Item;
 use std::alloc::AllocError;
 
@@ -27,7 +27,7 @@ impl DbState {
         let state = self.feeds.state_at(feed, at);
         let ids = state.listed()?;
         let few = state.place().saturating_add(ids.len() as u64);
-        if !state.is_open() || self.contents.update_seq() <= few {
+        if !state.is_open() || self.contents.length() <= few {
             return None;
         }
         if !self.listing.holds(feed.number, &self.contents, ids) {

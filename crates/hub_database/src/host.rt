@@ -63,7 +63,7 @@ impl FeedHost for DbState {
 
     /// Constant time.
     fn length(&self) -> u64 {
-        self.contents.update_seq()
+        self.update_seq()
     }
 
     /// Constant time.
@@ -87,7 +87,7 @@ impl FeedHost for DbState {
         if let Some(fault) = self.refusal() {
             return Err(fault);
         }
-        let length = self.contents.update_seq();
+        let length = self.contents.length();
         let life = self.contents.life();
         match self.feeds.open(params, length, life) {
             Ok(feed) => Ok(feed),

@@ -3,6 +3,7 @@
 ghost use Rattle.std.specs.Prelude.{◌≡◌, ◌⊎◌, ◌<◌, ◌≤◌, ◌^◌, option_map, Err};
 ghost use Rattle.std.specs.Prelude.{IfSome, IfNone, IfOk, IfErr, OnOk, OnErr};
 ghost use Rattle.hub_model.specs.declared.outcomes.Fault.TheVariants.{SequenceFull};
+ghost use Rattle.hub_database.specs.Answers.{local_named};
 ghost use Rattle.hub_database.specs.Kept.{kept};
 ghost use Rattle.hub_database.specs.Locals.{local_of, next_count, put_local, written};
 
@@ -37,8 +38,7 @@ impl Local {
 
 // The local document of this id.
 fn local_in<'a>(locals: &'a BTreeMap<String, Local>, id: &str) -> Option<&'a Local>
-    ensures { option_map (λ l. record { id = id.now; count = l.now.count; body = l.now.body }) result
-        ≡ local_of (kept locals.now) id.now }
+    ensures { option_map (λ l. local_named id.now l.now) result ≡ local_of (kept locals.now) id.now }
 {
     locals.get(id)
 }
@@ -56,8 +56,7 @@ fn count_after(locals: &BTreeMap<String, Local>, id: &str) -> Option<u64>
 
 // Puts a local document in the place of the one of its id, if there is one.
 fn put(locals: &mut BTreeMap<String, Local>, id: LocalId, local: Local) -> Result<(), AllocError>
-    ensures ok { OnOk result (kept locals.new
-        ≡ put_local (record { id = id; count = local.count; body = local.body }) (kept locals.old)) }
+    ensures ok { OnOk result (kept locals.new ≡ put_local (local_named id local) (kept locals.old)) }
     ensures err { OnErr result (kept locals.new ≡ kept locals.old) }
 {
     locals.insert(id.into_string(), local)?;
@@ -67,8 +66,7 @@ fn put(locals: &mut BTreeMap<String, Local>, id: LocalId, local: Local) -> Resul
 impl Contents {
     /// The local document of this id. A look in the map of local documents.
     pub fn local_get(&self, id: &str) -> Option<&Local>
-        ensures { option_map (λ l. record { id = id.now; count = l.now.count; body = l.now.body }) result
-            ≡ local_of self.now.locals id.now }
+        ensures { option_map (λ l. local_named id.now l.now) result ≡ local_of self.now.locals id.now }
     {
         local_in(&self.locals, id)
     }

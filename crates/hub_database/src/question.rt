@@ -1,7 +1,7 @@
 //! Questions to a database, and their answers.
 
-ghost use Rattle.std.specs.Prelude.{◌≡◌, false, option_map, IfOk, IfErr, IsSome};
-ghost use Rattle.hub_database.specs.Database.{GivesUp};
+ghost use Rattle.std.specs.Prelude.{◌≡◌, option_map, IsSome};
+ghost use Rattle.hub_database.specs.Database.{IsRead};
 ghost use Rattle.hub_database.specs.Answers.{IsAnswer, TakesMemory, local_named};
 ghost use Rattle.hub_database.specs.Locals.{local_of};
 
@@ -61,9 +61,8 @@ impl DbState {
     /// A copy of the local document of this id. It costs a look in the map of local documents, and the
     /// copy. Out of memory is told only where there is such a document.
     pub fn local_copy(&self, id: &str) -> Result<Option<Local>, DbFault>
-        ensures ok { IfOk result (λ found. (self.now.deleted ≡ false)
-            × (option_map (local_named id.now) found ≡ local_of self.now.locals id.now)) }
-        ensures err { IfErr result (λ e. GivesUp self.now (IsSome (local_of self.now.locals id.now)) e) }
+        ensures { let local = local_of self.now.locals id.now in
+            IsRead self.now result (λ found. option_map (local_named id.now) found ≡ local) (IsSome local) }
     {
         match self.local_get(id)? {
             Some(local) => Ok(Some(local.copy(self.contents.alloc())?)),
@@ -75,13 +74,15 @@ impl DbState {
     /// question's kind does, and for a local document a copy. Out of memory is told only where the answer
     /// takes some.
     pub fn answer(&self, question: Question) -> Result<Answer, DbFault>
-        ensures ok { IfOk result (λ a. (self.now.deleted ≡ false) × IsAnswer self.now question a) }
-        ensures err { IfErr result (λ e. GivesUp self.now (TakesMemory self.now question) e) }
+        ensures { IsRead self.now result (IsAnswer self.now question) (TakesMemory self.now question) }
     {
         match question {
             Question::Info => Ok(Answer::Info(self.info()?)),
             Question::Get { id, revs } => Ok(Answer::Get(self.get(id.as_str(), revs)?)),
-            Question::Winner { id } => Ok(Answer::Winner(self.standing()?.winner(id.as_str()))),
+            Question::Winner { id } => {
+                self.standing()?;
+                Ok(Answer::Winner(self.winner(id.as_str())))
+            }
             Question::OpenRevs { id, which, revs } => Ok(Answer::OpenRevs(self.open_revs(
                 id.as_str(),
                 &which,

@@ -9,6 +9,7 @@ ghost use Rattle.hub_database.specs.Reads.{HasDocument, lookup};
 
 use crate::answers::Lookup;
 use crate::contents::Contents;
+use crate::database::DbState;
 use crate::document::Document;
 use crate::ids::Ids;
 use hub_revtree::Winner;
@@ -27,15 +28,6 @@ impl Contents {
         let number = ids.number_of(&self.numbers, &self.hints, id)?;
         let document = &self.documents[number as usize];
         Some(document)
-    }
-
-    /// The winner of a document, with its mark; None where there is no such document. A
-    /// search of the id, and what `RevTree::best` costs.
-    pub fn winner(&self, id: &str) -> Option<Winner>
-        ensures { result ≡ winner_of (leaves_of self.now.journal id.now) }
-    {
-        let document = self.document(id)?;
-        document.tree.best()
     }
 
     /// A document: its winner, with its history where `revs` asks for it. A search of the id,
@@ -57,5 +49,16 @@ impl Contents {
             Some(doc) => Ok(Lookup::Found(doc)),
             None => Ok(Lookup::Unknown),
         }
+    }
+}
+
+impl DbState {
+    /// The winner of a document, with its mark; None where there is no such document. A
+    /// search of the id, and what `RevTree::best` costs.
+    pub fn winner(&self, id: &str) -> Option<Winner>
+        ensures { result ≡ winner_of (leaves_of self.now.journal id.now) }
+    {
+        let document = self.contents.document(id)?;
+        document.tree.best()
     }
 }

@@ -35,7 +35,7 @@ pub(crate) enum Step {
     Seq(u64),
     /// How many edits there are for a host of feeds.
     Length(u64),
-    /// The number of its life, for itself and for a host of feeds.
+    /// The number of its life.
     Life(u64),
     /// The database is deleted.
     Delete(Result<(), DbFault>),
@@ -260,7 +260,7 @@ fn holds(alloc: Global, state: &mut DbState, step: &Step) -> bool {
         Step::Counts(answer) => has_counts(state, *answer),
         Step::Seq(seq) => state.update_seq() == *seq,
         Step::Length(length) => FeedHost::length(state) == *length,
-        Step::Life(life) => state.life() == *life && FeedHost::life(state) == *life,
+        Step::Life(life) => state.life() == *life,
         Step::Delete(answer) => state.delete() == *answer,
         Step::IsDeleted(answer) => state.is_deleted() == *answer,
         Step::Feed(step) => feed_holds(alloc, state, step),

@@ -17,6 +17,7 @@ use crate::rebuilt::{no_edits, rebuild, rows_above};
 use crate::same_row::has_row;
 use hub_database::DbState;
 use hub_document::ChangeRow;
+use hub_feed::FeedHost;
 use hub_model::Item;
 use std::alloc::{AllocError, Global};
 

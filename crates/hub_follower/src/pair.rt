@@ -17,6 +17,7 @@ use crate::log::Log;
 use crate::serving;
 use hub_database::DbState;
 use hub_document::{ChangeRow, Doc, Limits};
+use hub_feed::FeedHost;
 use hub_follow_model::Seq;
 use hub_model::Item;
 use std::alloc::{AllocError, Global};

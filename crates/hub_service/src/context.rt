@@ -52,7 +52,10 @@ impl<'h, N: Wait> Context<'h, N> {
     pub(crate) fn winner(&self, db: &HubDb, id: &str) -> Result<Option<Winner>, Refusal>
         ensures { IsFound (λ db found. found ≡ winner_in db id.now) result }
     {
-        self.look(db, |state| Ok(state.standing()?.winner(id)))
+        self.look(db, |state| {
+            state.standing()?;
+            Ok(state.winner(id))
+        })
     }
 
     /// Stores a local document in place of the one of its id, and says how often it was written.

@@ -1,5 +1,5 @@
 -- What one edit does, and a batch without receipts.
-use Rattle.std.proofs.Common.{◌≡◌, ◌⊎◌, ◌+◌, ◌<◌, ◌≤◌, ◌^◌, ℕ, List, [], ◌∷◌, ◌++◌, length, take, Bool}
+use Rattle.std.proofs.Common.{◌≡◌, ◌⊎◌, ◌+◌, ◌<◌, ◌≤◌, ◌^◌, ℕ, List, [], ◌∷◌, ◌++◌, length, Bool}
 use Rattle.std.proofs.Common.{true, false, ap, refl, sym, ◌∙◌, subst, inl, inr, length-append, arith}
 use Rattle.std.specs.Prelude.{cond, Result, Ok, Err, IfOk, IfErr, OnOk}
 use Rattle.std.proofs.lemmas.List.{length-map}
@@ -14,7 +14,7 @@ use Rattle.hub_model.specs.declared.outcomes.Fault.{Fault}
 use Rattle.hub_model.specs.declared.outcomes.Outcome.{Outcome}
 use Rattle.hub_model.specs.declared.outcomes.Outcome.TheVariants.{Stored, Known, Refused}
 use Rattle.hub_database.specs.Database.{Database}
-use Rattle.hub_database.specs.Edits.{StopsAt, draft_of, makes_one, writes}
+use Rattle.hub_database.specs.Edits.{IsBatch, StopsAt, draft_of, makes_one}
 use Rattle.hub_database.specs.Handing.{IsFitting}
 use Rattle.hub_database.specs.Hosting.{hosted_of}
 use Rattle.hub_database.specs.declared.batch.Batch.{Batch}
@@ -108,18 +108,15 @@ few_replies false replies docs whole less = omega (arith, whole refl)
 
 -- there is an edit more for each document that was stored
 pub batch_added : (new_edits : Bool) (docs : List Doc) (old new : Database) (batch : Batch)
-    → writes new_edits old.deleted old.limits.journal old.journal (take (length batch.replies) docs)
-    ≡ record { outcomes = batch.replies; journal = new.journal }
-    → (batch.stopped ≡ false → length batch.replies ≡ length docs)
-    → (batch.stopped ≡ true → length batch.replies < length docs)
+    → IsBatch new_edits old.deleted old.limits.journal old.journal new.journal docs batch
     → IsLegal new.journal → new ≡ record old { journal = new.journal }
     → Adds (stored_count batch.replies) old new
-batch_added new_edits docs old new batch is whole less legal rest =
+batch_added new_edits docs old new batch is legal rest =
     let added =
-    writes_added new_edits old.deleted old.limits.journal old.journal new.journal docs batch.replies is in
+    writes_added new_edits old.deleted old.limits.journal old.journal new.journal docs batch.replies is.ok in
     let few : length batch.replies ≤ length (ids_of docs) = omega (
       arith,
-      few_replies batch.stopped (length batch.replies) (length docs) whole less,
+      few_replies batch.stopped (length batch.replies) (length docs) is.whole is.stopped,
       length-map docs (λ (doc : Doc). doc.id),
     ) in record {
       edits = added.0;

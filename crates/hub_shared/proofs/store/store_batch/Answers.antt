@@ -10,8 +10,7 @@ overflow_sub-edits c =
     let old = c.args.state.now in
     let new = c.write_edits.new.self in
     let adds : Adds (stored_count batch.replies) old new =
-    batch_added c.args.new_edits c.args.docs.items old new batch done.ok done.whole done.stopped
-    c.update_seq.ensures.legal done.rest in
+    batch_added c.args.new_edits c.args.docs.items old new batch done.batch c.update_seq.ensures.legal done.rest in
     omega (
       arith,
       c.update_seq-before.ensures.value,
@@ -22,13 +21,13 @@ overflow_sub-edits c =
 pub returns-clause-ok : goal.returns-clause-ok
 returns-clause-ok c =
     let done = c.in_ok-batch.ensures in record {
-      replies = done.ok;
-      whole = done.whole;
-      stopped = done.stopped;
-      stops = done.stops;
+      replies = done.batch.ok;
+      whole = done.batch.whole;
+      stopped = done.batch.stopped;
+      stops = done.batch.stops;
       adds =
           batch_added c.args.new_edits c.args.docs.items c.args.state.now c.write_edits.new.self
-          c.in_ok-batch.batch done.ok done.whole done.stopped c.update_seq.ensures.legal done.rest;
+          c.in_ok-batch.batch done.batch c.update_seq.ensures.legal done.rest;
     }
 
 pub returns-clause-more : goal.returns-clause-more
@@ -38,8 +37,7 @@ returns-clause-more c =
     let old = c.args.state.now in
     let new = c.write_edits.new.self in
     let adds : Adds (stored_count batch.replies) old new =
-    batch_added c.args.new_edits c.args.docs.items old new batch done.ok done.whole done.stopped
-    c.update_seq.ensures.legal done.rest in
+    batch_added c.args.new_edits c.args.docs.items old new batch done.batch c.update_seq.ensures.legal done.rest in
     omega (
       arith,
       c.update_seq-before.ensures.value,

@@ -11,6 +11,6 @@ returns c =
     let sum : (c.len-doc_count.result - store.deleted) + store.deleted ≡ length store.documents.items =
     omega (arith, below, c.len-doc_count.ensures, store.documents.ok.0) in
     info_by store c.self.invariant.documents c.self.invariant.counted
-    (c.len-doc_count.result - store.deleted) c.update_seq.result c.self.inside.life sum
-    (c.update_seq.ensures.value ∙ sym (ap (λ (contents : Contents). length contents.journal) c.self.view_is))
+    (c.len-doc_count.result - store.deleted) c.length.result c.self.inside.life sum
+    (c.length.ensures ∙ sym (ap (λ (contents : Contents). length contents.journal) c.self.view_is))
     ∙ ap (λ (contents : Contents). info_of contents.journal contents.life) c.self.view_is

@@ -1,4 +1,4 @@
-use Rattle.std.proofs.Common.{◌≡◌, ◌∙◌, ◌+◌, ◌∷◌, ◌++◌, [], None, ap, sym, refl, length, arith, subst, nat_le}
+use Rattle.std.proofs.Common.{◌≡◌, ◌∙◌, ◌+◌, ◌∷◌, ◌++◌, [], None, ap, sym, refl, length, arith, rules, subst, nat_le}
 use Rattle.std.specs.Prelude.{OnErr}
 use Rattle.std.proofs.lemmas.List.{map-append}
 use Rattle.hub_index.specs.Order.{IsOrder, with_number}
@@ -18,16 +18,22 @@ use Rattle.hub_database.proofs.StoreLemmas.{err_then, first_said, first_stored, 
 use Rattle.hub_database.proofs.StoreLemmas.{no_number, no_row, on_err, same_whole}
 use Rattle.hub_database.proofs.contents.Contents.insert.Goals as goal
 
-pub returns-in_err-look-clause-memory : goal.returns-in_err-look-clause-memory
-returns-in_err-look-clause-memory c =
+pub returns-in_err-look : goal.returns-in_err-look
+returns-in_err-look c =
     let s = c.self.inside in
     let absent =
     no_number s c.self.invariant.documents c.args.id (rw (sym c.self.view_is) at c.requires.new) in
-    on_err c.from_residual.result _
-    (subst (λ (contents : Contents). NeedsRoomFor contents.journal c.args.id c.args.edit) c.self.view_is
-    (needs_first s c.self.invariant.documents c.args.id absent c.args.edit
-    (subst (λ (z : Filed). NeedsRoomFor z.edits [] c.args.edit) c.new-document.ensures
-    c.in_err-look.ensures.memory)))
+    record {
+      ok = search rules;
+      rest = search rules;
+      err = search rules;
+      memory =
+          on_err c.from_residual.result _
+          (subst (λ (contents : Contents). NeedsRoomFor contents.journal c.args.id c.args.edit) c.self.view_is
+          (needs_first s c.self.invariant.documents c.args.id absent c.args.edit
+          (subst (λ (z : Filed). NeedsRoomFor z.edits [] c.args.edit) c.new-document.ensures
+          c.in_err-look.ensures.memory)));
+    }
 
 pub enter-requires-clause-new : goal.enter-requires-clause-new
 enter-requires-clause-new c =
@@ -57,22 +63,28 @@ invariant_of-self c =
     })
     refl).0
 
-pub returns-in_err-number-in-Ready-clause-memory : goal.returns-in_err-number-in-Ready-clause-memory
-returns-in_err-number-in-Ready-clause-memory c =
+pub returns-in_err-number-in-Ready : goal.returns-in_err-number-in-Ready
+returns-in_err-number-in-Ready c =
     let s = c.self.inside in
     let result = c.from_residual-in_err-number-in-Ready.result in
     let absent =
     no_number s c.self.invariant.documents c.args.id (rw (sym c.self.view_is) at c.requires.new) in
-    err_then result
-    (λ needs. subst (λ (contents : Contents). NeedsRoomFor contents.journal c.args.id c.args.edit)
-    c.self.view_is (needs_first s c.self.invariant.documents c.args.id absent c.args.edit needs))
-    (subst (λ (z : Filed). OnErr result (NeedsRoomFor z.edits [] c.args.edit)) c.new-document.ensures
-    (ready_needs result c.new-document.result.id c.new-document.result.tree.edits _ c.args.edit
-    c.in_ok-look.field-0 c.in-Ready.ready c.in-Ready.is c.in_ok-look.ensures.storable
-    c.in_ok-look.ensures.looked))
+    record {
+      ok = search rules;
+      rest = search rules;
+      err = search rules;
+      memory =
+          err_then result
+          (λ needs. subst (λ (contents : Contents). NeedsRoomFor contents.journal c.args.id c.args.edit)
+          c.self.view_is (needs_first s c.self.invariant.documents c.args.id absent c.args.edit needs))
+          (subst (λ (z : Filed). OnErr result (NeedsRoomFor z.edits [] c.args.edit)) c.new-document.ensures
+          (ready_needs result c.new-document.result.id c.new-document.result.tree.edits _ c.args.edit
+          c.in_ok-look.field-0 c.in-Ready.ready c.in-Ready.is c.in_ok-look.ensures.storable
+          c.in_ok-look.ensures.looked));
+    }
 
-pub returns-in-Refused-clause-ok : goal.returns-in-Refused-clause-ok
-returns-in-Refused-clause-ok c =
+pub returns-in-Refused : goal.returns-in-Refused
+returns-in-Refused c =
     let s = c.self.inside in
     let limit = s.limits.journal in
     let id = c.args.id in
@@ -88,10 +100,16 @@ returns-in-Refused-clause-ok c =
     ∙ ap (λ (z : Filed). unless_full (nat_le limit (length s.journal.items)) (look_at z.id z.edits edit))
     c.new-document.ensures))
     ∙ c.in-Refused.is in
-    rw (sym c.self.view_is)
-    (subst (λ look. stores_edit limit (edits_inside s) id edit
-    ≡ record { outcome = outcome_of look; journal = journal_after look id (edits_inside s) }) refused
-    (first_said s c.self.invariant.documents id absent edit))
+    record {
+      ok =
+          rw (sym c.self.view_is)
+          (subst (λ look. stores_edit limit (edits_inside s) id edit
+          ≡ record { outcome = outcome_of look; journal = journal_after look id (edits_inside s) }) refused
+          (first_said s c.self.invariant.documents id absent edit));
+      rest = search rules;
+      err = search rules;
+      memory = search rules;
+    }
 
 -- the fields with the document that was taken in
 abbrev after : goal.After-push_reserved → Inside
@@ -153,5 +171,10 @@ left c =
 pub invariant_of-self-in-Ready : goal.invariant_of-self-in-Ready
 invariant_of-self-in-Ready c = (left c).0
 
-pub returns-in_ok-number-in-Ready-clause-ok : goal.returns-in_ok-number-in-Ready-clause-ok
-returns-in_ok-number-in-Ready-clause-ok c = rw (sym c.self.view_is) (left c).1
+pub returns-in_ok-number-in-Ready : goal.returns-in_ok-number-in-Ready
+returns-in_ok-number-in-Ready c = record {
+  ok = rw (sym c.self.view_is) (left c).1;
+  rest = search rules;
+  err = search rules;
+  memory = search rules;
+}

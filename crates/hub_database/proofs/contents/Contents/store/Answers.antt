@@ -1,4 +1,4 @@
-use Rattle.std.proofs.Common.{◌≡◌, ◌∙◌, Some, ap, arith, refl, subst, sym, List, ℕ}
+use Rattle.std.proofs.Common.{◌≡◌, ◌∙◌, Some, ap, arith, refl, rules, subst, sym, List, ℕ}
 use Rattle.std.specs.Prelude.{option_map}
 use Rattle.hub_model.specs.Journal.{Edit}
 use Rattle.hub_document.specs.declared.limits.Limits.{Limits}
@@ -90,8 +90,8 @@ invariant_of-self c =
     (unchanged_whole s _ c.self.invariant c.args.id k there c.index_mut-document.result.now c.extend.new.self
     c.index_mut-document.ensures.value e.0 refl refl e.1 e.2 refl refl).0
 
-pub returns-in_err-outcome-in-Some-clause-err : goal.returns-in_err-outcome-in-Some-clause-err
-returns-in_err-outcome-in-Some-clause-err c =
+pub returns-in_err-outcome-in-Some : goal.returns-in_err-outcome-in-Some
+returns-in_err-outcome-in-Some c =
     let s = c.self.inside in
     let k = c.in-Some.number in
     let d = c.index_mut-document.result.now in
@@ -100,27 +100,23 @@ returns-in_err-outcome-in-Some-clause-err c =
     let at =
     document_there s c.self.invariant.documents c.args.id k there d c.index_mut-document.ensures.value in
     let e = c.in_err-outcome-in-Some.ensures.err in
-    on_err c.from_residual.result _
-    (ap (with_edits s.life s.limits (kept s.locals))
-    (unchanged s.limits.journal (number_by s) s.documents.items s.journal.items
-    c.self.invariant.documents.filed k d at s.index c.extend.new.index c.self.invariant.rows c.extend.new.self
-    c.extend.new.journal.items e.0 e.1 e.2).1
-    ∙ c.self.view_is)
-
-pub returns-in_err-outcome-in-Some-clause-memory : goal.returns-in_err-outcome-in-Some-clause-memory
-returns-in_err-outcome-in-Some-clause-memory c =
-    let s = c.self.inside in
-    let k = c.in-Some.number in
-    let d = c.index_mut-document.result.now in
-    let there : number_by s c.args.id ≡ Some k =
-    sym (rw (c.as_slice.ensures.value, c.as_str.ensures.value) at c.in-Some.ensures) in
-    let at =
-    document_there s c.self.invariant.documents c.args.id k there d c.index_mut-document.ensures.value in
-    on_err c.from_residual.result _
-    (subst (λ (contents : Contents). NeedsRoomFor contents.journal c.args.id c.args.edit) c.self.view_is
-    (needs_at s.limits.journal (number_by s) s.documents.items s.journal.items
-    c.self.invariant.documents.filed k d at c.args.id there c.is_deleted-was.ensures.tree c.args.edit
-    c.in_err-outcome-in-Some.ensures.memory))
+    record {
+      ok = search rules;
+      rest = search rules;
+      err =
+          on_err c.from_residual.result _
+          (ap (with_edits s.life s.limits (kept s.locals))
+          (unchanged s.limits.journal (number_by s) s.documents.items s.journal.items
+          c.self.invariant.documents.filed k d at s.index c.extend.new.index c.self.invariant.rows
+          c.extend.new.self c.extend.new.journal.items e.0 e.1 e.2).1
+          ∙ c.self.view_is);
+      memory =
+          on_err c.from_residual.result _
+          (subst (λ (contents : Contents). NeedsRoomFor contents.journal c.args.id c.args.edit) c.self.view_is
+          (needs_at s.limits.journal (number_by s) s.documents.items s.journal.items
+          c.self.invariant.documents.filed k d at c.args.id there c.is_deleted-was.ensures.tree c.args.edit
+          c.in_err-outcome-in-Some.ensures.memory));
+    }
 
 pub invariant_of-self-in-Some-1 : goal.invariant_of-self-in-Some-1
 invariant_of-self-in-Some-1 c =
@@ -133,8 +129,8 @@ invariant_of-self-in-Some-1 c =
     c.index_mut-document.ensures.value c.is_deleted-was.ensures.tree c.is_deleted.ensures.tree c.args.edit
     c.in_ok-outcome-in-Some.outcome c.in_ok-outcome-in-Some.ensures.written refl refl count refl).0
 
-pub returns-in_ok-outcome-in-Some-clause-ok : goal.returns-in_ok-outcome-in-Some-clause-ok
-returns-in_ok-outcome-in-Some-clause-ok c =
+pub returns-in_ok-outcome-in-Some : goal.returns-in_ok-outcome-in-Some
+returns-in_ok-outcome-in-Some c =
     let s = c.self.inside in
     let k = c.in-Some.number in
     let d = c.index_mut-document.result.now in
@@ -144,12 +140,18 @@ returns-in_ok-outcome-in-Some-clause-ok c =
     document_there s c.self.invariant.documents c.args.id k there d c.index_mut-document.ensures.value in
     let count =
     rw (c.is_deleted-was.ensures.mark, c.is_deleted.ensures.mark) at c.recounted-self-inside.ensures in
-    rw (sym c.self.view_is)
-    (extended s.limits.journal (number_by s) s.documents.items s.journal.items
-    c.self.invariant.documents.filed k d at s.index c.extend.new.index c.self.invariant.rows c.args.id there
-    c.is_deleted-was.ensures.tree c.args.edit c.extend.new.self c.extend.new.journal.items
-    c.in_ok-outcome-in-Some.outcome c.in_ok-outcome-in-Some.ensures.written c.is_deleted.ensures.tree
-    s.deleted c.recounted-self-inside.result c.self.invariant.counted count).1
+    record {
+      ok =
+          rw (sym c.self.view_is)
+          (extended s.limits.journal (number_by s) s.documents.items s.journal.items
+          c.self.invariant.documents.filed k d at s.index c.extend.new.index c.self.invariant.rows c.args.id
+          there c.is_deleted-was.ensures.tree c.args.edit c.extend.new.self c.extend.new.journal.items
+          c.in_ok-outcome-in-Some.outcome c.in_ok-outcome-in-Some.ensures.written c.is_deleted.ensures.tree
+          s.deleted c.recounted-self-inside.result c.self.invariant.counted count).1;
+      rest = search rules;
+      err = search rules;
+      memory = search rules;
+    }
 
 pub insert-requires : goal.insert-requires
 insert-requires c = record {

@@ -1,10 +1,28 @@
-use Rattle.std.proofs.Common.{◌≡◌, ◌∙◌, ◌++◌, ◌∷◌, [], ap, sym, arith, append_assoc, length, suc, ◌+◌}
+use Rattle.std.proofs.Common.{◌≡◌, ◌∙◌, ◌++◌, ◌∷◌, [], ap, sym, arith, append_assoc, length, suc, subst, ◌+◌, List, false, true}
 use Rattle.std.proofs.lemmas.List.{length_push}
+use Rattle.hub_model.specs.Revision.{Revision}
+use Rattle.hub_model.specs.declared.outcomes.Outcome.{Outcome}
 use Rattle.hub_database.specs.Database.{Contents}
-use Rattle.hub_database.specs.Edits.{stores_doc}
-use Rattle.hub_database.proofs.FeedLemmas.{write_grows}
+use Rattle.hub_database.specs.Edits.{IsBatch, stores_doc}
+use Rattle.hub_database.proofs.FeedLemmas.{stopped_batch, write_grows}
 use Rattle.hub_database.proofs.MergeLemmas.{stores_more}
 use Rattle.hub_database.proofs.contents.Contents.write_edits.Goals as goal
+
+pub returns-in-Err-clause-batch : goal.returns-in-Err-clause-batch
+returns-in-Err-clause-batch c =
+    let i = c.loop-doc.invariant in
+    let J = c.args.self.now.journal in
+    let limit = c.args.self.now.limits.journal in
+    let failed = c.in-Err.ensures in
+    let batch : IsBatch c.args.new_edits false limit J c.write.new.self.journal c.args.docs.items
+    (record { replies = c.loop-doc.list.items; stopped = true }) =
+    stopped_batch c.args.new_edits limit J c.loop-doc.self.journal c.write.new.self.journal c.args.docs.items
+    c.loop-doc.yielded c.in-Some.doc c.next.new.self.rest.items c.loop-doc.list.items i.all
+    (ap (λ ds. c.loop-doc.yielded ++ ds) (sym c.in-Some.ensures.steps.0) ∙ i.docs) i.replies
+    (ap (λ (contents : Contents). contents.journal) failed.err) failed.memory in
+    subst (λ (replies : List (Outcome Revision)). IsBatch c.args.new_edits false limit J
+    c.write.new.self.journal c.args.docs.items (record { replies = replies; stopped = true }))
+    (sym c.new.ensures) batch
 
 pub loop-doc-preserved : goal.loop-doc-preserved
 loop-doc-preserved c =

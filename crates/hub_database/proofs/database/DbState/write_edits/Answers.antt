@@ -4,12 +4,12 @@ use Rattle.hub_database.proofs.FeedLemmas.{refused_batch}
 use Rattle.hub_feed.proofs.FeedsLemmas.{both_ok}
 use Rattle.hub_database.proofs.database.DbState.write_edits.Goals as goal
 
-pub returns-then-self-clause-ok : goal.returns-then-self-clause-ok
-returns-then-self-clause-ok c =
+pub returns-then-self-clause-batch : goal.returns-then-self-clause-batch
+returns-then-self-clause-batch c =
     let db = c.args.self.now in
     both_ok c.refuse_all.result
     (λ batch is _. refused_batch c.args.new_edits db.deleted db.limits.journal db.journal c.args.docs.items
-    c.len.result batch.replies
+    c.len.result batch
     (sym (ap (λ (database : Database). database.deleted) c.self.view_is) ∙ c.if-self.true)
-    (omega (arith, c.len.ensures, c.args.docs.ok.0)) is.0)
+    (omega (arith, c.len.ensures, c.args.docs.ok.0)) is)
     c.refuse_all.ensures.ok c.refuse_all.ensures.ok

@@ -13,11 +13,11 @@ invariant_of-self c =
     let new = c.open.new.self in
     let J = c.self.inside.contents.journal in
     let listing = c.self.inside.listing in
-    let begun = begin (params_of c.args.params) c.update_seq-length.result c.life-life.result in (
-      subst (λ n. AreBehind n new.feeds) c.update_seq-length.ensures.value
+    let begun = begin (params_of c.args.params) c.length-length.result c.life-life.result in (
+      subst (λ n. AreBehind n new.feeds) c.length-length.ensures
           (c.open.ensures.behind
           (subst (λ n. AreBehind n old.feeds)
-          (sym c.update_seq-length.ensures.value) c.self.invariant.0)),
+          (sym c.length-length.ensures) c.self.invariant.0)),
       ok_or_err {P = IsListing J new.feeds new.next listing} c.open.result
           (λ id is. subst (λ (list : FeedList). IsListing J list.feeds list.next listing) (sym is)
           (kept_on J old.feeds (old.feeds ++ (old.next, begun) ∷ []) old.next (old.next + 1) (omega arith)
