@@ -1,5 +1,6 @@
 -- What a write changes, and what a feed of a database gives.
-use Rattle.std.proofs.Common.{◌≡◌, ℕ, ◌≤◌, List, [], ◌∷◌, ◌++◌, length, Bool, true, false, ap, refl, sym, subst, ◌∙◌}
+use Rattle.std.proofs.Common.{◌≡◌, ℕ, ◌≤◌, List, [], ◌∷◌, ◌++◌, length}
+use Rattle.std.proofs.Common.{Bool, true, false, ap, refl, sym, subst, ◌∙◌}
 use Rattle.std.proofs.Common.{◌<◌, arith, get_or, nat_le, take}
 use Rattle.std.specs.Prelude.{Option, Some, None, option_and_then, replicate, unwrap_or, if◌then◌else◌}
 use Rattle.std.proofs.lemmas.List.{length-append, length_push, length-replicate}
@@ -115,7 +116,8 @@ stopped_batch new_edits limit before now after docs stored doc rest replies all 
     record {
       ok =
           ap (λ n. writes new_edits false limit before (take n docs)) many
-          ∙ (ap (λ (list : List Doc). writes new_edits false limit before (take (length stored) list)) (sym are)
+          ∙ (ap (λ (list : List Doc). writes new_edits false limit before (take (length stored) list))
+          (sym are)
           ∙ (ap (writes new_edits false limit before) (take-append_seam stored (doc ∷ rest))
           ∙ (all ∙ ap (λ (edits : List Edit). record { outcomes = replies; journal = edits }) (sym stays))));
       whole = λ s. absurd (cc);

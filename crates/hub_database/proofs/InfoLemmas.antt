@@ -35,7 +35,8 @@ info_by inside st counted live updates life sum many =
     let lives : live ≡ count_by (λ c. not (is_deleted (leaves_of (edits_inside inside) c.id)))
     (current (edits_inside inside)) =
     omega (arith, sum, counted, documents, st.filed.each, live_in (edits_inside inside)) in
-    ap (λ (n : ℕ). record { doc_count = n; doc_del_count = inside.deleted; update_seq = updates; life = life })
+    ap (λ (n : ℕ). record
+    { doc_count = n; doc_del_count = inside.deleted; update_seq = updates; life = life })
     lives
     ∙ (ap (λ (n : ℕ). record {
       doc_count =

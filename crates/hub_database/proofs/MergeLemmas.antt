@@ -1,7 +1,8 @@
 -- What a look at a document's tree says of storing an edit in the journal.
 use Rattle.std.proofs.Common.{◌≡◌, ℕ, List, [], ◌∷◌, ◌++◌, length, Bool, true, false}
 use Rattle.std.proofs.Common.{ap, refl, sym, subst, ◌∙◌, ◌&&◌, not, ◌⊎◌, inl, inr}
-use Rattle.std.specs.Prelude.{IfOk, IfErr, Option, Some, None, Result, Ok, Err, map, nat_le, unwrap_or, if◌then◌else◌}
+use Rattle.std.specs.Prelude.{IfOk, IfErr, Option, Some, None, Result}
+use Rattle.std.specs.Prelude.{Ok, Err, map, nat_le, unwrap_or, if◌then◌else◌}
 use Rattle.std.specs.List.{list_all}
 use Rattle.std.proofs.lemmas.Bool.{cases_Bool}
 use Rattle.std.proofs.lemmas.List.Folds.{list_all-map}

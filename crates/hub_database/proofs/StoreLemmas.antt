@@ -609,7 +609,8 @@ pub document_there : (inside : Inside) → HasDocuments inside → (id : List �
 document_there inside st id k there document is =
     let numbers = number_by inside in
     let low =
-    number_below inside.limits.journal numbers inside.documents.items inside.journal.items st.filed id k there in
+    number_below inside.limits.journal numbers inside.documents.items inside.journal.items st.filed id k
+    there in
     at_place inside.documents.items k document low is
 
 -- what follows from what holds of an error
@@ -656,7 +657,8 @@ id_kept (Ready x) k document other entries index e = ap (λ (z : Filed). z.id) e
 pub store_stays : (old new : Inside) (k : ℕ) (document other : Document) → HasDocuments old
     → slice_get old.documents.items k ≡ Some document → other.id ≡ document.id
     → new.documents.items ≡ slice_set old.documents.items k other → new.numbers ≡ old.numbers
-    → IsFiled new.limits.journal (number_by old) (files new.documents.items) new.journal.items → HasDocuments new
+    → IsFiled new.limits.journal (number_by old) (files new.documents.items) new.journal.items →
+    HasDocuments new
 store_stays old new k document other st at same documents numbers filed_now =
     let ids : ids_in new ≡ ids_in old =
     ap (λ ds. ids_of (files ds)) documents ∙ ids_stay old.documents.items k document other at same in

@@ -28,7 +28,8 @@ number_by inside id = number_in (ids_in inside) inside.numbers id
 
 -- the documents are filed by their numbers, which stand in the order of their ids
 pub record HasDocuments (inside : Inside) : Type 0 where
-  pub filed : IsFiled inside.limits.journal (number_by inside) (files inside.documents.items) inside.journal.items
+  pub filed : IsFiled inside.limits.journal (number_by inside) (files inside.documents.items)
+      inside.journal.items
   pub order : IsOrder (ids_in inside) inside.numbers
 
 -- the count of documents with a deleted winner is that of the journal
@@ -53,8 +54,8 @@ pub record ShowsSame (old new : Inside) : Type 0 where
   pub deleted : new.deleted ≡ old.deleted
   pub index : new.index ≡ old.index
 
--- Where a write stores the first edit of a document: behind the other documents. Where there are three, with the
--- numbers 0, 1 and 2, it is document 3.
+-- Where a write stores the first edit of a document: behind the other documents. Where there are three, with
+-- the numbers 0, 1 and 2, it is document 3.
 abbrev pub first_setting : List ℕ → Inside → Setting
 first_setting id inside =
     record {

@@ -236,7 +236,8 @@ impl Branches {
         }
     }
 
-    /// The same, where it stands behind the revision of no other edit. An inner one is not made. Constant time.
+    /// The same, where it stands behind the revision of no other edit. An inner one is not made. Constant
+    /// time.
     pub(crate) fn head_if_leaf(&self, at: usize) -> Option<Winner>
         requires { at < length self.now.list }
         ensures leaf { IfSome result (λ head. IsHeadAt self.now.list at head false) }

@@ -7,8 +7,8 @@ use crate::sent::Sent;
 use hub_session::StreamItem;
 
 impl Sent {
-    /// Puts its next item into `next`, `None` where nothing hands it further: what is left stands behind it. It
-    /// costs what `Pumping::next_item` does; a row of a list that was made at once is moved out of it.
+    /// Puts its next item into `next`, `None` where nothing hands it further: what is left stands behind it.
+    /// It costs what `Pumping::next_item` does; a row of a list that was made at once is moved out of it.
     pub(crate) fn next<P: Pumping>(&mut self, pumping: &P, next: &mut Option<StreamItem>)
         ensures { GoesOn self.old next.new self.new }
     {

@@ -63,10 +63,11 @@ pub(crate) fn answered<N: Wait>(
 /// The sequence of the next row of a feed, or the last one at its end, asked for again where it finds no
 /// memory.
 fn sequence<N: Wait>(connection: &mut Connection<'_, N, ByTurns<'_, N>>) -> Option<(bool, u64)> {
-    let item = match connection.item() {
-        None => connection.item(),
-        item => item,
-    };
+    let mut item = None;
+    connection.item(&mut item);
+    if item.is_none() {
+        connection.item(&mut item);
+    }
     match item {
         Some(StreamItem::Change(Item::Row(row))) => Some((false, row.seq)),
         Some(StreamItem::Change(Item::End { last_seq, .. })) => Some((true, last_seq)),

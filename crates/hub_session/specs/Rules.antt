@@ -14,7 +14,8 @@ pub record Rules (S : Type 0) : Type 1 where
   pub drops : S → S → Type 0
 
 -- Asked not to wait, it answers (true) and goes on with this item, or with none where the stream stops; or it
--- has none yet (false), and stays as it is. A feed of which all was sent and to which nothing was written waits.
+-- has none yet (false), and stays as it is. A feed of which all was sent, and to whose database nothing was
+-- written, has none yet.
 abbrev pub GivesOrWaits : {S : Type 0} → Rules S → S → Bool → Option StreamItem → S → Type 0
 GivesOrWaits rules s true given t = rules.gives s given t
 GivesOrWaits rules s false given t = (given ≡ None) × (t ≡ s)

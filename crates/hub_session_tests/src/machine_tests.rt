@@ -6,7 +6,7 @@ use crate::rows::{
     CREATED, EXCHANGES, Exchange, FEED_HEAD, NORMAL, Rows, VERSION, answers, asks, two_rows,
 };
 use hub_http::{Handed, HttpFault, Outbox, Request};
-use hub_session::{Answer, Closing, Polled, Service, Session, Step, StreamItem};
+use hub_session::{Answer, Closing, Service, Session, Step, StreamItem};
 use std::alloc::Global;
 use std::cell::Cell;
 use std::test::Fail;
@@ -36,15 +36,17 @@ impl Service for Waiting<'_> {
         true
     }
 
-    fn item(&mut self) -> Option<StreamItem> {
-        self.rows.item()
+    fn item(&mut self, next: &mut Option<StreamItem>) {
+        self.rows.item(next);
     }
 
-    fn poll_item(&mut self) -> Polled {
+    fn poll_item(&mut self, next: &mut Option<StreamItem>) -> bool {
         if self.has_news.replace(false) {
-            return Polled::Given(self.rows.item());
+            self.rows.item(next);
+            return true;
         }
-        Polled::Waits
+        *next = None;
+        false
     }
 
     fn drop_stream(&mut self) {

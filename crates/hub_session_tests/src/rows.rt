@@ -86,24 +86,20 @@ impl Service for Rows {
         !self.late.contains(&self.next)
     }
 
-    fn item(&mut self) -> Option<StreamItem> {
+    fn item(&mut self, next: &mut Option<StreamItem>) {
         let number = self.next;
         self.next = number.saturating_add(1);
-        match (number, self.mode) {
+        *next = match (number, self.mode) {
             (0, Mode::Longpoll) => Some(StreamItem::Change(Item::Beat)),
             (1, Mode::Longpoll) | (0, _) => row(self.alloc, 1, r#"{"_id":"a"}"#, "1-a", false),
             (1, _) => row(self.alloc, 2, r#"{"_id":"b"}"#, "2-b", true),
             (2, Mode::Continuous) => Some(StreamItem::Change(Item::Beat)),
-            _ => {
-                if self.stops {
-                    return None;
-                }
-                Some(StreamItem::Change(Item::End {
-                    last_seq: 2,
-                    pending: 0,
-                }))
-            }
-        }
+            _ if self.stops => None,
+            _ => Some(StreamItem::Change(Item::End {
+                last_seq: 2,
+                pending: 0,
+            })),
+        };
     }
 
     fn drop_stream(&mut self) {

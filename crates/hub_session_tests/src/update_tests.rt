@@ -15,6 +15,18 @@ struct Updates {
     next: u64,
 }
 
+impl Updates {
+    /// A row of d of this kind, at the sequence that is next; `None` where its name finds no memory.
+    fn row(&self, kind: UpdateKind) -> Option<StreamItem> {
+        Some(StreamItem::Update(Item::Row(UpdateRow {
+            db_name: "d".to_string(self.alloc).ok()?,
+            kind,
+            seq: self.next,
+            seen: 3,
+        })))
+    }
+}
+
 impl Service for Updates {
     ghost rules = { record {
       answers = λ _ _ _ _. Unit {0};
@@ -31,25 +43,17 @@ impl Service for Updates {
         true
     }
 
-    fn item(&mut self) -> Option<StreamItem> {
+    fn item(&mut self, next: &mut Option<StreamItem>) {
         self.next = self.next.saturating_add(1);
-        let kind = match self.next {
-            1 => UpdateKind::Created,
-            2 => UpdateKind::Updated,
-            3 => UpdateKind::Deleted,
-            _ => {
-                return Some(StreamItem::Update(Item::End {
-                    last_seq: 3,
-                    pending: 7,
-                }));
-            }
+        *next = match self.next {
+            1 => self.row(UpdateKind::Created),
+            2 => self.row(UpdateKind::Updated),
+            3 => self.row(UpdateKind::Deleted),
+            _ => Some(StreamItem::Update(Item::End {
+                last_seq: 3,
+                pending: 7,
+            })),
         };
-        Some(StreamItem::Update(Item::Row(UpdateRow {
-            db_name: "d".to_string(self.alloc).ok()?,
-            kind,
-            seq: self.next,
-            seen: 3,
-        })))
     }
 
     fn drop_stream(&mut self) {}

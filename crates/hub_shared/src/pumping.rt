@@ -211,9 +211,10 @@ impl<'a, S: FeedHost, C: Count, K: Clock> PumpState<'a, S, C, K> {
 
 /// Hands a feed's items into its lane as they come, a block for each holding of the lock, until the feed is
 /// finished or has handed its end: then it ends with Ok. Without memory for a row it ends with that error,
-/// and the feed stays as it is. It takes the lock for at most as many items as one holding may hand. Where the
-/// lane is full it sleeps until `Feed::take` finds it empty. Where there is nothing to hand it sleeps until a
-/// write, a deletion or the end of a feed, and at most until a heartbeat is due, or the feed's time is over.
+/// and the feed stays as it is. It takes the lock for at most as many items as one holding may hand. Where
+/// the lane is full it sleeps until `Feed::take` finds it empty. Where there is nothing to hand it sleeps
+/// until a write, a deletion or the end of a feed, and at most until a heartbeat is due, or the feed's time
+/// is over.
 pub fn pump<S, C, R, G, K>(
     rt: &R,
     host: &Host<S, C>,

@@ -11,7 +11,7 @@ use hex::FromHex;
 /// The sixteen digits.
 const DIGITS: &[u8; 16] = b"0123456789abcdef";
 
-/// The digit of a number below 16. It is summed and not looked up, so that a processor can make several at once.
+/// The digit of a number below 16. It is summed and not looked up: so a processor makes several at once.
 #[inline(always)]
 fn digit(number: u8) -> u8
     requires { number < 16 }
@@ -20,8 +20,9 @@ fn digit(number: u8) -> u8
     b'0' + number + 39 * u8::from(number > 9)
 }
 
-/// Writes the text of the digest, 32 lower-case digits, over these 32 letters. Constant time, a third of what
-/// `hex::encode_to_slice` takes, which looks each digit up: a row has one digest, and two with its document.
+/// Writes the text of the digest, 32 lower-case digits, over these 32 letters. Constant time: a third of
+/// the instructions of `hex::encode_to_slice`, which looks each digit up. A row with its document has two
+/// digests.
 #[inline(always)]
 pub(crate) fn write_digits(letters: &mut [u8], digest: &[u8; 16])
     requires { length letters.old ≡ 32 }

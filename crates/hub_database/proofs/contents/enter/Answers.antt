@@ -1,4 +1,5 @@
-use Rattle.std.proofs.Common.{◌≡◌, ◌∙◌, ◌+◌, ◌<◌, ℕ, List, None, ap, arith, filter, length, nat_eq, not, subst, sym}
+use Rattle.std.proofs.Common.{◌≡◌, ◌∙◌, ◌+◌, ◌<◌, ℕ, List, None}
+use Rattle.std.proofs.Common.{ap, arith, filter, length, nat_eq, not, subst, sym}
 use Rattle.std.specs.List.{All}
 use Rattle.hub_index.specs.Rows.{seq_of}
 use Rattle.hub_database.proofs.StoreLemmas.{row_taken}
@@ -13,7 +14,8 @@ returns-in-Err-clause-err c =
     omega (arith, c.len.ensures, c.reserve_one-2.ensures.len, c.args.journal.now.ok.0) in (
       c.in-Err.ensures.err,
       c.remove.ensures
-          ∙ (ap (λ (left : List (ℕ × ℕ)). filter (λ (row : ℕ × ℕ). not (nat_eq row.0 (c.len.result + 1))) left)
+          ∙ (ap (λ (left : List (ℕ × ℕ)). filter (λ (row : ℕ × ℕ). not (nat_eq row.0 (c.len.result + 1)))
+          left)
           c.in_ok-move_to.ensures.moved
           ∙ row_taken rows c.len-number.result (c.len.result + 1)
           (subst (λ n. seq_of n rows ≡ None) (sym number) c.requires.own)

@@ -10,7 +10,8 @@ overflow_sub-edits c =
     let old = c.args.state.now in
     let new = c.write_edits.new.self in
     let adds : Adds (stored_count batch.replies) old new =
-    batch_added c.args.new_edits c.args.docs.items old new batch done.batch c.update_seq.ensures.legal done.rest in
+    batch_added c.args.new_edits c.args.docs.items old new batch done.batch c.update_seq.ensures.legal
+    done.rest in
     omega (
       arith,
       c.update_seq-before.ensures.value,
@@ -37,7 +38,8 @@ returns-clause-more c =
     let old = c.args.state.now in
     let new = c.write_edits.new.self in
     let adds : Adds (stored_count batch.replies) old new =
-    batch_added c.args.new_edits c.args.docs.items old new batch done.batch c.update_seq.ensures.legal done.rest in
+    batch_added c.args.new_edits c.args.docs.items old new batch done.batch c.update_seq.ensures.legal
+    done.rest in
     omega (
       arith,
       c.update_seq-before.ensures.value,

@@ -17,7 +17,8 @@ returns-in_default-clause-edit c =
     ∙ ap Some (sym look.1) in
     let found =
     edit_found c.self.inside.limits.journal
-    (number_by c.self.inside) c.self.inside.documents.items c.self.inside.journal.items c.self.invariant.documents.filed
+    (number_by c.self.inside) c.self.inside.documents.items c.self.inside.journal.items
+    c.self.invariant.documents.filed
     c.in_ok-at.at c.in_ok-entry.entry.now here c.index-document.result.now c.index-document.ensures in
     let a = c.in_ok-at.ensures in
     let next : c.args.seq ≡ suc c.in_ok-at.at = omega (arith, a) in
@@ -37,7 +38,8 @@ returns-in_default-clause-path c =
     ∙ ap Some (sym look.1) in
     let found =
     edit_found c.self.inside.limits.journal
-    (number_by c.self.inside) c.self.inside.documents.items c.self.inside.journal.items c.self.invariant.documents.filed
+    (number_by c.self.inside) c.self.inside.documents.items c.self.inside.journal.items
+    c.self.invariant.documents.filed
     c.in_ok-at.at c.in_ok-entry.entry.now here c.index-document.result.now c.index-document.ensures in
     let a = c.in_ok-at.ensures in
     let next : c.args.seq ≡ suc c.in_ok-at.at = omega (arith, a) in
@@ -57,7 +59,8 @@ returns-clause-edit c =
     ∙ ap Some (sym look.1) in
     let found =
     edit_found c.self.inside.limits.journal
-    (number_by c.self.inside) c.self.inside.documents.items c.self.inside.journal.items c.self.invariant.documents.filed
+    (number_by c.self.inside) c.self.inside.documents.items c.self.inside.journal.items
+    c.self.invariant.documents.filed
     c.in_ok-at.at c.in_ok-entry.entry.now here c.index-document.result.now c.index-document.ensures in
     let a = c.in_ok-at.ensures in
     let next : c.args.seq ≡ suc c.in_ok-at.at = omega (arith, a) in
@@ -77,7 +80,8 @@ returns-clause-path c =
     ∙ ap Some (sym look.1) in
     let found =
     edit_found c.self.inside.limits.journal
-    (number_by c.self.inside) c.self.inside.documents.items c.self.inside.journal.items c.self.invariant.documents.filed
+    (number_by c.self.inside) c.self.inside.documents.items c.self.inside.journal.items
+    c.self.invariant.documents.filed
     c.in_ok-at.at c.in_ok-entry.entry.now here c.index-document.result.now c.index-document.ensures in
     let a = c.in_ok-at.ensures in
     let next : c.args.seq ≡ suc c.in_ok-at.at = omega (arith, a) in

@@ -1,4 +1,5 @@
-use Rattle.std.proofs.Common.{◌≡◌, ◌∙◌, ◌+◌, ◌∷◌, ◌++◌, [], None, ap, sym, refl, length, arith, rules, subst, nat_le}
+use Rattle.std.proofs.Common.{◌≡◌, ◌∙◌, ◌+◌, ◌∷◌, ◌++◌, [], None}
+use Rattle.std.proofs.Common.{ap, sym, refl, length, arith, rules, subst, nat_le}
 use Rattle.std.specs.Prelude.{OnErr}
 use Rattle.std.proofs.lemmas.List.{map-append}
 use Rattle.hub_index.specs.Order.{IsOrder, with_number}

@@ -10,7 +10,8 @@ use Rattle.hub_database.specs.Kept.{kept}
 use Rattle.hub_database.specs.Looked.{NeedsRoomFor}
 use Rattle.hub_database.proofs.IndexedLemmas.{rows_below}
 use Rattle.hub_database.proofs.StoreLemmas.{document_there, extended, extended_whole, few_edits}
-use Rattle.hub_database.proofs.StoreLemmas.{filed_at, mark_counted, needs_at, number_below, unchanged, unchanged_whole}
+use Rattle.hub_database.proofs.StoreLemmas.{filed_at, mark_counted, needs_at}
+use Rattle.hub_database.proofs.StoreLemmas.{number_below, unchanged, unchanged_whole}
 use Rattle.hub_database.proofs.contents.Contents.store.Goals as goal
 use Rattle.hub_revtree.proofs.BranchLemmas.{on_err}
 
@@ -124,7 +125,8 @@ invariant_of-self-in-Some-1 c =
     let k = c.in-Some.number in
     let there : number_by s c.args.id ≡ Some k =
     sym (rw (c.as_slice.ensures.value, c.as_str.ensures.value) at c.in-Some.ensures) in
-    let count = rw (c.is_deleted-was.ensures.mark, c.is_deleted.ensures.mark) at c.recounted-self-inside.ensures in
+    let count = rw (c.is_deleted-was.ensures.mark, c.is_deleted.ensures.mark) at
+    c.recounted-self-inside.ensures in
     (extended_whole s _ c.self.invariant c.args.id k there c.index_mut-document.result.now c.extend.new.self
     c.index_mut-document.ensures.value c.is_deleted-was.ensures.tree c.is_deleted.ensures.tree c.args.edit
     c.in_ok-outcome-in-Some.outcome c.in_ok-outcome-in-Some.ensures.written refl refl count refl).0

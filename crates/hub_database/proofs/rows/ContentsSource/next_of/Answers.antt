@@ -15,14 +15,16 @@ returns-in_default c =
     let s = c.self.inside in
     rw (sym c.self.view_is)
     (next_unedited (edits_inside s) c.args.id.now c.args.place c.args.bound
-    (c.self.invariant.documents.filed.others c.args.id.now (sym (rw c.as_slice.ensures.value at c.number_of.ensures) ∙ c.in_default.is)))
+    (c.self.invariant.documents.filed.others c.args.id.now
+    (sym (rw c.as_slice.ensures.value at c.number_of.ensures) ∙ c.in_default.is)))
 
 pub index-document-requires : goal.index-document-requires
 index-document-requires c =
     let s = c.self.inside in
     omega (
       arith,
-      (numbered s.limits.journal (number_by s) s.documents.items s.journal.items c.self.invariant.documents.filed
+      (numbered s.limits.journal (number_by s) s.documents.items s.journal.items
+          c.self.invariant.documents.filed
           c.args.id.now c.in-Some.number (sym (rw c.as_slice.ensures.value at c.in-Some.ensures))).0,
       s.documents.ok.0,
     )

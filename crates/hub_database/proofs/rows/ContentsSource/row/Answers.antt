@@ -26,7 +26,8 @@ index-document-requires c =
     let l = row_lies (edits_inside s) c.args.seq (rw (sym c.self.view_is) at c.requires) in
     omega (
       arith,
-      entry_low s.limits.journal (number_by s) s.documents.items s.journal.items c.self.invariant.documents.filed
+      entry_low s.limits.journal (number_by s) s.documents.items s.journal.items
+          c.self.invariant.documents.filed
           (c.args.seq - 1) c.index-entry.result.now
           (omega (arith, l.0, l.1, length-map s.journal.items (edit_at (files s.documents.items))))
           c.index-entry.ensures,
@@ -40,7 +41,8 @@ returns c =
     subst (λ (contents : Contents).
     IfOk c.row.result (λ r. (row : Current) → Contains (current contents.journal) row
     → row.seq ≡ c.args.seq → r ≡ row_of contents.journal c.args.style c.args.include_docs row)) c.self.view_is
-    (row_answer s.limits.journal (number_by s) s.documents.items s.journal.items c.self.invariant.documents.filed
+    (row_answer s.limits.journal (number_by s) s.documents.items s.journal.items
+    c.self.invariant.documents.filed
     c.row.result c.args.seq c.length.result (c.args.seq - 1) c.index-entry.result.now (omega (arith, l.0))
     (omega (arith, l.0, l.1, length-map s.journal.items (edit_at (files s.documents.items))))
     c.index-entry.ensures c.index-document.result.now c.index-document.ensures

@@ -78,7 +78,8 @@ returns-clause-taken g c =
     let block =
     sym c.into_items.ensures.items ∙ (sym c.into_iter-items.ensures.rest ∙ c.next-item.ensures.items) in
     let gone =
-    subst (λ o. into_iter_steps c.self.inside.block o c.next-front.new.self) c.in_default.is c.next-front.ensures.cases in
+    subst (λ o. into_iter_steps c.self.inside.block o c.next-front.new.self) c.in_default.is
+    c.next-front.ensures.cases in
     let empty =
     nil_from_length (into_iter_items c.self.inside.block) (sym c.self.inside.block.rest.ok.0 ∙ gone.0) in
     some_then c.next-item.result (λ item is. is ∙ ap (λ end. behind_take end item) c.self.view_is)
