@@ -6,6 +6,7 @@ pub mod DocText
 pub mod DraftText
 pub mod Fields
 pub mod Histories
+pub mod IdForm
 pub mod IdText
 pub mod Ids
 pub mod Inside

@@ -5,45 +5,51 @@ ghost use Rattle.serde_json.specs.View.{view};
 ghost use Rattle.serde_json.specs.Find.{get};
 ghost use Rattle.hub_document.specs.Local.{is_named_so as is_named_as};
 ghost use Rattle.hub_document.specs.Ids.{IsDocId, is_id as is_id_text, id_of as id_in, short_id};
+ghost use Rattle.hub_document.specs.IdForm.{bytes_in};
 
 use crate::id_text::IdText;
+use arrayvec::ArrayString;
 use serde_json::Value;
 use std::alloc::{AllocError, Global};
 use std::marker::Model;
 use std::mem::size_of;
 use std::sync::Arc;
 
+// How an id is kept.
+#[derive(Debug, Drop)]
+enum Form {
+    // One of 16 bytes at most, in the value itself.
+    Inline(ArrayString<16>),
+    // A longer one, in a piece that its copies share.
+    Shared(Arc<IdText, Global>),
+}
+
 /// A document's id, seen as its bytes: 1 to 512 bytes of UTF-8. One that begins with `_` is
-/// `_design/` and a name. Its copies share one text, so a copy takes no memory; the value takes 8 bytes.
-#[derive(Debug)]
+/// `_design/` and a name. The value takes 32 bytes, and an id of 16 bytes at most no memory of its own.
+/// Copies of a longer one share its text, so no copy takes memory.
+#[derive(Debug, Drop)]
 pub struct DocId {
-    text: Arc<IdText, Global>,
+    form: Form,
 }
 
-impl Drop for DocId {
-    fn drop(self) {
-        let Self { text } = self;
-    }
-}
-
-const _: () = prove!(size_of::<DocId>() == 8);
+const _: () = prove!(size_of::<DocId>() == 32);
 
 impl Model for DocId {
     ghost use Rattle.std.specs.Prelude.{List, ℕ};
-    ghost use Rattle.std.specs.Arc.{arc_value};
+    ghost use Rattle.hub_document.specs.IdForm.{bytes_in};
 
     ghost Value = { List ℕ };
 
-    ghost view = { λ a. arc_value a.text };
+    ghost view = { λ a. bytes_in a.form };
 
     ghost use Rattle.hub_document.specs.Ids.{IsDocId};
 
-    ghost invariant = { λ a. IsDocId (arc_value a.text) };
+    ghost invariant = { λ a. IsDocId (bytes_in a.form) };
 }
 
 impl DocId {
     /// The id that a text is; None where no document can have it. It costs the text's length, and
-    /// takes memory only for an id.
+    /// takes memory only for an id of more than 16 bytes.
     pub fn read(alloc: Global, text: &str) -> Result<Option<DocId>, AllocError>
         ensures value { IfOk result (λ o. o ≡ short_id text.now) }
         ensures memory { IfErr result (λ _. IsSome (short_id text.now)) }
@@ -60,9 +66,11 @@ impl DocId {
         requires { IsDocId text.now }
         ensures { IfOk result (λ i. i ≡ text.now) }
     {
-        let text = IdText::copied(alloc, text)?;
-        let text = Arc::new(alloc, text)?;
-        Ok(DocId { text })
+        let form = match ArrayString::from(text) {
+            Ok(short) => Form::Inline(short),
+            Err(_) => Form::Shared(Arc::new(alloc, IdText::copied(alloc, text)?)?),
+        };
+        Ok(DocId { form })
     }
 
     /// The id's text. Constant time.
@@ -70,7 +78,10 @@ impl DocId {
         ensures value { result.now ≡ self.now }
         ensures good { IsDocId self.now }
     {
-        self.text.as_str()
+        match &self.form {
+            Form::Inline(text) => text.as_str(),
+            Form::Shared(text) => text.as_str(),
+        }
     }
 
     /// A copy of its text. It costs the text's length.
@@ -80,12 +91,16 @@ impl DocId {
         String::from_str(alloc, self.as_str())
     }
 
-    /// A copy, which shares the text. Constant time, and no memory: an error would want 2^64 copies at once.
+    /// A copy, which shares a text of more than 16 bytes. Constant time, and no memory: an error would want 2^64
+    /// copies at once.
     pub fn copy(&self) -> Result<DocId, AllocError>
         ensures { IfOk result (λ i. i ≡ self.now) }
     {
-        let text = self.text.clone()?;
-        Ok(DocId { text })
+        let form = match &self.form {
+            Form::Inline(text) => Form::Inline(*text),
+            Form::Shared(text) => Form::Shared(text.clone()?),
+        };
+        Ok(DocId { form })
     }
 }
 
