@@ -7,12 +7,10 @@ ghost use Rattle.std.specs.List.{All};
 ghost use Rattle.std.specs.Map.{update};
 ghost use Rattle.std.specs.Str.{bytes_eq};
 ghost use Rattle.hub_index.specs.Rows.{seq_of, moved};
-ghost use Rattle.hub_model.specs.Updates.{id_of, letter_of};
 ghost use Rattle.hub_updates.specs.Kept.{ids_of, raised};
 
 use crate::notice::Notice;
 use hub_index::{PageIndex, SeqIndex};
-use hub_model::UpdateKind;
 use std::alloc::{AllocError, Global};
 use std::collections::BTreeMap;
 use std::marker::Model;
@@ -52,27 +50,6 @@ impl Model for Log {
     ghost view = { λ a. record { notes = notes_of (ids_of a.pairs.items) a.notes.items; life = a.life } };
 
     ghost invariant = { λ a. IsKept (get_by_text a.numbers) (ids_of a.pairs.items) a.notes.items a.index };
-}
-
-// The letter of a kind.
-fn letter_of(kind: UpdateKind) -> char
-    ensures { result ≡ letter_of kind }
-{
-    match kind {
-        UpdateKind::Created => 'c',
-        UpdateKind::Updated => 'u',
-        UpdateKind::Deleted => 'd',
-    }
-}
-
-// The id of the pair that a notice is of. It copies the name.
-fn id_of(alloc: Global, notice: &Notice) -> Result<String, AllocError>
-    ensures { IfOk result (λ id. string_bytes id ≡ id_of notice.now) }
-{
-    let mut id = String::new(alloc);
-    id.push(letter_of(notice.kind()))?;
-    id.push_str(notice.name())?;
-    Ok(id)
 }
 
 /// The number of the pair of this id. One look in the map.
@@ -182,23 +159,23 @@ impl Log {
         }
     }
 
-    /// Adds a note at the end. It costs a copy of the name, one more for the first note of a pair, a
-    /// look in the map of ids, and a move in the index of rows. An error leaves all as it was.
+    /// Adds a note at the end. It costs a look in the map of ids and a move in the index of rows, and for the
+    /// first note of a pair two copies of its id. An error leaves all as it was.
     pub(crate) fn note(&mut self, notice: &Notice) -> Result<(), AllocError>
         requires room { length self.old.notes < 2 ^ 32 - 1 }
         ensures ok { OnOk result (self.new ≡ record self.old { notes = self.old.notes ++ notice.now ∷ [] }) }
         ensures err { OnErr result (self.new ≡ self.old) }
     {
-        let id = id_of(self.alloc, notice)?;
         self.notes.try_reserve(1)?;
         let seq = self.notes.len() as u64 + 1;
-        match number_of(&self.numbers, id.as_str()) {
+        match number_of(&self.numbers, notice.id()) {
             Some(number) => {
                 raise(&mut self.pairs, &mut self.index, number, seq)?;
                 self.notes.push_reserved(number);
                 Ok(())
             }
             None => {
+                let id = String::from_str(self.alloc, notice.id())?;
                 let number = add(
                     &mut self.pairs,
                     &mut self.numbers,

@@ -1,34 +1,12 @@
 //! The rows of the log as feeds read them.
 
-ghost use Rattle.std.specs.Prelude.{◌≡◌};
-ghost use Rattle.hub_model.specs.Updates.{id_of, kind_of, note_of};
-
 use crate::log::{Log, number_of};
+use crate::notice::read_id;
 use hub_document::UpdateRow;
 use hub_feed::{Source, is_ahead};
 use hub_index::SeqIndex;
-use hub_model::{Style, UpdateKind};
+use hub_model::Style;
 use std::alloc::AllocError;
-
-// The kind of a letter.
-fn kind_of(letter: u8) -> UpdateKind
-    ensures { result ≡ kind_of letter }
-{
-    match letter {
-        b'c' => UpdateKind::Created,
-        b'u' => UpdateKind::Updated,
-        _ => UpdateKind::Deleted,
-    }
-}
-
-// What happened, and to the database of which name, by the id of a pair.
-fn read_id(id: &str) -> (UpdateKind, &str)
-    requires { id_of (note_of id.now) ≡ id.now }
-    ensures kind { result.0 ≡ (note_of id.now).kind }
-    ensures name { result.1.now ≡ (note_of id.now).name }
-{
-    (kind_of(id.as_bytes()[0]), &id[1..])
-}
 
 impl Source for Log {
     ghost use Rattle.std.specs.Prelude.{length};

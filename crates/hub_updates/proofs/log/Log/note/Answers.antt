@@ -10,8 +10,7 @@ pub raise-requires-clause-there : goal.raise-requires-clause-there
 raise-requires-clause-there c =
     let s = c.self.inside in
     let known : get_by_text s.numbers (id_of c.args.notice.now) ≡ Some c.in-Some.number =
-    ap (get_by_text s.numbers) (sym c.in_ok-id.ensures)
-    ∙ sym (rw c.as_str.ensures.value at c.in-Some.ensures) in
+    sym (rw c.id.ensures at c.in-Some.ensures) in
     omega (
       arith,
       kept_there (get_by_text s.numbers) (ids_of s.pairs.items) s.notes.items s.index c.self.invariant
@@ -47,12 +46,11 @@ add-requires-clause-above c =
       s.notes.ok.0,
     )
 
-pub invariant_of-self-in-Some-1 : goal.invariant_of-self-in-Some-1
-invariant_of-self-in-Some-1 c =
+pub invariant_of-self-in-Some : goal.invariant_of-self-in-Some
+invariant_of-self-in-Some c =
     let s = c.self.inside in
     let known : get_by_text s.numbers (id_of c.args.notice.now) ≡ Some c.in-Some.number =
-    ap (get_by_text s.numbers) (sym c.in_ok-id.ensures)
-    ∙ sym (rw c.as_str.ensures.value at c.in-Some.ensures) in
+    sym (rw c.id.ensures at c.in-Some.ensures) in
     let last : c.len.result + 1 ≡ length s.notes.items + 1 =
     omega (arith, c.len.ensures, c.in_ok-try_reserve.ensures.len, s.notes.ok.0) in
     (raised_so (get_by_text s.numbers) (ids_of s.pairs.items) s.notes.items s.index c.self.invariant
@@ -63,13 +61,15 @@ invariant_of-self-in-Some-1 c =
 pub invariant_of-self-in-None : goal.invariant_of-self-in-None
 invariant_of-self-in-None c =
     let s = c.self.inside in
-    let none : get_by_text s.numbers (string_bytes c.in_ok-id.id) ≡ None =
-    sym (rw c.as_str.ensures.value at c.in-None.ensures) in
+    let text : string_bytes c.in_ok-id-in-None.id ≡ id_of c.args.notice.now =
+    c.in_ok-id-in-None.ensures.ok ∙ c.id-in-None.ensures in
+    let none : get_by_text s.numbers (string_bytes c.in_ok-id-in-None.id) ≡ None =
+    ap (get_by_text s.numbers) text ∙ sym (rw c.id.ensures at c.in-None.ensures) in
     let last : c.len.result + 1 ≡ length s.notes.items + 1 =
     omega (arith, c.len.ensures, c.in_ok-try_reserve.ensures.len, s.notes.ok.0) in
     (added_so (get_by_text s.numbers)
     (ids_of s.pairs.items) s.notes.items s.index c.self.invariant c.args.notice.now
-    (c.len.result + 1) last (string_bytes c.in_ok-id.id) c.in_ok-id.ensures none c.in_ok-number-in-None.number
+    (c.len.result + 1) last (string_bytes c.in_ok-id-in-None.id) text none c.in_ok-number-in-None.number
     (c.in_ok-number-in-None.ensures.number ∙ sym (length-map s.pairs.items pair_of))
     (get_by_text c.add.new.numbers) (ids_of c.add.new.pairs.items) c.push_reserved-in-None.new.self.items
     c.add.new.index c.in_ok-number-in-None.ensures.numbers c.in_ok-number-in-None.ensures.pairs
@@ -80,8 +80,7 @@ pub returns-in_ok-raise-in-Some-clause-ok : goal.returns-in_ok-raise-in-Some-cla
 returns-in_ok-raise-in-Some-clause-ok c =
     let s = c.self.inside in
     let known : get_by_text s.numbers (id_of c.args.notice.now) ≡ Some c.in-Some.number =
-    ap (get_by_text s.numbers) (sym c.in_ok-id.ensures)
-    ∙ sym (rw c.as_str.ensures.value at c.in-Some.ensures) in
+    sym (rw c.id.ensures at c.in-Some.ensures) in
     let last : c.len.result + 1 ≡ length s.notes.items + 1 =
     omega (arith, c.len.ensures, c.in_ok-try_reserve.ensures.len, s.notes.ok.0) in
     rw (sym c.self.view_is)
@@ -94,15 +93,17 @@ returns-in_ok-raise-in-Some-clause-ok c =
 pub returns-in_ok-number-in-None-clause-ok : goal.returns-in_ok-number-in-None-clause-ok
 returns-in_ok-number-in-None-clause-ok c =
     let s = c.self.inside in
-    let none : get_by_text s.numbers (string_bytes c.in_ok-id.id) ≡ None =
-    sym (rw c.as_str.ensures.value at c.in-None.ensures) in
+    let text : string_bytes c.in_ok-id-in-None.id ≡ id_of c.args.notice.now =
+    c.in_ok-id-in-None.ensures.ok ∙ c.id-in-None.ensures in
+    let none : get_by_text s.numbers (string_bytes c.in_ok-id-in-None.id) ≡ None =
+    ap (get_by_text s.numbers) text ∙ sym (rw c.id.ensures at c.in-None.ensures) in
     let last : c.len.result + 1 ≡ length s.notes.items + 1 =
     omega (arith, c.len.ensures, c.in_ok-try_reserve.ensures.len, s.notes.ok.0) in
     rw (sym c.self.view_is)
     (ap (λ (notes : List Note). record { notes = notes; life = s.life })
     (added_so (get_by_text s.numbers)
     (ids_of s.pairs.items) s.notes.items s.index c.self.invariant c.args.notice.now
-    (c.len.result + 1) last (string_bytes c.in_ok-id.id) c.in_ok-id.ensures none c.in_ok-number-in-None.number
+    (c.len.result + 1) last (string_bytes c.in_ok-id-in-None.id) text none c.in_ok-number-in-None.number
     (c.in_ok-number-in-None.ensures.number ∙ sym (length-map s.pairs.items pair_of))
     (get_by_text c.add.new.numbers) (ids_of c.add.new.pairs.items) c.push_reserved-in-None.new.self.items
     c.add.new.index c.in_ok-number-in-None.ensures.numbers c.in_ok-number-in-None.ensures.pairs

@@ -3,7 +3,7 @@ use Rattle.std.proofs.lemmas.Str.{IsCharBoundary-after_ascii}
 use Rattle.hub_model.specs.Updates.{Note, id_of, letter_of}
 use Rattle.hub_model.specs.declared.updates.UpdateKind.{UpdateKind}
 use Rattle.hub_model.specs.declared.updates.UpdateKind.TheVariants.{Created, Updated, Deleted}
-use Rattle.hub_updates.proofs.rows.read_id.Goals as goal
+use Rattle.hub_updates.proofs.notice.read_id.Goals as goal
 
 letter_low : (kind : UpdateKind) → letter_of kind < 128
 letter_low Created = lit< tt
