@@ -1,11 +1,11 @@
 -- The parts of a document's text, and the text that they make together.
 use Rattle.std.proofs.Common.{◌≡◌, ℕ, ◌<◌, ◌≤◌, ◌^◌, List, [], ◌∷◌, ◌++◌, length, map, take}
 use Rattle.std.proofs.Common.{take_all, refl, sym, ap, ◌∙◌, arith, append_assoc, append-nil}
-use Rattle.std.proofs.Common.{decimal, codes, true, false, eqb, Some, Result, Ok, Err}
+use Rattle.std.proofs.Common.{decimal, codes, true, false, eqb, Option, None, Some, Result, Ok, Err}
 use Rattle.std.proofs.lemmas.Bool.Decides.{nat_tests}
-use Rattle.std.specs.Prelude.{flat_map, is_ok, if◌then◌else◌}
+use Rattle.std.specs.Prelude.{flat_map, is_ok, option_map, if◌then◌else◌}
 use Rattle.std.specs.List.{join_with_byte}
-use Rattle.json.specs.Print.{escape_byte, quoted}
+use Rattle.json.specs.Print.{escape, escape_byte, quoted}
 use Rattle.hub_model.specs.Revision.{Revision, text_of}
 use Rattle.hub_model.specs.Draft.{generation_of, parent_of}
 use Rattle.hub_document.specs.declared.doc.Doc.{Doc}
@@ -49,6 +49,20 @@ pub rev_is : (revision : Revision) → after_commas (rev_member (Some revision))
 rev_is revision =
     one_after (member_text (codes "_rev") (quoted (text_of revision)))
     ∙ ap (λ l. 44 ∷ l) (rev_name (quoted (text_of revision)))
+
+-- the revision whose JSON string this is
+pub rev_of_text : (o : Option Revision) (text : List ℕ) → option_map (λ r. quoted (text_of r)) o ≡ Some text
+    → after_commas (rev_member o) ≡ codes ",\"_rev\":" ++ text
+rev_of_text None text is = absurd (cc)
+rev_of_text (Some r) text is =
+    let same : quoted (text_of r) ≡ text = cc in
+    rev_is r ∙ ap (λ l. codes ",\"_rev\":" ++ l) same
+
+-- the brace, an id that needs no escape, and what stands behind it
+pub plain_head : (held id more : List ℕ) → escape id ≡ id
+    → ((held ++ codes "{\"_id\":\"") ++ id) ++ (codes "\"," ++ more) ≡ held
+    ++ (head_text id ++ (44 ∷ more))
+plain_head held id more plain = rw (head_is id) (simp (append_assoc, plain))
 
 pub deleted_is : after_commas (deleted_member true) ≡ codes ",\"_deleted\":true"
 deleted_is =

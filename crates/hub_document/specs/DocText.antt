@@ -1,6 +1,6 @@
 -- The JSON text of a document (CouchDB API reference, documents; the order of its members is own).
-use Rattle.std.specs.Prelude.{ℕ, ◌-◌, List, [], ◌∷◌, ◌++◌, length, drop, take, map, slice_get, Bool, true}
-use Rattle.std.specs.Prelude.{false, Option, Some, None, codes, decimal}
+use Rattle.std.specs.Prelude.{ℕ, ◌-◌, ◌≡◌, List, [], ◌∷◌, ◌++◌, length, drop, take, map, slice_get, Bool}
+use Rattle.std.specs.Prelude.{true, false, Option, Some, None, option_map, codes, decimal}
 use Rattle.std.specs.List.{join_with_byte}
 use Rattle.json.specs.Print.{quoted}
 use Rattle.hub_model.specs.Revision.{Revision, text_of}
@@ -58,6 +58,11 @@ doc_text doc = codes "{" ++ (join_with_byte 44 (members_of doc) ++ codes "}")
 abbrev pub row_doc : ChangeRow → List ℕ → Doc
 row_doc row body =
     record { id = row.id; rev = slice_get row.changes 0; path = None; deleted = row.deleted; body = body }
+
+-- Whether this is the JSON string of the first revision that a row lists. Of a row with 2-b it is `"2-b"`, quotes
+-- and all.
+abbrev pub IsFirstText : ChangeRow → List ℕ → Type 0
+IsFirstText row text = option_map (λ r. quoted (text_of r)) (slice_get row.changes 0) ≡ Some text
 
 -- a local document that was written this many times
 unfoldable pub local_text : List ℕ → ℕ → List ℕ → List ℕ

@@ -1,9 +1,10 @@
 //! Rows of changes.
 
-ghost use Rattle.std.specs.Prelude.{◌≡◌, slice_get, IfOk};
+ghost use Rattle.std.specs.Prelude.{◌≡◌, ◌++◌, codes, slice_get, IfOk};
+ghost use Rattle.json.specs.Print.{escape};
 ghost use Rattle.hub_document.specs.Appends.{Appends};
-ghost use Rattle.hub_document.specs.DocText.{doc_text, rev_member, row_doc};
-ghost use Rattle.hub_document.specs.Joined.{after_commas};
+ghost use Rattle.hub_document.specs.DocText.{IsFirstText, doc_text, rev_member, row_doc};
+ghost use Rattle.hub_document.specs.Joined.{after_commas, head_text};
 
 use crate::body::Body;
 use crate::changes::{Changes, LentChanges};
@@ -65,6 +66,27 @@ fn put_winner(out: &mut Vec<u8>, changes: &Changes) -> Result<(), AllocError>
     }
 }
 
+// What stands behind an id: its quote, and the revision whose JSON string this is.
+fn rev_part(rev: &[u8; 36]) -> [u8; 45]
+    ensures { result ≡ codes "\",\"_rev\":" ++ rev.now }
+{
+    let mut part = *b"\",\"_rev\":....................................";
+    part[9..].copy_from_slice(rev.as_slice());
+    part
+}
+
+// The brace, an id that needs no escape, and the revision whose JSON string this is.
+fn put_plain_head(out: &mut Vec<u8>, id: &str, rev: &[u8; 36]) -> Result<(), AllocError>
+    requires { escape id.now ≡ id.now }
+    ensures { Appends (head_text id.now ++ (codes ",\"_rev\":" ++ rev.now)) result
+        out.old.items out.new.items }
+{
+    out.extend_from_slice(b"{\"_id\":\"")?;
+    out.extend_from_slice(id.as_bytes())?;
+    out.extend_from_slice(rev_part(rev).as_slice())?;
+    Ok(())
+}
+
 impl ChangeRow {
     /// A copy. It costs the lengths of the list of revisions and of the members.
     pub fn copy(&self, alloc: Global) -> Result<ChangeRow, AllocError>
@@ -91,6 +113,23 @@ impl ChangeRow {
     {
         put_head(out, self.id.as_str())?;
         put_winner(out, &self.changes)?;
+        put_deleted(out, self.deleted)?;
+        put_rest(out, body)?;
+        Ok(())
+    }
+    /// The same for a row whose id needs no escape, and where this is the JSON string of the first revision that
+    /// the row lists: it takes fewer parts, and the digest is not written again.
+    pub fn write_plain_doc(
+        &self,
+        out: &mut Vec<u8>,
+        body: &Body,
+        rev: &[u8; 36],
+    ) -> Result<(), AllocError>
+        requires plain { escape self.now.id ≡ self.now.id }
+        requires rev { IsFirstText self.now rev.now }
+        ensures { Appends (doc_text (row_doc self.now body.now)) result out.old.items out.new.items }
+    {
+        put_plain_head(out, self.id.as_str(), rev)?;
         put_deleted(out, self.deleted)?;
         put_rest(out, body)?;
         Ok(())

@@ -1,0 +1,21 @@
+use Rattle.hub_document.proofs.AppendLemmas.{appended}
+use Rattle.std.proofs.Common.{◌≡◌, ℕ, List, [], ◌++◌, append-nil, append_assoc}
+use Rattle.hub_document.proofs.PartLemmas.{doc_written, rev_of_text}
+use Rattle.hub_document.proofs.change_row.ChangeRow.write_plain_doc.Goals as goal
+
+-- the parts before the document's own members, where there is no history
+front_written : (held b new h r s d : List ℕ) → b ≡ held ++ (h ++ s) → r ≡ s → new ≡ b ++ d
+    → new ≡ held ++ (h ++ (r ++ (d ++ [])))
+front_written held b new h r s d head same deleted =
+    rw (deleted, head, same, append-nil d) (simp append_assoc)
+
+pub returns : goal.returns
+returns c =
+    appended _ _ _
+    (rw (← c.self.view_is)
+    (doc_written c.args.out.now.items _ _ _
+    (front_written c.args.out.now.items _ _ _ _ _ _
+    (rw c.as_str.ensures.value at c.in_ok-put_plain_head.ensures.ok)
+    (rev_of_text _ _ (rw (← c.self.view_is) at c.requires.rev))
+    c.in_ok-put_deleted.ensures.ok)
+    c.in_ok-put_rest.ensures.ok))
