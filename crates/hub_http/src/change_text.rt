@@ -1,7 +1,8 @@
 //! The texts of rows of changes.
 
-ghost use Rattle.std.specs.Prelude.{◌≡◌, ◌<◌, ◌≤◌, [], ◌∷◌, ◌++◌, Some, codes, decimal, drop, length};
+ghost use Rattle.std.specs.Prelude.{◌≡◌, ◌<◌, ◌≤◌, [], ◌∷◌, ◌++◌, Some, codes, decimal, drop, length, IfSome};
 ghost use Rattle.hub_document.specs.Appends.{Appends};
+ghost use Rattle.hub_document.specs.DocText.{IsFirstText, doc_text, row_doc};
 ghost use Rattle.json.specs.Print.{escape, quoted};
 ghost use Rattle.hub_model.specs.Revision.{text_of};
 ghost use Rattle.hub_http.specs.ChangeTexts.{revision_text, revisions_text, row_mark, doc_member, row_end};
@@ -161,13 +162,19 @@ fn revision_part(text: &[u8; 36]) -> [u8; 56]
     part
 }
 
-// Appends the only revision of a row, and what stands between the id and it.
-fn put_only_revision(out: &mut Vec<u8>, rev: &DigestRev) -> Result<(), AllocError>
+// Appends the only revision of a row, and what stands between the id and it. Where its JSON string has 36 bytes,
+// this is it.
+fn put_only_revision(
+    out: &mut Vec<u8>,
+    rev: &DigestRev,
+    short: Option<&[u8; 36]>,
+) -> Result<(), AllocError>
+    requires { IfSome short (λ text. text.now ≡ quoted (text_of rev.now)) }
     ensures { Appends (codes "\",\"changes\":[{\"rev\":" ++ quoted (text_of rev.now)) result
         out.old.items out.new.items }
 {
-    match rev.short_text() {
-        Some(text) => out.extend_from_slice(revision_part(&text).as_slice()),
+    match short {
+        Some(text) => out.extend_from_slice(revision_part(text).as_slice()),
         None => {
             out.extend_from_slice(b"\",\"changes\":[{\"rev\":")?;
             rev.print_quoted(out)?;
@@ -200,24 +207,54 @@ fn doc_front(deleted: bool) -> &'static str
     }
 }
 
+// Appends the document of a row whose id needs no escape.
+fn put_plain_doc(
+    out: &mut Vec<u8>,
+    row: &ChangeRow,
+    body: &Body,
+    short: Option<&[u8; 36]>,
+) -> Result<(), AllocError>
+    requires plain { escape row.now.id ≡ row.now.id }
+    requires short { IfSome short (λ text. IsFirstText row.now text.now) }
+    ensures { Appends (doc_text (row_doc row.now body.now)) result out.old.items out.new.items }
+{
+    match short {
+        Some(rev) => row.write_plain_doc(out, body, rev),
+        None => row.write_doc(out, body),
+    }
+}
+
 // Appends the end of a row that brings a document, behind its only revision.
-fn put_doc_end(out: &mut Vec<u8>, row: &ChangeRow, body: &Body) -> Result<(), AllocError>
-    requires { row.now.doc ≡ Some body.now }
+fn put_doc_end(
+    out: &mut Vec<u8>,
+    row: &ChangeRow,
+    body: &Body,
+    short: Option<&[u8; 36]>,
+) -> Result<(), AllocError>
+    requires doc { row.now.doc ≡ Some body.now }
+    requires plain { escape row.now.id ≡ row.now.id }
+    requires short { IfSome short (λ text. IsFirstText row.now text.now) }
     ensures { Appends (125 ∷ row_end row.now) result out.old.items out.new.items }
 {
     out.extend_from_slice(doc_front(row.deleted).as_bytes())?;
-    row.write_doc(out, body)?;
+    put_plain_doc(out, row, body, short)?;
     out.extend_from_slice(b"}")?;
     Ok(())
 }
 
 // Appends the end of a row behind its only revision.
-fn put_only_end(out: &mut Vec<u8>, row: &ChangeRow) -> Result<(), AllocError>
+fn put_only_end(
+    out: &mut Vec<u8>,
+    row: &ChangeRow,
+    short: Option<&[u8; 36]>,
+) -> Result<(), AllocError>
+    requires plain { escape row.now.id ≡ row.now.id }
+    requires short { IfSome short (λ text. IsFirstText row.now text.now) }
     ensures { Appends (125 ∷ row_end row.now) result out.old.items out.new.items }
 {
     match &row.doc {
         None => put_short_end(out, row.deleted),
-        Some(body) => put_doc_end(out, row, body),
+        Some(body) => put_doc_end(out, row, body, short),
     }
 }
 
@@ -233,9 +270,10 @@ fn put_plain_row(
     requires only { row.now.changes ≡ rev.now ∷ [] }
     ensures { Appends (change_row_text life row.now) result out.old.items out.new.items }
 {
+    let short = rev.short_text();
     put_plain_front(out, life, row.seq, row.id.as_str())?;
-    put_only_revision(out, rev)?;
-    put_only_end(out, row)?;
+    put_only_revision(out, rev, short.as_ref())?;
+    put_only_end(out, row, short.as_ref())?;
     Ok(())
 }
 

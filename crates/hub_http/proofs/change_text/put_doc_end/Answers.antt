@@ -7,10 +7,10 @@ returns c =
     appended _ _ _
     (rw (
       c.in_ok-extend_from_slice-2.ensures.items,
-      c.in_ok-write_doc.ensures.ok,
+      c.in_ok-put_plain_doc.ensures.ok,
       c.in_ok-extend_from_slice.ensures.items,
       c.as_bytes.ensures.value,
       c.doc_front.ensures,
       ← c.row.view_is,
     )
-    (doc_ended c.args.out.now.items _ c.args.body.now (rw (← c.row.view_is) at c.requires)))
+    (doc_ended c.args.out.now.items _ c.args.body.now (rw (← c.row.view_is) at c.requires.doc)))
