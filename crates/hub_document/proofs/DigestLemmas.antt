@@ -1,19 +1,16 @@
 -- A digest and the text of it.
-use Rattle.std.proofs.Common.{◌⊎◌, inl, inr, ◌≡◌, ℕ, ◌+◌, ◌-◌, ◌*◌, ◌/◌, ◌%◌, ◌<◌, ◌≤◌, ◌^◌, Bool, true}
-use Rattle.std.proofs.Common.{false, ◌&&◌, List, ◌∷◌, ◌++◌, length, drop, take, replicate, slice_index}
-use Rattle.std.proofs.Common.{refl, sym, ap, ◌∙◌, subst, arith, [], append_assoc, decimal}
-use Rattle.std.specs.Prelude.{nat_eq, Option, Some, None, Result}
+use Rattle.std.proofs.Common.{◌≡◌, ℕ, ◌-◌, ◌*◌, ◌<◌, ◌≤◌, ◌^◌, Bool, false, List, [], ◌∷◌, ◌++◌, length}
+use Rattle.std.proofs.Common.{take, replicate, sym, ap, ◌∙◌, subst, append_assoc, decimal}
+use Rattle.std.specs.Prelude.{Option, Some, None, Result}
 use Rattle.std.specs.Str.{bytes_eq}
-use Rattle.std.proofs.lemmas.Bool.{both_ways, cases_Bool, eqb-true}
+use Rattle.std.proofs.lemmas.Bool.{both_ways}
 use Rattle.std.proofs.lemmas.Option.{same_Some}
 use Rattle.std.specs.Result.{result_ok}
 use Rattle.hex.specs.declared.error.FromHexError.{FromHexError}
-use Rattle.std.proofs.lemmas.List.{drop_all, drop_more, length-take-le}
 use Rattle.std.proofs.lemmas.Slice.Eq.{bytes_eq-Decides}
 use Rattle.std.proofs.Math.Seq.{take-append_seam}
-use Rattle.hex.specs.Hex.{IsBytes, decode_sized, encode_lower, encode_with, lower_digits}
+use Rattle.hex.specs.Hex.{IsBytes, decode_sized, encode_lower, lower_digits}
 use Rattle.hex.proofs.HexLemmas.{length-encode_with, decode_sized-encode_lower}
-use Rattle.hex.proofs.Pairs.{encode_with-drop}
 use Rattle.hub_document.specs.Fields.{IsLaidOut}
 use Rattle.hub_document.proofs.MadeLemmas.{is_hash_of}
 use Rattle.hub_model.specs.Revision.{text_of}
@@ -56,68 +53,6 @@ text_kept d out zeros sized written =
     rw written
     (subst (λ k. take k (encode_lower d ++ zeros) ≡ encode_lower d) (text_length d sized)
     (take-append_seam (encode_lower d) zeros))
-
--- the letters from a byte on beside those of the digest
-module _ (letters digest : List ℕ) (k : ℕ) (low : 2 * k + 1 < length letters)
-    (within : k < length digest) where
-  abbrev here : Bool
-  here =
-      nat_eq (slice_index letters (2 * k)) (slice_index lower_digits (slice_index digest k / 16))
-      && nat_eq (slice_index letters (2 * k + 1)) (slice_index lower_digits (slice_index digest k % 16))
-
-  abbrev rest : Bool
-  rest = bytes_eq (drop (2 * (k + 1)) letters) (encode_lower (drop (k + 1) digest))
-
-  and_assoc : (a b c : Bool) → (a && (b && c)) ≡ ((a && b) && c)
-  and_assoc true b c = refl
-  and_assoc false b c = refl
-
-  two : drop (2 * k) letters
-      ≡ slice_index letters (2 * k) ∷ slice_index letters (2 * k + 1) ∷ drop (2 * (k + 1)) letters
-  two =
-      let next : 2 * k + 1 + 1 ≡ 2 * (k + 1) = omega arith in
-      drop_more letters (2 * k) 0 (omega arith)
-      ∙ ap (λ z. slice_index letters (2 * k) ∷ z)
-      (drop_more letters (2 * k + 1) 0 low ∙ ap (λ n. slice_index letters (2 * k + 1) ∷ drop n letters) next)
-
-  step : bytes_eq (drop (2 * k) letters) (encode_lower (drop k digest)) ≡ (here && rest)
-  step = rw (two, encode_with-drop lower_digits digest k within) (and_assoc _ _ rest)
-
-  pub more_text : (b same : Bool) → b ≡ here → b ≡ true
-      → same ≡ bytes_eq (drop (2 * k) letters) (encode_lower (drop k digest)) → same ≡ rest
-  more_text b same is t so = so ∙ step ∙ ap (λ x. x && rest) (sym is ∙ t)
-
-  pub no_text : (b same : Bool) → b ≡ here → b ≡ false
-      → same ≡ bytes_eq (drop (2 * k) letters) (encode_lower (drop k digest)) → false ≡ same
-  no_text b same is f so = sym (so ∙ step ∙ ap (λ x. x && rest) (sym is ∙ f))
-
--- past the last byte
-pub all_text : (letters digest : List ℕ) (k : ℕ) (same : Bool) → 16 ≤ k → length letters ≡ 32
-    → length digest ≡ 16 → same ≡ bytes_eq (drop (2 * k) letters) (encode_lower (drop k digest)) → true ≡ same
-unfolding encode_with
-all_text letters digest k same past long sized so =
-    sym (so
-    ∙ rw (
-      drop_all (2 * k) letters (omega (arith, past, long)),
-      drop_all k digest (omega (arith, past, sized)),
-    ) refl)
-
--- a text of another length is no digest's
-pub other_length : (hash bytes d : List ℕ) (len : ℕ) → hash ≡ take len bytes → len ≤ length bytes
-    → ¬ (len ≡ 32) → length d ≡ 16 → nat_eq len 32 ≡ bytes_eq hash (encode_lower d)
-other_length hash bytes d len kept room other sized =
-    no (cases_Bool (nat_eq len 32)) ∙ sym (elim (cases_Bool (bytes_eq hash (encode_lower d))) [
-      | inl t ↦
-          let long : length hash ≡ 32 =
-          ap length ((bytes_eq-Decides hash (encode_lower d)).0 t) ∙ text_length d sized in
-          let own : length hash ≡ len = ap length kept ∙ length-take-le len bytes room in
-          absurd (other (sym own ∙ long))
-      | inr f ↦ f
-    ])
-  where
-    no : (nat_eq len 32 ≡ true) ⊎ (nat_eq len 32 ≡ false) → nat_eq len 32 ≡ false
-    no (inl t) = absurd (other (eqb-true len 32 t))
-    no (inr f) = f
 
 -- what reads a text of hexadecimal digits reads a digest's text as the digest
 module _ (hash : List ℕ) (read : Result (List ℕ) FromHexError) (is : read ≡ decode_sized hash 16) (d : List ℕ)

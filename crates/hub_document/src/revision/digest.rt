@@ -1,15 +1,11 @@
 //! Revision ids whose hashes are digests.
 
-ghost use Rattle.std.specs.Prelude.{◌≡◌, ◌<◌, ◌≤◌, ◌&&◌, ◌/◌, ◌%◌, List, ℕ, length};
-ghost use Rattle.std.specs.Prelude.{nat_eq, slice_index, IfSome, IfNone};
+ghost use Rattle.std.specs.Prelude.{◌≡◌, ◌<◌, ◌≤◌, List, ℕ, length, slice_index, IfSome, IfNone};
 ghost use Rattle.std.specs.Str.{bytes_eq};
 ghost use Rattle.hex.specs.Hex.{IsBytes, encode_lower, lower_digits};
 
 use crate::revision::RevId;
 use hex::FromHex;
-
-/// The sixteen digits.
-const DIGITS: &[u8; 16] = b"0123456789abcdef";
 
 /// The digit of a number below 16. It is summed and not looked up: so a processor makes several at once.
 #[inline(always)]
@@ -34,27 +30,6 @@ pub(crate) fn write_digits(letters: &mut [u8], digest: &[u8; 16])
         letters[2 * at] = high;
         letters[2 * at + 1] = low;
     }
-}
-
-// Whether these are the two digits of the byte.
-fn are_digits(high: u8, low: u8, byte: u8) -> bool
-    ensures { result ≡ (nat_eq high (slice_index lower_digits (byte / 16))
-        && nat_eq low (slice_index lower_digits (byte % 16))) }
-{
-    high == DIGITS[usize::from(byte / 16)] && low == DIGITS[usize::from(byte % 16)]
-}
-
-// Whether these 32 letters are the text of the digest. It stops at the first difference.
-fn is_text(letters: &[u8], digest: &[u8; 16]) -> bool
-    requires { length letters.now ≡ 32 }
-    ensures { result ≡ bytes_eq letters.now (encode_lower digest.now) }
-{
-    for at in 0..16usize {
-        if !are_digits(letters[2 * at], letters[2 * at + 1], digest[at]) {
-            return false;
-        }
-    }
-    true
 }
 
 impl RevId {
@@ -91,11 +66,12 @@ impl RevId {
         }
     }
 
-    /// Whether the hash is the hexadecimal text of the digest, in lower-case digits. It makes no text,
-    /// and stops at the first difference.
+    /// Whether the hash is the hexadecimal text of the digest, in lower-case digits. Constant time, and no memory.
     pub fn has_digest(&self, digest: &[u8; 16]) -> bool
         ensures { result ≡ bytes_eq self.now.hash (encode_lower digest.now) }
     {
-        self.len == 32 && is_text(self.hash(), digest)
+        let mut text = [0u8; 32];
+        write_digits(&mut text, digest);
+        self.hash() == text.as_slice()
     }
 }
