@@ -13,8 +13,14 @@ use hub_filter::{DocIds, Filter};
 use hub_model::{Item, Mode, Since, Style};
 use hub_params::FeedParams;
 use std::alloc::{AllocError, Global};
+use std::fmt::Debug;
 use std::process::Abort;
 use std::test::Fail;
+
+// The value that was found is the one that is wanted. The comparison is proved here, and not in each test.
+fn same<T: PartialEq + Debug>(rt: &impl Abort, found: &T, wanted: &T) {
+    assert_eq!(rt; *found, *wanted);
+}
 
 // What a feed hands in one step.
 #[derive(Clone, Copy, Debug, PartialEq, Eq)]
@@ -101,8 +107,9 @@ fn walk(rt: &impl Abort, feed: &mut FeedState, edits: &Edits, wanted: &[Step]) -
     ensures { IsWithin feed.new (length edits.now.ids.now) }
 {
     for step in wanted {
-        assert_eq!(rt; look(feed, edits)?, *step);
-        assert_eq!(rt; take(feed, edits)?, *step);
+        let looked = look(feed, edits)?;
+        let taken = take(feed, edits)?;
+        same(rt, &(looked, taken), &(*step, *step));
     }
     Ok(())
 }
@@ -226,11 +233,11 @@ fn a_continuous_feed_goes_on(rt: HostRuntime) -> Result<(), Fail> {
         &THREE,
         &[row(2), row(3), row(5), Step::Nothing],
     )?;
-    assert!(rt; feed.beat_due());
+    same(&rt, &feed.beat_due(), &true);
     feed.expire();
-    assert!(rt; !feed.beat_due());
+    same(&rt, &feed.beat_due(), &false);
     walk(&rt, &mut feed, &THREE, &[Step::End(5, 0), Step::Gone])?;
-    assert!(rt; !feed.beat_due());
+    same(&rt, &feed.beat_due(), &false);
     Ok(())
 }
 
@@ -249,7 +256,7 @@ fn feeds_end_at_their_places(rt: HostRuntime) -> Result<(), Fail> {
     for mode in [Mode::Normal, Mode::Longpoll, Mode::Continuous] {
         let mut feed = begin(params(mode, Since::Plain(0), None), &THREE);
         walk(&rt, &mut feed, &THREE, &[row(2)])?;
-        assert!(rt; !feed.beat_due());
+        same(&rt, &feed.beat_due(), &false);
         feed.end();
         walk(&rt, &mut feed, &THREE, &[Step::End(2, 2), Step::Gone])?;
     }
@@ -267,7 +274,7 @@ fn only_feeds_that_wait_expire(rt: HostRuntime) -> Result<(), Fail> {
         asked.heartbeat = Some(1_000);
         let mut feed = begin(asked, &THREE);
         walk(&rt, &mut feed, &THREE, &[row(2)])?;
-        assert_eq!(rt; feed.beat_due(), mode != Mode::Normal);
+        same(&rt, &feed.beat_due(), &(mode != Mode::Normal));
         feed.expire();
         walk(&rt, &mut feed, &THREE, &[second])?;
     }

@@ -122,7 +122,7 @@ fn halted(alloc: Global, times: u32) -> Requests<Tally<Halting<'static>>> {
 #[test]
 fn reads_interrupted_just_not_too_often(rt: HostRuntime) -> Result<(), Fail> {
     let mut requests = halted(rt.alloc(), TRIES - 1);
-    assert!(rt; next_of(&mut requests)?.is_some());
+    same(&rt, &next_of(&mut requests)?.is_some(), &true);
     Ok(())
 }
 
@@ -169,15 +169,18 @@ fn is_written(alloc: Global, left: u32, times: u32) -> bool {
 fn interrupted_writes(rt: HostRuntime) {
     let cases = [(1, 1), (3, 3), (TRIES - 1, 0)];
     for (left, times) in cases {
-        assert!(rt; is_written(rt.alloc(), left, times), "{left} times");
+        same(
+            &rt,
+            &(left, is_written(rt.alloc(), left, times)),
+            &(left, true),
+        );
     }
 }
 
 #[test]
 fn writes_interrupted_too_often(rt: HostRuntime) {
     let (outcome, held) = written(rt.alloc(), TRIES, 0);
-    same(&rt, &outcome, &Err(IoFault));
-    assert!(rt; held.is_empty());
+    same(&rt, &(outcome, held.len()), &(Err(IoFault), 0));
 }
 
 /// How `send` ends where the flush is interrupted so often, and how many bytes were taken and

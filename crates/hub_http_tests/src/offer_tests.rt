@@ -70,9 +70,12 @@ fn byte_by_byte(alloc: Global) -> Result<(Vec<Request>, usize), Fail> {
 #[test]
 fn one_byte_an_offer(rt: HostRuntime) -> Result<(), Fail> {
     let (found, waits) = byte_by_byte(rt.alloc())?;
-    assert_eq!(rt; (found.len(), waits), (2, TEXT.len() - 2));
-    same_bytes(&rt, found[0].body.as_slice(), b"abc");
-    same_bytes(&rt, found[1].target.as_slice(), b"/e");
+    same(&rt, &(found.len(), waits), &(2, TEXT.len() - 2));
+    let [first, second] = found.as_slice() else {
+        return Err(Fail::new("not two requests"));
+    };
+    same_bytes(&rt, first.body.as_slice(), b"abc");
+    same_bytes(&rt, second.target.as_slice(), b"/e");
     Ok(())
 }
 
@@ -102,7 +105,7 @@ fn ends_of_fronts(rt: HostRuntime) -> Result<(), Fail> {
         let found = end_of(rt.alloc(), &TEXT[..count])?;
         let between = count == 0 || count == FIRST || count == TEXT.len();
         let whole = usize::from(count >= FIRST) + usize::from(count == TEXT.len());
-        assert_eq!(rt; found, (whole, between, between), "behind {count}");
+        same(&rt, &(count, found), &(count, (whole, between, between)));
     }
     Ok(())
 }
@@ -143,7 +146,7 @@ fn faults_of_heads(rt: HostRuntime) -> Result<(), Fail> {
 
 /// No request is whole yet.
 fn is_not_yet(rt: &impl Abort, inbox: &mut Inbox) -> Result<(), Fail> {
-    assert!(rt; matches!(next_of(inbox)?, Next::NotYet));
+    same(rt, &matches!(next_of(inbox)?, Next::NotYet), &true);
     Ok(())
 }
 

@@ -94,9 +94,9 @@ fn parts_and_texts_by_turns(rt: HostRuntime) -> Result<(), Fail> {
     let mut outbox = three_texts(rt.alloc())?;
     goes(&rt, &mut outbox, b"abc", 2)?;
     goes(&rt, &mut outbox, b"c", 3)?;
-    assert!(rt; outbox.holds(5) && !outbox.holds(6));
+    same(&rt, &(outbox.holds(5), outbox.holds(6)), &(true, false));
     goes(&rt, &mut outbox, b"fghij", 5)?;
-    assert!(rt; outbox.is_empty());
+    same(&rt, &outbox.is_empty(), &true);
     Ok(())
 }
 
@@ -131,8 +131,8 @@ fn refused_bytes_stay(rt: HostRuntime) -> Result<(), Fail> {
     for (kind, expected) in table {
         let mut outbox = three_texts(rt.alloc())?;
         let handed = outbox.send_to(&mut Gone { kind });
-        same(&rt, &handed, &expected);
-        assert!(rt; outbox.holds(10) && !outbox.holds(11));
+        let found = (handed, outbox.holds(10), outbox.holds(11));
+        same(&rt, &found, &(expected, true, false));
     }
     Ok(())
 }

@@ -1,6 +1,6 @@
 //! Rows of one revision with a digest's hash, as most rows are, and the names of methods.
 
-use crate::made_again::again;
+use crate::made_again::{again, same_bytes};
 use hub_document::{ChangeRow, Changes, Doc, DocFault};
 use hub_http::{MethodName, item_text};
 use hub_model::{Item, Mode};
@@ -65,7 +65,7 @@ fn plain_rows_of_several_lives(rt: HostRuntime) -> Result<(), Fail> {
         for (life, digits) in LIVES {
             let text = again!(text_of(alloc, *life, &item))?;
             let line = again!(format!(in alloc; ",\n{{\"seq\":\"12-{digits}\"{CHANGES}{end}"))?;
-            assert_eq!(rt; text.as_slice(), line.as_bytes());
+            same_bytes(&rt, text.as_slice(), line.as_bytes());
         }
     }
     Ok(())
@@ -75,7 +75,7 @@ fn plain_rows_of_several_lives(rt: HostRuntime) -> Result<(), Fail> {
 fn names_of_methods(rt: HostRuntime) -> Result<(), Fail> {
     for name in NAMES {
         let made = again!(MethodName::new(rt.alloc(), name))?;
-        assert_eq!(rt; made.as_slice(), *name);
+        same_bytes(&rt, made.as_slice(), *name);
     }
     Ok(())
 }

@@ -161,15 +161,21 @@ fn pipelined_requests_at_once(rt: HostRuntime) {
 #[test]
 fn cut_at_each_byte(rt: HostRuntime) {
     for n in 1..BODY.len() {
-        assert_eq!(rt;
-            outcome(rt.alloc(), &BODY[..n]),
-            (0, Some(HttpFault::Ended)),
-            "cut at {n}"
-        );
+        has_outcome(&rt, rt.alloc(), &BODY[..n], 0, Some(HttpFault::Ended));
     }
 }
 
-const WHOLE_OR_CUT: &[(&[u8], usize, Option<HttpFault>)] = &[
+/// A text, how many requests it has, and why no more came.
+type Outcome = (&'static [u8], usize, Option<HttpFault>);
+
+/// Each text has so many requests, and no more came for its reason.
+fn have_outcomes(rt: &impl Abort, alloc: Global, table: &[Outcome]) {
+    for (text, count, end) in table {
+        has_outcome(rt, alloc, text, *count, *end);
+    }
+}
+
+const WHOLE_OR_CUT: &[Outcome] = &[
     (BODY, 1, None),
     (b"", 0, None),
     (b"\r\n", 0, Some(HttpFault::Ended)),
@@ -178,9 +184,7 @@ const WHOLE_OR_CUT: &[(&[u8], usize, Option<HttpFault>)] = &[
 
 #[test]
 fn whole_requests_and_cut_ones(rt: HostRuntime) {
-    for (text, count, end) in WHOLE_OR_CUT {
-        has_outcome(&rt, rt.alloc(), text, *count, *end);
-    }
+    have_outcomes(&rt, rt.alloc(), WHOLE_OR_CUT);
 }
 
 const FAULTS: &[(&[u8], HttpFault)] = &[
@@ -241,7 +245,7 @@ fn faults_of_heads(rt: HostRuntime) {
     }
 }
 
-const LENGTHS: &[(&[u8], usize, Option<HttpFault>)] = &[
+const LENGTHS: &[Outcome] = &[
     (
         b"GET / HTTP/1.1\r\nContent-Length: 5\r\ncontent-length: 5\r\n\r\nabcdeGET /",
         1,
@@ -261,9 +265,7 @@ const LENGTHS: &[(&[u8], usize, Option<HttpFault>)] = &[
 
 #[test]
 fn lengths(rt: HostRuntime) {
-    for (text, count, end) in LENGTHS {
-        has_outcome(&rt, rt.alloc(), text, *count, *end);
-    }
+    have_outcomes(&rt, rt.alloc(), LENGTHS);
 }
 
 #[test]
@@ -318,37 +320,33 @@ fn parts_of_a_long_head(rt: HostRuntime) -> Result<(), Fail> {
     Ok(())
 }
 
-const OPTIONS: &[(&[u8], bool)] = &[
-    (b"GET / HTTP/1.1\r\n\r\n", false),
+const OPTIONS: &[(&str, bool)] = &[
+    ("GET / HTTP/1.1\r\n\r\n", false),
     (
-        b"GET / HTTP/1.1\r\nConnection: keep-alive, Close\r\n\r\n",
+        "GET / HTTP/1.1\r\nConnection: keep-alive, Close\r\n\r\n",
         true,
     ),
     (
-        b"GET / HTTP/1.1\r\nConnection: keep-alive ,\tclose\t ,x\r\n\r\n",
+        "GET / HTTP/1.1\r\nConnection: keep-alive ,\tclose\t ,x\r\n\r\n",
         true,
     ),
-    (b"GET / HTTP/1.1\r\nconnection: closed\r\n\r\n", false),
+    ("GET / HTTP/1.1\r\nconnection: closed\r\n\r\n", false),
     (
-        b"GET / HTTP/1.1\r\nconnection: keep-alive close\r\n\r\n",
+        "GET / HTTP/1.1\r\nconnection: keep-alive close\r\n\r\n",
         false,
     ),
     (
-        b"GET / HTTP/1.1\r\nConnection: x\r\nConnection: CLOSE\r\n\r\n",
+        "GET / HTTP/1.1\r\nConnection: x\r\nConnection: CLOSE\r\n\r\n",
         true,
     ),
-    (b"GET / HTTP/1.1\r\nX-Connection: close\r\n\r\n", false),
+    ("GET / HTTP/1.1\r\nX-Connection: close\r\n\r\n", false),
 ];
 
 #[test]
 fn options_of_connection(rt: HostRuntime) {
     for (text, close) in OPTIONS {
-        assert_eq!(rt;
-            closes(rt.alloc(), text),
-            Some(*close),
-            "{}",
-            text.escape_ascii()
-        );
+        let found = closes(rt.alloc(), text.as_bytes());
+        same(&rt, &(*text, found), &(*text, Some(*close)));
     }
 }
 
@@ -359,16 +357,9 @@ fn fails_after(rt: &impl Abort, alloc: Global, reads: usize) {
     let faults = Input::faults(requests.reader());
     let second = fault_of(&mut requests);
     let made = requests.reader().reads();
-    assert_eq!(rt;
-        (first, faults, second, made),
-        (
-            Some(HttpFault::IoFault),
-            1,
-            Some(HttpFault::Ended),
-            (reads as u64).saturating_add(1)
-        ),
-        "after {reads}"
-    );
+    let all = (reads as u64).saturating_add(1);
+    let wanted = (Some(HttpFault::IoFault), 1, Some(HttpFault::Ended), all);
+    same(rt, &(first, faults, second, made), &wanted);
 }
 
 #[test]
@@ -402,12 +393,19 @@ fn with_body(alloc: Global, body: &[u8]) -> Result<Vec<u8>, AllocError> {
     Ok(text)
 }
 
+/// The body of the request at this place.
+fn body_at(requests: &[Request], at: usize) -> Option<&[u8]> {
+    Some(requests.get(at)?.body.as_slice())
+}
+
 /// Both requests are read whole.
 fn reads_both(rt: &impl Abort, alloc: Global, text: &[u8], body: &[u8]) {
     let (requests, end) = read_all(alloc, text);
-    assert_eq!(rt; (requests.len(), end), (2, None), "{}", body.len());
-    same_bytes(rt, requests[0].body.as_slice(), body);
-    same_bytes(rt, requests[1].body.as_slice(), b"abc");
+    let requests = requests.as_slice();
+    let found = (requests.len(), end, body.len());
+    same(rt, &found, &(2, None, body.len()));
+    let bodies = (body_at(requests, 0), body_at(requests, 1));
+    same(rt, &bodies, &(Some(body), Some(b"abc".as_slice())));
 }
 
 #[test]
@@ -442,12 +440,17 @@ const ROOM: &[(usize, usize)] = &[
     (5000, 1),
 ];
 
+/// The length of the first request's body, and the room that it has.
+fn room_of(requests: &[Request]) -> Option<(usize, usize)> {
+    let body = &requests.first()?.body;
+    Some((body.len(), body.capacity()))
+}
+
 /// The one request of a text has a body of so many bytes, in room for the text and no more.
 fn has_room(rt: &impl Abort, alloc: Global, text: &[u8], len: usize) {
     let (requests, end) = read_all(alloc, text);
-    assert_eq!(rt; (requests.len(), end), (1, None), "{len}");
-    let body = &requests[0].body;
-    same(rt, &(body.len(), body.capacity()), &(len, text.len()));
+    let found = (requests.len(), end, room_of(requests.as_slice()));
+    same(rt, &found, &(1, None, Some((len, text.len()))));
 }
 
 /// A body that is not whole is none. A long one keeps the room that it came into, which is its request's.

@@ -316,17 +316,14 @@ fn refusals_for_want_of_memory(rt: HostRuntime) -> Result<(), Fail> {
 
 #[test]
 fn heads_of_streams(rt: HostRuntime) {
-    assert_eq!(rt;
-        stream_head_text(false),
-        "HTTP/1.1 200 OK\r\nContent-Type: application/json\r\nTransfer-Encoding: chunked\r\n\r\n"
+    let going_on =
+        "HTTP/1.1 200 OK\r\nContent-Type: application/json\r\nTransfer-Encoding: chunked\r\n\r\n";
+    let closing = concat!(
+        "HTTP/1.1 200 OK\r\nContent-Type: application/json\r\nTransfer-Encoding: chunked\r\n",
+        "Connection: close\r\n\r\n"
     );
-    assert_eq!(rt;
-        stream_head_text(true),
-        concat!(
-            "HTTP/1.1 200 OK\r\nContent-Type: application/json\r\nTransfer-Encoding: chunked\r\n",
-            "Connection: close\r\n\r\n"
-        )
-    );
+    let found = (stream_head_text(false), stream_head_text(true));
+    same(&rt, &found, &(going_on, closing));
 }
 
 // The revisions that are there of two.
@@ -562,8 +559,8 @@ fn heartbeats_by_mode(rt: HostRuntime) -> Result<(), Fail> {
 
 #[test]
 fn heads_by_mode(rt: HostRuntime) {
-    assert_eq!(rt; feed_head(Mode::Longpoll), concat!(r#"{"results":["#, "\n"));
-    assert_eq!(rt; feed_head(Mode::Continuous), "");
+    let found = (feed_head(Mode::Longpoll), feed_head(Mode::Continuous));
+    same(&rt, &found, &(concat!(r#"{"results":["#, "\n"), ""));
 }
 
 // The row of a document that it brings is this text in a normal feed, and a line of it in a continuous one.

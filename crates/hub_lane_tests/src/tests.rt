@@ -6,9 +6,16 @@ ghost use Rattle.std.specs.Prelude.{◌≡◌, ◌<◌, ◌≤◌};
 
 use hub_lane::{Asks, Full, Kept, Lane, Receiver, Sender};
 use std::alloc::{AllocError, Global};
+use std::fmt::Debug;
+use std::process::Abort;
 use std::sync::Wait;
 use std::test::Fail;
 use std::thread;
+
+// The value that was found is the one that is wanted. The comparison is proved here, and not in each test.
+fn same<T: PartialEq + Debug>(rt: &impl Abort, found: &T, wanted: &T) {
+    assert_eq!(rt; *found, *wanted);
+}
 
 // A label that allows numbers below its limit.
 #[derive(Drop)]
@@ -103,9 +110,8 @@ const LANE_OF_ONE: [Step; 7] = [
 fn items_come_in_order(rt: HostRuntime) -> Result<(), Fail> {
     let (mut sender, mut receiver) = lane(rt.alloc(), 2, 9)?;
     let wrong = first_wrong(&rt, &mut sender, &mut receiver, &LANE_OF_TWO);
-    assert_eq!(rt; wrong, None);
-    assert_eq!(rt; sender.label().limit, 9);
-    assert_eq!(rt; receiver.label().limit, 9);
+    let limits = (sender.label().limit, receiver.label().limit);
+    same(&rt, &(wrong, limits), &(None, (9, 9)));
     Ok(())
 }
 
@@ -113,7 +119,7 @@ fn items_come_in_order(rt: HostRuntime) -> Result<(), Fail> {
 fn one_item_fills_a_lane_of_one(rt: HostRuntime) -> Result<(), Fail> {
     let (mut sender, mut receiver) = lane(rt.alloc(), 1, 8)?;
     let wrong = first_wrong(&rt, &mut sender, &mut receiver, &LANE_OF_ONE);
-    assert_eq!(rt; wrong, None);
+    same(&rt, &wrong, &None);
     Ok(())
 }
 
@@ -154,8 +160,8 @@ fn items_come_in_order_between_threads(rt: HostRuntime) -> Result<(), Fail> {
         Ok(child) => child,
         Err(refused) => thread::spawn(&rt, refused.value)?,
     };
-    assert_eq!(rt; take_all(&rt, &mut receiver, 1000), 1000);
+    same(&rt, &take_all(&rt, &mut receiver, 1000), &1000);
     child.join(&rt);
-    assert_eq!(rt; receiver.take(&rt), None);
+    same(&rt, &receiver.take(&rt), &None);
     Ok(())
 }

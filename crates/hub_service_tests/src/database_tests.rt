@@ -1,11 +1,11 @@
 //! Calls on a database that was deleted, and whose name still stands.
 
 use crate::hub_tests::answered;
-use crate::made_again::again;
+use crate::made_again::same;
+use crate::steps::hub_of;
 use hub_databases::Hub;
 use hub_document::Limits;
 use hub_http::{Refusal, Reply};
-use hub_routes::Routes;
 use hub_service::{ByTurns, Connection, JsonRooms};
 use hub_session::{Answer, Service};
 use std::alloc::Global;
@@ -49,6 +49,10 @@ fn are_refused<N: Wait>(
         .all(|call| is_refused(alloc, connection, call, refused))
 }
 
+const MAKING: &str = "PUT /d HTTP/1.1\r\n\r\n";
+
+const MADE: &str = "{\"ok\":true}\n";
+
 const BATCH: &str =
     "POST /d/_bulk_docs HTTP/1.1\r\nContent-Length: 22\r\n\r\n{\"docs\":[{\"_id\":\"b\"}]}";
 
@@ -85,21 +89,18 @@ fn delete<N: Wait>(rt: &N, hub: &Hub) -> bool {
 #[test]
 fn a_deleted_database(rt: HostRuntime) -> Result<(), Fail> {
     let alloc = rt.alloc();
-    let hub = again!(Hub::new(alloc, Limits::full()))?;
-    let routes = again!(Routes::new(alloc))?;
+    let (hub, routes) = hub_of(alloc, Limits::full())?;
     let rooms = JsonRooms::new(alloc);
     let mut connection = Connection::new(&rt, alloc, &hub, &routes, &rooms, ByTurns::new(&rt));
-    assert!(rt;
-        is_done(
-            alloc,
-            &mut connection,
-            "PUT /d HTTP/1.1\r\n\r\n",
-            "{\"ok\":true}\n"
-        )
-    );
-    assert!(rt; are_refused(alloc, &mut connection, false));
-    assert!(rt; delete(&rt, &hub));
-    assert!(rt; are_refused(alloc, &mut connection, true));
-    assert!(rt; is_done(alloc, &mut connection, BATCH, NOT_STORED));
+    let standing = [
+        is_done(alloc, &mut connection, MAKING, MADE),
+        are_refused(alloc, &mut connection, false),
+    ];
+    let deleted = [
+        delete(&rt, &hub),
+        are_refused(alloc, &mut connection, true),
+        is_done(alloc, &mut connection, BATCH, NOT_STORED),
+    ];
+    same(&rt, &(standing, deleted), &([true; 2], [true; 3]));
     Ok(())
 }

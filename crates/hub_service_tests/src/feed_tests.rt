@@ -1,15 +1,13 @@
 //! The hub over bytes: feeds of changes, one at a time.
 
-use crate::made_again::{again, told};
+use crate::made_again::{same, told};
 use crate::session_tests::Answer::{Feed, Found, Head, Written};
 use crate::session_tests::Ask::{Batch, Body, Line};
 use crate::session_tests::{Exchange, MAKE, STORED, assert_session};
-use crate::steps::ROOM;
+use crate::steps::{ROOM, hub_of};
 use crate::wire_tests::Narrow;
-use hub_databases::Hub;
 use hub_document::Limits;
 use hub_http::{Requests, Tally};
-use hub_routes::Routes;
 use hub_service::{ByTurns, Connection, JsonRooms};
 use hub_session::{Closing, serve};
 use std::alloc::{AllocError, Global};
@@ -380,12 +378,11 @@ fn held_count<N: Wait>(
 #[test]
 fn broken_feeds(rt: HostRuntime) -> Result<(), Fail> {
     let alloc = rt.alloc();
-    let hub = again!(Hub::new(alloc, one_feed()))?;
-    let routes = again!(Routes::new(alloc))?;
+    let (hub, routes) = hub_of(alloc, one_feed())?;
     let rooms = JsonRooms::new(alloc);
     let mut connection = Connection::new(&rt, alloc, &hub, &routes, &rooms, ByTurns::new(&rt));
-    assert!(rt; is_held(alloc, &mut connection, MAKING, 1000)?);
+    let made = is_held(alloc, &mut connection, MAKING, 1000)?;
     let shown = held_count(alloc, &mut connection, ONE_FEED)?;
-    assert_eq!(rt; shown, EMPTY.len() + 1);
+    same(&rt, &(made, shown), &(true, EMPTY.len() + 1));
     Ok(())
 }

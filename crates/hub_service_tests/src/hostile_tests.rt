@@ -1,6 +1,6 @@
 //! The hub over hostile bytes: input that is cut, deep texts, bad histories, and histories that part.
 
-use crate::made_again::again;
+use crate::made_again::{again, same};
 use crate::session_tests::Answer::{Found, Refused, Replies};
 use crate::session_tests::Ask::{Batch, Body, Line};
 use crate::session_tests::{Exchange, MAKE, STORED, answers, asks, assert_session, is_written};
@@ -117,7 +117,7 @@ fn cut_input(rt: HostRuntime) -> Result<(), Fail> {
         let next = &RUN[..count + 1];
         let cut = again!(cut_count(rt, alloc, whole, next))?;
         let asked = again!(asks(alloc, next))?;
-        assert_eq!(rt; cut, asked.len());
+        same(rt, &cut, &asked.len());
     }
     Ok(())
 }

@@ -1,14 +1,13 @@
 //! A hub before anything happened to it, and one with two connections.
 
-use crate::made_again::again;
+use crate::made_again::{again, same};
 use crate::session_tests::Answer::Written;
 use crate::session_tests::Ask::Line;
 use crate::session_tests::{Exchange, assert_session};
-use hub_databases::Hub;
+use crate::steps::hub_of;
 use hub_document::Limits;
 use hub_http::{Refusal, Reply, Request, Requests, Tally};
 use hub_model::Item;
-use hub_routes::Routes;
 use hub_service::{ByTurns, Connection, JsonRooms};
 use hub_session::{Answer, Closing, Service, StreamItem};
 use std::alloc::{AllocError, Global};
@@ -96,12 +95,11 @@ fn items_of_removed<N: Wait>(
 #[test]
 fn a_feed_of_a_removed_database(rt: HostRuntime) -> Result<(), Fail> {
     let alloc = rt.alloc();
-    let hub = again!(Hub::new(alloc, Limits::full()))?;
-    let routes = again!(Routes::new(alloc))?;
+    let (hub, routes) = hub_of(alloc, Limits::full())?;
     let rooms = JsonRooms::new(alloc);
     let mut writer = Connection::new(&rt, alloc, &hub, &routes, &rooms, ByTurns::new(&rt));
     let mut reader = Connection::new(&rt, alloc, &hub, &routes, &rooms, ByTurns::new(&rt));
     let items = items_of_removed(alloc, &mut writer, &mut reader);
-    assert_eq!(rt; items, Some(((false, 1), (true, 1))));
+    same(&rt, &items, &Some(((false, 1), (true, 1))));
     Ok(())
 }

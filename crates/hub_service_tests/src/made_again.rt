@@ -1,4 +1,4 @@
-//! Sessions that may find no memory, held again.
+//! Sessions that may find no memory, held again, and what tests compare.
 //!
 //! With ample memory a session is right at once. Where a growth is refused it writes a front of its answers
 //! and then the refusal that tells out of memory, behind which it may go on, or it is cut. Held again over a
@@ -8,6 +8,8 @@
 use hub_http::HttpFault;
 use hub_session::Closing;
 use std::alloc::AllocError;
+use std::fmt::Debug;
+use std::process::Abort;
 
 /// The refusals that tell out of memory: one behind which the session goes on, one that closes it, and one of
 /// a HEAD with the front of the answer behind it.
@@ -29,6 +31,11 @@ const REFUSALS: &[&str] = &[
         "Content-Length: 51\r\n\r\nHTTP/1.1 "
     ),
 ];
+
+/// The value that was found is the one that is wanted. The comparison is proved here, and not in each test.
+pub(crate) fn same<T: PartialEq + Debug>(rt: &impl Abort, found: &T, wanted: &T) {
+    assert_eq!(rt; *found, *wanted);
+}
 
 /// What a call gives, made again where it finds no memory.
 macro_rules! again {

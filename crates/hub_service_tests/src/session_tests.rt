@@ -2,7 +2,7 @@
 //! connection are not here: they are the stored run of the program (`crates/changes_hub/stdin` and
 //! `stdout`).
 
-use crate::made_again::{again, told};
+use crate::made_again::{again, same, told};
 use crate::session_tests::Answer::{Created, Replies};
 use crate::steps::are_steps;
 use hub_document::Limits;
@@ -320,9 +320,11 @@ pub(crate) fn assert_session<N: Abort + Wait>(
     limits: Limits,
     end: Closing,
 ) -> Result<(), Fail> {
-    assert!(rt; again!(is_session(rt, alloc, exchanges, limits, end))?);
+    let is_right = again!(is_session(rt, alloc, exchanges, limits, end))?;
+    same(rt, &is_right, &true);
     if end == Closing::Finished {
-        assert!(rt; again!(are_steps(rt, alloc, exchanges, limits))?);
+        let are_right = again!(are_steps(rt, alloc, exchanges, limits))?;
+        same(rt, &are_right, &true);
     }
     Ok(())
 }

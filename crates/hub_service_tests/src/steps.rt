@@ -4,7 +4,7 @@
 //! an edit of documents may stand behind the refusal: then made again it changes nothing, and the exchanges
 //! behind it show that it stands.
 
-use crate::made_again::told;
+use crate::made_again::{again, told};
 use crate::session_tests::{Answer, Ask, Exchange, STORED, answers, asks};
 use hub_databases::Hub;
 use hub_document::Limits;
@@ -17,6 +17,13 @@ use std::sync::Wait;
 
 /// Room for what a session writes, so that no growth is refused behind an effect.
 pub(crate) const ROOM: usize = 65_536;
+
+/// A hub within these limits, and its routes.
+pub(crate) fn hub_of(alloc: Global, limits: Limits) -> Result<(Hub, Routes), AllocError> {
+    let hub = again!(Hub::new(alloc, limits))?;
+    let routes = again!(Routes::new(alloc))?;
+    Ok((hub, routes))
+}
 
 /// What a session over these bytes writes, and why it closes. An error says that there is no room for what it
 /// writes; then nothing was asked.
@@ -126,7 +133,6 @@ pub(crate) fn are_steps<N: Wait>(
     exchanges: &[Exchange],
     limits: Limits,
 ) -> Result<bool, AllocError> {
-    let hub = Hub::new(alloc, limits)?;
-    let routes = Routes::new(alloc)?;
+    let (hub, routes) = hub_of(alloc, limits)?;
     are_held(rt, alloc, &hub, &routes, exchanges)
 }

@@ -1,6 +1,6 @@
 //! The hub over bytes: what limits refuse, the last generation, and what closes a connection.
 
-use crate::made_again::again;
+use crate::made_again::{again, same};
 use crate::session_tests::Answer::{
     Created, Feed, Found, Last, Nothing, Refused, Replies, Written,
 };
@@ -262,7 +262,7 @@ fn assert_faults<N: Abort + Wait>(
     faults: &[(Exchange, HttpFault)],
 ) -> Result<(), Fail> {
     let count = again!(fault_count(rt, alloc, faults))?;
-    assert_eq!(rt; count, faults.len());
+    same(rt, &count, &faults.len());
     Ok(())
 }
 

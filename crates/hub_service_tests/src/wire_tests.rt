@@ -1,6 +1,6 @@
 //! The hub over readers and writers as networks have them: of one byte a call, cut, broken, interrupted.
 
-use crate::made_again::{again, told};
+use crate::made_again::{again, same, told};
 use crate::session_tests::Answer::{Feed, Nothing, Written};
 use crate::session_tests::Ask::{Batch, Bytes, Line};
 use crate::session_tests::{Exchange, MAKE, STORED, answers, asks, assert_session};
@@ -124,9 +124,8 @@ fn broken_writers(rt: HostRuntime) -> Result<(), Fail> {
     let (input, expected) = (input.as_bytes(), expected.as_bytes());
     let end = Closing::Finished;
     let is_whole = again!(is_written(rt, alloc, input, usize::MAX, expected, end))?;
-    assert!(rt; is_whole);
     let count = again!(front_count(rt, alloc, input, expected))?;
-    assert_eq!(rt; count, expected.len());
+    same(rt, &(is_whole, count), &(true, expected.len()));
     Ok(())
 }
 
@@ -178,7 +177,7 @@ fn failing_readers(rt: HostRuntime) -> Result<(), Fail> {
         let next = &RUN[..count + 1];
         let failed = again!(failed_count(rt, alloc, whole, next))?;
         let asked = again!(asks(alloc, next))?;
-        assert_eq!(rt; failed, asked.len());
+        same(rt, &failed, &asked.len());
     }
     Ok(())
 }
@@ -209,9 +208,9 @@ fn cut_count<N: Wait>(rt: &N, alloc: Global, head: &[u8]) -> Result<usize, Alloc
 #[test]
 fn heads_that_end(rt: HostRuntime) -> Result<(), Fail> {
     let (rt, alloc) = (&rt, rt.alloc());
-    assert!(rt; again!(is_cut(rt, alloc, b"", Closing::Finished))?);
+    let is_none = again!(is_cut(rt, alloc, b"", Closing::Finished))?;
     let count = again!(cut_count(rt, alloc, HEAD.as_bytes()))?;
-    assert_eq!(rt; count, HEAD.len());
+    same(rt, &(is_none, count), &(true, HEAD.len()));
     Ok(())
 }
 

@@ -1,10 +1,10 @@
 //! Where sessions flush.
 
 use crate::cut::CutWriter;
-use crate::made_again::{Told, is_right};
+use crate::made_again::{Told, is_right, same};
 use crate::rows::{
     CONTINUOUS, CREATED, CREATED_HEAD, Exchange, FEED_HEAD, LONGPOLL, MISSING, MISSING_BODY,
-    NORMAL, NORMAL_END, VERSION, answers, asks, two_rows, written,
+    NORMAL, NORMAL_END, VERSION, texts, two_rows, written,
 };
 use hub_http::HttpFault;
 use hub_session::Closing;
@@ -109,8 +109,7 @@ fn session(alloc: Global, input: &[u8], flushes: &Flushes) -> Told {
 /// Whether these answers are flushed so. A session that met no memory is held again.
 fn is_flushed(alloc: Global, flushes: &Flushes) -> Result<bool, AllocError> {
     let Flushes(exchanges, _, _, _, end) = flushes;
-    let input = asks(alloc, exchanges)?;
-    let expected = answers(alloc, exchanges)?;
+    let (input, expected) = texts(alloc, exchanges)?;
     let (input, expected) = (input.as_bytes(), expected.as_bytes());
     let end = Some(*end);
     Ok(is_right!(exchanges, expected, end, session(alloc, input, flushes)))
@@ -120,7 +119,8 @@ fn is_flushed(alloc: Global, flushes: &Flushes) -> Result<bool, AllocError> {
 fn assert_flushes<A: Abort>(rt: &A, alloc: Global, table: &[Flushes]) -> Result<(), Fail> {
     for flushes in table {
         let Flushes(_, _, _, flushed, _) = flushes;
-        assert!(rt; is_flushed(alloc, flushes)?, "at {flushed:?}");
+        let right = is_flushed(alloc, flushes)?;
+        same(rt, &(*flushed, right), &(*flushed, true));
     }
     Ok(())
 }
@@ -155,14 +155,13 @@ fn stopped(alloc: Global, input: &[u8]) -> Told {
 #[test]
 fn a_stopped_stream_is_flushed(rt: HostRuntime) -> Result<(), Fail> {
     let alloc = rt.alloc();
-    let input = asks(alloc, NORMAL_FEED)?;
+    let (input, all) = texts(alloc, NORMAL_FEED)?;
     let input = input.as_bytes();
-    let all = answers(alloc, NORMAL_FEED)?;
     let Some(expected) = all.as_bytes().strip_suffix(NORMAL_END.as_bytes()) else {
         return Err(Fail::new("another end"));
     };
     let end = Some(Closing::Cut);
     let right = is_right!(NORMAL_FEED, expected, end, stopped(alloc, input));
-    assert!(rt; right);
+    same(&rt, &right, &true);
     Ok(())
 }

@@ -1,7 +1,7 @@
 //! Sessions whose reads and writes are interrupted.
 
-use crate::made_again::{Told, is_right};
-use crate::rows::{EXCHANGES, answers, asks, two_rows};
+use crate::made_again::{Told, is_right, same};
+use crate::rows::{EXCHANGES, texts, two_rows};
 use hub_http::{Requests, Tally};
 use hub_session::{Closing, serve};
 use std::alloc::Global;
@@ -85,13 +85,12 @@ fn session(alloc: Global, input: &[u8], interrupts: u32) -> Told {
 #[test]
 fn interrupted_calls_change_no_byte(rt: HostRuntime) -> Result<(), Fail> {
     let alloc = rt.alloc();
-    let input = asks(alloc, EXCHANGES)?;
-    let expected = answers(alloc, EXCHANGES)?;
+    let (input, expected) = texts(alloc, EXCHANGES)?;
     let (input, expected) = (input.as_bytes(), expected.as_bytes());
     for interrupts in 0..4 {
         let end = Some(Closing::Finished);
         let right = is_right!(EXCHANGES, expected, end, session(alloc, input, interrupts));
-        assert!(rt; right, "interrupted {interrupts} times");
+        same(&rt, &(interrupts, right), &(interrupts, true));
     }
     Ok(())
 }

@@ -1,9 +1,9 @@
 //! Sessions that are stepped.
 
 use crate::cut::CutWriter;
-use crate::made_again::{REFUSED_LAST, Told, is_right};
+use crate::made_again::{REFUSED_LAST, Told, is_right, same};
 use crate::rows::{
-    CREATED, EXCHANGES, Exchange, FEED_HEAD, NORMAL, Rows, VERSION, answers, asks, two_rows,
+    CREATED, EXCHANGES, Exchange, FEED_HEAD, NORMAL, Rows, VERSION, answers, asks, texts, two_rows,
 };
 use hub_http::{Handed, HttpFault, Outbox, Request};
 use hub_session::{Answer, Closing, Service, Session, Step, StreamItem};
@@ -156,6 +156,17 @@ fn told(alloc: Global, driver: Driver<'_>, expected: usize) -> Told {
     }
 }
 
+/// Whether a session that is driven so writes these answers, closes so, and waits so often.
+fn is_driven(
+    alloc: Global,
+    driver: Driver<'_>,
+    waits: usize,
+    (exchanges, expected): (&[Exchange], &[u8]),
+    end: Closing,
+) -> bool {
+    is_right!(exchanges, expected, Some(end), told(alloc, driver, waits))
+}
+
 /// How many items the streams of the exchanges have.
 const ITEMS: usize = 10;
 
@@ -163,15 +174,14 @@ const ITEMS: usize = 10;
 #[test]
 fn cuts_change_no_byte(rt: HostRuntime) -> Result<(), Fail> {
     let alloc = rt.alloc();
-    let input = asks(alloc, EXCHANGES)?;
-    let expected = answers(alloc, EXCHANGES)?;
+    let (input, expected) = texts(alloc, EXCHANGES)?;
     let (input, expected) = (input.as_bytes(), expected.as_bytes());
     let all = usize::MAX;
     for (size, most) in [(1, 1), (1, all), (7, 3), (all, 1), (all, all)] {
         let driver = Driver { input, size, most };
-        let end = Some(Closing::Finished);
-        let right = is_right!(EXCHANGES, expected, end, told(alloc, driver, ITEMS));
-        assert!(rt; right, "{size} bytes an offer, {most} a write");
+        let end = Closing::Finished;
+        let right = is_driven(alloc, driver, ITEMS, (EXCHANGES, expected), end);
+        same(&rt, &(size, most, right), &(size, most, true));
     }
     Ok(())
 }
@@ -196,8 +206,8 @@ fn inputs_that_end(rt: HostRuntime) -> Result<(), Fail> {
             size: 5,
             most: usize::MAX,
         };
-        let right = is_right!(before, expected, Some(end), told(alloc, driver, 0));
-        assert!(rt; right, "ended behind {count}");
+        let right = is_driven(alloc, driver, 0, (before, expected), end);
+        same(&rt, &(count, right), &(count, true));
     }
     Ok(())
 }
@@ -221,9 +231,9 @@ fn closed_sessions_answer_nothing(rt: HostRuntime) -> Result<(), Fail> {
             size,
             most: 2,
         };
-        let end = Some(Closing::Fault(HttpFault::Version));
-        let right = is_right!(CLOSES, expected, end, told(alloc, driver, 0));
-        assert!(rt; right, "{size} bytes an offer");
+        let end = Closing::Fault(HttpFault::Version);
+        let right = is_driven(alloc, driver, 0, (CLOSES, expected), end);
+        same(&rt, &(size, right), &(size, true));
     }
     Ok(())
 }
@@ -275,8 +285,7 @@ fn refused(alloc: Global, input: &[u8]) -> Option<Told> {
 fn bytes_without_memory(rt: HostRuntime) -> Result<(), Fail> {
     let alloc = rt.alloc();
     for exchanges in REFUSED {
-        let input = asks(alloc, exchanges)?;
-        let expected = answers(alloc, exchanges)?;
+        let (input, expected) = texts(alloc, exchanges)?;
         let (input, expected) = (input.as_bytes(), expected.as_bytes());
         let end = Some(Closing::Fault(HttpFault::NoMemory));
         let right = is_right!(
@@ -285,7 +294,7 @@ fn bytes_without_memory(rt: HostRuntime) -> Result<(), Fail> {
             end,
             refused(alloc, input).unwrap_or(cut(alloc))
         );
-        assert!(rt; right, "behind {} bytes", input.len());
+        same(&rt, &(input.len(), right), &(input.len(), true));
     }
     Ok(())
 }
@@ -305,8 +314,8 @@ fn a_stream_is_given_back(rt: HostRuntime) -> Result<(), Fail> {
     session.give_up();
     session.give_up();
     if session.closing() == Some(Closing::Broken) {
-        assert_eq!(rt; session.service().dropped, 1);
+        same(&rt, &session.service().dropped, &1);
     }
-    assert!(rt; matches!(session.step(), Step::Ended(_)));
+    same(&rt, &matches!(session.step(), Step::Ended(_)), &true);
     Ok(())
 }

@@ -1,4 +1,4 @@
-//! Sessions that may find no memory, held again.
+//! Sessions that may find no memory, held again, and what tests compare.
 //!
 //! With ample memory a session is right at once. Where a growth is refused it wrote a front of its answers:
 //! an answer behind which it goes on may be the refusal that tells out of memory, and so may the last one,
@@ -8,6 +8,8 @@
 use crate::rows::Exchange;
 use hub_http::HttpFault;
 use hub_session::Closing;
+use std::fmt::Debug;
+use std::process::Abort;
 
 /// The refusal that tells out of memory, behind which a session goes on.
 const REFUSED: &str = concat!(
@@ -34,6 +36,11 @@ pub(crate) struct Told {
     pub(crate) output: Vec<u8>,
     /// Whether its calls were counted as they should be.
     pub(crate) counted: bool,
+}
+
+/// The value that was found is the one that is wanted. The comparison is proved here, and not in each test.
+pub(crate) fn same<T: PartialEq + Debug>(rt: &impl Abort, found: &T, wanted: &T) {
+    assert_eq!(rt; *found, *wanted);
 }
 
 /// What a call gives, made again where it finds no memory.

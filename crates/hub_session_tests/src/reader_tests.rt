@@ -1,11 +1,42 @@
 //! Sessions whose reader fails or ends, and how far they read ahead.
 
 use crate::cut::CutReader;
-use crate::made_again::is_right;
-use crate::rows::{EXCHANGES, answers, asks, served, two_rows};
+use crate::made_again::{Told, is_right, same};
+use crate::rows::{EXCHANGES, Exchange, answers, asks, served, texts, two_rows};
 use hub_http::HttpFault;
 use hub_session::Closing;
+use std::alloc::Global;
 use std::test::Fail;
+
+/// A reader of so many bytes a read, which behind so many reads fails, or ends.
+#[derive(Clone, Copy)]
+struct Cut<'a> {
+    input: &'a [u8],
+    most: usize,
+    reads: usize,
+    fails: bool,
+}
+
+/// What became of a session over a reader that is cut so.
+fn session(alloc: Global, cut: Cut<'_>) -> Told {
+    let reader = if cut.fails {
+        CutReader::failing(cut.input, cut.most, cut.reads)
+    } else {
+        CutReader::ending(cut.input, cut.most, cut.reads)
+    };
+    served(alloc, reader, two_rows(alloc))
+}
+
+/// Whether a session over a reader that is cut so writes these answers, and closes so.
+fn is_cut(
+    alloc: Global,
+    exchanges: &[Exchange],
+    expected: &[u8],
+    end: Closing,
+    cut: Cut<'_>,
+) -> bool {
+    is_right!(exchanges, expected, Some(end), session(alloc, cut))
+}
 
 /// Why a session closes whose input ends behind so many bytes, where the last whole request ends.
 fn closing_of_end(count: usize, whole: usize) -> Closing {
@@ -28,22 +59,17 @@ fn readers_that_are_cut(rt: HostRuntime) -> Result<(), Fail> {
         let input = asks(alloc, &EXCHANGES[..number + 1])?;
         let (input, expected) = (input.as_bytes(), expected.as_bytes());
         for count in whole..input.len() {
-            let end = Some(Closing::Fault(HttpFault::IoFault));
-            let failed = is_right!(
-                before,
-                expected,
-                end,
-                served(alloc, CutReader::failing(input, 1, count), two_rows(alloc))
-            );
-            assert!(rt; failed, "failed behind {count}");
-            let end = Some(closing_of_end(count, whole));
-            let ended = is_right!(
-                before,
-                expected,
-                end,
-                served(alloc, CutReader::ending(input, 1, count), two_rows(alloc))
-            );
-            assert!(rt; ended, "ended behind {count}");
+            let failed = Closing::Fault(HttpFault::IoFault);
+            for (fails, end) in [(true, failed), (false, closing_of_end(count, whole))] {
+                let cut = Cut {
+                    input,
+                    most: 1,
+                    reads: count,
+                    fails,
+                };
+                let right = is_cut(alloc, before, expected, end, cut);
+                same(&rt, &(count, fails, right), &(count, fails, true));
+            }
         }
     }
     Ok(())
@@ -53,20 +79,15 @@ fn readers_that_are_cut(rt: HostRuntime) -> Result<(), Fail> {
 #[test]
 fn requests_of_one_read(rt: HostRuntime) -> Result<(), Fail> {
     let alloc = rt.alloc();
-    let input = asks(alloc, EXCHANGES)?;
-    let expected = answers(alloc, EXCHANGES)?;
+    let (input, expected) = texts(alloc, EXCHANGES)?;
     let (input, expected) = (input.as_bytes(), expected.as_bytes());
-    let end = Some(Closing::Fault(HttpFault::IoFault));
-    let right = is_right!(
-        EXCHANGES,
-        expected,
-        end,
-        served(
-            alloc,
-            CutReader::failing(input, usize::MAX, 1),
-            two_rows(alloc)
-        )
-    );
-    assert!(rt; right);
+    let end = Closing::Fault(HttpFault::IoFault);
+    let cut = Cut {
+        input,
+        most: usize::MAX,
+        reads: 1,
+        fails: true,
+    };
+    same(&rt, &is_cut(alloc, EXCHANGES, expected, end, cut), &true);
     Ok(())
 }

@@ -240,6 +240,11 @@ pub(crate) fn answers(alloc: Global, exchanges: &[Exchange]) -> Result<String, A
     grown!(answers_of(alloc, exchanges))
 }
 
+/// The requests of these exchanges, and their answers.
+pub(crate) fn texts(alloc: Global, exchanges: &[Exchange]) -> Result<(String, String), AllocError> {
+    Ok((asks(alloc, exchanges)?, answers(alloc, exchanges)?))
+}
+
 /// What became of a session over this reader.
 pub(crate) fn served<R: Drop + Read>(alloc: Global, reader: R, mut service: Rows) -> Told {
     let mut requests = Requests::new(alloc, Tally::new(reader));

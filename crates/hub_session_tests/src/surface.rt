@@ -1,5 +1,6 @@
 //! A text of a user's own in chunks, and what a refusal tells.
 
+use crate::made_again::same;
 use hub_http::{ChunkFault, ChunkWriter, Refusal, Tally, Text};
 use std::alloc::{AllocError, Global};
 use std::test::Fail;
@@ -37,7 +38,7 @@ fn texts_in_chunks(rt: HostRuntime) -> Result<(), Fail> {
         Err(_) => chunks(rt.alloc())?,
     };
     let expected = b"e\r\nHello a client\r\n4\r\nBye\n\r\n";
-    assert_eq!(rt; written.as_slice(), expected.as_slice());
+    same(&rt, &written.as_slice(), &expected.as_slice());
     Ok(())
 }
 
@@ -57,7 +58,8 @@ const REFUSALS: [(Refusal, u16, &str, &str); 4] = [
 #[test]
 fn refusals(rt: HostRuntime) {
     for (refusal, status, error, reason) in REFUSALS {
-        assert_eq!(rt; refusal.status().as_u16(), status);
-        assert_eq!(rt; (refusal.error(), refusal.reason()), (error, reason));
+        let status_found = refusal.status().as_u16();
+        let found = (status_found, refusal.error(), refusal.reason());
+        same(&rt, &found, &(status, error, reason));
     }
 }

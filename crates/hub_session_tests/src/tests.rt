@@ -1,21 +1,21 @@
 //! Whole sessions: exchanges, closings, faults of requests.
 
 use crate::cut::{CutReader, CutWriter};
-use crate::made_again::{Told, is_right};
+use crate::made_again::{Told, is_right, same};
 use crate::rows::{
-    CREATED, EXCHANGES, Exchange, FEED_HEAD, NORMAL, NORMAL_END, VERSION, answers, asks, served,
+    CREATED, EXCHANGES, Exchange, FEED_HEAD, NORMAL, NORMAL_END, VERSION, asks, served, texts,
     two_rows,
 };
 use hub_http::{HttpFault, Output, Requests, Tally};
 use hub_model::Mode;
 use hub_session::{Closing, StreamEnd, serve, serve_one, stream_feed};
 use std::alloc::{AllocError, Global};
+use std::process::Abort;
 use std::test::Fail;
 
 /// Whether a session over bytes that come one by one has these exchanges, and closes so.
 fn is_session(alloc: Global, exchanges: &[Exchange], end: Closing) -> Result<bool, AllocError> {
-    let input = asks(alloc, exchanges)?;
-    let expected = answers(alloc, exchanges)?;
+    let (input, expected) = texts(alloc, exchanges)?;
     let (input, expected) = (input.as_bytes(), expected.as_bytes());
     Ok(is_right!(
         exchanges,
@@ -25,11 +25,21 @@ fn is_session(alloc: Global, exchanges: &[Exchange], end: Closing) -> Result<boo
     ))
 }
 
+/// Asserts that a session over bytes that come one by one has these exchanges, and closes so.
+fn assert_session(
+    rt: &impl Abort,
+    alloc: Global,
+    exchanges: &[Exchange],
+    end: Closing,
+) -> Result<(), Fail> {
+    same(rt, &(end, is_session(alloc, exchanges, end)?), &(end, true));
+    Ok(())
+}
+
 /// The exchanges of a session whose bytes come one by one.
 #[test]
 fn a_session(rt: HostRuntime) -> Result<(), Fail> {
-    assert!(rt; is_session(rt.alloc(), EXCHANGES, Closing::Finished)?);
-    Ok(())
+    assert_session(&rt, rt.alloc(), EXCHANGES, Closing::Finished)
 }
 
 const CREATED_LAST: &str = concat!(
@@ -68,7 +78,7 @@ const HEAD_THAT_CLOSES: &[Exchange] = &[Exchange(
 #[test]
 fn a_closed_session(rt: HostRuntime) -> Result<(), Fail> {
     for exchanges in [LAST_OF_TWO, HEAD_THAT_CLOSES] {
-        assert!(rt; is_session(rt.alloc(), exchanges, Closing::Requested)?);
+        assert_session(&rt, rt.alloc(), exchanges, Closing::Requested)?;
     }
     Ok(())
 }
@@ -89,15 +99,14 @@ fn stopped(alloc: Global, input: &[u8]) -> Told {
 #[test]
 fn a_stopped_stream(rt: HostRuntime) -> Result<(), Fail> {
     let alloc = rt.alloc();
-    let input = asks(alloc, FEED_AND_MORE)?;
+    let (input, all) = texts(alloc, FEED_AND_MORE)?;
     let input = input.as_bytes();
-    let all = answers(alloc, FEED_AND_MORE)?;
     let Some(expected) = all.as_bytes().strip_suffix(NORMAL_END.as_bytes()) else {
         return Err(Fail::new("another end"));
     };
     let end = Some(Closing::Cut);
     let right = is_right!(FEED_AND_MORE, expected, end, stopped(alloc, input));
-    assert!(rt; right);
+    same(&rt, &right, &true);
     Ok(())
 }
 
@@ -149,8 +158,7 @@ const FAULTS: &[(Exchange, HttpFault)] = &[
 #[test]
 fn faults(rt: HostRuntime) -> Result<(), Fail> {
     for (exchange, fault) in FAULTS {
-        let right = is_session(rt.alloc(), &[*exchange], Closing::Fault(*fault))?;
-        assert!(rt; right, "at {fault}");
+        assert_session(&rt, rt.alloc(), &[*exchange], Closing::Fault(*fault))?;
     }
     Ok(())
 }
@@ -197,9 +205,8 @@ fn one_step(rt: HostRuntime) -> Result<(), Fail> {
     let input = asks(alloc, ONE)?;
     let input = input.as_bytes();
     let served = is_right!(ONE, CREATED.as_bytes(), None, first_served(alloc, input));
-    assert!(rt; served);
     let sent = is_right!(STREAM, NORMAL.as_bytes(), None, streamed(alloc));
-    assert!(rt; sent);
+    same(&rt, &(served, sent), &(true, true));
     Ok(())
 }
 
@@ -229,6 +236,6 @@ fn ended_requests(rt: HostRuntime) -> Result<(), Fail> {
     let input = input.as_bytes();
     let end = Some(Closing::Fault(HttpFault::Version));
     let right = is_right!(ENDED, VERSION.as_bytes(), end, served_again(alloc, input));
-    assert!(rt; right);
+    same(&rt, &right, &true);
     Ok(())
 }

@@ -1,5 +1,5 @@
-use crate::made_again::{Told, is_right};
-use crate::rows::{Exchange, answers, asks};
+use crate::made_again::{Told, is_right, same};
+use crate::rows::{Exchange, texts};
 use hub_document::UpdateRow;
 use hub_http::{Request, Requests, Tally};
 use hub_model::{Item, Mode, UpdateKind};
@@ -139,13 +139,12 @@ fn served(alloc: Global, mode: Mode, input: &[u8]) -> Told {
 fn streams_of_updates(rt: HostRuntime) -> Result<(), Fail> {
     let alloc = rt.alloc();
     for (mode, exchanges) in FEEDS {
-        let input = asks(alloc, exchanges)?;
-        let expected = answers(alloc, exchanges)?;
+        let (input, expected) = texts(alloc, exchanges)?;
         let (input, expected) = (input.as_bytes(), expected.as_bytes());
         let end = Some(Closing::Finished);
         let mode = *mode;
         let right = is_right!(exchanges, expected, end, served(alloc, mode, input));
-        assert!(rt; right, "of {mode:?}");
+        same(&rt, &(mode, right), &(mode, true));
     }
     Ok(())
 }

@@ -1,9 +1,10 @@
 //! Sessions whose writer breaks or takes few bytes, and what their service is given back.
 
 use crate::cut::CutWriter;
-use crate::made_again::{Told, grown, is_right};
+use crate::made_again::{Told, grown, is_right, same};
 use crate::rows::{
-    CREATED, EXCHANGES, Exchange, FEED_HEAD, NORMAL, VERSION, answers, asks, two_rows, written,
+    CREATED, EXCHANGES, Exchange, FEED_HEAD, NORMAL, VERSION, answers, asks, texts, two_rows,
+    written,
 };
 use hub_session::Closing;
 use std::alloc::{AllocError, Global};
@@ -36,13 +37,12 @@ fn a_writer_that_breaks(rt: HostRuntime) -> Result<(), Fail> {
     let alloc = rt.alloc();
     let exchanges = grown!(up_to_last(alloc))?;
     let exchanges = exchanges.as_slice();
-    let input = asks(alloc, exchanges)?;
-    let whole = answers(alloc, exchanges)?;
+    let (input, whole) = texts(alloc, exchanges)?;
     let (input, whole) = (input.as_bytes(), whole.as_bytes());
     for room in 0..whole.len() {
         let end = Some(Closing::Broken);
         let right = is_right!(exchanges, &whole[..room], end, broken(alloc, input, room));
-        assert!(rt; right, "behind {room}");
+        same(&rt, &(room, right), &(room, true));
     }
     Ok(())
 }
@@ -62,13 +62,12 @@ fn slow(alloc: Global, input: &[u8], writes: usize) -> Told {
 #[test]
 fn a_writer_of_one_byte_a_write(rt: HostRuntime) -> Result<(), Fail> {
     let alloc = rt.alloc();
-    let input = asks(alloc, EXCHANGES)?;
-    let expected = answers(alloc, EXCHANGES)?;
+    let (input, expected) = texts(alloc, EXCHANGES)?;
     let (input, expected) = (input.as_bytes(), expected.as_bytes());
     let end = Some(Closing::Finished);
     let writes = expected.len();
     let right = is_right!(EXCHANGES, expected, end, slow(alloc, input, writes));
-    assert!(rt; right);
+    same(&rt, &right, &true);
     Ok(())
 }
 
@@ -117,8 +116,9 @@ fn streams_that_are_not_sent_on(rt: HostRuntime) -> Result<(), Fail> {
         let input = input.as_bytes();
         let (room, stops, dropped) = (*room, *stops, *dropped);
         let expected = answers(alloc, &exchanges)?;
-        assert!(rt; *count <= expected.len());
-        let expected = &expected.as_bytes()[..*count];
+        let Some(expected) = expected.as_bytes().get(..*count) else {
+            return Err(Fail::new("fewer bytes"));
+        };
         let right = is_right!(
             &exchanges,
             expected,
@@ -126,7 +126,7 @@ fn streams_that_are_not_sent_on(rt: HostRuntime) -> Result<(), Fail> {
             given_back(alloc, input, room, stops, dropped)
         );
         let Exchange(asked, _) = exchange;
-        assert!(rt; right, "of {asked} and {room}");
+        same(&rt, &(*asked, room, right), &(*asked, room, true));
     }
     Ok(())
 }

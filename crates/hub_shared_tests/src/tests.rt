@@ -16,8 +16,14 @@ use hub_shared::{
     AuditFault, ChangeItem, Directly, FeedEnd, Handed, Locked, NoCount, Receipt, audit_of,
 };
 use std::alloc::{AllocError, Global};
+use std::process::Abort;
 use std::sync::Wait;
 use std::test::Fail;
+
+/// This is so. The assertion is proved here, and not in each test.
+pub(crate) fn assert_true(rt: &impl Abort, is_so: bool) {
+    assert!(rt; is_so);
+}
 
 // What is got from a lock in these tests.
 type Database = Locked<DbState>;
@@ -62,6 +68,18 @@ fn holds<F: FnOnce(Global, &mut Database) -> Result<bool, Fail>>(
     limits.feeds = 1;
     let mut database = Database::new(alloc, DbState::new(alloc, limits, LIFE), 2, 64, NoCount);
     case(alloc, &mut database)
+}
+
+/// Asserts that a case holds of such a database.
+pub(crate) fn assert_case<A: Abort, F: FnOnce(Global, &mut Database) -> Result<bool, Fail>>(
+    rt: &A,
+    alloc: Global,
+    case: F,
+) -> Result<(), Fail>
+    requires { F.IsAlwaysCallable case }
+{
+    assert_true(rt, holds(alloc, case)?);
+    Ok(())
 }
 
 // How often a call is made until it answers.
@@ -222,12 +240,11 @@ fn a_full_lane_waits<R: Wait>(
 
 #[test]
 fn a_feed_waits_for_room_in_its_lane(rt: HostRuntime) -> Result<(), Fail> {
-    let held = holds(
+    assert_case(
+        &rt,
         rt.alloc(),
         |alloc, database| a_full_lane_waits(&rt, alloc, database),
-    )?;
-    assert!(rt; held);
-    Ok(())
+    )
 }
 
 // Whether the end comes where a feed's time is over, and the sender goes with the feed.
@@ -245,12 +262,11 @@ fn a_feed_ends<R: Wait>(rt: &R, alloc: Global, database: &mut Database) -> Resul
 
 #[test]
 fn a_feed_comes_to_its_end(rt: HostRuntime) -> Result<(), Fail> {
-    let held = holds(
+    assert_case(
+        &rt,
         rt.alloc(),
         |alloc, database| a_feed_ends(&rt, alloc, database),
-    )?;
-    assert!(rt; held);
-    Ok(())
+    )
 }
 
 // Whether heartbeats come where they are asked for, until the lane is full.
@@ -269,12 +285,11 @@ fn a_feed_beats<R: Wait>(rt: &R, alloc: Global, database: &mut Database) -> Resu
 
 #[test]
 fn heartbeats_fill_a_lane(rt: HostRuntime) -> Result<(), Fail> {
-    let held = holds(
+    assert_case(
+        &rt,
         rt.alloc(),
         |alloc, database| a_feed_beats(&rt, alloc, database),
-    )?;
-    assert!(rt; held);
-    Ok(())
+    )
 }
 
 // Whether a receipt is of this sequence, document and generation of its revision.
@@ -300,8 +315,7 @@ fn receipts_are_of_what_was_stored(alloc: Global, database: &mut Database) -> Re
 
 #[test]
 fn receipts_go_on_from_the_journal(rt: HostRuntime) -> Result<(), Fail> {
-    assert!(rt; holds(rt.alloc(), receipts_are_of_what_was_stored)?);
-    Ok(())
+    assert_case(&rt, rt.alloc(), receipts_are_of_what_was_stored)
 }
 
 // Whether the receipts of writes pass an audit, and so does none.
@@ -315,8 +329,7 @@ fn own_receipts_pass(alloc: Global, database: &mut Database) -> Result<bool, Fai
 
 #[test]
 fn receipts_of_writes_pass_an_audit(rt: HostRuntime) -> Result<(), Fail> {
-    assert!(rt; holds(rt.alloc(), own_receipts_pass)?);
-    Ok(())
+    assert_case(&rt, rt.alloc(), own_receipts_pass)
 }
 
 // A receipt's sequence, its document and its revision.
@@ -365,8 +378,7 @@ fn wrong_receipts_are_told(alloc: Global, database: &mut Database) -> Result<boo
 
 #[test]
 fn an_audit_tells_the_first_wrong_receipt(rt: HostRuntime) -> Result<(), Fail> {
-    assert!(rt; holds(rt.alloc(), wrong_receipts_are_told)?);
-    Ok(())
+    assert_case(&rt, rt.alloc(), wrong_receipts_are_told)
 }
 
 // What storing a local document answers; an error where it finds no memory.
@@ -402,8 +414,7 @@ fn local_documents_are_counted(alloc: Global, database: &mut Database) -> Result
 
 #[test]
 fn local_documents_go_under_a_lock(rt: HostRuntime) -> Result<(), Fail> {
-    assert!(rt; holds(rt.alloc(), local_documents_are_counted)?);
-    Ok(())
+    assert_case(&rt, rt.alloc(), local_documents_are_counted)
 }
 
 // Where the feed of a query begins while there are three documents: a sequence of another life is none.
@@ -450,8 +461,7 @@ fn feeds_begin_in_their_life(alloc: Global, database: &mut Database) -> Result<b
 
 #[test]
 fn labels_have_the_life_of_their_database(rt: HostRuntime) -> Result<(), Fail> {
-    assert!(rt; holds(rt.alloc(), feeds_begin_in_their_life)?);
-    Ok(())
+    assert_case(&rt, rt.alloc(), feeds_begin_in_their_life)
 }
 
 // Whether the number of feeds is bounded, and none opens on a deleted database.
@@ -466,6 +476,5 @@ fn openings_are_refused(alloc: Global, database: &mut Database) -> Result<bool, 
 
 #[test]
 fn a_feed_is_refused_with_its_reason(rt: HostRuntime) -> Result<(), Fail> {
-    assert!(rt; holds(rt.alloc(), openings_are_refused)?);
-    Ok(())
+    assert_case(&rt, rt.alloc(), openings_are_refused)
 }

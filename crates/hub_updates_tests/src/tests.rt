@@ -17,7 +17,13 @@ use hub_model::UpdateKind::{self, Created, Deleted, Updated};
 use hub_params::FeedParams;
 use hub_updates::{NoteFault, Notice, UpdatesState};
 use std::alloc::{AllocError, Global};
+use std::fmt::Debug;
 use std::process::Abort;
+
+/// The value that was found is the one that is wanted. The comparison is proved here, and not in each test.
+pub(crate) fn same<T: PartialEq + Debug>(rt: &impl Abort, found: &T, wanted: &T) {
+    assert_eq!(rt; *found, *wanted);
+}
 
 /// A step on a log, and its answer.
 enum Step {
@@ -213,8 +219,7 @@ fn count_within(alloc: Global, limits: Limits, steps: &[Step]) -> usize {
 // one has another, the count that the assertion shows is its place.
 fn assert_within(rt: &impl Abort, alloc: Global, limits: Limits, steps: &[Step]) {
     let count = count_within(alloc, limits, steps);
-    assert_eq!(rt; count, steps.len());
-    assert!(rt; count > 0);
+    same(rt, &(count, count > 0), &(steps.len(), true));
 }
 
 const AGAIN: &[Step] = &[

@@ -1,7 +1,7 @@
 //! Feeds of any host that are polled, and the watches that tell of what they wait for.
 
 use crate::tests::surface::{Open, note, of_database, of_log, params};
-use crate::tests::{LIFE, THREE, again, docs};
+use crate::tests::{LIFE, THREE, again, assert_true, docs};
 use hub_document::Limits;
 use hub_feed::FeedHost;
 use hub_lane::Asks;
@@ -102,8 +102,8 @@ fn a_note_tells<R: Wait>(rt: &R, alloc: Global) -> Result<bool, AllocError> {
 
 #[test]
 fn feeds_of_any_host_are_told_of_changes(rt: HostRuntime) -> Result<(), Fail> {
-    assert!(rt; again!(a_write_tells(&rt, rt.alloc()))?);
-    assert!(rt; again!(a_note_tells(&rt, rt.alloc()))?);
+    assert_true(&rt, again!(a_write_tells(&rt, rt.alloc()))?);
+    assert_true(&rt, again!(a_note_tells(&rt, rt.alloc()))?);
     Ok(())
 }
 
@@ -161,6 +161,6 @@ fn hands_three<R: Wait>(rt: &R, alloc: Global, db: &Db<Plain>) -> Result<bool, A
 #[test]
 fn rows_go_on_behind_a_feed_without_memory(rt: HostRuntime) -> Result<(), Fail> {
     let db = again!(with_three(&rt, rt.alloc()))?;
-    assert!(rt; hands_three(&rt, rt.alloc(), &db)?);
+    assert_true(&rt, hands_three(&rt, rt.alloc(), &db)?);
     Ok(())
 }

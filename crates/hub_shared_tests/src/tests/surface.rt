@@ -1,7 +1,7 @@
 //! Questions to a database that is lent, a log of updates under a lock, and feeds of any host.
 
 use crate::tests::polls::Still;
-use crate::tests::{Database, LIFE, THREE, again, holds, write};
+use crate::tests::{Database, LIFE, THREE, again, assert_case, assert_true, write};
 use hub_database::{DbFault, DbState};
 use hub_document::{Limits, RevId};
 use hub_feed::FeedHost;
@@ -48,8 +48,7 @@ fn a_lent_database_answers(alloc: Global, database: &mut Database) -> Result<boo
 
 #[test]
 fn questions_to_a_lent_database(rt: HostRuntime) -> Result<(), Fail> {
-    assert!(rt; holds(rt.alloc(), a_lent_database_answers)?);
-    Ok(())
+    assert_case(&rt, rt.alloc(), a_lent_database_answers)
 }
 
 /// The parameters of a query; an error where they find no memory, and each time where it is refused.
@@ -103,7 +102,7 @@ fn a_log_hands_a_note<R: Wait>(rt: &R, alloc: Global) -> Result<bool, AllocError
 
 #[test]
 fn notes_go_under_a_lock(rt: HostRuntime) -> Result<(), Fail> {
-    assert!(rt; again!(a_log_hands_a_note(&rt, rt.alloc()))?);
+    assert_true(&rt, again!(a_log_hands_a_note(&rt, rt.alloc()))?);
     Ok(())
 }
 
@@ -191,7 +190,7 @@ fn both_hand<R: Wait>(rt: &R, alloc: Global) -> Result<bool, AllocError> {
 
 #[test]
 fn feeds_of_any_host_are_handed(rt: HostRuntime) -> Result<(), Fail> {
-    assert!(rt; again!(both_hand(&rt, rt.alloc()))?);
+    assert_true(&rt, again!(both_hand(&rt, rt.alloc()))?);
     Ok(())
 }
 
@@ -222,6 +221,6 @@ fn is_pumped<R: Wait + time::Clock>(rt: &R, alloc: Global) -> Result<bool, Alloc
 
 #[test]
 fn a_pump_hands_the_log(rt: HostRuntime) -> Result<(), Fail> {
-    assert!(rt; again!(is_pumped(&rt, rt.alloc()))?);
+    assert_true(&rt, again!(is_pumped(&rt, rt.alloc()))?);
     Ok(())
 }

@@ -1,5 +1,6 @@
 //! What of its parameters a feed of a log heeds.
 
+use crate::tests::same;
 use hub_model::{Mode, Since, Style};
 use hub_params::{FeedParams, ParamFault};
 use hub_updates::UpdatesState;
@@ -19,14 +20,10 @@ fn heeded(alloc: Global, query: &str) -> Result<FeedParams, ParamFault> {
 fn parameters_that_are_heeded(rt: HostRuntime) -> Result<(), Fail> {
     let query = "feed=longpoll&since=2-0&limit=3&heartbeat=1000&timeout=5";
     let params = heeded(rt.alloc(), query)?;
-    assert_eq!(rt;
-        (params.mode, params.since),
-        (Mode::Longpoll, Since::Tagged(2, 0))
-    );
-    assert_eq!(rt;
-        (params.limit, params.heartbeat, params.timeout),
-        (Some(3), Some(1000), 5)
-    );
+    let place = (params.mode, params.since);
+    same(&rt, &place, &(Mode::Longpoll, Since::Tagged(2, 0)));
+    let bounds = (params.limit, params.heartbeat, params.timeout);
+    same(&rt, &bounds, &(Some(3), Some(1000), 5));
     Ok(())
 }
 
@@ -34,8 +31,8 @@ fn parameters_that_are_heeded(rt: HostRuntime) -> Result<(), Fail> {
 fn parameters_of_documents_are_not_heeded(rt: HostRuntime) -> Result<(), Fail> {
     let query = "descending=true&style=all_docs&include_docs=true&filter=_design";
     let params = heeded(rt.alloc(), query)?;
-    assert_eq!(rt; (params.descending, params.include_docs), (false, false));
-    assert_eq!(rt; params.style, Style::MainOnly);
-    assert!(rt; params.filter.passes("d"));
+    let form = (params.descending, params.include_docs, params.style);
+    same(&rt, &form, &(false, false, Style::MainOnly));
+    same(&rt, &params.filter.passes("d"), &true);
     Ok(())
 }
