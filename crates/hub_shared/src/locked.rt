@@ -86,8 +86,25 @@ impl<S: HostView, C: Count, K: Outbox<S>> Model for Locked<S, C, K> {
         × IsBookOf C.counts (C.total a.book) (S.hosted a.state).length };
 }
 
+/// How many rows that bring their documents a feed is handed in one holding at most. The C library keeps seven
+/// pieces of a size at hand for a thread, so the copies of documents take the memory of those that were sent.
+const MOST_DOCUMENTS: u64 = 7;
+
 /// What only a subscriber has.
 impl<S: HostView, C: Count> Locked<S, C> {
+    /// How many items a feed is handed in one holding at most: fewer where its rows bring their documents. It
+    /// costs a search as `make_room`.
+    pub(crate) fn most(&self, feed: FeedId) -> u64 {
+        let Some(at) = place_near(self.subscribers.as_slice(), self.near, feed.number) else {
+            return self.hold;
+        };
+        if self.subscribers[at].1.brings_documents() {
+            self.hold.min(MOST_DOCUMENTS)
+        } else {
+            self.hold
+        }
+    }
+
     /// The signals of a feed, if there is one of this number. A binary search.
     pub(crate) fn signals(&self, feed: FeedId) -> Result<Option<Arc<Signals, Global>>, AllocError> {
         let Some(at) = place_of(self.subscribers.as_slice(), feed.number) else {
@@ -161,11 +178,6 @@ impl<S: HostView, C: Count, K: Outbox<S>> Locked<S, C, K> {
     /// Another number after each change that a pump may wait for, and each end of a feed.
     pub(crate) fn news(&self) -> u64 {
         self.news
-    }
-
-    /// How many items a feed is handed in one holding at most.
-    pub(crate) fn most(&self) -> u64 {
-        self.hold
     }
 }
 

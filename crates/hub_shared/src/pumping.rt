@@ -69,7 +69,7 @@ fn steps_of<S: FeedHost, C: Count>(
     if turn == Turn::Beat {
         return Ok((locked.beat(&Directly, feed), 0));
     }
-    let most = locked.most();
+    let most = locked.most(feed);
     hand_on(locked, feed, most)
 }
 

@@ -168,6 +168,11 @@ impl<S: HostView> Subscriber<S> {
         Arc::try_clone(&self.signals)
     }
 
+    /// Whether the rows of its feed bring their documents. Constant time.
+    pub(crate) fn brings_documents(&self) -> bool {
+        self.sender.label().params().include_docs
+    }
+
     /// From here on this watch has the feed's news.
     pub(crate) fn watch(&mut self, watch: Arc<Watch, Global>)
         ensures { self.new ≡ self.old }
