@@ -27,9 +27,15 @@ enum Form {
 /// A document's id, seen as its bytes: 1 to 512 bytes of UTF-8. One that begins with `_` is
 /// `_design/` and a name. The value takes 32 bytes, and an id of 16 bytes at most no memory of its own.
 /// Copies of a longer one share its text, so no copy takes memory.
-#[derive(Debug, Drop)]
+#[derive(Debug)]
 pub struct DocId {
     form: Form,
+}
+
+impl Drop for DocId {
+    fn drop(self) {
+        let Self { form } = self;
+    }
 }
 
 const _: () = prove!(size_of::<DocId>() == 32);
