@@ -63,14 +63,16 @@ made_behind false limit journal other_journal doc rev is =
 pub one_added : (old new : Database) (doc : Doc) (r : Result Revision DbFault)
     → IfOk r (λ rev. makes_one old.deleted old.limits.journal old.journal doc
     ≡ record { outcome = Stored rev; journal = new.journal })
-    → IsLegal new.journal → new ≡ record old { journal = new.journal } → OnOk r (Adds 1 old new)
-one_added old new doc (Err e) made legal rest = tt
-one_added old new doc (Ok rev) made legal rest =
+    → IsLegal new.journal → length new.journal < 2 ^ 32 → new ≡ record old { journal = new.journal }
+    → OnOk r (Adds 1 old new)
+one_added old new doc (Err e) made legal within rest = tt
+one_added old new doc (Ok rev) made legal within rest =
     let behind = made_behind old.deleted old.limits.journal old.journal new.journal doc rev made in record {
       edits = behind.0 ∷ [];
       behind = behind.1;
       many = refl;
       legal = legal;
+      within = within;
       rest = rest;
     }
 
@@ -109,9 +111,9 @@ few_replies false replies docs whole less = omega (arith, whole refl)
 -- there is an edit more for each document that was stored
 pub batch_added : (new_edits : Bool) (docs : List Doc) (old new : Database) (batch : Batch)
     → IsBatch new_edits old.deleted old.limits.journal old.journal new.journal docs batch
-    → IsLegal new.journal → new ≡ record old { journal = new.journal }
+    → IsLegal new.journal → length new.journal < 2 ^ 32 → new ≡ record old { journal = new.journal }
     → Adds (stored_count batch.replies) old new
-batch_added new_edits docs old new batch is legal rest =
+batch_added new_edits docs old new batch is legal within rest =
     let added =
     writes_added new_edits old.deleted old.limits.journal old.journal new.journal docs batch.replies is.ok in
     let few : length batch.replies ≤ length (ids_of docs) = omega (
@@ -124,6 +126,7 @@ batch_added new_edits docs old new batch is legal rest =
       many = as_many (length old.journal) added.0 _ added.2
           ∙ receipts_many (length old.journal) (ids_of docs) batch.replies few;
       legal = legal;
+      within = within;
       rest = rest;
     }
 
@@ -168,7 +171,6 @@ book_added counts total counted rise count old new adds book low whole is =
 
 -- so a share has counted no more than there may be edits
 pub amount_within : (amount counted rise count : ℕ) (old new : Database) → Adds count old new
-    → amount ≤ length old.journal → rise ≤ count → counted ≡ amount + rise → length new.journal < 2 ^ 32
-    → counted < 2 ^ 32
-amount_within amount counted rise count old new adds bound low is within =
-    omega (arith, bound, low, is, within, longer_by count old new adds)
+    → amount ≤ length old.journal → rise ≤ count → counted ≡ amount + rise → counted < 2 ^ 32
+amount_within amount counted rise count old new adds bound low is =
+    omega (arith, bound, low, is, adds.within, longer_by count old new adds)

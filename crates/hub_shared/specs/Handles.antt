@@ -1,5 +1,5 @@
 -- What a handle on a database knows of it (own).
-use Rattle.std.specs.Prelude.{◌≡◌, ℕ, ◌+◌, ◌≤◌, ◌<◌, List, length, take, min, Bool, true, false}
+use Rattle.std.specs.Prelude.{◌≡◌, ℕ, ◌+◌, ◌≤◌, ◌<◌, ◌^◌, List, length, take, min, Bool, true, false}
 use Rattle.std.specs.Prelude.{IsTrue, Result}
 use Rattle.hub_model.specs.Feed.{counted_in}
 use Rattle.hub_model.specs.Journal.{IsLegal}
@@ -34,6 +34,14 @@ handle_of parts amount share = record { parts = parts share; count = amount shar
 abbrev pub HasCounted : (counts : Bool) → (edits : ℕ) → (old new : HandleState) → Type 0
 HasCounted counts edits old new =
     (counts ≡ true → new.count ≡ old.count + edits) × (new.parts ≡ old.parts)
+
+-- What a call did to a share through which so many edits were accepted, and which rose by so much: these are
+-- one number where it counts at all. It is below 2^32 then, and has the parts that it had.
+pub record HasRisen (counts : Bool) (edits rise : ℕ) (old new : HandleState) : Type 0 where
+  pub raised : new.count ≡ old.count + rise
+  pub counted : counts ≡ true → rise ≡ edits
+  pub within : new.count < 2 ^ 32
+  pub parts : new.parts ≡ old.parts
 
 -- a database as a call through the handle finds it: its journal is legal, and has at least the edits that the
 -- handle counted; just these, where the handle has every part

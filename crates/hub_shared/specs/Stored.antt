@@ -1,7 +1,7 @@
 -- What storing documents does to a database, and which of them were stored (CouchDB API reference,
 -- _bulk_docs, PUT and DELETE of a document).
-use Rattle.std.specs.Prelude.{◌≡◌, ℕ, ◌<◌, ◌++◌, List, Bool, true, false, IsTrue, Contains, count_by, length}
-use Rattle.std.specs.Prelude.{take}
+use Rattle.std.specs.Prelude.{◌≡◌, ℕ, ◌<◌, ◌^◌, ◌++◌, List, Bool, true, false, IsTrue, Contains, count_by}
+use Rattle.std.specs.Prelude.{length, take}
 use Rattle.hub_model.specs.Journal.{Edit, IsLegal}
 use Rattle.hub_model.specs.Revision.{Revision}
 use Rattle.hub_model.specs.declared.outcomes.Outcome.{Outcome}
@@ -31,12 +31,13 @@ HasStored replies = (rev : Revision) × Contains replies (Stored rev)
 abbrev pub IsOutOfMemoryFor : List Doc → DbFault → Type 0
 IsOutOfMemoryFor docs fault = (fault ≡ NoMemory) × (0 < length docs)
 
--- so many edits were added to the journal, which is legal, and nothing else changed
+-- so many edits were added to the journal, which is legal and has less than 2^32, and nothing else changed
 pub record Adds (count : ℕ) (old new : Database) : Type 0 where
   pub edits : List Edit
   pub behind : new.journal ≡ old.journal ++ edits
   pub many : length edits ≡ count
   pub legal : IsLegal new.journal
+  pub within : length new.journal < 2 ^ 32
   pub rest : new ≡ record old { journal = new.journal }
 
 -- Of the documents of a batch those before its stop were stored one after the other, and nothing else

@@ -36,31 +36,14 @@ impl<S: FeedHost, C: Count> HostFeed<S, C> {
         }
     }
 
-    // Takes the next item. Where there is none, a feed that may be behind is handed on first.
-    fn take_handed<R, G>(&mut self, rt: &R, gate: &G) -> Option<Item<S::Row>>
-    where
-        R: Asks<FeedLabel<S>, Block<S::Row>>,
-        G: Gate,
-        ensures taken { Takes self.old result self.new }
-        ensures allowed { IsRightSoFar S.right self.new }
-    {
-        let item = self.end.take(rt);
-        if item.is_some() || !self.is_behind || self.signals.is_over() {
-            return item;
-        }
-        self.hold_own(rt, Turn::Hand, gate);
-        self.end.take(rt)
-    }
-
     // Sends the heartbeat that is due, or ends the feed's time, where no item was there to take. Else the
     // feed waits from here on.
-    fn pass_time<R, G, K>(&mut self, rt: &R, gate: &G, clock: &K) -> Option<Item<S::Row>>
+    fn pass_time<R, G, K>(&mut self, rt: &R, gate: &G, clock: &K)
     where
         R: Asks<FeedLabel<S>, Block<S::Row>>,
         G: Gate,
         K: Clock,
-        ensures taken { Takes self.old result self.new }
-        ensures allowed { IsRightSoFar S.right self.new }
+        ensures { self.new ≡ self.old }
     {
         let now = clock.now_ms();
         let since = self.idle_since.unwrap_or(now);
@@ -81,7 +64,6 @@ impl<S: FeedHost, C: Count> HostFeed<S, C> {
                 self.is_behind = true;
             }
         }
-        self.end.take(rt)
     }
 
     /// The next item, for one who sends many feeds and waits for none. Where no item is left of the lane's
@@ -103,7 +85,7 @@ impl<S: FeedHost, C: Count> HostFeed<S, C> {
             self.idle_since = None;
             return self.end.take(rt);
         }
-        let item = self.take_handed(rt, gate);
+        let item = self.end.take(rt);
         if item.is_some() {
             self.idle_since = None;
             return item;
@@ -111,7 +93,19 @@ impl<S: FeedHost, C: Count> HostFeed<S, C> {
         if self.signals.is_over() {
             return item;
         }
-        self.pass_time(rt, gate, clock)
+        if self.is_behind {
+            self.hold_own(rt, Turn::Hand, gate);
+            let handed = self.end.take(rt);
+            if handed.is_some() {
+                self.idle_since = None;
+                return handed;
+            }
+            if self.signals.is_over() {
+                return handed;
+            }
+        }
+        self.pass_time(rt, gate, clock);
+        self.end.take(rt)
     }
 
     /// The reading of the clock at which a feed that `poll` left waiting gets a heartbeat, or its end.

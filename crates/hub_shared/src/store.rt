@@ -2,7 +2,7 @@
 
 ghost use Rattle.std.specs.Prelude.{◌≡◌, ◌+◌, ◌<◌, ◌^◌, true, length, Ok, Err, IfOk, IfErr, OnErr, OnOk};
 ghost use Rattle.hub_shared.specs.Edits.{IsEditAnswer};
-ghost use Rattle.hub_shared.specs.Handles.{IsEditedBy, IsStoredBy, handle_of};
+ghost use Rattle.hub_shared.specs.Handles.{HasRisen, IsEditedBy, IsStoredBy, handle_of};
 ghost use Rattle.hub_shared.specs.Stored.{Adds, IsOutOfMemoryFor, StoresBatch, stored_count};
 
 use crate::count::Count;
@@ -32,7 +32,6 @@ pub(crate) fn store_batch(
 ) -> Result<(Batch, u64), DbFault>
     ensures ok { IfOk result (λ w. StoresBatch new_edits docs.items state.old w.0 state.new) }
     ensures more { IfOk result (λ w. w.1 ≡ stored_count w.0.replies) }
-    ensures within { OnOk result (length state.new.journal < 2 ^ 32) }
     ensures err { IfErr result (λ e. IsOutOfMemoryFor docs.items e × (state.new ≡ state.old)) }
 {
     let before = state.update_seq();
@@ -56,11 +55,10 @@ impl<C: Count, K: Outbox<DbState>> Locked<DbState, C, K> {
             (handle_of C.parts C.amount share.old) doc (Err e)) }
         ensures adds { OnOk result (Adds 1 self.old.state self.new.state) }
         ensures rest { self.new ≡ record self.old { state = self.new.state } }
-        ensures raised { IfOk result (λ w. C.amount share.new ≡ C.amount share.old + w.1) }
-        ensures counted { IfOk result (λ w. C.counts ≡ true → w.1 ≡ 1) }
-        ensures within { OnOk result (C.amount share.new < 2 ^ 32) }
-        ensures parts { C.parts share.new ≡ C.parts share.old }
-        ensures err { OnErr result ((self.new ≡ self.old) × (C.amount share.new ≡ C.amount share.old)) }
+        ensures risen { IfOk result (λ w. HasRisen C.counts 1 w.1
+            (handle_of C.parts C.amount share.old) (handle_of C.parts C.amount share.new)) }
+        ensures err { OnErr result ((self.new ≡ self.old) × (C.amount share.new ≡ C.amount share.old)
+            × (C.parts share.new ≡ C.parts share.old)) }
     {
         self.audit_share(share);
         let rev = make_one(&mut self.state, doc)?;

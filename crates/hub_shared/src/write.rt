@@ -1,8 +1,8 @@
 //! Writes to a database that lies under a lock.
 
-ghost use Rattle.std.specs.Prelude.{◌≡◌, ◌+◌, ◌<◌, ◌^◌, true, length, IfOk, IfErr, OnOk};
+ghost use Rattle.std.specs.Prelude.{◌≡◌, ◌<◌, ◌^◌, true, length, IfOk, IfErr};
 ghost use Rattle.hub_model.specs.Journal.{IsLegal};
-ghost use Rattle.hub_shared.specs.Handles.{IsWrittenBy, handle_of};
+ghost use Rattle.hub_shared.specs.Handles.{HasRisen, IsWrittenBy, handle_of};
 ghost use Rattle.hub_database.specs.Receipts.{ids_of};
 ghost use Rattle.hub_shared.specs.Stored.{IsOutOfMemoryFor};
 ghost use Rattle.hub_shared.specs.Writes.{Stores};
@@ -36,7 +36,6 @@ fn store(
     requires edits { (edits ≡ length state.old.journal) × (edits < 2 ^ 32) }
     requires room { room ≡ ids_of docs.items }
     ensures ok { IfOk result (λ a. Stores new_edits docs.items state.old a state.new) }
-    ensures within { OnOk result (length state.new.journal < 2 ^ 32) }
     ensures err { IfErr result (λ e. IsOutOfMemoryFor docs.items e × (state.new ≡ state.old)) }
 {
     let (batch, _count) = store_batch(state, docs, new_edits)?;
@@ -80,12 +79,10 @@ impl<C: Count, K: Outbox<DbState>> Locked<DbState, C, K> {
         requires room { room ≡ ids_of docs.items }
         ensures written { IfOk result (λ w. IsWrittenBy C.counts C.all_parts
             (handle_of C.parts C.amount share.old) new_edits docs.items w.0) }
-        ensures raised { IfOk result (λ w. C.amount share.new ≡ C.amount share.old + w.1) }
-        ensures counted { IfOk result (λ w. C.counts ≡ true → w.1 ≡ length w.0.receipts.items) }
-        ensures within { OnOk result (C.amount share.new < 2 ^ 32) }
-        ensures parts { C.parts share.new ≡ C.parts share.old }
+        ensures risen { IfOk result (λ w. HasRisen C.counts (length w.0.receipts.items) w.1
+            (handle_of C.parts C.amount share.old) (handle_of C.parts C.amount share.new)) }
         ensures err { IfErr result (λ e. IsOutOfMemoryFor docs.items e × (self.new ≡ self.old)
-            × (C.amount share.new ≡ C.amount share.old)) }
+            × (C.amount share.new ≡ C.amount share.old) × (C.parts share.new ≡ C.parts share.old)) }
     {
         let edits = self.audit_share(share);
         let accepted = store(&mut self.state, edits, room, docs, new_edits)?;

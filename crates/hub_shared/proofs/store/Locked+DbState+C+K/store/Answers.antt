@@ -54,4 +54,3 @@ returns-clause-within g c =
     (subst (λ n. c.add-rise.result ≤ n) c.in_ok-batch.ensures.more c.add-rise.ensures.most)
     (subst (λ n. g.C.Count.amount c.add-rise.new.share ≡ n + c.add-rise.result)
     c.audit_share.ensures.same.1 c.add-rise.ensures.amount)
-    c.in_ok-batch.ensures.within

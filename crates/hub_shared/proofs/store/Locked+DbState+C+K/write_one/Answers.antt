@@ -44,16 +44,21 @@ returns-in_err-rev-clause-refused g c =
           (c.self.view_is ∙ c.audit_share.ensures.same.0) c.in_err-rev.ensures.answer;
     })
 
-pub returns-clause-within : goal.returns-clause-within
-returns-clause-within g c =
+pub returns-clause-risen : goal.returns-clause-risen
+returns-clause-risen g c =
     let old : Database = c.self.inside.state in
     let new : Database = c.make_one.new.state in
     let amount = g.C.Count.amount c.args.share.now in
     let bound : amount ≤ length old.journal =
     subst (λ l. amount ≤ length l.state.journal) (sym (c.self.view_is ∙ c.audit_share.ensures.same.0))
     c.audit_share.ensures.found.counted in
-    amount_within amount (g.C.Count.amount c.add-rise.new.share) c.add-rise.result 1 old new
-    c.in_ok-rev.ensures.adds bound c.add-rise.ensures.most
-    (subst (λ n. g.C.Count.amount c.add-rise.new.share ≡ n + c.add-rise.result)
-    c.audit_share.ensures.same.1 c.add-rise.ensures.amount)
-    c.in_ok-rev.ensures.within
+    let raised : g.C.Count.amount c.add-rise.new.share ≡ amount + c.add-rise.result =
+    subst (λ n. g.C.Count.amount c.add-rise.new.share ≡ n + c.add-rise.result)
+    c.audit_share.ensures.same.1 c.add-rise.ensures.amount in record {
+      raised = raised;
+      counted = c.add-rise.ensures.counted;
+      within =
+          amount_within amount (g.C.Count.amount c.add-rise.new.share) c.add-rise.result 1 old new
+          c.in_ok-rev.ensures.adds bound c.add-rise.ensures.most raised;
+      parts = c.add-rise.ensures.parts ∙ c.audit_share.ensures.same.2;
+    }

@@ -1,4 +1,4 @@
-use Rattle.std.proofs.Common.{◌≡◌, ◌≤◌, ◌∙◌, ℕ, arith, length, sym, subst}
+use Rattle.std.proofs.Common.{◌≡◌, ◌+◌, ◌≤◌, ◌∙◌, ℕ, arith, length, sym, subst}
 use Rattle.hub_database.specs.Database.{Database}
 use Rattle.hub_shared.specs.Locked.{IsBookOf}
 use Rattle.hub_shared.specs.Writes.{Stores}
@@ -41,3 +41,31 @@ returns-clause-written g c =
     written_by g.C.Count.counts g.C.Count.all_parts
     (record { parts = g.C.Count.parts c.args.share.now; count = g.C.Count.amount c.args.share.now })
     c.args.new_edits c.args.docs.items db new a c.audit_share-edits.ensures.found done
+
+pub returns-clause-risen : goal.returns-clause-risen
+returns-clause-risen g c =
+    let old : Database = c.self.inside.state in
+    let new : Database = c.store.new.state in
+    let a = c.in_ok-accepted.accepted in
+    let rise = c.add-rise.result in
+    let amount = g.C.Count.amount c.args.share.now in
+    let count : c.len.result ≡ length a.receipts.items = omega (arith, c.len.ensures, a.receipts.ok.0) in
+    let bound : amount ≤ length old.journal =
+    subst (λ l. amount ≤ length l.state.journal) (sym (c.self.view_is ∙ c.audit_share-edits.ensures.same.0))
+    c.audit_share-edits.ensures.found.counted in
+    let raised : g.C.Count.amount c.add-rise.new.share ≡ amount + rise =
+    subst (λ n. g.C.Count.amount c.add-rise.new.share ≡ n + rise)
+    c.audit_share-edits.ensures.same.1 c.add-rise.ensures.amount in record {
+      raised = raised;
+      counted = λ counts. c.add-rise.ensures.counted counts ∙ count;
+      within = omega (
+        arith,
+        bound,
+        count,
+        c.add-rise.ensures.most,
+        raised,
+        c.in_ok-accepted.ensures.ok.longer,
+        c.in_ok-accepted.ensures.ok.batch.adds.within,
+      );
+      parts = c.add-rise.ensures.parts ∙ c.audit_share-edits.ensures.same.2;
+    }
