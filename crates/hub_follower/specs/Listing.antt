@@ -6,6 +6,7 @@ use Rattle.hub_model.specs.Feed.{Params}
 use Rattle.hub_model.specs.Filter.{passes, Everything}
 use Rattle.hub_model.specs.Journal.{Edit}
 use Rattle.hub_model.specs.Row.{ChangeRow, row_of}
+use Rattle.hub_database.specs.Database.{Database}
 use Rattle.hub_model.specs.declared.feeds.Mode.TheVariants.{Normal}
 use Rattle.hub_model.specs.declared.feeds.Since.TheVariants.{Plain}
 use Rattle.hub_model.specs.declared.feeds.Style.TheVariants.{AllDocs}
@@ -36,3 +37,8 @@ listing_params since =
 pub record AreFirst (all : List ChangeRow) (len : ℕ) (rows : List ChangeRow) (last : ℕ) : Type 0 where
   pub short : length all ≤ 100 → (rows ≡ all) × (last ≡ len)
   pub long : 100 < length all → (rows ≡ take 100 all) × ((row : ChangeRow) → last ≡ (get_or all 99 row).seq)
+
+-- the changes above this sequence can be listed: the database stands, and has the sequence
+pub record IsListable (db : Database) (since : ℕ) : Type 0 where
+  pub stands : db.deleted ≡ false
+  pub within : since ≤ length db.journal

@@ -1,6 +1,6 @@
 -- A follower over its peers, by what each says of its own calls (own).
 use Rattle.std.specs.Prelude.{◌≡◌, ◌⊎◌, ◌<◌, ◌≤◌, ◌-◌, ◌+◌, ◌^◌, ℕ, length, Bool, false, List, [], ◌∷◌}
-use Rattle.std.specs.Prelude.{Some, None, Result, Ok, IfOk, IfErr}
+use Rattle.std.specs.Prelude.{Some, None, Result, Ok, IfOk, IfErr, OnOk, OnErr}
 use Rattle.hub_follow_model.specs.Follower as follow
 use Rattle.hub_database.specs.declared.batch.DbFault.{DbFault}
 use Rattle.hub_database.specs.declared.batch.DbFault.TheVariants as db_fault
@@ -176,6 +176,18 @@ abbrev pub Breaks : {S T : Type 0} → Gives S → Gives T → Fails S → Fails
 Breaks {S} {T} gives_s gives_t loses_s loses_t fault old new =
     (between : List (Standing S T)) × (mid : Standing S T) × Walks gives_s gives_t between old mid
     × FailsSo gives_s gives_t loses_s loses_t fault mid new
+
+-- A round or a checkpoint that begins with this follower makes its calls until none is owed, or up to one
+-- that fails. Behind a failure the follower is as it was.
+pub record IsCarriedOut {S T A : Type 0} (gives_s : Gives S) (gives_t : Gives T) (loses_s : Fails S)
+    (loses_t : Fails T) (count_s : S → ℕ) (count_t : T → ℕ) (begun : follow.Follower)
+    (result : Result A FollowFault) (old new : Standing S T) : Type 0 where
+  pub walk : OnOk result (IsWalk gives_s gives_t (standing_of begun old.source old.target) new)
+  pub err :
+      IfErr result (λ e. Breaks gives_s gives_t loses_s loses_t e
+      (standing_of begun old.source old.target) new)
+  pub same : OnErr result (new.follower ≡ old.follower)
+  pub counts : BothCount count_s count_t result old.source old.target new.source new.target
 
 -- both peers stayed
 abbrev pub HasSamePeers : {S T : Type 0} → Standing S T → Standing S T → Type 0

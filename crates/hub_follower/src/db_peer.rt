@@ -1,6 +1,6 @@
 //! Databases that threads share, as a follower's peers.
 
-ghost use Rattle.std.specs.Prelude.{◌≡◌, true, map, length, IfOk};
+ghost use Rattle.std.specs.Prelude.{◌≡◌, true, map, IfOk};
 ghost use Rattle.hub_follow_model.specs.Follower as follow;
 ghost use Rattle.hub_database.specs.Edits.{edit_of};
 ghost use Rattle.hub_follower.specs.Peers.{CallCounts};
@@ -144,9 +144,8 @@ fn documents_of<R: Wait>(
     handle: &mut Handle<Plain>,
     asked: &Asked,
 ) -> Result<FetchedRevs, CallFault>
-    ensures ok { IfOk result (λ found. IsShared (follow.OpenRevs asked.now.id asked.now.revs)
+    ensures { IfOk result (λ found. IsShared (follow.OpenRevs asked.now.id asked.now.revs)
         (follow.OpenRevsAnswer (map found_edit found))) }
-    ensures many { IfOk result (λ found. length found ≡ length asked.now.revs) }
 {
     let Ok(revs) = asked.revs.copy(alloc) else {
         return Err(CallFault::NoMemory);
@@ -166,9 +165,8 @@ fn store_all<R: Wait>(
     handle: &mut Handle<Plain>,
     docs: &[Doc],
 ) -> Result<Replies, CallFault>
-    ensures ok { IfOk result (λ replies.
+    ensures { IfOk result (λ replies.
         IsShared (follow.Merge (map edit_of docs.now)) (follow.MergeAnswer replies)) }
-    ensures many { IfOk result (λ replies. length replies ≡ length docs.now) }
 {
     let Ok(copies) = copy_docs(alloc, docs) else {
         return Err(CallFault::NoMemory);

@@ -5,7 +5,7 @@ ghost use Rattle.hub_document.specs.Local.{IsLocalId};
 ghost use Rattle.hub_follow_model.specs.Follower as follow;
 ghost use Rattle.hub_follow_model.specs.Sequence.{is_same_place};
 ghost use Rattle.hub_follow_model.specs.World as world;
-ghost use Rattle.hub_follower.specs.Peers.{standing_of, IsWalk, Breaks, BeginsNot};
+ghost use Rattle.hub_follower.specs.Peers.{standing_of, IsWalk, BeginsNot, IsCarriedOut};
 ghost use Rattle.hub_follower.specs.Peers.{BothCount, IsCountedOfBoth};
 
 use crate::driving::drive;
@@ -190,20 +190,15 @@ impl<S: Peer + Drop, T: Peer + Drop> Follower<S, T> {
     /// place; the source was only read, and the target may have some of the fetched revisions.
     #[tactic(auto, using(crate::proofs::Walking::round_fails))]
     pub fn round(&mut self) -> Result<Round, FollowFault>
-        ensures walk { OnOk result (IsWalk S.gives T.gives
-            (standing_of (world.round_start self.old.core) self.old.source self.old.target)
-            (standing_of self.new.core self.new.source self.new.target)) }
+        ensures done { IsCarriedOut S.gives T.gives S.loses T.loses S.fault_count T.fault_count
+            (world.round_start self.old.core) result
+            (standing_of self.old.core self.old.source self.old.target)
+            (standing_of self.new.core self.new.source self.new.target) }
+        ensures id { self.new.log_id ≡ self.old.log_id }
         ensures idle { IfOk result (λ r. r ≡ Round.Idle
             → is_same_place (world.place_of self.old.core) (world.place_of self.new.core) ≡ true) }
         ensures moved { IfOk result (λ r. r ≡ Round.Moved
             → is_same_place (world.place_of self.old.core) (world.place_of self.new.core) ≡ false) }
-        ensures err { IfErr result (λ e. Breaks S.gives T.gives S.loses T.loses e
-            (standing_of (world.round_start self.old.core) self.old.source self.old.target)
-            (standing_of self.new.core self.new.source self.new.target)) }
-        ensures same { OnErr result (self.new.core ≡ self.old.core) }
-        ensures id { self.new.log_id ≡ self.old.log_id }
-        ensures counts { BothCount S.fault_count T.fault_count result
-            self.old.source self.old.target self.new.source self.new.target }
     {
         let place = self.core.place();
         self.core.begin_round();
@@ -221,16 +216,11 @@ impl<S: Peer + Drop, T: Peer + Drop> Follower<S, T> {
     /// the log may stand at neither end, at the source, or at both.
     #[tactic(auto, using(crate::proofs::Walking::checkpoint_fails))]
     pub fn checkpoint(&mut self) -> Result<(), FollowFault>
-        ensures walk { OnOk result (IsWalk S.gives T.gives
-            (standing_of (world.checkpoint_start self.old.core) self.old.source self.old.target)
-            (standing_of self.new.core self.new.source self.new.target)) }
-        ensures err { IfErr result (λ e. Breaks S.gives T.gives S.loses T.loses e
-            (standing_of (world.checkpoint_start self.old.core) self.old.source self.old.target)
-            (standing_of self.new.core self.new.source self.new.target)) }
-        ensures same { OnErr result (self.new.core ≡ self.old.core) }
+        ensures done { IsCarriedOut S.gives T.gives S.loses T.loses S.fault_count T.fault_count
+            (world.checkpoint_start self.old.core) result
+            (standing_of self.old.core self.old.source self.old.target)
+            (standing_of self.new.core self.new.source self.new.target) }
         ensures id { self.new.log_id ≡ self.old.log_id }
-        ensures counts { BothCount S.fault_count T.fault_count result
-            self.old.source self.old.target self.new.source self.new.target }
     {
         self.core.begin_checkpoint();
         let (source, target) = (&mut self.source, &mut self.target);

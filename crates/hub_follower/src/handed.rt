@@ -1,14 +1,14 @@
 //! Whether items are an answer to a follower that asks for changes.
 
 ghost use Rattle.std.specs.Prelude.{◌≡◌, ◌≤◌, ◌<◌, ◌&&◌, ◌↔◌, ℕ, List, [], length, nat_le};
-ghost use Rattle.std.specs.Prelude.{nat_lt, None, IfOk, IfSome, OnOk, OnErr, IsTrue};
+ghost use Rattle.std.specs.Prelude.{nat_lt, None, IfOk, IfSome, OnErr, IsTrue};
 ghost use Rattle.std.specs.List.{list_all, list_any};
 ghost use Rattle.hub_model.specs.RightlyHanded.{rows_of};
 ghost use Rattle.hub_model.specs.Row.{ChangeRow as Row};
 ghost use Rattle.hub_follow_model.specs.ChangesFeed.{IsChangesAnswer};
 ghost use Rattle.hub_follower.specs.Handed.{are_listed, are_rising, end_of, has_sequence};
 ghost use Rattle.hub_follower.specs.Handed.{is_after, is_shown, numbered_end, IsNumbered};
-ghost use Rattle.hub_follower.specs.Rebuilt.{IsRebuilt};
+ghost use Rattle.hub_follower.specs.Rebuilt.{IsJudged, IsRebuilt};
 ghost use Rattle.hub_follower.specs.Worlds.{IsAnswerOf};
 
 use crate::call::Answer;
@@ -90,9 +90,7 @@ fn is_shown(
     row: &ChangeRow,
 ) -> Result<bool, AllocError>
     requires { IsRebuilt db.now.journal copy.old }
-    ensures ok { IfOk result (λ shown. shown ≡ is_shown db.now.journal row.now) }
-    ensures copy { OnOk result (IsRebuilt db.now.journal copy.new) }
-    ensures memory { OnErr result (0 < length db.now.journal) }
+    ensures { IsJudged db.now.journal (is_shown db.now.journal row.now) result copy.new }
 {
     rebuild(alloc, db, copy, row.seen.min(db.update_seq()))?;
     let rows = rows_above(copy, 0)?;
@@ -107,9 +105,8 @@ fn are_shown(
     items: &[Item<ChangeRow>],
 ) -> Result<bool, AllocError>
     requires { IsRebuilt db.now.journal copy.old }
-    ensures ok { IfOk result (λ shown. shown ≡ list_all (is_shown db.now.journal) (rows_of items.now)) }
-    ensures copy { OnOk result (IsRebuilt db.now.journal copy.new) }
-    ensures memory { OnErr result (0 < length db.now.journal) }
+    ensures { IsJudged db.now.journal (list_all (is_shown db.now.journal) (rows_of items.now))
+        result copy.new }
 {
     for item in items {
         let Item::Row(row) = item else {

@@ -6,8 +6,8 @@ use Rattle.hub_follower.specs.Fetched.{FoundHasPath}
 use Rattle.hub_follower.proofs.Served.{opened_shown, opened_paths}
 use Rattle.hub_follower.proofs.db_peer.documents_of.Goals as goal
 
-pub returns-in-Ok-look-clause-ok : goal.returns-in-Ok-look-clause-ok
-returns-in-Ok-look-clause-ok g c =
+pub returns-in-Ok-look : goal.returns-in-Ok-look
+returns-in-Ok-look g c =
     let asked = c.args.asked.now in
     let (db, found, gave) = c.in-Ok-look.ensures.asked in
     let shown : c.in-Ok-look.found.items ≡ map (open_rev db.journal asked.id true) asked.revs =

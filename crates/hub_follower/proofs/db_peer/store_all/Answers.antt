@@ -3,8 +3,8 @@ use Rattle.hub_database.specs.Edits.{writes}
 use Rattle.hub_follower.proofs.Served.{all_stored}
 use Rattle.hub_follower.proofs.db_peer.store_all.Goals as goal
 
-pub returns-in-Ok-store-clause-ok : goal.returns-in-Ok-store-clause-ok
-returns-in-Ok-store-clause-ok g c =
+pub returns-in-Ok-store : goal.returns-in-Ok-store
+returns-in-Ok-store g c =
     let stored = c.in-Ok-store.ensures.stored in
     let rs = c.in-Ok-store.batch.replies in
     let same = c.in-Ok.ensures in

@@ -41,7 +41,7 @@ returns-in_err-rows-clause-memory c =
     let since = c.args.since in
     let items = c.args.items.now in
     let whole =
-    c.in_ok-rebuild.ensures.ok.1 ∙ whole_rebuilt J c.update_seq-2.result c.update_seq-2.ensures.value in
+    c.in_ok-rebuild.ensures.first ∙ whole_rebuilt J c.update_seq-2.result c.update_seq-2.ensures.value in
     licensed J since items c.from_residual-in_err-rows.result c.in-Some.last
     (subst (λ (edits : List Edit). 0 < length edits) whole c.in_err-rows.ensures.memory)
     (sym (c.in-Some.ensures ∙ ap (λ n. numbered_end n since items) c.update_seq.ensures.value))
@@ -53,7 +53,7 @@ returns-then-are_listed-clause-right c =
     let items = c.args.items.now in
     let last = c.in-Some.last in
     let whole =
-    c.in_ok-rebuild.ensures.ok.1 ∙ whole_rebuilt J c.update_seq-2.result c.update_seq-2.ensures.value in
+    c.in_ok-rebuild.ensures.first ∙ whole_rebuilt J c.update_seq-2.result c.update_seq-2.ensures.value in
     let same =
     c.as_slice.ensures.value ∙
     (c.in_ok-rows.ensures.ok ∙ ap (λ (edits : List Edit). all_above edits since) whole) in
@@ -69,7 +69,7 @@ returns-clause-wrong c =
     let items = c.args.items.now in
     let last = c.in-Some.last in
     let whole =
-    c.in_ok-rebuild.ensures.ok.1 ∙ whole_rebuilt J c.update_seq-2.result c.update_seq-2.ensures.value in
+    c.in_ok-rebuild.ensures.first ∙ whole_rebuilt J c.update_seq-2.result c.update_seq-2.ensures.value in
     let same =
     c.as_slice.ensures.value ∙
     (c.in_ok-rows.ensures.ok ∙ ap (λ (edits : List Edit). all_above edits since) whole) in

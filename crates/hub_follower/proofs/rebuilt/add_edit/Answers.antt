@@ -1,4 +1,4 @@
-use Rattle.std.proofs.Common.{◌≡◌, ◌∙◌, ◌∷◌, ◌++◌, [], List, ap, sym, map}
+use Rattle.std.proofs.Common.{◌≡◌, ◌∙◌, ◌∷◌, ◌++◌, [], List, ap, sym, map, rules, take}
 use Rattle.hub_database.specs.Edits.{edit_of}
 use Rattle.hub_document.specs.declared.doc.Doc.{Doc}
 use Rattle.hub_model.specs.Outcome.{merges_all}
@@ -12,11 +12,15 @@ returns c =
     let one : c.as_slice.result.now ≡ doc ∷ [] =
     c.as_slice.ensures.value
     ∙ (c.in_ok-push.ensures.items ∙ ap (λ (docs : List Doc). docs ++ doc ∷ []) c.new-docs.ensures.items) in
+    let grown =
+    added c.args.db.now.journal copy c.merged.new.db doc c.args.seq c.in_ok-merged.field-0
+    c.requires.copy.copy
+    c.requires.next c.requires.copy.within (sym c.in-Some.is ∙ c.in_ok-doc.ensures.doc)
+    (ap (λ docs. merges_all copy.limits.journal copy.journal (map edit_of docs)) (sym one)
+    ∙ c.in_ok-merged.ensures.ok) c.in_ok-merged.ensures.rest in
     record {
-      ok =
-          added c.args.db.now.journal copy c.merged.new.db doc c.args.seq c.in_ok-merged.field-0
-          c.requires.copy
-          c.requires.next c.requires.within (sym c.in-Some.is ∙ c.in_ok-doc.ensures.doc)
-          (ap (λ docs. merges_all copy.limits.journal copy.journal (map edit_of docs)) (sym one)
-          ∙ c.in_ok-merged.ensures.ok) c.in_ok-merged.ensures.rest;
+      copy = grown.0;
+      count = grown.1;
+      first = grown.0.first ∙ ap (λ n. take n c.args.db.now.journal) grown.1;
+      memory = search rules;
     }

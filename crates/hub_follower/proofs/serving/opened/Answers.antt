@@ -7,8 +7,8 @@ use Rattle.hub_follower.specs.Fetched.{FoundHasPath}
 use Rattle.hub_follower.proofs.Served.{opened_shown, opened_paths}
 use Rattle.hub_follower.proofs.serving.opened.Goals as goal
 
-pub returns-in-Ok-clause-ok : goal.returns-in-Ok-clause-ok
-returns-in-Ok-clause-ok c =
+pub returns-in-Ok : goal.returns-in-Ok
+returns-in-Ok c =
     let J = c.args.db.now.journal in
     let id = c.as_str.result.now in
     let named = c.as_str.ensures.value ∙ ap (λ (asked : Asked). asked.id) c.asked.view_is in

@@ -1,6 +1,6 @@
 use Rattle.std.proofs.Common.{◌≡◌, length}
 use Rattle.hub_follower.specs.Rebuilt.{IsRebuilt}
-use Rattle.hub_follower.proofs.rebuilt.add_edits.Given as goal
+use Rattle.hub_follower.proofs.rebuilt.rebuild.Given as goal
 
 -- the copy holds the edits so far
 abbrev pub invariant-loop-count : goal.invariant-loop-count
