@@ -59,8 +59,8 @@ abbrev pub row_doc : ChangeRow → List ℕ → Doc
 row_doc row body =
     record { id = row.id; rev = slice_get row.changes 0; path = None; deleted = row.deleted; body = body }
 
--- Whether this is the JSON string of the first revision that a row lists. Of a row with 2-b it is `"2-b"`, quotes
--- and all.
+-- Whether this is the JSON string of the first revision that a row lists. Of a row with 2-b it is `"2-b"`,
+-- quotes and all.
 abbrev pub IsFirstText : ChangeRow → List ℕ → Type 0
 IsFirstText row text = option_map (λ r. quoted (text_of r)) (slice_get row.changes 0) ≡ Some text
 

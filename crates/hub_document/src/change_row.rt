@@ -117,8 +117,8 @@ impl ChangeRow {
         put_rest(out, body)?;
         Ok(())
     }
-    /// The same for a row whose id needs no escape, and where this is the JSON string of the first revision that
-    /// the row lists: it takes fewer parts, and the digest is not written again.
+    /// The same for a row whose id needs no escape, and where this is the JSON string of the first revision
+    /// that the row lists: it takes fewer parts, and the digest is not written again.
     pub fn write_plain_doc(
         &self,
         out: &mut Vec<u8>,

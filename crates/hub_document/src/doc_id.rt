@@ -97,8 +97,8 @@ impl DocId {
         String::from_str(alloc, self.as_str())
     }
 
-    /// A copy, which shares a text of more than 16 bytes. Constant time, and no memory: an error would want 2^64
-    /// copies at once.
+    /// A copy, which shares a text of more than 16 bytes. Constant time, and no memory: an error would want
+    /// 2^64 copies at once.
     pub fn copy(&self) -> Result<DocId, AllocError>
         ensures { IfOk result (λ i. i ≡ self.now) }
     {

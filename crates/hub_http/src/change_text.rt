@@ -162,8 +162,8 @@ fn revision_part(text: &[u8; 36]) -> [u8; 56]
     part
 }
 
-// Appends the only revision of a row, and what stands between the id and it. Where its JSON string has 36 bytes,
-// this is it.
+// Appends the only revision of a row, and what stands between the id and it. Where its JSON string has 36
+// bytes, this is it.
 fn put_only_revision(
     out: &mut Vec<u8>,
     rev: &DigestRev,

@@ -86,8 +86,9 @@ impl<S: HostView, C: Count, K: Outbox<S>> Model for Locked<S, C, K> {
         × IsBookOf C.counts (C.total a.book) (S.hosted a.state).length };
 }
 
-/// How many rows that bring their documents a feed is handed in one holding at most. The C library keeps seven
-/// pieces of a size at hand for a thread, so the copies of documents take the memory of those that were sent.
+/// How many rows that bring their documents a feed is handed in one holding at most. The C library keeps
+/// seven pieces of a size at hand for a thread, so the copies of documents take the memory of those that were
+/// sent.
 const MOST_DOCUMENTS: u64 = 7;
 
 /// What only a subscriber has.

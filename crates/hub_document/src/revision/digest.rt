@@ -66,7 +66,8 @@ impl RevId {
         }
     }
 
-    /// Whether the hash is the hexadecimal text of the digest, in lower-case digits. Constant time, and no memory.
+    /// Whether the hash is the hexadecimal text of the digest, in lower-case digits. Constant time, and no
+    /// memory.
     pub fn has_digest(&self, digest: &[u8; 16]) -> bool
         ensures { result ≡ bytes_eq self.now.hash (encode_lower digest.now) }
     {
