@@ -393,9 +393,12 @@ fn with_body(alloc: Global, body: &[u8]) -> Result<Vec<u8>, AllocError> {
     Ok(text)
 }
 
-/// The body of the request at this place.
-fn body_at(requests: &[Request], at: usize) -> Option<&[u8]> {
-    Some(requests.get(at)?.body.as_slice())
+/// The body of the request at this place; an empty one where there is none.
+fn body_at(requests: &[Request], at: usize) -> &[u8] {
+    match requests.get(at) {
+        Some(request) => request.body.as_slice(),
+        None => &[],
+    }
 }
 
 /// Both requests are read whole.
@@ -404,8 +407,8 @@ fn reads_both(rt: &impl Abort, alloc: Global, text: &[u8], body: &[u8]) {
     let requests = requests.as_slice();
     let found = (requests.len(), end, body.len());
     same(rt, &found, &(2, None, body.len()));
-    let bodies = (body_at(requests, 0), body_at(requests, 1));
-    same(rt, &bodies, &(Some(body), Some(b"abc".as_slice())));
+    same_bytes(rt, body_at(requests, 0), body);
+    same_bytes(rt, body_at(requests, 1), b"abc");
 }
 
 #[test]

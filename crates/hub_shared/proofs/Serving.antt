@@ -10,6 +10,7 @@ use Rattle.hub_model.specs.declared.feeds.Item.{Item}
 use Rattle.hub_model.proofs.Entries.{own_changed, other_changed, own_without, other_without, own_added}
 use Rattle.hub_model.proofs.Entries.{other_added, rising_changed, rising_without, rising_added}
 use Rattle.hub_model.proofs.Entries.{below_changed, below_without, below_added, none_above}
+use Rattle.hub_params.specs.FeedModel.{params_in}
 use Rattle.hub_feed.specs.Host.{Hosted}
 use Rattle.hub_shared.specs.Label.{Label}
 use Rattle.hub_shared.specs.Locked.{IsSenderOf, IsServed, AreSendersOf}
@@ -109,6 +110,17 @@ module _ {R K : Type 0} (label : K → Label) (sent : K → List (Item R))
           served senders (without id senders) d (rw (none, own_without id senders) tt)
           (λ q n. other_without id q n senders);
     }
+
+-- an outbox of the same label that was sent the same is the feed's too
+pub sender_still : {R K : Type 0} (label : K → Label) (sent : K → List (Item R))
+    (fits : Feed → List (Item R) → Type 0) (feed : Feed) (old new : K)
+    → (label new ≡ label old) × (sent new ≡ sent old) → IsSenderOf label sent fits feed old
+    → IsSenderOf label sent fits feed new
+sender_still label sent fits feed old new same i = record {
+  asks = ap (λ (l : Label). params_in l.asked) same.0 ∙ i.asks;
+  begins = ap (λ (l : Label). l.since) same.0 ∙ i.begins;
+  list = subst (λ items. fits feed items) (sym same.1) i.list;
+}
 
 -- of what is served
 module _ {R K : Type 0} (label : K → Label) (sent : K → List (Item R)) (fits : Feed → List (Item R) → Type 0)
