@@ -59,14 +59,20 @@ pub(crate) fn answered<N: Wait>(
     }
 }
 
+/// The next item of a stream.
+fn item_of<S: Service>(service: &mut S) -> Option<StreamItem> {
+    let mut next = None;
+    service.item(&mut next);
+    next
+}
+
 /// The sequence of the next row of a feed, or the last one at its end, asked for again where it finds no
 /// memory.
 fn sequence<N: Wait>(connection: &mut Connection<'_, N, ByTurns<'_, N>>) -> Option<(bool, u64)> {
-    let mut item = None;
-    connection.item(&mut item);
-    if item.is_none() {
-        connection.item(&mut item);
-    }
+    let item = match item_of(connection) {
+        None => item_of(connection),
+        item => item,
+    };
     match item {
         Some(StreamItem::Change(Item::Row(row))) => Some((false, row.seq)),
         Some(StreamItem::Change(Item::End { last_seq, .. })) => Some((true, last_seq)),
