@@ -3,10 +3,16 @@ use hub_document::{DocId, LocalId};
 use std::alloc::{AllocError, Global};
 use std::test::Fail;
 
+// Whether an id, its copy and a copy of its text are this text.
+fn is_text(alloc: Global, id: &DocId, text: &str) -> Result<bool, AllocError> {
+    let copied = id.to_text(alloc)?;
+    Ok(id.as_str() == text && id.copy()?.as_str() == text && copied.as_str() == text)
+}
+
 // Whether a text is an id as it stands, or, where none is expected, is none.
 fn is_right(alloc: Global, text: &str, good: bool) -> Result<bool, AllocError> {
     match DocId::read(alloc, text)? {
-        Some(id) => Ok(good && id.as_str() == text && id.to_text(alloc)?.as_str() == text),
+        Some(id) => Ok(good && is_text(alloc, &id, text)?),
         None => Ok(!good),
     }
 }
@@ -30,6 +36,16 @@ fn is_id_of_length(alloc: Global, length: usize) -> Result<bool, AllocError> {
     grown!(is_right(alloc, text.as_str(), true))
 }
 
+// Lengths round those where an id takes another form, and whether a text of that length is an id.
+const LENGTHS: &[(usize, bool)] = &[
+    (16, true),
+    (17, true),
+    (32, true),
+    (33, true),
+    (512, true),
+    (513, false),
+];
+
 #[test]
 fn texts(rt: HostRuntime) -> Result<(), Fail> {
     let alloc = rt.alloc();
@@ -38,8 +54,10 @@ fn texts(rt: HostRuntime) -> Result<(), Fail> {
         wrong(alloc, " _ _x _design _design/ _local/x", false),
     ];
     same(&rt, &found, &[Ok(None), Ok(None)]);
-    let lengths = [is_id_of_length(alloc, 512), is_id_of_length(alloc, 513)];
-    same(&rt, &lengths, &[Ok(true), Ok(false)]);
+    for (length, good) in LENGTHS {
+        let found = is_id_of_length(alloc, *length)?;
+        same(&rt, &(*length, found), &(*length, *good));
+    }
     Ok(())
 }
 
