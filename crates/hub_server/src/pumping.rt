@@ -36,8 +36,8 @@ impl<'h, R: Wait, G: Gate, K: Clock> Pumping for ByWorkers<'h, R, G, K> {
         self.gate.pass(Point::Request(self.number));
     }
 
-    fn next_item<S: FeedHost>(&self, feed: &mut HostFeed<S>) -> Option<Item<S::Row>> {
-        feed.poll(self.rt, self.gate, self.clock)
+    fn next_item<S: FeedHost>(&self, feed: &mut HostFeed<S>, next: &mut Option<Item<S::Row>>) {
+        feed.poll(self.rt, self.gate, self.clock, next);
     }
 
     fn waits<S: FeedHost>(&self, feed: &HostFeed<S>) -> bool {

@@ -17,8 +17,7 @@ use Rattle.hub_session.specs.Items as stream
 use Rattle.hub_session.specs.declared.closing.StreamEnd.{StreamEnd}
 use Rattle.hub_session.specs.declared.closing.StreamEnd.TheVariants.{Complete, Stopped, NoMemory}
 use Rattle.hub_session.specs.declared.closing.StreamEnd.TheVariants.{Broken, Exhausted}
-use Rattle.hub_session.specs.declared.item.StreamItem.{StreamItem}
-use Rattle.hub_session.specs.declared.item.StreamItem.TheVariants.{Change, Update}
+use Rattle.hub_session.specs.StreamItem.{StreamItem, Change, Update}
 use Rattle.hub_shared.specs.Feeds.{FeedState, behind_item, receiver_of}
 use Rattle.hub_shared.specs.Label.{Label}
 use Rattle.hub_service.specs.Feeds.{Gives, behind_listed, next_listed}

@@ -22,8 +22,7 @@ use Rattle.hub_params.specs.declared.feed_fault.ParamFault.{ParamFault}
 use Rattle.hub_http.specs.declared.refusal.Refusal.{Refusal}
 use Rattle.hub_http.specs.declared.refusal.Refusal.TheVariants as refusal
 use Rattle.hub_session.specs.Items as stream
-use Rattle.hub_session.specs.declared.item.StreamItem.{StreamItem}
-use Rattle.hub_session.specs.declared.item.StreamItem.TheVariants.{Change, Update}
+use Rattle.hub_session.specs.StreamItem.{StreamItem, Change, Update}
 use Rattle.hub_shared.specs.Feeds.{FeedState, behind_item, receiver_of}
 use Rattle.hub_shared.specs.Handles.{IsBeginningFor}
 use Rattle.hub_service.specs.Moments.{HasDatabase}

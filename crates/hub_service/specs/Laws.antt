@@ -12,8 +12,7 @@ use Rattle.hub_session.specs.Feeds.{Streams}
 use Rattle.hub_session.specs.Rules.{Rules}
 use Rattle.hub_session.specs.declared.closing.StreamEnd.{StreamEnd}
 use Rattle.hub_session.specs.declared.closing.StreamEnd.TheVariants.{Complete}
-use Rattle.hub_session.specs.declared.item.StreamItem.{StreamItem}
-use Rattle.hub_session.specs.declared.item.StreamItem.TheVariants.{Change, Update}
+use Rattle.hub_session.specs.StreamItem.{StreamItem, Change, Update}
 use Rattle.hub_shared.specs.Feeds.{FeedState}
 use Rattle.hub_service.specs.Feeds.{Drops, Gives}
 use Rattle.hub_service.specs.Requests.{Answers}

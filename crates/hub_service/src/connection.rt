@@ -22,7 +22,7 @@ use hub_databases::{Hub, HubDb, is_name};
 use hub_http::{Refusal, Reply, Request, StatusCode};
 use hub_replies::{commit_body, names_body, ok_body, welcome_body};
 use hub_routes::{Call, Route, Routes};
-use hub_session::{Answer, Service, StreamItem};
+use hub_session::{Answer, NextItem, Service};
 use hub_shared::{Watch, Watchable};
 use std::alloc::Global;
 use std::marker::Model;
@@ -239,19 +239,19 @@ impl<'h, N: Wait, P: Pumping> Service for Connection<'h, N, P> {
         true
     }
 
-    fn item(&mut self, next: &mut Option<StreamItem>) {
+    fn item(&mut self, next: &mut NextItem) {
         match &mut self.sent {
             Some(sent) => sent.next(&self.pumping, next),
-            None => *next = None,
+            None => *next = NextItem::none(),
         }
-        if matches!(next, Some(item) if item.is_end()) {
+        if matches!(next.lent(), Some(item) if item.is_end()) {
             self.drop_stream();
         }
     }
 
-    fn poll_item(&mut self, next: &mut Option<StreamItem>) -> bool {
+    fn poll_item(&mut self, next: &mut NextItem) -> bool {
         self.item(next);
-        next.is_some() || !self.waits()
+        next.lent().is_some() || !self.waits()
     }
 
     fn drop_stream(&mut self) {

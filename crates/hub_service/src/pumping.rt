@@ -15,11 +15,11 @@ pub trait Pumping: Drop {
     /// A request is answered next: where a test may hold the connection.
     fn pass_request(&self);
 
-    /// The next item of a feed. There is none where nothing hands it further, as out of memory, and where
-    /// the feed waits.
-    fn next_item<S: FeedHost>(&self, feed: &mut HostFeed<S>) -> Option<Item<S::Row>>
-        ensures taken { IfSome result (λ item. feed.new ≡ behind_item feed.old item) }
-        ensures same { IfNone result (feed.new ≡ feed.old) }
+    /// Puts the next item of a feed into `next`. There is none where nothing hands it further, as out of
+    /// memory, and where the feed waits.
+    fn next_item<S: FeedHost>(&self, feed: &mut HostFeed<S>, next: &mut Option<Item<S::Row>>)
+        ensures taken { IfSome next.new (λ item. feed.new ≡ behind_item feed.old item) }
+        ensures same { IfNone next.new (feed.new ≡ feed.old) }
         ensures allowed { IsAllowedBeginning
             (λ l items. S.right (params_in l.asked) l.since items) (receiver_of feed.new) };
 
@@ -52,19 +52,19 @@ impl<'h, N: Wait> ByTurns<'h, N> {
 impl<'h, N: Wait> Pumping for ByTurns<'h, N> {
     fn pass_request(&self) {}
 
-    fn next_item<S: FeedHost>(&self, feed: &mut HostFeed<S>) -> Option<Item<S::Row>> {
-        let item = feed.take(self.rt);
-        if item.is_some() {
-            return item;
+    fn next_item<S: FeedHost>(&self, feed: &mut HostFeed<S>, next: &mut Option<Item<S::Row>>) {
+        feed.take_into(self.rt, next);
+        if next.is_some() || feed.hold(self.rt, Turn::Hand, &OpenGate).is_err() {
+            return;
         }
-        feed.hold(self.rt, Turn::Hand, &OpenGate).ok()?;
-        let item = feed.take(self.rt);
-        if item.is_some() {
-            return item;
+        feed.take_into(self.rt, next);
+        if next.is_some() || feed.hold(self.rt, Turn::Expire, &OpenGate).is_err() {
+            return;
         }
-        feed.hold(self.rt, Turn::Expire, &OpenGate).ok()?;
-        feed.hold(self.rt, Turn::Hand, &OpenGate).ok()?;
-        feed.take(self.rt)
+        if feed.hold(self.rt, Turn::Hand, &OpenGate).is_err() {
+            return;
+        }
+        feed.take_into(self.rt, next);
     }
 
     fn waits<S: FeedHost>(&self, _feed: &HostFeed<S>) -> bool {

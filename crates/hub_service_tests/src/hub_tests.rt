@@ -5,11 +5,11 @@ use crate::session_tests::Answer::Written;
 use crate::session_tests::Ask::Line;
 use crate::session_tests::{Exchange, assert_session};
 use crate::steps::hub_of;
-use hub_document::Limits;
+use hub_document::{ChangeRow, Limits};
 use hub_http::{Refusal, Reply, Request, Requests, Tally};
 use hub_model::Item;
 use hub_service::{ByTurns, Connection, JsonRooms};
-use hub_session::{Answer, Closing, Service, StreamItem};
+use hub_session::{Answer, Closing, NextItem, Service};
 use std::alloc::{AllocError, Global};
 use std::sync::Wait;
 use std::test::Fail;
@@ -59,11 +59,11 @@ pub(crate) fn answered<N: Wait>(
     }
 }
 
-/// The next item of a stream.
-fn item_of<S: Service>(service: &mut S) -> Option<StreamItem> {
-    let mut next = None;
+/// The next item of a feed of changes.
+fn item_of<S: Service>(service: &mut S) -> Option<Item<ChangeRow>> {
+    let mut next = NextItem::none();
     service.item(&mut next);
-    next
+    next.change
 }
 
 /// The sequence of the next row of a feed, or the last one at its end, asked for again where it finds no
@@ -74,8 +74,8 @@ fn sequence<N: Wait>(connection: &mut Connection<'_, N, ByTurns<'_, N>>) -> Opti
         item => item,
     };
     match item {
-        Some(StreamItem::Change(Item::Row(row))) => Some((false, row.seq)),
-        Some(StreamItem::Change(Item::End { last_seq, .. })) => Some((true, last_seq)),
+        Some(Item::Row(row)) => Some((false, row.seq)),
+        Some(Item::End { last_seq, .. }) => Some((true, last_seq)),
         _ => None,
     }
 }

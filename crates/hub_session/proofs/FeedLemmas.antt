@@ -13,7 +13,7 @@ use Rattle.hub_http.specs.declared.chunk.ChunkFault.TheVariants as chunk
 use Rattle.hub_http.specs.Chunks.{text_chunks, Writes}
 use Rattle.hub_model.specs.declared.feeds.Mode.{Mode}
 use Rattle.hub_http.specs.Items.{feed_head}
-use Rattle.hub_session.specs.declared.item.StreamItem.{StreamItem}
+use Rattle.hub_session.specs.StreamItem.{StreamItem}
 use Rattle.hub_session.specs.declared.closing.StreamEnd.{StreamEnd}
 use Rattle.hub_session.specs.declared.closing.StreamEnd.TheVariants.{Broken}
 use Rattle.hub_session.specs.Feeds.{GivesBack, HasStreamed, Streams, IsFed, IsStreamed}

@@ -16,7 +16,7 @@ use Rattle.hub_http.proofs.OfferLemmas.{spells_more}
 use Rattle.hub_http.proofs.RequestLemmas.{head_fault_more}
 use Rattle.hub_http.proofs.SendLemmas.{sends_after}
 use Rattle.hub_model.specs.declared.feeds.Mode.{Mode}
-use Rattle.hub_session.specs.declared.item.StreamItem.{StreamItem}
+use Rattle.hub_session.specs.StreamItem.{StreamItem}
 use Rattle.hub_session.specs.declared.service.Answer.TheVariants.{Stream}
 use Rattle.hub_session.specs.declared.closing.Closing.{Closing}
 use Rattle.hub_session.specs.declared.closing.Closing.TheVariants.{Finished, Requested, Fault}

@@ -6,7 +6,7 @@ use Rattle.hub_model.specs.declared.feeds.Mode.{Mode}
 use Rattle.hub_http.specs.Counts.{last_count, Sends}
 use Rattle.hub_http.specs.Chunks.{text_chunks}
 use Rattle.hub_http.specs.Items.{feed_head}
-use Rattle.hub_session.specs.declared.item.StreamItem.{StreamItem}
+use Rattle.hub_session.specs.StreamItem.{StreamItem}
 use Rattle.hub_session.specs.declared.closing.StreamEnd.{StreamEnd}
 use Rattle.hub_session.specs.declared.closing.StreamEnd.TheVariants.{Complete, Stopped, NoMemory, Broken}
 use Rattle.hub_session.specs.declared.closing.StreamEnd.TheVariants.{Exhausted}

@@ -6,8 +6,7 @@ use Rattle.hub_model.specs.declared.feeds.Item.TheVariants.{Row}
 use Rattle.hub_http.specs.ChangeTexts.{change_row_text, change_end_text}
 use Rattle.hub_http.specs.UpdateTexts.{update_row_text, update_end_text}
 use Rattle.hub_http.specs.Items.{item_text}
-use Rattle.hub_session.specs.declared.item.StreamItem.{StreamItem}
-use Rattle.hub_session.specs.declared.item.StreamItem.TheVariants.{Change, Update}
+use Rattle.hub_session.specs.StreamItem.{StreamItem, Change, Update}
 
 -- whether it is the end of its stream
 abbrev pub is_end : StreamItem → Bool

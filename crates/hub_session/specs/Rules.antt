@@ -1,7 +1,7 @@
 -- own: what a service may do, and where a connection stands.
 use Rattle.std.specs.Prelude.{◌≡◌, ℕ, Bool, false, true, List, None, Option}
 use Rattle.hub_http.specs.Stream.{Asked}
-use Rattle.hub_session.specs.declared.item.StreamItem.{StreamItem}
+use Rattle.hub_session.specs.StreamItem.{StreamItem}
 use Rattle.hub_session.specs.declared.service.Answer.{Answer}
 
 -- what a service may do, each from a state to the one that it leaves

@@ -9,7 +9,7 @@ use Rattle.hub_http.specs.declared.outbox.Outbox.{Outbox}
 use Rattle.hub_http.specs.Offers.{IsShort}
 use Rattle.hub_http.specs.Stream.{Asked, Spells}
 use Rattle.hub_http.specs.declared.fault.HttpFault.TheVariants as fault
-use Rattle.hub_session.specs.declared.item.StreamItem.{StreamItem}
+use Rattle.hub_session.specs.StreamItem.{StreamItem}
 use Rattle.hub_session.specs.declared.service.Answer.TheVariants.{Stream}
 use Rattle.hub_session.specs.declared.closing.Closing.{Closing}
 use Rattle.hub_session.specs.declared.closing.Closing.TheVariants.{Finished, Fault, Broken}

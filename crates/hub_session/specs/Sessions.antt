@@ -11,7 +11,7 @@ use Rattle.hub_http.specs.Texts.{head_text, chunked_line, reply_text}
 use Rattle.hub_http.specs.declared.reply.Reply.{Reply}
 use Rattle.hub_http.specs.declared.fault.HttpFault.{HttpFault}
 use Rattle.hub_http.specs.Stream.{Asked, Spells, Faults}
-use Rattle.hub_session.specs.declared.item.StreamItem.{StreamItem}
+use Rattle.hub_session.specs.StreamItem.{StreamItem}
 use Rattle.hub_session.specs.declared.service.Answer.{Answer}
 use Rattle.hub_session.specs.declared.service.Answer.TheVariants.{Whole, Stream}
 use Rattle.hub_session.specs.declared.answering.Begun.{Begun}

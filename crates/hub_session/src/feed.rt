@@ -7,10 +7,11 @@ ghost use Rattle.hub_http.specs.Chunks.{Writes, text_chunks};
 ghost use Rattle.hub_session.specs.Items.{rows_after};
 ghost use Rattle.hub_session.specs.Feeds.{feed_text, items_text, sent_text, behind_item};
 ghost use Rattle.hub_session.specs.Feeds.{GivesBack, IsFed, IsStreamed};
+ghost use Rattle.hub_session.specs.Lent.{lent_in};
 ghost use Rattle.hub_session.specs.Rules.{moment};
 
 use crate::closing::StreamEnd;
-use crate::item::{ItemText, StreamItem};
+use crate::item::{ItemText, LentItem, NextItem};
 use crate::service::Service;
 use hub_http::{ChunkFault, ChunkWriter, IoFault, Output, send, write_all};
 use hub_model::Mode;
@@ -28,16 +29,16 @@ fn head_chunk(mode: Mode) -> &'static str
 }
 
 /// What stands behind the chunk of an item: the last chunk behind an End (RFC 9112, section 7.1).
-fn behind_item(item: &StreamItem) -> &'static str
-    ensures { result.now ≡ behind_item item.now }
+fn behind_item(item: LentItem<'_>) -> &'static str
+    ensures { result.now ≡ behind_item (lent_in item.entry) }
 {
     if item.is_end() { "0\r\n\r\n" } else { "" }
 }
 
 /// How many rows came before the next item.
-fn rows_after(rows: u64, item: &StreamItem) -> u64
+fn rows_after(rows: u64, item: LentItem<'_>) -> u64
     requires { rows + 1 < 2 ^ 64 }
-    ensures rows { result ≡ rows_after rows item.now }
+    ensures rows { result ≡ rows_after rows (lent_in item.entry) }
     ensures bound { result ≤ rows + 1 }
 {
     if item.is_row() { rows + 1 } else { rows }
@@ -51,7 +52,7 @@ fn send_item<W: Output, S: Service>(
     service: &S,
     text: &ItemText<'_>,
 ) -> Result<(), ChunkFault>
-    ensures bytes { Writes (sent_text text.now.mode text.now.life text.now.rows text.now.item.now) result
+    ensures bytes { Writes (sent_text text.now.mode text.now.life text.now.rows (lent_in text.now.item)) result
         (W.written writer.old) (W.written writer.new) }
     ensures counts { CallCounts (IsErrOf result ChunkFault.IoFault) W.fault_count
         W.failure_count writer.old writer.new }
@@ -79,8 +80,8 @@ fn flush_cut<W: Output>(writer: &mut W)
 }
 
 /// Gives back what a stream holds of which this item was not sent. Behind an End it holds nothing.
-fn give_back<S: Service>(service: &mut S, item: &StreamItem)
-    ensures { GivesBack S.rules item.now service.old service.new }
+fn give_back<S: Service>(service: &mut S, item: LentItem<'_>)
+    ensures { GivesBack S.rules (lent_in item.entry) service.old service.new }
 {
     if !item.is_end() {
         service.drop_stream();
@@ -104,7 +105,7 @@ pub(crate) fn send_given<W: Output, S: Service>(
     writer: &mut W,
     service: &mut S,
     sending: Sending,
-    given: &Option<StreamItem>,
+    given: &NextItem,
 ) -> Result<u64, StreamEnd>
     requires { sending.rows + 1 < 2 ^ 64 }
     ensures sent { (from : S) (count : ℕ) → S.rules.gives from given.now service.old
@@ -114,7 +115,7 @@ pub(crate) fn send_given<W: Output, S: Service>(
     ensures counts { CallCounts (IsErrOf result StreamEnd.Broken) W.fault_count
         W.failure_count writer.old writer.new }
 {
-    let Some(item) = given else {
+    let Some(item) = given.lent() else {
         flush_cut(writer);
         service.drop_stream();
         return Err(StreamEnd::Stopped);
@@ -158,7 +159,7 @@ pub(crate) fn send_items<W: Output, S: Service>(
 {
     let mut chunks = ChunkWriter::new(alloc);
     let mut rows = 0;
-    let mut next = None;
+    let mut next = NextItem::none();
     for _ in 0..u64::MAX {
         service.item(&mut next);
         let sending = Sending { mode, life, rows };

@@ -1,61 +1,104 @@
 //! The items of streams.
-ghost use Rattle.std.specs.Prelude.{◌≡◌};
+ghost use Rattle.std.specs.Prelude.{◌≡◌, None, option_map};
 ghost use Rattle.hub_session.specs.Items.{is_end, is_row, stream_item_text};
+ghost use Rattle.hub_session.specs.Lent.{lent_in};
 
 use hub_document::{ChangeRow, UpdateRow};
 use hub_http::{Text, item_text};
 use hub_model::{Item, Mode};
 use std::alloc::AllocError;
+use std::marker::Model;
 
-/// What a stream hands to its subscriber. Of which kind the items of a stream are is up to its
+/// An item that a stream hands to its subscriber, lent. Of which kind the items of a stream are is up to its
 /// service.
-#[derive(Debug, Drop)]
-pub enum StreamItem {
+#[derive(Clone, Copy)]
+pub enum LentItem<'a> {
     /// An item of a feed of changes of a database (CouchDB API reference, `_changes`).
-    Change(Item<ChangeRow>),
+    Change(&'a Item<ChangeRow>),
     /// An item of a feed of the log of updates (CouchDB API reference, `_db_updates`).
-    Update(Item<UpdateRow>),
+    Update(&'a Item<UpdateRow>),
 }
 
-impl StreamItem {
+impl LentItem<'_> {
     /// Whether it is the end of its stream. Constant time.
-    pub fn is_end(&self) -> bool
-        ensures { result ≡ is_end self.now }
+    pub fn is_end(self) -> bool
+        ensures { result ≡ is_end (lent_in self.entry) }
     {
         match self {
-            StreamItem::Change(item) => item.is_end(),
-            StreamItem::Update(item) => item.is_end(),
+            LentItem::Change(item) => item.is_end(),
+            LentItem::Update(item) => item.is_end(),
         }
     }
 
     /// Whether it is a row, and not what stands between rows or behind them.
-    pub(crate) fn is_row(&self) -> bool
-        ensures { result ≡ is_row self.now }
+    pub(crate) fn is_row(self) -> bool
+        ensures { result ≡ is_row (lent_in self.entry) }
     {
         match self {
-            StreamItem::Change(item) => matches!(item, Item::Row(_)),
-            StreamItem::Update(item) => matches!(item, Item::Row(_)),
+            LentItem::Change(item) => matches!(item, Item::Row(_)),
+            LentItem::Update(item) => matches!(item, Item::Row(_)),
+        }
+    }
+}
+
+/// What a service gives next of its stream, or none: there is a place for an item of each kind, so that the
+/// item is put where its sender has it. Contracts see the item. Where both places have one, it is the change.
+#[derive(Debug, Drop)]
+pub struct NextItem {
+    /// An item of a feed of changes.
+    pub change: Option<Item<ChangeRow>>,
+    /// An item of a feed of the log of updates.
+    pub update: Option<Item<UpdateRow>>,
+}
+
+impl Model for NextItem {
+    ghost use Rattle.std.specs.Prelude.{Option};
+    ghost use Rattle.hub_session.specs.StreamItem.{StreamItem, next_of};
+
+    ghost Value = { Option StreamItem };
+
+    ghost view = { λ a. next_of a.change a.update };
+}
+
+impl NextItem {
+    /// No item. It takes no memory.
+    pub fn none() -> NextItem
+        ensures { result ≡ None }
+    {
+        NextItem {
+            change: None,
+            update: None,
+        }
+    }
+
+    /// The item, lent. Constant time.
+    pub fn lent(&self) -> Option<LentItem<'_>>
+        ensures { option_map lent_in result ≡ self.now }
+    {
+        match &self.change {
+            Some(item) => Some(LentItem::Change(item)),
+            None => self.update.as_ref().map(LentItem::Update),
         }
     }
 }
 
 /// An item as a stream of this mode sends it, of the life of this number, before which the stream
 /// wrote so many rows.
-#[derive(Debug, Drop)]
+#[derive(Clone, Copy)]
 pub(crate) struct ItemText<'a> {
-    pub(crate) item: &'a StreamItem,
+    pub(crate) item: LentItem<'a>,
     pub(crate) mode: Mode,
     pub(crate) life: u64,
     pub(crate) rows: u64,
 }
 
 impl Text for ItemText<'_> {
-    ghost bytes = { λ t. stream_item_text t.mode t.life t.rows t.item.now };
+    ghost bytes = { λ t. stream_item_text t.mode t.life t.rows (lent_in t.item) };
 
     fn append(&self, buffer: &mut Vec<u8>) -> Result<(), AllocError> {
         match self.item {
-            StreamItem::Change(item) => item_text(buffer, self.mode, self.rows, self.life, item),
-            StreamItem::Update(item) => item_text(buffer, self.mode, self.rows, self.life, item),
+            LentItem::Change(item) => item_text(buffer, self.mode, self.rows, self.life, item),
+            LentItem::Update(item) => item_text(buffer, self.mode, self.rows, self.life, item),
         }
     }
 }

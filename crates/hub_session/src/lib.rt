@@ -13,7 +13,7 @@ mod serving;
 
 pub use closing::{Closing, StreamEnd};
 pub use feed::stream_feed;
-pub use item::StreamItem;
+pub use item::{LentItem, NextItem};
 pub use machine::{Session, Step};
 pub use service::{Answer, Service};
 pub use serving::{serve, serve_one};

@@ -10,6 +10,7 @@ ghost use Rattle.hub_session.specs.Runs.{step_behind, with_gone, with_offered};
 use crate::answering::{Begun, after_stream, answer_fault, begin_answer};
 use crate::closing::{Closing, StreamEnd};
 use crate::feed::{Sending, send_given};
+use crate::item::NextItem;
 use crate::service::Service;
 use hub_http::{ChunkWriter, Handed, HttpFault, Inbox, Next, Outbox, Request};
 use std::alloc::{AllocError, Global};
@@ -145,7 +146,7 @@ impl<S: Service> Session<S> {
             self.service.drop_stream();
             return self.go_behind(after_stream(close, StreamEnd::Exhausted));
         }
-        let mut next = None;
+        let mut next = NextItem::none();
         if !self.service.poll_item(&mut next) {
             self.chunks = ChunkWriter::new(self.alloc);
             return Step::WantsNews;

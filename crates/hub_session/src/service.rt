@@ -2,7 +2,7 @@
 ghost use Rattle.hub_http.specs.Stream.{asked_by};
 ghost use Rattle.hub_session.specs.Rules.{GivesOrWaits, Rules};
 
-use crate::item::StreamItem;
+use crate::item::NextItem;
 use hub_http::{Reply, Request};
 use hub_model::Mode;
 
@@ -30,14 +30,14 @@ pub trait Service {
     /// until it comes. After an End it is not called.
     fn is_ready(&self) -> bool;
 
-    /// Puts the next item of the stream that was answered last into `next`, which saves moves of it; `None`
+    /// Puts the next item of the stream that was answered last into `next`, which saves moves of it; none
     /// where the stream stops, as it does out of memory. It may wait for one; after an End it is not called.
-    fn item(&mut self, next: &mut Option<StreamItem>)
+    fn item(&mut self, next: &mut NextItem)
         ensures { rules.gives self.old next.new self.new };
 
     /// The same, and whether there is an answer: `false` where the stream has no item yet. A service that
     /// can't tell may wait for one, as this body does. After an End it is not called.
-    fn poll_item(&mut self, next: &mut Option<StreamItem>) -> bool
+    fn poll_item(&mut self, next: &mut NextItem) -> bool
         ensures { GivesOrWaits rules self.old result next.new self.new }
     {
         self.item(next);

@@ -6,7 +6,7 @@ use crate::rows::{
     CREATED, EXCHANGES, Exchange, FEED_HEAD, NORMAL, Rows, VERSION, answers, asks, texts, two_rows,
 };
 use hub_http::{Handed, HttpFault, Outbox, Request};
-use hub_session::{Answer, Closing, Service, Session, Step, StreamItem};
+use hub_session::{Answer, Closing, NextItem, Service, Session, Step};
 use std::alloc::Global;
 use std::cell::Cell;
 use std::test::Fail;
@@ -36,16 +36,16 @@ impl Service for Waiting<'_> {
         true
     }
 
-    fn item(&mut self, next: &mut Option<StreamItem>) {
+    fn item(&mut self, next: &mut NextItem) {
         self.rows.item(next);
     }
 
-    fn poll_item(&mut self, next: &mut Option<StreamItem>) -> bool {
+    fn poll_item(&mut self, next: &mut NextItem) -> bool {
         if self.has_news.replace(false) {
             self.rows.item(next);
             return true;
         }
-        *next = None;
+        *next = NextItem::none();
         false
     }
 

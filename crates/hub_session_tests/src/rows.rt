@@ -5,7 +5,7 @@ use crate::made_again::{Told, grown};
 use hub_document::{ChangeRow, Changes, Doc, RevId, Revisions};
 use hub_http::{Output, Refusal, Reply, Request, Requests, StatusCode, Tally};
 use hub_model::{Item, Mode};
-use hub_session::{Answer, Closing, Service, StreamItem, serve};
+use hub_session::{Answer, Closing, NextItem, Service, serve};
 use std::alloc::{AllocError, Global};
 use std::io::Read;
 
@@ -37,18 +37,18 @@ pub(crate) fn two_rows(alloc: Global) -> Rows {
     }
 }
 
-fn row(alloc: Global, seq: u64, doc: &str, rev: &str, deleted: bool) -> Option<StreamItem> {
+fn row(alloc: Global, seq: u64, doc: &str, rev: &str, deleted: bool) -> Option<Item<ChangeRow>> {
     let doc = Doc::read(alloc, doc.as_bytes(), true).ok()?;
     let mut revs = Vec::new(alloc);
     revs.push(RevId::read(rev)?).ok()?;
-    Some(StreamItem::Change(Item::Row(ChangeRow {
+    Some(Item::Row(ChangeRow {
         seq,
         id: doc.id,
         changes: Changes::new(Revisions::new(revs)),
         deleted,
         doc: None,
         seen: 2,
-    })))
+    }))
 }
 
 impl Rows {
@@ -86,19 +86,20 @@ impl Service for Rows {
         !self.late.contains(&self.next)
     }
 
-    fn item(&mut self, next: &mut Option<StreamItem>) {
+    fn item(&mut self, next: &mut NextItem) {
         let number = self.next;
         self.next = number.saturating_add(1);
-        *next = match (number, self.mode) {
-            (0, Mode::Longpoll) => Some(StreamItem::Change(Item::Beat)),
+        next.update = None;
+        next.change = match (number, self.mode) {
+            (0, Mode::Longpoll) => Some(Item::Beat),
             (1, Mode::Longpoll) | (0, _) => row(self.alloc, 1, r#"{"_id":"a"}"#, "1-a", false),
             (1, _) => row(self.alloc, 2, r#"{"_id":"b"}"#, "2-b", true),
-            (2, Mode::Continuous) => Some(StreamItem::Change(Item::Beat)),
+            (2, Mode::Continuous) => Some(Item::Beat),
             _ if self.stops => None,
-            _ => Some(StreamItem::Change(Item::End {
+            _ => Some(Item::End {
                 last_seq: 2,
                 pending: 0,
-            })),
+            }),
         };
     }
 

@@ -3,7 +3,7 @@ use crate::rows::{Exchange, texts};
 use hub_document::UpdateRow;
 use hub_http::{Request, Requests, Tally};
 use hub_model::{Item, Mode, UpdateKind};
-use hub_session::{Answer, Closing, Service, StreamItem, serve};
+use hub_session::{Answer, Closing, NextItem, Service, serve};
 use std::alloc::Global;
 use std::test::Fail;
 
@@ -17,13 +17,13 @@ struct Updates {
 
 impl Updates {
     /// A row of d of this kind, at the sequence that is next; `None` where its name finds no memory.
-    fn row(&self, kind: UpdateKind) -> Option<StreamItem> {
-        Some(StreamItem::Update(Item::Row(UpdateRow {
+    fn row(&self, kind: UpdateKind) -> Option<Item<UpdateRow>> {
+        Some(Item::Row(UpdateRow {
             db_name: "d".to_string(self.alloc).ok()?,
             kind,
             seq: self.next,
             seen: 3,
-        })))
+        }))
     }
 }
 
@@ -43,16 +43,17 @@ impl Service for Updates {
         true
     }
 
-    fn item(&mut self, next: &mut Option<StreamItem>) {
+    fn item(&mut self, next: &mut NextItem) {
         self.next = self.next.saturating_add(1);
-        *next = match self.next {
+        next.change = None;
+        next.update = match self.next {
             1 => self.row(UpdateKind::Created),
             2 => self.row(UpdateKind::Updated),
             3 => self.row(UpdateKind::Deleted),
-            _ => Some(StreamItem::Update(Item::End {
+            _ => Some(Item::End {
                 last_seq: 3,
                 pending: 7,
-            })),
+            }),
         };
     }
 

@@ -108,11 +108,23 @@ impl<S: FeedHost, C: Count> HostFeed<S, C> {
         ensures none { IfNone result (IsDrained (R.lacks rt.now) (receiver_of self.old)) }
         ensures allowed { IsRightSoFar S.right self.new }
     {
-        let item = self.end.take(rt);
-        if item.is_none() {
+        let mut next = None;
+        self.take_into(rt, &mut next);
+        next
+    }
+
+    /// The same, and puts the item into `next`, which saves a move of it.
+    pub fn take_into<R>(&mut self, rt: &R, next: &mut Option<Item<S::Row>>)
+    where
+        R: Asks<FeedLabel<S>, Block<S::Row>>,
+        ensures taken { Takes self.old next.new self.new }
+        ensures none { IfNone next.new (IsDrained (R.lacks rt.now) (receiver_of self.old)) }
+        ensures allowed { IsRightSoFar S.right self.new }
+    {
+        self.end.take_into(rt, next);
+        if next.is_none() {
             self.signals.ring_room();
         }
-        item
     }
 
     /// Sleeps until the feed's pump handed items or ended, for a connection that found nothing to

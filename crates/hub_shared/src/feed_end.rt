@@ -60,12 +60,6 @@ impl<S: HostView> FeedEnd<S> {
         self.receiver.label()
     }
 
-    /// Whether an item is left of the block that the lane gave last: `take` gives it. Constant time.
-    #[inline(always)]
-    pub(crate) fn has_item(&self) -> bool {
-        self.block.len() > 0
-    }
-
     /// Takes the first item that the lane got and that was not taken yet: what was taken is the beginning
     /// of a list that is rightly handed, with the parameters and the since of the label. There is none only
     /// where the lane was empty at a moment of the call, and no item was left of its blocks; then no memory
@@ -77,18 +71,35 @@ impl<S: HostView> FeedEnd<S> {
         ensures allowed { IsAllowedBeginning
             (λ l items. S.right (params_in l.asked) l.since items) self.new }
     {
+        let mut next = None;
+        self.take_into(rt, &mut next);
+        next
+    }
+
+    /// The same, and puts the item into `next`, which saves a move of it.
+    pub fn take_into<R>(&mut self, rt: &R, next: &mut Option<Item<S::Row>>)
+    where
+        R: Asks<FeedLabel<S>, Block<S::Row>>,
+        ensures taken { IfSome next.new (λ item. self.new ≡ behind_take self.old item) }
+        ensures same { IfNone next.new (self.new ≡ self.old) }
+        ensures none { IfNone next.new (IsDrained (R.lacks rt.now) self.old) }
+        ensures allowed { IsAllowedBeginning
+            (λ l items. S.right (params_in l.asked) l.since items) self.new }
+    {
         let front = self.block.next();
         if let Some(_) = &front {
             let _label = self.receiver.label();
-            return front;
+            *next = front;
+            return;
         }
         let Some(block) = self.receiver.take(rt) else {
             self.block = Vec::new(self.alloc).into_iter();
-            return None;
+            *next = None;
+            return;
         };
         let mut items = block.into_items().into_iter();
         let item = items.next();
         self.block = items;
-        item
+        *next = item;
     }
 }

@@ -66,46 +66,42 @@ impl<S: FeedHost, C: Count> HostFeed<S, C> {
         }
     }
 
-    /// The next item, for one who sends many feeds and waits for none. Where no item is left of the lane's
-    /// blocks, one holding of the lock hands a block of as many items as it may. Where no item is due either,
-    /// a heartbeat or the end of the feed's time comes as the clock says. `None` says that the feed waits, or
-    /// that it is over (`is_over`): it finds no memory for an item, or it handed its end. A feed that waits
-    /// is to be asked again when its host has news (`watch`), and at the reading `due` of the clock at the
-    /// latest. It costs a holding where no item is left, and none where the last one found nothing more to
+    /// Puts the next item into `next`, for one who sends many feeds and waits for none. Where no item is left
+    /// of the lane's blocks, one holding of the lock hands a block of as many items as it may. Where no item is
+    /// due either, a heartbeat or the end of the feed's time comes as the clock says. `None` says that the feed
+    /// waits, or that it is over (`is_over`): it finds no memory for an item, or it handed its end. A feed that
+    /// waits is to be asked again when its host has news (`watch`), and at the reading `due` of the clock at
+    /// the latest. It costs a holding where no item is left, and none where the last one found nothing more to
     /// hand.
-    pub fn poll<R, G, K>(&mut self, rt: &R, gate: &G, clock: &K) -> Option<Item<S::Row>>
+    pub fn poll<R, G, K>(&mut self, rt: &R, gate: &G, clock: &K, next: &mut Option<Item<S::Row>>)
     where
         R: Asks<FeedLabel<S>, Block<S::Row>>,
         G: Gate,
         K: Clock,
-        ensures taken { Takes self.old result self.new }
+        ensures taken { Takes self.old next.new self.new }
         ensures allowed { IsRightSoFar S.right self.new }
     {
-        if self.end.has_item() {
+        self.end.take_into(rt, next);
+        if next.is_some() {
             self.idle_since = None;
-            return self.end.take(rt);
-        }
-        let item = self.end.take(rt);
-        if item.is_some() {
-            self.idle_since = None;
-            return item;
+            return;
         }
         if self.signals.is_over() {
-            return item;
+            return;
         }
         if self.is_behind {
             self.hold_own(rt, Turn::Hand, gate);
-            let handed = self.end.take(rt);
-            if handed.is_some() {
+            self.end.take_into(rt, next);
+            if next.is_some() {
                 self.idle_since = None;
-                return handed;
+                return;
             }
             if self.signals.is_over() {
-                return handed;
+                return;
             }
         }
         self.pass_time(rt, gate, clock);
-        self.end.take(rt)
+        self.end.take_into(rt, next);
     }
 
     /// The reading of the clock at which a feed that `poll` left waiting gets a heartbeat, or its end.

@@ -29,7 +29,9 @@ where
     S: FeedHost,
     C: Count,
 {
-    match feed.poll(rt, &Open, &Still) {
+    let mut next = None;
+    feed.poll(rt, &Open, &Still, &mut next);
+    match next {
         None if feed.is_over() => Err(AllocError),
         item => Ok(item),
     }
@@ -109,8 +111,10 @@ fn feeds_of_any_host_are_told_of_changes(rt: HostRuntime) -> Result<(), Fail> {
 
 // Polls a feed until it gives no row; whether the rows came in order behind `last`, which is then the last.
 fn takes_rows<R: Wait>(rt: &R, feed: &mut Feed<Plain>, last: &mut u64) -> bool {
+    let mut next = None;
     for _ in 0..=THREE.len() {
-        match feed.poll(rt, &Open, &Still) {
+        feed.poll(rt, &Open, &Still, &mut next);
+        match &next {
             Some(Item::Row(row)) if last.checked_add(1) == Some(row.seq) => *last = row.seq,
             Some(_) => return false,
             None => return true,

@@ -41,7 +41,9 @@ pub(crate) fn poll<R: Wait>(
     gate: &Counting,
     clock: &Stepping,
 ) -> Option<Told> {
-    told_of(feed.poll(rt, gate, clock))
+    let mut next = None;
+    feed.poll(rt, gate, clock, &mut next);
+    told_of(next)
 }
 
 /// What a holding answers that hands what is due; None where it answers a fault.

@@ -7,7 +7,7 @@ use Rattle.hub_lane.specs.Ends.{behind_take}
 use Rattle.hub_params.specs.FeedModel.{params_in}
 use Rattle.hub_shared.specs.Blocks.{front_of, items_in}
 use Rattle.hub_shared.proofs.Blocks.{end_takes, front_allowed, front_whole, items_more, some_then}
-use Rattle.hub_shared.proofs.feed_end.FeedEnd.take.Goals as goal
+use Rattle.hub_shared.proofs.feed_end.FeedEnd.take_into.Goals as goal
 
 -- what the lane gave lies before and behind the item that is next, of the block that was begun
 pub invariant_of-self : goal.invariant_of-self
