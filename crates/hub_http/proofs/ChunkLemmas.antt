@@ -24,7 +24,7 @@ onto_more (suc k) n acc more =
     by_test false x y z more e = e
 
 -- no digit is written yet
-pub none_written : (n : ℕ) (rest : List ℕ) → digits_onto 64 16 false n rest ≡ digits 16 false n ++ rest
+none_written : (n : ℕ) (rest : List ℕ) → digits_onto 64 16 false n rest ≡ digits 16 false n ++ rest
 unfolding digits
 none_written n rest = onto_more 64 n [] rest
 
@@ -99,11 +99,21 @@ last_digit at left bytes whole small h =
     ∙ h.written
 
 -- CR and LF, and then what stands behind the room
-pub two_set : (bytes : List ℕ) → 18 ≤ length bytes
+two_set : (bytes : List ℕ) → 18 ≤ length bytes
     → drop 16 (set (set bytes 17 10) 16 13) ≡ 13 ∷ 10 ∷ drop 18 bytes
 two_set bytes room =
     drop-set (set bytes 17 10) 16 13 (omega (arith, length-set bytes 17 10))
     ∙ ap (λ l. 13 ∷ l) (drop-set bytes 17 10 (omega arith))
+
+-- only CR and LF are written yet
+pub no_digit : (n : ℕ) (bytes : List ℕ) → n < 16 ^ 16 → 18 ≤ length bytes
+    → SizeLeft 15 n (set (set bytes 17 10) 16 13) (digits 16 false n ++ (13 ∷ 10 ∷ drop 18 bytes))
+no_digit n bytes fits room = record {
+  place = omega arith;
+  room = omega (arith, length-set (set bytes 17 10) 16 13, length-set bytes 17 10);
+  fits = fits;
+  written = none_written n _ ∙ ap (λ l. digits 16 false n ++ l) (two_set bytes room);
+}
 
 some_text : (text : List ℕ) → 0 < length text → text_chunks text ≡ chunk_text text
 some_text [] h = absurd (omega arith)

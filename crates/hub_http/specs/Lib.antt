@@ -2,11 +2,11 @@ pub mod Counts
 pub mod Heads
 pub mod Looking
 pub mod Stream
-pub mod Fills
 pub mod Offers
 pub mod Boxes
 pub mod Exclusions
 pub mod Words
+pub mod Readings
 pub mod Refusals
 pub mod Statuses
 pub mod Texts

@@ -1,7 +1,7 @@
 //! The block that a reader's bytes come in.
-ghost use Rattle.std.specs.Prelude.{◌≡◌, ◌<◌, ◌≤◌, ℕ, [], ◌++◌, length, min, take};
-ghost use Rattle.std.specs.Prelude.{drop, IfOk, IfErr, OnErr, IsTrue, IsFalse, IsErr};
-ghost use Rattle.std.specs.Io.KnownBytes.{Keeps, IsAtEnd, prepend_known};
+ghost use Rattle.std.specs.Prelude.{◌≡◌, ◌<◌, ◌≤◌, [], ◌++◌, length, min, take};
+ghost use Rattle.std.specs.Prelude.{drop, IfOk, IfErr, OnErr, IsErr};
+ghost use Rattle.std.specs.Io.KnownBytes.{Keeps, IsAtEnd};
 ghost use Rattle.hub_http.specs.Counts.{CallCounts};
 ghost use Rattle.hub_http.specs.Stream.{to_read};
 
@@ -48,23 +48,17 @@ impl Block {
         }
     }
 
-    /// Whether there is nothing left to take.
-    pub(crate) fn is_empty(&self) -> bool
-        ensures empty { IsTrue result → self.now ≡ [] }
-        ensures full { IsFalse result → 0 < length self.now }
-    {
-        self.len == 0
-    }
-
-    /// Reads some bytes into the empty block, at most so many, none only at the end of the input.
-    pub(crate) fn fill<R: Input>(&mut self, reader: &mut R, most: usize) -> Result<(), HttpFault>
-        requires some { 0 < most }
-        requires empty { self.old ≡ [] }
-        ensures kept { Keeps (R.left reader.old) (prepend_known self.new (R.left reader.new)) }
+    /// Reads some bytes into the block where it is empty, at most so many, none only at the end of the input.
+    pub(crate) fn refill<R: Input>(&mut self, reader: &mut R, most: usize) -> Result<(), HttpFault>
+        requires { 0 < most }
+        ensures kept { Keeps (to_read self.old (R.left reader.old)) (to_read self.new (R.left reader.new)) }
         ensures end { IfOk result (λ _. self.new ≡ [] → IsAtEnd (R.left reader.new)) }
-        ensures err { IfErr result (λ e. (e ≡ HttpFault.IoFault) × (self.new ≡ [])) }
+        ensures err { IfErr result (λ e. e ≡ HttpFault.IoFault) }
         ensures counts { CallCounts (IsErr result) R.fault_count R.failure_count reader.old reader.new }
     {
+        if self.len > 0 {
+            return Ok(());
+        }
         let size = most.min(BLOCK);
         for _ in 0..TRIES {
             match reader.read(&mut self.bytes[..size]) {
@@ -80,20 +74,6 @@ impl Block {
             }
         }
         Err(HttpFault::IoFault)
-    }
-
-    /// Reads into the block where it is empty, as `fill` does.
-    pub(crate) fn refill<R: Input>(&mut self, reader: &mut R, most: usize) -> Result<(), HttpFault>
-        requires { 0 < most }
-        ensures kept { Keeps (to_read self.old (R.left reader.old)) (to_read self.new (R.left reader.new)) }
-        ensures end { IfOk result (λ _. self.new ≡ [] → IsAtEnd (R.left reader.new)) }
-        ensures err { IfErr result (λ e. e ≡ HttpFault.IoFault) }
-        ensures counts { CallCounts (IsErr result) R.fault_count R.failure_count reader.old reader.new }
-    {
-        if !self.is_empty() {
-            return Ok(());
-        }
-        self.fill(reader, most)
     }
 
     /// Moves at most so many bytes from the block's front to the end of those that are held. An

@@ -1,12 +1,13 @@
 //! The texts of rows of changes.
 
-ghost use Rattle.std.specs.Prelude.{◌≡◌, ◌<◌, ◌≤◌, [], ◌∷◌, ◌++◌, Some, codes, decimal, drop, length, IfSome};
+ghost use Rattle.std.specs.Prelude.{◌≡◌, ◌<◌, ◌≤◌, [], ◌∷◌, ◌++◌, codes, decimal, drop, length};
+ghost use Rattle.std.specs.Option.{ForSome};
 ghost use Rattle.hub_document.specs.Appends.{Appends};
-ghost use Rattle.hub_document.specs.DocText.{IsFirstText, doc_text, row_doc};
+ghost use Rattle.hub_document.specs.DocText.{doc_text, row_doc};
 ghost use Rattle.json.specs.Print.{escape, quoted};
 ghost use Rattle.hub_model.specs.Revision.{text_of};
 ghost use Rattle.hub_http.specs.ChangeTexts.{revision_text, revisions_text, row_mark, doc_member, row_end};
-ghost use Rattle.hub_http.specs.ChangeTexts.{id_member, row_head, change_row_text, change_end_text};
+ghost use Rattle.hub_http.specs.ChangeTexts.{row_head, change_row_text, change_end_text};
 ghost use Rattle.hub_http.specs.ChangeTexts.{plain_front};
 
 use crate::row_text::RowText;
@@ -25,22 +26,14 @@ fn put_revision(out: &mut Vec<u8>, rev: &RevId) -> Result<(), AllocError>
     Ok(())
 }
 
-// One revision whose hash is a digest's text.
-fn put_digest_revision(out: &mut Vec<u8>, rev: &DigestRev) -> Result<(), AllocError>
-    ensures { Appends (revision_text rev.now) result out.old.items out.new.items }
-{
-    out.extend_from_slice(b"{\"rev\":")?;
-    rev.print_quoted(out)?;
-    out.extend_from_slice(b"}")?;
-    Ok(())
-}
-
 fn put_changes(out: &mut Vec<u8>, changes: &Changes) -> Result<(), AllocError>
     ensures { Appends (revisions_text changes.now) result out.old.items out.new.items }
 {
     match changes.lent() {
         LentChanges::One(rev) => {
-            put_digest_revision(out, rev)?;
+            out.extend_from_slice(b"{\"rev\":")?;
+            rev.print_quoted(out)?;
+            out.extend_from_slice(b"}")?;
             Ok(())
         }
         LentChanges::Many(revs) => put_revisions(out, revs),
@@ -61,22 +54,14 @@ fn put_revisions(out: &mut Vec<u8>, revs: &[RevId]) -> Result<(), AllocError>
     Ok(())
 }
 
-fn put_id(out: &mut Vec<u8>, id: &str) -> Result<(), AllocError>
-    ensures { Appends (id_member id.now) result out.old.items out.new.items }
-{
-    out.extend_from_slice(b",\"id\":")?;
-    put_quoted(out, id)?;
-    out.extend_from_slice(b",\"changes\":[")?;
-    Ok(())
-}
-
-#[tactic(auto, unfolding(crate::specs::ChangeTexts::row_head))]
 fn put_row_head(out: &mut Vec<u8>, life: u64, seq: u64, id: &str) -> Result<(), AllocError>
     ensures { Appends (row_head life seq id.now) result out.old.items out.new.items }
 {
     out.extend_from_slice(b"{\"seq\":")?;
     put_sequence(out, seq, life)?;
-    put_id(out, id)?;
+    out.extend_from_slice(b",\"id\":")?;
+    put_quoted(out, id)?;
+    out.extend_from_slice(b",\"changes\":[")?;
     Ok(())
 }
 
@@ -111,16 +96,6 @@ fn put_row_end(out: &mut Vec<u8>, row: &ChangeRow) -> Result<(), AllocError>
     Ok(())
 }
 
-// Appends any row, a member at a time.
-fn put_any_row(out: &mut Vec<u8>, life: u64, row: &ChangeRow) -> Result<(), AllocError>
-    ensures { Appends (change_row_text life row.now) result out.old.items out.new.items }
-{
-    put_row_head(out, life, row.seq, row.id.as_str())?;
-    put_changes(out, &row.changes)?;
-    put_row_end(out, row)?;
-    Ok(())
-}
-
 // Room for the 20 digits of a sequence, and behind it what stands between the sequence and an id, where the
 // number of the life has one digit.
 fn sequence_room(life: u64) -> [u8; 30]
@@ -140,19 +115,6 @@ fn put_from(out: &mut Vec<u8>, text: &[u8], at: usize) -> Result<(), AllocError>
     out.extend_from_slice(&text[at..])
 }
 
-// Appends the front of a row whose id needs no escape, as far as the id, in few parts.
-fn put_plain_front(out: &mut Vec<u8>, life: u64, seq: u64, id: &str) -> Result<(), AllocError>
-    requires { life < 10 }
-    ensures { Appends (plain_front life seq id.now) result out.old.items out.new.items }
-{
-    let mut text = sequence_room(life);
-    let at = write_digits(seq, &mut text, 20);
-    out.extend_from_slice(b"{\"seq\":\"")?;
-    put_from(out, text.as_slice(), at)?;
-    out.extend_from_slice(id.as_bytes())?;
-    Ok(())
-}
-
 // What stands between an id and the end of a row's only revision, which has this text.
 fn revision_part(text: &[u8; 36]) -> [u8; 56]
     ensures { result ≡ codes "\",\"changes\":[{\"rev\":" ++ text.now }
@@ -160,27 +122,6 @@ fn revision_part(text: &[u8; 36]) -> [u8; 56]
     let mut part = *b"\",\"changes\":[{\"rev\":....................................";
     part[20..].copy_from_slice(text.as_slice());
     part
-}
-
-// Appends the only revision of a row, and what stands between the id and it. Where its JSON string has 36
-// bytes, this is it.
-fn put_only_revision(
-    out: &mut Vec<u8>,
-    rev: &DigestRev,
-    short: Option<&[u8; 36]>,
-) -> Result<(), AllocError>
-    requires { IfSome short (λ text. text.now ≡ quoted (text_of rev.now)) }
-    ensures { Appends (codes "\",\"changes\":[{\"rev\":" ++ quoted (text_of rev.now)) result
-        out.old.items out.new.items }
-{
-    match short {
-        Some(text) => out.extend_from_slice(revision_part(text).as_slice()),
-        None => {
-            out.extend_from_slice(b"\",\"changes\":[{\"rev\":")?;
-            rev.print_quoted(out)?;
-            Ok(())
-        }
-    }
 }
 
 // Appends what stands behind the only revision of a row that brings no document.
@@ -207,74 +148,90 @@ fn doc_front(deleted: bool) -> &'static str
     }
 }
 
-// Appends the document of a row whose id needs no escape.
-fn put_plain_doc(
-    out: &mut Vec<u8>,
-    row: &ChangeRow,
-    body: &Body,
-    short: Option<&[u8; 36]>,
-) -> Result<(), AllocError>
-    requires plain { escape row.now.id ≡ row.now.id }
-    requires short { IfSome short (λ text. IsFirstText row.now text.now) }
-    ensures { Appends (doc_text (row_doc row.now body.now)) result out.old.items out.new.items }
-{
-    match short {
-        Some(rev) => row.write_plain_doc(out, body, rev),
-        None => row.write_doc(out, body),
-    }
-}
-
-// Appends the end of a row that brings a document, behind its only revision.
-fn put_doc_end(
-    out: &mut Vec<u8>,
-    row: &ChangeRow,
-    body: &Body,
-    short: Option<&[u8; 36]>,
-) -> Result<(), AllocError>
-    requires doc { row.now.doc ≡ Some body.now }
-    requires plain { escape row.now.id ≡ row.now.id }
-    requires short { IfSome short (λ text. IsFirstText row.now text.now) }
-    ensures { Appends (125 ∷ row_end row.now) result out.old.items out.new.items }
-{
-    out.extend_from_slice(doc_front(row.deleted).as_bytes())?;
-    put_plain_doc(out, row, body, short)?;
-    out.extend_from_slice(b"}")?;
-    Ok(())
-}
-
-// Appends the end of a row behind its only revision.
-fn put_only_end(
-    out: &mut Vec<u8>,
-    row: &ChangeRow,
-    short: Option<&[u8; 36]>,
-) -> Result<(), AllocError>
-    requires plain { escape row.now.id ≡ row.now.id }
-    requires short { IfSome short (λ text. IsFirstText row.now text.now) }
-    ensures { Appends (125 ∷ row_end row.now) result out.old.items out.new.items }
-{
-    match &row.doc {
-        None => put_short_end(out, row.deleted),
-        Some(body) => put_doc_end(out, row, body, short),
-    }
-}
-
-// Appends a row of one revision whose id needs no escape, in few parts.
-fn put_plain_row(
-    out: &mut Vec<u8>,
+// A row of one revision whose id needs no escape, in a life whose number has one digit. It is written in few
+// parts.
+#[derive(Drop)]
+struct PlainRow<'r, 's> {
+    row: &'r ChangeRow,
+    rev: &'r DigestRev,
+    // The JSON string of the revision, where it has 36 bytes.
+    short: Option<&'s [u8; 36]>,
     life: u64,
-    row: &ChangeRow,
-    rev: &DigestRev,
-) -> Result<(), AllocError>
-    requires short { life < 10 }
-    requires plain { escape row.now.id ≡ row.now.id }
-    requires only { row.now.changes ≡ rev.now ∷ [] }
-    ensures { Appends (change_row_text life row.now) result out.old.items out.new.items }
-{
-    let short = rev.short_text();
-    put_plain_front(out, life, row.seq, row.id.as_str())?;
-    put_only_revision(out, rev, short.as_ref())?;
-    put_only_end(out, row, short.as_ref())?;
-    Ok(())
+    ghost plain: { escape row.now.id ≡ row.now.id },
+    ghost only: { row.now.changes ≡ rev.now ∷ [] },
+    ghost text: { ForSome short (λ text. text.now ≡ quoted (text_of rev.now)) },
+    ghost digit: { life < 10 },
+}
+
+impl PlainRow<'_, '_> {
+    // Appends its front, as far as the id.
+    #[inline(always)]
+    fn put_front(&self, out: &mut Vec<u8>) -> Result<(), AllocError>
+        ensures { Appends (plain_front self.now.life self.now.row.now.seq self.now.row.now.id) result
+            out.old.items out.new.items }
+    {
+        let row = self.row;
+        let mut text = sequence_room(self.life);
+        let at = write_digits(row.seq, &mut text, 20);
+        out.extend_from_slice(b"{\"seq\":\"")?;
+        put_from(out, text.as_slice(), at)?;
+        out.extend_from_slice(row.id.as_str().as_bytes())?;
+        Ok(())
+    }
+
+    // Appends its revision, and what stands between the id and it.
+    #[inline(always)]
+    fn put_revision(&self, out: &mut Vec<u8>) -> Result<(), AllocError>
+        ensures { Appends (codes "\",\"changes\":[{\"rev\":" ++ quoted (text_of self.now.rev.now)) result
+            out.old.items out.new.items }
+    {
+        match self.short {
+            Some(text) => out.extend_from_slice(revision_part(text).as_slice()),
+            None => {
+                out.extend_from_slice(b"\",\"changes\":[{\"rev\":")?;
+                self.rev.print_quoted(out)?;
+                Ok(())
+            }
+        }
+    }
+
+    // Appends its document.
+    #[inline(always)]
+    fn put_doc(&self, out: &mut Vec<u8>, body: &Body) -> Result<(), AllocError>
+        ensures { Appends (doc_text (row_doc self.now.row.now body.now)) result out.old.items out.new.items }
+    {
+        match self.short {
+            Some(rev) => self.row.write_plain_doc(out, body, rev),
+            None => self.row.write_doc(out, body),
+        }
+    }
+
+    // Appends its end, behind the revision.
+    #[inline(always)]
+    fn put_end(&self, out: &mut Vec<u8>) -> Result<(), AllocError>
+        ensures { Appends (125 ∷ row_end self.now.row.now) result out.old.items out.new.items }
+    {
+        let row = self.row;
+        let Some(body) = &row.doc else {
+            return put_short_end(out, row.deleted);
+        };
+        out.extend_from_slice(doc_front(row.deleted).as_bytes())?;
+        self.put_doc(out, body)?;
+        out.extend_from_slice(b"}")?;
+        Ok(())
+    }
+
+    // Appends all of it.
+    #[inline(always)]
+    fn put(&self, out: &mut Vec<u8>) -> Result<(), AllocError>
+        ensures { Appends (change_row_text self.now.life self.now.row.now) result
+            out.old.items out.new.items }
+    {
+        self.put_front(out)?;
+        self.put_revision(out)?;
+        self.put_end(out)?;
+        Ok(())
+    }
 }
 
 impl RowText for ChangeRow {
@@ -283,13 +240,26 @@ impl RowText for ChangeRow {
     ghost end_text = { change_end_text };
 
     fn put_row(&self, out: &mut Vec<u8>, life: u64) -> Result<(), AllocError> {
-        if life >= 10 || !is_plain(self.id.as_str().as_bytes()) {
-            return put_any_row(out, life, self);
+        if life < 10 && is_plain(self.id.as_str().as_bytes()) {
+            match self.changes.lent() {
+                LentChanges::One(rev) => {
+                    let text = rev.short_text();
+                    let short = text.as_ref();
+                    let row = PlainRow {
+                        row: self,
+                        rev,
+                        short,
+                        life,
+                    };
+                    return row.put(out);
+                }
+                LentChanges::Many(_) => {}
+            }
         }
-        match self.changes.lent() {
-            LentChanges::One(rev) => put_plain_row(out, life, self, rev),
-            LentChanges::Many(_) => put_any_row(out, life, self),
-        }
+        put_row_head(out, life, self.seq, self.id.as_str())?;
+        put_changes(out, &self.changes)?;
+        put_row_end(out, self)?;
+        Ok(())
     }
 
     fn put_end(

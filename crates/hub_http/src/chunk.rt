@@ -37,25 +37,7 @@ const SIZE: usize = 16;
 /// The room for the head of a chunk: its size, CR and LF.
 const ROOM: usize = SIZE + 2;
 
-// Writes the digits of a number to the base 16 at the end of the room for them, and answers where
-// they begin.
-fn put_size(bytes: &mut [u8], number: usize) -> usize
-    requires { 16 ≤ length bytes.old }
-    ensures written { drop result bytes.new ≡ digits 16 false number ++ drop 16 bytes.old }
-    ensures start { result < 16 }
-{
-    let mut at = SIZE - 1;
-    let mut left = number;
-    while left >= 16 {
-        bytes[at] = digit(left % 16);
-        left /= 16;
-        at -= 1;
-    }
-    bytes[at] = digit(left);
-    at
-}
-
-// Writes the head of a chunk at the end of the room for it, and answers where it begins.
+// Writes the head of a chunk of so many bytes at the end of the room for it, and answers where it begins.
 fn put_head(bytes: &mut [u8], size: usize) -> usize
     requires { 18 ≤ length bytes.old }
     ensures written { drop result bytes.new ≡ digits 16 false size ++ (13 ∷ 10 ∷ drop 18 bytes.old) }
@@ -63,7 +45,15 @@ fn put_head(bytes: &mut [u8], size: usize) -> usize
 {
     bytes[SIZE + 1] = b'\n';
     bytes[SIZE] = b'\r';
-    put_size(bytes, size)
+    let mut at = SIZE - 1;
+    let mut left = size;
+    while left >= 16 {
+        bytes[at] = digit(left % 16);
+        left /= 16;
+        at -= 1;
+    }
+    bytes[at] = digit(left);
+    at
 }
 
 // Writes what stands round a text in its chunk, and answers where the chunk begins.
@@ -100,19 +90,12 @@ impl ChunkWriter {
         self.buffer.capacity() > 0
     }
 
-    /// Leaves the room for the head of a chunk in the buffer, and nothing behind it.
-    fn begin(&mut self) -> Result<(), AllocError>
-        ensures { OnOk result (length self.new.buffer.items ≡ head_room) }
-    {
-        self.buffer.resize(ROOM, b'0')
-    }
-
     /// Makes a text behind the room for the head of its chunk.
     fn put<T: Text>(&mut self, text: &T) -> Result<(), AllocError>
         ensures room { OnOk result (head_room ≤ length self.new.buffer.items) }
         ensures made { OnOk result (drop head_room self.new.buffer.items ≡ T.bytes text.now) }
     {
-        self.begin()?;
+        self.buffer.resize(ROOM, b'0')?;
         text.append(&mut self.buffer)?;
         Ok(())
     }
@@ -129,23 +112,12 @@ impl ChunkWriter {
         ensures counts { CallCounts (IsErrOf result ChunkFault.IoFault) W.fault_count
             W.failure_count writer.old writer.new }
     {
-        if self.put(text).is_err() {
+        let Ok(()) = self.put(text) else {
             return Err(ChunkFault::NoMemory);
-        }
+        };
         if self.buffer.len() <= ROOM {
             return Ok(());
         }
-        self.write_chunk(writer)
-    }
-
-    fn write_chunk<W: Output>(&mut self, writer: &mut W) -> Result<(), ChunkFault>
-        requires { head_room < length self.old.buffer.items }
-        ensures bytes { Writes (text_chunks (drop head_room self.old.buffer.items)) result
-            (W.written writer.old) (W.written writer.new) }
-        ensures memory { IsErrOf result ChunkFault.NoMemory → writer.new ≡ writer.old }
-        ensures counts { CallCounts (IsErrOf result ChunkFault.IoFault) W.fault_count
-            W.failure_count writer.old writer.new }
-    {
         let Ok(start) = close_chunk(&mut self.buffer) else {
             return Err(ChunkFault::NoMemory);
         };

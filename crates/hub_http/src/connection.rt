@@ -1,12 +1,11 @@
 //! Whether a head asks to close the connection.
-ghost use Rattle.std.specs.Prelude.{◌≡◌, length, map, All};
+ghost use Rattle.std.specs.Prelude.{◌≡◌};
 ghost use Rattle.std.specs.List.{list_any};
 ghost use Rattle.httparse.specs.Grammar.{skip_ows, trim_ows};
-ghost use Rattle.httparse.specs.Spans.{IsHeaderWithin, header_bytes};
 ghost use Rattle.hub_http.specs.Heads.{asks_close, lists_close};
 
+use crate::fields::Fields;
 use crate::head::same_word;
-use httparse::spans::HeaderSpan;
 
 /// The bytes without the spaces and tabs at their front.
 fn trimmed_start(bytes: &[u8]) -> &[u8]
@@ -40,12 +39,12 @@ fn lists_close(value: &[u8]) -> bool
 }
 
 /// Whether a `Connection` field lists `close`.
-pub(crate) fn has_close(buf: &[u8], headers: &[HeaderSpan]) -> bool
-    requires { All (IsHeaderWithin (length buf.now)) headers.now }
-    ensures { result ≡ list_any asks_close (map (header_bytes buf.now) headers.now) }
+pub(crate) fn has_close(fields: &Fields) -> bool
+    ensures { result ≡ list_any asks_close fields.now }
 {
-    for header in headers {
-        if same_word(header.name.of(buf), b"connection") && lists_close(header.value.of(buf)) {
+    for header in fields.headers {
+        let name = header.name.of(fields.buf);
+        if same_word(name, b"connection") && lists_close(header.value.of(fields.buf)) {
             return true;
         }
     }

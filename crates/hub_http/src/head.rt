@@ -1,14 +1,15 @@
 //! Heads of requests.
-ghost use Rattle.std.specs.Prelude.{◌≡◌, ◌≤◌, length, map, codes, All};
+ghost use Rattle.std.specs.Prelude.{◌≡◌, ◌≤◌, length, codes, is_some};
 ghost use Rattle.std.specs.List.{list_any};
-ghost use Rattle.httparse.specs.Spans.{IsHeaderWithin, header_bytes};
 ghost use Rattle.hub_http.specs.Heads.{same_word, is_named, asked, field_limit};
 ghost use Rattle.hub_http.specs.Looking.{Looks, LooksWithin};
 
 use crate::connection::has_close;
 use crate::fault::HttpFault;
+use crate::fields::Fields;
 use crate::length::length_of;
 use crate::method_name::MethodName;
+use crate::request::Request;
 use httparse::spans::{EMPTY_HEADER_SPAN, HeaderSpan, parse_request};
 use httparse::{Error, Status};
 use std::alloc::Global;
@@ -22,6 +23,34 @@ pub(crate) struct Head {
     pub close: bool,
     /// The length of the head.
     pub len: usize,
+}
+
+impl Head {
+    /// The request of this head, with this body.
+    pub(crate) fn with_body(self, body: Vec<u8>) -> Request
+        ensures { result ≡ record {
+          method = self.method;
+          target = self.target;
+          has_length = is_some self.length;
+          close = self.close;
+          body = body;
+        } }
+    {
+        let Head {
+            method,
+            target,
+            length,
+            close,
+            len: _,
+        } = self;
+        Request {
+            method,
+            target,
+            has_length: length.is_some(),
+            close,
+            body,
+        }
+    }
 }
 
 /// The greatest length of a head, in bytes.
@@ -42,13 +71,11 @@ pub(crate) fn same_word(a: &[u8], b: &[u8]) -> bool
 }
 
 /// Whether a field is a `Transfer-Encoding`.
-fn has_coding(buf: &[u8], headers: &[HeaderSpan]) -> bool
-    requires { All (IsHeaderWithin (length buf.now)) headers.now }
-    ensures { result ≡ list_any (is_named (codes "transfer-encoding"))
-        (map (header_bytes buf.now) headers.now) }
+fn has_coding(fields: &Fields) -> bool
+    ensures { result ≡ list_any (is_named (codes "transfer-encoding")) fields.now }
 {
-    for header in headers {
-        if same_word(header.name.of(buf), b"transfer-encoding") {
+    for header in fields.headers {
+        if same_word(header.name.of(fields.buf), b"transfer-encoding") {
             return true;
         }
     }
@@ -57,23 +84,17 @@ fn has_coding(buf: &[u8], headers: &[HeaderSpan]) -> bool
 
 /// The length that a head asks for, or its first fault.
 #[tactic(auto, unfolding(crate::specs::Heads::asked))]
-fn asked(
-    buf: &[u8],
-    minor: u8,
-    target: &[u8],
-    headers: &[HeaderSpan],
-) -> Result<Option<u64>, HttpFault>
-    requires { All (IsHeaderWithin (length buf.now)) headers.now }
-    ensures { result ≡ asked minor target.now (map (header_bytes buf.now) headers.now) }
+fn asked(minor: u8, target: &[u8], fields: &Fields) -> Result<Option<u64>, HttpFault>
+    ensures { result ≡ asked minor target.now fields.now }
 {
     if minor != 1 {
         return Err(HttpFault::Version);
     }
-    if has_coding(buf, headers) {
+    if has_coding(fields) {
         return Err(HttpFault::Coding);
     }
     match target {
-        [b'/', ..] => length_of(buf, headers),
+        [b'/', ..] => length_of(fields),
         _ => Err(HttpFault::BadHead),
     }
 }
@@ -94,9 +115,12 @@ fn look_within(
             if spans.len > HEAD_LIMIT {
                 return Err(HttpFault::HeadTooLong);
             }
-            let fields = &headers[..spans.headers];
+            let fields = Fields {
+                buf,
+                headers: &headers[..spans.headers],
+            };
             let target = spans.path.of(buf);
-            let length = match asked(buf, spans.version, target, fields) {
+            let length = match asked(spans.version, target, &fields) {
                 Ok(length) => length,
                 Err(e) => return Err(e),
             };
@@ -110,7 +134,7 @@ fn look_within(
                 method,
                 target,
                 length,
-                close: has_close(buf, fields),
+                close: has_close(&fields),
                 len: spans.len,
             }))
         }

@@ -1,5 +1,5 @@
 //! Bytes that are offered as they come, and the requests that they spell.
-ghost use Rattle.std.specs.Prelude.{◌≡◌, ◌++◌, [], true, false, Err, Ok, if◌then◌else◌, OnOk, OnErr};
+ghost use Rattle.std.specs.Prelude.{◌≡◌, ◌++◌, [], true, false, OnOk, OnErr};
 ghost use Rattle.httparse.specs.Grammar.{RequestHead};
 ghost use Rattle.hub_http.specs.Boxes.{came_to, is_over};
 ghost use Rattle.hub_http.specs.Looking.{IsHeadAt};
@@ -9,8 +9,6 @@ use crate::fault::HttpFault;
 use crate::head::{HEAD_LIMIT, Head, look};
 use crate::next::Next;
 use crate::pending::Pending;
-use crate::request::Request;
-use crate::requests::room;
 use std::alloc::{AllocError, Global};
 
 /// The bytes of a connection that came and that no request took yet. They are offered as they come, in
@@ -24,15 +22,32 @@ pub struct Inbox {
     is_over: bool,
 }
 
-/// What there is of the next request where it ends in the middle.
-fn unended(is_over: bool) -> Result<Next, HttpFault>
-    ensures { result ≡ (if is_over then Err HttpFault.Ended else Ok Next.NotYet) }
+/// The request of this head, which stands at the front of these bytes, if all of its body came.
+fn take_request(
+    alloc: Global,
+    pending: &mut Pending,
+    head: Head,
+    is_over: bool,
+) -> Result<Next, HttpFault>
+    requires { (h : RequestHead) × IsHeadAt pending.old head h }
+    ensures { LeavesSoFar is_over pending.old result pending.new }
 {
-    if is_over {
-        Err(HttpFault::Ended)
-    } else {
-        Ok(Next::NotYet)
+    let body_len = head.length.unwrap_or(0) as usize;
+    let wanted = head.len + body_len;
+    if pending.len() < wanted {
+        if is_over {
+            return Err(HttpFault::Ended);
+        }
+        return match pending.make_room(wanted) {
+            Ok(_) => Ok(Next::NotYet),
+            Err(_) => Err(HttpFault::NoMemory),
+        };
     }
+    let Ok(body) = pending.take_body(alloc, head.len, body_len) else {
+        return Err(HttpFault::NoMemory);
+    };
+    pending.release(alloc, 0);
+    Ok(Next::Whole(head.with_body(body)))
 }
 
 impl Inbox {
@@ -93,52 +108,18 @@ impl Inbox {
             };
         }
         match look(self.alloc, self.pending.as_slice()) {
-            Ok(Some(head)) => self.take_request(head),
+            Ok(Some(head)) => take_request(self.alloc, &mut self.pending, head, self.is_over),
             Ok(None) => {
                 if self.pending.len() >= HEAD_LIMIT {
                     return Err(HttpFault::HeadTooLong);
                 }
-                unended(self.is_over)
+                if self.is_over {
+                    Err(HttpFault::Ended)
+                } else {
+                    Ok(Next::NotYet)
+                }
             }
             Err(e) => Err(e),
         }
-    }
-
-    /// The request of this head, if all of its body came.
-    fn take_request(&mut self, head: Head) -> Result<Next, HttpFault>
-        requires { (h : RequestHead) × IsHeadAt (came_to self.old) head h }
-        ensures told { LeavesSoFar (is_over self.old) (came_to self.old) result (came_to self.new) }
-        ensures over { is_over self.new ≡ is_over self.old }
-    {
-        let body_len = head.length.unwrap_or(0) as usize;
-        let wanted = head.len + body_len;
-        let len = self.pending.len();
-        if len < wanted {
-            if self.is_over {
-                return Err(HttpFault::Ended);
-            }
-            return match self.pending.make_room(room(len, wanted)) {
-                Ok(()) => Ok(Next::NotYet),
-                Err(_) => Err(HttpFault::NoMemory),
-            };
-        }
-        let Ok(body) = self.pending.take_body(self.alloc, head.len, body_len) else {
-            return Err(HttpFault::NoMemory);
-        };
-        self.pending.release(self.alloc, 0);
-        let Head {
-            method,
-            target,
-            length,
-            close,
-            len: _,
-        } = head;
-        Ok(Next::Whole(Request {
-            method,
-            target,
-            has_length: length.is_some(),
-            close,
-            body,
-        }))
     }
 }

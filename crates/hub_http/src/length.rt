@@ -1,13 +1,11 @@
 //! The length of a body that a head names.
-ghost use Rattle.std.specs.Prelude.{◌≡◌, ℕ, List, ◌∷◌, length, map, codes};
-ghost use Rattle.std.specs.Prelude.{All, [], Err, MatchResult, option_copied};
-ghost use Rattle.httparse.specs.Spans.{IsHeaderWithin, header_bytes};
+ghost use Rattle.std.specs.Prelude.{◌≡◌, ℕ, List, ◌∷◌, [], codes, Err, MatchResult, option_copied};
 ghost use Rattle.hub_http.specs.Heads.{values_named, length_of};
 ghost use Rattle.hub_http.specs.Looking.{SoFar, length_in};
 
 use crate::fault::HttpFault;
+use crate::fields::Fields;
 use crate::head::same_word;
-use httparse::spans::HeaderSpan;
 
 /// The greatest length of a body, in bytes.
 const BODY_LIMIT: u64 = 8_388_608;
@@ -30,17 +28,16 @@ fn and_value<'b>(seen: Option<&'b [u8]>, value: &'b [u8]) -> Result<Option<&'b [
 }
 
 /// The value that each field of this name has, if there is one.
-fn one_value<'b>(buf: &'b [u8], headers: &[HeaderSpan]) -> Result<Option<&'b [u8]>, HttpFault>
-    requires { All (IsHeaderWithin (length buf.now)) headers.now }
-    ensures { let values = values_named (codes "content-length") (map (header_bytes buf.now) headers.now) in
+fn one_value<'b>(fields: &Fields<'b>) -> Result<Option<&'b [u8]>, HttpFault>
+    ensures { let values = values_named (codes "content-length") fields.now in
         MatchResult result (λ seen. SoFar (option_copied seen) values []) (λ e. length_of values ≡ Err e) }
 {
     let mut seen: Option<&'b [u8]> = None;
-    for header in headers {
-        if !same_word(header.name.of(buf), b"content-length") {
+    for header in fields.headers {
+        if !same_word(header.name.of(fields.buf), b"content-length") {
             continue;
         }
-        match and_value(seen, header.value.of(buf)) {
+        match and_value(seen, header.value.of(fields.buf)) {
             Ok(both) => seen = both,
             Err(e) => return Err(e),
         }
@@ -70,12 +67,10 @@ fn length_in(digits: &[u8]) -> Result<u64, HttpFault>
 }
 
 /// The length that the fields give.
-pub(crate) fn length_of(buf: &[u8], headers: &[HeaderSpan]) -> Result<Option<u64>, HttpFault>
-    requires { All (IsHeaderWithin (length buf.now)) headers.now }
-    ensures { result ≡ length_of (values_named (codes "content-length")
-        (map (header_bytes buf.now) headers.now)) }
+pub(crate) fn length_of(fields: &Fields) -> Result<Option<u64>, HttpFault>
+    ensures { result ≡ length_of (values_named (codes "content-length") fields.now) }
 {
-    match one_value(buf, headers)? {
+    match one_value(fields)? {
         None => Ok(None),
         Some(value) => match length_in(value) {
             Ok(n) => Ok(Some(n)),

@@ -1,9 +1,10 @@
 //! Texts that are to go.
 ghost use Rattle.std.specs.Prelude.{◌≡◌, ◌<◌, ◌≤◌, ◌++◌, ℕ, List, [], length, drop};
-ghost use Rattle.std.specs.Prelude.{Some, IfOk, IsTrue, IsFalse, OnOk, OnErr};
+ghost use Rattle.std.specs.Prelude.{Some, IfOk, IsTrue, IsFalse};
+ghost use Rattle.hub_document.specs.Appends.{AppendsWhole};
 ghost use Rattle.hub_http.specs.Boxes.{Hands, pending_in, faults_in};
 
-use crate::output::{Output, is_interrupted};
+use crate::output::Output;
 use crate::pending::Pending;
 use crate::tally::bump;
 use std::alloc::{AllocError, Global};
@@ -38,11 +39,6 @@ pub struct Outbox {
     failures: u64,
 }
 
-/// Whether a write that answered this error may be made again, now or later.
-fn may_try_again(error: &io::Error) -> bool {
-    is_interrupted(error) || matches!(error.kind(), ErrorKind::WouldBlock)
-}
-
 impl Outbox {
     /// Nothing is to go.
     pub fn new(alloc: Global) -> Result<Outbox, AllocError>
@@ -63,7 +59,7 @@ impl Outbox {
         ensures empty { IsTrue result → pending_in self.now ≡ [] }
         ensures some { IsFalse result → 0 < length (pending_in self.now) }
     {
-        self.texts.is_empty() && self.moved.is_empty()
+        !self.holds(1)
     }
 
     /// Whether at least so many bytes are to go.
@@ -130,20 +126,16 @@ impl Outbox {
                 self.sent(n);
                 Handed::Took(n)
             }
-            Err(e) => {
-                if may_try_again(&e) {
-                    Handed::Again
-                } else {
-                    Handed::Refused
-                }
-            }
+            Err(e) => match e.kind() {
+                ErrorKind::Interrupted | ErrorKind::WouldBlock => Handed::Again,
+                _ => Handed::Refused,
+            },
         }
     }
 
     /// Puts bytes behind those that are to go. An error changes nothing.
     fn put(&mut self, bytes: &[u8]) -> Result<(), AllocError>
-        ensures ok { OnOk result (pending_in self.new ≡ pending_in self.old ++ bytes.now) }
-        ensures err { OnErr result (pending_in self.new ≡ pending_in self.old) }
+        ensures put { AppendsWhole bytes.now result (pending_in self.old) (pending_in self.new) }
         ensures faults { self.new.faults ≡ self.old.faults }
         ensures failures { self.new.failures ≡ self.old.failures }
     {

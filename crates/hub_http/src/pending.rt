@@ -1,14 +1,51 @@
 //! Bytes that are taken from their front.
-ghost use Rattle.std.specs.Prelude.{◌≡◌, ◌<◌, ◌≤◌, ◌+◌, ◌++◌, [], length, take};
-ghost use Rattle.std.specs.Prelude.{drop, IfOk, IsTrue, IsFalse, OnOk, OnErr};
+ghost use Rattle.std.specs.Prelude.{◌≡◌, ◌<◌, ◌≤◌, ◌+◌, [], length, take, drop};
+ghost use Rattle.std.specs.Prelude.{min, max, IfOk, IsTrue, IsFalse, OnErr};
+ghost use Rattle.hub_document.specs.Appends.{AppendsWhole};
 
 use crate::block::BLOCK;
-use crate::requests::{copy_of, split_body};
 use std::alloc::{AllocError, Global};
 use std::marker::Model;
+use std::mem;
 
 /// The most room that is kept where no byte is left.
 const KEPT: usize = 1_024;
+
+/// The room that is made at once for bytes that did not come yet.
+const FIRST_ROOM: usize = 65_536;
+
+/// A copy of the bytes. It takes memory where there are some.
+fn copy_of(alloc: Global, bytes: &[u8]) -> Result<Vec<u8>, AllocError>
+    ensures ok { IfOk result (λ copy. copy.items ≡ bytes.now) }
+    ensures err { OnErr result (0 < length bytes.now) }
+{
+    if bytes.is_empty() {
+        return Ok(Vec::new(alloc));
+    }
+    Vec::from_slice(alloc, bytes)
+}
+
+/// Makes the held bytes the body, and holds on to those behind it. An error changes nothing.
+/// It moves the body once and copies the bytes behind it.
+fn split_body(
+    alloc: Global,
+    held: &mut Vec<u8>,
+    len: usize,
+    body: usize,
+) -> Result<Vec<u8>, AllocError>
+    requires { len + body ≤ length held.old.items }
+    ensures ok { IfOk result (λ v. (v.items ≡ take body (drop len held.old.items))
+        × (held.new.items ≡ drop (len + body) held.old.items)) }
+    ensures err { OnErr result ((held.new.items ≡ held.old.items)
+        × (len + body < length held.old.items)) }
+{
+    let end = len + body;
+    let rest = copy_of(alloc, &held[end..])?;
+    let mut bytes = mem::replace(held, rest);
+    bytes.copy_within(len..end, 0);
+    bytes.truncate(body);
+    Ok(bytes)
+}
 
 /// Bytes that are taken from their front, in order, and come at their end.
 #[derive(Drop)]
@@ -58,33 +95,38 @@ impl Pending {
         self.len() == 0
     }
 
-    /// Moves the bytes that are left over those that are taken, where these are at least as many.
-    fn compact(&mut self)
-        ensures { self.new ≡ self.old }
+    /// Moves the bytes that are left over those that are taken, where these are at least as many, and answers
+    /// how many are left.
+    fn compact(&mut self) -> usize
+        ensures { (self.new ≡ self.old) × (result ≡ length self.old) }
     {
-        if self.start >= self.bytes.len() - self.start {
+        let len = self.bytes.len() - self.start;
+        if self.start >= len {
             self.bytes.copy_within(self.start.., 0);
-            self.bytes.truncate(self.bytes.len() - self.start);
+            self.bytes.truncate(len);
             self.start = 0;
         }
+        len
     }
 
     /// Puts bytes behind those that are left. An error changes nothing.
     pub(crate) fn put(&mut self, bytes: &[u8]) -> Result<(), AllocError>
-        ensures ok { OnOk result (self.new ≡ self.old ++ bytes.now) }
-        ensures err { OnErr result (self.new ≡ self.old) }
+        ensures { AppendsWhole bytes.now result self.old self.new }
     {
         self.compact();
         self.bytes.extend_from_slice(bytes)
     }
 
-    /// Makes room, so that so many bytes may be left. It changes none.
-    pub(crate) fn make_room(&mut self, count: usize) -> Result<(), AllocError>
-        ensures { self.new ≡ self.old }
+    /// Makes room for bytes of which so many are wanted, and answers how many may then be left: as many again
+    /// as are left, 65,536 more at least, and never more than are wanted. It changes none.
+    pub(crate) fn make_room(&mut self, wanted: usize) -> Result<usize, AllocError>
+        ensures { (self.new ≡ self.old) × IfOk result (λ room. room
+            ≡ min wanted (length self.old + max (length self.old) 65536)) }
     {
-        self.compact();
-        let len = self.len();
-        self.bytes.reserve_exact(count.saturating_sub(len))
+        let len = self.compact();
+        let room = wanted.min(len.saturating_add(len.max(FIRST_ROOM)));
+        self.bytes.reserve_exact(room.saturating_sub(len))?;
+        Ok(room)
     }
 
     /// Takes so many bytes from the front.
@@ -112,15 +154,11 @@ impl Pending {
     {
         let from = self.start + before;
         if count > BLOCK {
-            let Ok(body) = split_body(alloc, &mut self.bytes, from, count) else {
-                return Err(AllocError);
-            };
+            let body = split_body(alloc, &mut self.bytes, from, count)?;
             self.start = 0;
             return Ok(body);
         }
-        let Ok(body) = copy_of(alloc, &self.bytes[from..from + count]) else {
-            return Err(AllocError);
-        };
+        let body = copy_of(alloc, &self.bytes[from..from + count])?;
         self.start = from + count;
         Ok(body)
     }

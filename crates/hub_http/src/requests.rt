@@ -1,14 +1,12 @@
 //! The requests that a reader's bytes spell.
-ghost use Rattle.std.specs.Prelude.{◌≡◌, ◌<◌, ◌≤◌, ◌+◌, ℕ, List, ◌++◌, length, min, max};
-ghost use Rattle.std.specs.Prelude.{take, drop, IfOk, IfErr, IfSome, OnOk, IsErrOf};
-ghost use Rattle.std.specs.Io.KnownBytes.{Keeps, prepend_known};
+ghost use Rattle.std.specs.Prelude.{◌≡◌, ◌<◌, ◌≤◌, ◌⊎◌, ℕ, List, ◌++◌, length};
+ghost use Rattle.std.specs.Prelude.{Err, IfOk, IfErr, IfSome, OnOk, IsErrOf, IsTrue, IsFalse};
+ghost use Rattle.std.specs.Io.KnownBytes.{Keeps, IsAtEnd};
 ghost use Rattle.hub_http.specs.Counts.{CallCounts};
-ghost use Rattle.hub_http.specs.Fills.{Fills};
-ghost use Rattle.hub_http.specs.Stream.{Asked, Leaves, Spells, known, to_read};
+ghost use Rattle.hub_http.specs.Stream.{Asked, Leaves, Spells, to_read};
 ghost use Rattle.hub_http.specs.Exclusions.{SpelledHasNoFault, NothingSpellsNothing};
 ghost use Rattle.hub_http.specs.Exclusions.{NothingHasNoFault, HeadHasOneFault, HeadFaultIsNamed};
 ghost use Rattle.hub_http.specs.Exclusions.{WholeHeadHasOneFault, OtherFaultsAreOpen};
-ghost use Rattle.hub_http.specs.Looking.{Finds};
 ghost use Rattle.hub_http.specs.Heads.{HasHeadFault};
 ghost use Rattle.hub_http.specs.Offers.{SpellsAll};
 
@@ -17,187 +15,8 @@ use crate::fault::HttpFault;
 use crate::head::{HEAD_LIMIT, Head, look};
 use crate::input::Input;
 use crate::pending::Pending;
-use crate::read::read_more;
 use crate::request::Request;
 use std::alloc::Global;
-use std::mem;
-
-/// Reads until a whole head is there, `None` at an end before it.
-fn find_head<R: Input>(
-    alloc: Global,
-    reader: &mut R,
-    block: &mut Block,
-    held: &mut Pending,
-) -> Result<Option<Head>, HttpFault>
-    ensures kept { Keeps (prepend_known held.old (to_read block.old (R.left reader.old)))
-        (prepend_known held.new (to_read block.new (R.left reader.new))) }
-    ensures found { Finds held.new (to_read block.new (R.left reader.new)) result }
-    ensures counts { CallCounts (IsErrOf result HttpFault.IoFault) R.fault_count
-        R.failure_count reader.old reader.new }
-{
-    loop {
-        match look(alloc, held.as_slice()) {
-            Ok(Some(head)) => return Ok(Some(head)),
-            Ok(None) => {}
-            Err(e) => return Err(e),
-        }
-        if held.len() >= HEAD_LIMIT {
-            return Err(HttpFault::HeadTooLong);
-        }
-        match read_more(reader, block, held, HEAD_LIMIT - held.len()) {
-            Ok(0) => {
-                if held.is_empty() {
-                    return Ok(None);
-                }
-                return Err(HttpFault::Ended);
-            }
-            Ok(_) => {}
-            Err(e) => return Err(e),
-        }
-    }
-}
-
-/// The room that is made at once for bytes that did not come yet.
-const FIRST_ROOM: usize = 65_536;
-
-/// To how many bytes what is held may grow, where so many are held: by as many again, by 65,536 at
-/// least, and never past those that are wanted.
-pub(crate) fn room(held: usize, wanted: usize) -> usize
-    ensures { result ≡ min wanted (held + max held 65536) }
-{
-    wanted.min(held.saturating_add(held.max(FIRST_ROOM)))
-}
-
-/// Makes room for so many bytes and reads until they are held, and answers whether they came.
-fn fill_room<R: Input>(
-    reader: &mut R,
-    block: &mut Block,
-    held: &mut Pending,
-    wanted: usize,
-) -> Result<bool, HttpFault>
-    ensures filled { Fills wanted result held.old held.new
-        (to_read block.old (R.left reader.old)) (to_read block.new (R.left reader.new)) }
-    ensures counts { CallCounts (IsErrOf result HttpFault.IoFault) R.fault_count
-        R.failure_count reader.old reader.new }
-{
-    if held.make_room(wanted).is_err() {
-        return Err(HttpFault::NoMemory);
-    }
-    while held.len() < wanted {
-        match read_more(reader, block, held, wanted - held.len()) {
-            Ok(0) => return Ok(false),
-            Ok(_) => {}
-            Err(e) => return Err(e),
-        }
-    }
-    Ok(true)
-}
-
-/// Reads until so many bytes are held, and answers whether they came. The room for them grows with
-/// those that came.
-fn fill<R: Input>(
-    reader: &mut R,
-    block: &mut Block,
-    held: &mut Pending,
-    wanted: usize,
-) -> Result<bool, HttpFault>
-    ensures filled { Fills wanted result held.old held.new
-        (to_read block.old (R.left reader.old)) (to_read block.new (R.left reader.new)) }
-    ensures counts { CallCounts (IsErrOf result HttpFault.IoFault) R.fault_count
-        R.failure_count reader.old reader.new }
-{
-    while held.len() < wanted {
-        let goal = room(held.len(), wanted);
-        match fill_room(reader, block, held, goal) {
-            Ok(true) => {}
-            Ok(false) => return Ok(false),
-            Err(e) => return Err(e),
-        }
-    }
-    Ok(true)
-}
-
-/// A copy of the bytes. It takes memory where there are some.
-pub(crate) fn copy_of(alloc: Global, bytes: &[u8]) -> Result<Vec<u8>, HttpFault>
-    ensures ok { IfOk result (λ copy. copy.items ≡ bytes.now) }
-    ensures err { IfErr result (λ e. (e ≡ HttpFault.NoMemory) × (0 < length bytes.now)) }
-{
-    if bytes.is_empty() {
-        return Ok(Vec::new(alloc));
-    }
-    match Vec::from_slice(alloc, bytes) {
-        Ok(copy) => Ok(copy),
-        Err(_) => Err(HttpFault::NoMemory),
-    }
-}
-
-/// Makes the held bytes the body, and holds on to those behind it. An error changes nothing.
-/// It moves the body once and copies the bytes behind it.
-pub(crate) fn split_body(
-    alloc: Global,
-    held: &mut Vec<u8>,
-    len: usize,
-    body: usize,
-) -> Result<Vec<u8>, HttpFault>
-    requires { len + body ≤ length held.old.items }
-    ensures ok { IfOk result (λ v. (v.items ≡ take body (drop len held.old.items))
-        × (held.new.items ≡ drop (len + body) held.old.items)) }
-    ensures err { IfErr result (λ e. (e ≡ HttpFault.NoMemory) × (held.new.items ≡ held.old.items)
-        × (len + body < length held.old.items)) }
-{
-    let end = len + body;
-    let rest = match copy_of(alloc, &held[end..]) {
-        Ok(rest) => rest,
-        Err(e) => return Err(e),
-    };
-    let mut bytes = mem::replace(held, rest);
-    bytes.copy_within(len..end, 0);
-    bytes.truncate(body);
-    Ok(bytes)
-}
-
-/// Reads the next request, `None` at the end of the input.
-fn read_request<R: Input>(
-    alloc: Global,
-    reader: &mut R,
-    block: &mut Block,
-    held: &mut Pending,
-) -> Result<Option<Request>, HttpFault>
-    ensures told { IfSome (known held.old (to_read block.old (R.left reader.old)))
-        (λ bytes. Leaves bytes result (known held.new (to_read block.new (R.left reader.new)))) }
-    ensures counts { CallCounts (IsErrOf result HttpFault.IoFault) R.fault_count
-        R.failure_count reader.old reader.new }
-{
-    let head = match find_head(alloc, reader, block, held) {
-        Ok(Some(head)) => head,
-        Ok(None) => return Ok(None),
-        Err(e) => return Err(e),
-    };
-    let body_len = head.length.unwrap_or(0) as usize;
-    match fill(reader, block, held, head.len + body_len) {
-        Ok(true) => {}
-        Ok(false) => return Err(HttpFault::Ended),
-        Err(e) => return Err(e),
-    }
-    let body = match held.take_body(alloc, head.len, body_len) {
-        Ok(body) => body,
-        Err(_) => return Err(HttpFault::NoMemory),
-    };
-    let Head {
-        method,
-        target,
-        length,
-        close,
-        len: _,
-    } = head;
-    Ok(Some(Request {
-        method,
-        target,
-        has_length: length.is_some(),
-        close,
-        body,
-    }))
-}
 
 /// The requests of a reader, one after the other, as on a persistent connection (RFC 9112,
 /// section 9.3.2: requests may come before earlier ones are answered).
@@ -214,6 +33,7 @@ pub struct Requests<R> {
 
 impl<R: Input> Requests<R> {
     ghost use Rattle.hub_http.specs.Words.{to_come, IsOpen, HasEnded, faults_of, failures_of, reader_of};
+    ghost use Rattle.hub_http.specs.Readings.{RequestReading, HeadReading, Filling};
 
     /// Nothing is read yet.
     pub fn new(alloc: Global, reader: R) -> Requests<R>
@@ -271,18 +91,112 @@ impl<R: Input> Requests<R> {
         if self.ended {
             return Err(HttpFault::Ended);
         }
-        match read_request(
-            self.alloc,
-            &mut self.reader,
-            &mut self.block,
-            &mut self.held,
-        ) {
+        match self.read_request() {
             Ok(request) => Ok(request),
             Err(HttpFault::NoMemory) => Err(HttpFault::NoMemory),
             Err(e) => {
                 self.ended = true;
                 Err(e)
             }
+        }
+    }
+
+    /// Reads the next request, `None` at the end of the input.
+    fn read_request(&mut self) -> Result<Option<Request>, HttpFault>
+        ensures { RequestReading R.left R.fault_count R.failure_count result self.old self.new }
+    {
+        let head = match self.find_head() {
+            Ok(Some(head)) => head,
+            Ok(None) => return Ok(None),
+            Err(e) => return Err(e),
+        };
+        let body_len = head.length.unwrap_or(0) as usize;
+        match self.fill(head.len + body_len) {
+            Ok(true) => {}
+            Ok(false) => return Err(HttpFault::Ended),
+            Err(e) => return Err(e),
+        }
+        match self.held.take_body(self.alloc, head.len, body_len) {
+            Ok(body) => Ok(Some(head.with_body(body))),
+            Err(_) => Err(HttpFault::NoMemory),
+        }
+    }
+
+    /// Reads until a whole head is there, `None` at an end before it.
+    fn find_head(&mut self) -> Result<Option<Head>, HttpFault>
+        ensures { HeadReading R.left R.fault_count R.failure_count result self.old self.new }
+    {
+        loop {
+            match look(self.alloc, self.held.as_slice()) {
+                Ok(Some(head)) => return Ok(Some(head)),
+                Ok(None) => {}
+                Err(e) => return Err(e),
+            }
+            if self.held.len() >= HEAD_LIMIT {
+                return Err(HttpFault::HeadTooLong);
+            }
+            match self.read_more(HEAD_LIMIT) {
+                Ok(true) => {}
+                Ok(false) => {
+                    if self.held.is_empty() {
+                        return Ok(None);
+                    }
+                    return Err(HttpFault::Ended);
+                }
+                Err(e) => return Err(e),
+            }
+        }
+    }
+
+    /// Reads until so many bytes are held, and answers whether they came. The room for them grows with
+    /// those that came.
+    fn fill(&mut self, wanted: usize) -> Result<bool, HttpFault>
+        ensures { Filling R.left R.fault_count R.failure_count wanted result self.old self.new }
+    {
+        let mut room = 0;
+        while self.held.len() < wanted {
+            if self.held.len() >= room {
+                match self.held.make_room(wanted) {
+                    Ok(more) => room = more,
+                    Err(_) => return Err(HttpFault::NoMemory),
+                }
+            }
+            match self.read_more(room) {
+                Ok(true) => {}
+                Ok(false) => return Ok(false),
+                Err(e) => return Err(e),
+            }
+        }
+        Ok(true)
+    }
+
+    /// Reads some more bytes to the end of those that are held, until at most so many are, and answers
+    /// whether some came: none come only at the end of the input. Where they find no memory they stay in
+    /// the block, and the same call made again takes them from there. Cost: one read of at most 4,096
+    /// bytes and a copy of what came; where there is room for so many no memory is taken.
+    fn read_more(&mut self, most: usize) -> Result<bool, HttpFault>
+        requires { length self.old.held < most }
+        ensures kept { Keeps (to_come R.left self.old) (to_come R.left self.new) }
+        ensures grown { (more : List ℕ) × (self.new.held ≡ self.old.held ++ more) }
+        ensures most { length self.new.held ≤ most }
+        ensures some { IfOk result (λ some. IsTrue some → length self.old.held < length self.new.held) }
+        ensures end { IfOk result (λ some. IsFalse some → (self.new.held ≡ self.old.held)
+            × IsAtEnd (to_read self.new.block (R.left self.new.reader))) }
+        ensures err { IfErr result (λ e. ((e ≡ HttpFault.NoMemory) ⊎ (e ≡ HttpFault.IoFault))
+            × (self.new.held ≡ self.old.held)) }
+        ensures memory { result ≡ Err HttpFault.NoMemory → 0 < length self.new.block }
+        ensures ended { self.new.ended ≡ self.old.ended }
+        ensures counts { CallCounts (IsErrOf result HttpFault.IoFault) R.fault_count R.failure_count
+            self.old.reader self.new.reader }
+    {
+        let most = most - self.held.len();
+        match self.block.refill(&mut self.reader, most) {
+            Ok(()) => {}
+            Err(e) => return Err(e),
+        }
+        match self.block.give(&mut self.held, most) {
+            Ok(n) => Ok(n > 0),
+            Err(_) => Err(HttpFault::NoMemory),
         }
     }
 }

@@ -6,5 +6,7 @@ use Rattle.hub_http.proofs.connection.has_close.Given as goal
 
 abbrev pub invariant-loop-header : goal.invariant-loop-header
 invariant-loop-header l =
-    list_any asks_close (map (header_bytes l.buf) l.headers)
-    ≡ list_any asks_close (map (header_bytes l.buf) (drop l.header-index l.headers))
+    let buf = l.fields-inside.buf.now in
+    let headers = l.fields-inside.headers.now in
+    list_any asks_close (map (header_bytes buf) headers)
+    ≡ list_any asks_close (map (header_bytes buf) (drop l.header-index headers))

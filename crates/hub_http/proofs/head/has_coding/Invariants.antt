@@ -6,6 +6,8 @@ use Rattle.hub_http.proofs.head.has_coding.Given as goal
 
 abbrev pub invariant-loop-header : goal.invariant-loop-header
 invariant-loop-header l =
-    list_any (is_named (codes "transfer-encoding")) (map (header_bytes l.buf) l.headers)
+    let buf = l.fields-inside.buf.now in
+    let headers = l.fields-inside.headers.now in
+    list_any (is_named (codes "transfer-encoding")) (map (header_bytes buf) headers)
     ≡ list_any (is_named (codes "transfer-encoding"))
-    (map (header_bytes l.buf) (drop l.header-index l.headers))
+    (map (header_bytes buf) (drop l.header-index headers))

@@ -6,22 +6,23 @@ pub loop-header-preserved-then-not-same_word : goal.loop-header-preserved-then-n
 loop-header-preserved-then-not-same_word c =
     let named = rw c.of.ensures at c.same_word.ensures in
     let step =
-    values_skip (codes "content-length") c.args.buf.now c.args.headers.now c.loop-header.header-index
-    _ c.loop-header-test.true (sym named ∙ c.if-not-same_word.true) in
+    values_skip (codes "content-length") c.fields.inside.buf.now c.fields.inside.headers.now
+    c.loop-header.header-index _ c.loop-header-test.true (sym named ∙ c.if-not-same_word.true) in
     rw step at c.loop-header.invariant
 
 pub returns-in-Err : goal.returns-in-Err
 returns-in-Err c =
     let named = rw c.of.ensures at c.same_word.ensures in
     let step =
-    values_take (codes "content-length") c.args.buf.now c.args.headers.now c.loop-header.header-index
-    _ c.loop-header-test.true (sym named ∙ c.if-not-same_word.false) in
-    c.in-Err.ensures _ _ (rw (← c.of-in-loop-header.ensures) at (rw step at c.loop-header.invariant))
+    values_take (codes "content-length") c.fields.inside.buf.now c.fields.inside.headers.now
+    c.loop-header.header-index _ c.loop-header-test.true (sym named ∙ c.if-not-same_word.false) in
+    rw (← c.fields.view_is)
+    (c.in-Err.ensures _ _ (rw (← c.of-in-loop-header.ensures) at (rw step at c.loop-header.invariant)))
 
 pub loop-header-preserved : goal.loop-header-preserved
 loop-header-preserved c =
     let named = rw c.of.ensures at c.same_word.ensures in
     let step =
-    values_take (codes "content-length") c.args.buf.now c.args.headers.now c.loop-header.header-index
-    _ c.loop-header-test.true (sym named ∙ c.if-not-same_word.false) in
+    values_take (codes "content-length") c.fields.inside.buf.now c.fields.inside.headers.now
+    c.loop-header.header-index _ c.loop-header-test.true (sym named ∙ c.if-not-same_word.false) in
     c.in-Ok.ensures _ _ (rw (← c.of-in-loop-header.ensures) at (rw step at c.loop-header.invariant))

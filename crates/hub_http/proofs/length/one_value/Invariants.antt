@@ -6,6 +6,7 @@ use Rattle.hub_http.specs.Looking.{SoFar}
 
 abbrev pub invariant-loop-header : goal.invariant-loop-header
 invariant-loop-header l =
-    SoFar (option_copied l.seen)
-    (values_named (codes "content-length") (map (header_bytes l.buf) l.headers))
-    (values_named (codes "content-length") (map (header_bytes l.buf) (drop l.header-index l.headers)))
+    let buf = l.fields-inside.buf.now in
+    let headers = l.fields-inside.headers.now in
+    SoFar (option_copied l.seen) (values_named (codes "content-length") (map (header_bytes buf) headers))
+    (values_named (codes "content-length") (map (header_bytes buf) (drop l.header-index headers)))
