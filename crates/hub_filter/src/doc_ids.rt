@@ -56,7 +56,7 @@ impl DocIds {
     pub fn as_slice(&self) -> &[String]
         ensures { map string_bytes result.now ≡ self.now }
     {
-        self.sorted.as_slice()
+        &self.sorted
     }
 
     /// A copy. It costs the length of the ids, and takes no memory where none is listed.

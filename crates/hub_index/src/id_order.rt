@@ -3,7 +3,7 @@
 ghost use Rattle.std.specs.Prelude.{◌≡◌, ℕ, List, [], ◌++◌, ◌∷◌, length, None, OnOk, OnErr};
 ghost use Rattle.hub_index.specs.Order.{IsOrder, id_at, number_in, with_number};
 
-use crate::id_pages::{number_of, page_at, place_in, push_page, put};
+use crate::id_pages::{page_at, place_in, push_page, put};
 use std::alloc::{AllocError, Global};
 use std::marker::Model;
 
@@ -64,7 +64,14 @@ impl IdOrder {
         let page = page_at(names, self.pages.as_slice(), id);
         let numbers = self.pages.get(page)?;
         let is_last = page + 1 == self.pages.len();
-        number_of(names, numbers.as_slice(), id, is_last)
+        let list = numbers.as_slice();
+        let at = place_in(names, list, id, is_last);
+        let number = *list.get(at)?;
+        if names.id(number) == id {
+            Some(number)
+        } else {
+            None
+        }
     }
 
     /// Takes in a number of a new id: the next after those that have ids, whose own id joins them

@@ -5,7 +5,7 @@ ghost use Rattle.std.specs.Prelude.{true, take, drop, slice_get, IsSomeAnd, OnOk
 ghost use Rattle.std.specs.List.{All, insert};
 ghost use Rattle.std.specs.Ordering.{is_gt};
 ghost use Rattle.hub_index.specs.Order.{IsNumberPage, IsOrder, PutsAt, begins_up_to, id_cmp};
-ghost use Rattle.hub_index.specs.Order.{lies_below, number_in, numbers_of, place_of};
+ghost use Rattle.hub_index.specs.Order.{lies_below, numbers_of, place_of};
 
 use crate::id_order::Named;
 use std::alloc::{AllocError, Global};
@@ -66,25 +66,6 @@ pub(crate) fn place_in<N: Named>(names: &N, numbers: &[u32], id: &str, is_last: 
         return count;
     }
     numbers.partition_point(|number| names.id(*number).cmp(id).is_lt())
-}
-
-/// The number of an id on a page. It compares ids as `place_in`, and one more.
-pub(crate) fn number_of<N: Named>(
-    names: &N,
-    numbers: &[u32],
-    id: &str,
-    is_last: bool,
-) -> Option<u32>
-    requires order { IsOrder (N.ids names.now) numbers.now }
-    ensures { result ≡ number_in (N.ids names.now) numbers.now id.now }
-{
-    let at = place_in(names, numbers, id, is_last);
-    let number = *numbers.get(at)?;
-    if names.id(number) == id {
-        Some(number)
-    } else {
-        None
-    }
 }
 
 /// A page behind all, with this number alone.

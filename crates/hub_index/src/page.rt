@@ -86,26 +86,18 @@ impl Page {
         self.live
     }
 
-    /// Puts a document into a slot.
-    pub(crate) fn fill(&mut self, at: usize, document: u32)
+    /// Puts a document into a slot, or empties it.
+    pub(crate) fn put(&mut self, at: usize, document: Option<u32>)
         requires { at < length self.old }
-        ensures { self.new ≡ set self.old at (Some document) }
-    {
-        if self.slots[at].is_none() {
-            self.live += 1;
-        }
-        self.slots[at] = Some(document);
-    }
-
-    /// Empties a slot.
-    pub(crate) fn clear(&mut self, at: usize)
-        requires { at < length self.old }
-        ensures { self.new ≡ set self.old at None }
+        ensures { self.new ≡ set self.old at document }
     {
         if self.slots[at].is_some() {
             self.live -= 1;
         }
-        self.slots[at] = None;
+        if document.is_some() {
+            self.live += 1;
+        }
+        self.slots[at] = document;
     }
 
     /// The first row above a place, of the page of this number. It looks at slots from the place on.

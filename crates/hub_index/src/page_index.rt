@@ -1,14 +1,14 @@
 //! Rows in pages.
 
 ghost use Rattle.std.specs.Prelude.{◌≡◌, ℕ, ◌+◌, ◌*◌, ◌<◌, ◌≤◌, ◌++◌, ◌∷◌, [], length};
-ghost use Rattle.std.specs.Prelude.{nat_eq, nat_lt, not, find, filter, reverse, count_by};
+ghost use Rattle.std.specs.Prelude.{nat_eq, nat_lt, not, find, filter};
 ghost use Rattle.std.specs.Prelude.{slice_get, IfSome, IsSomeAnd, OnOk, OnErr, IfOk};
 ghost use Rattle.std.specs.List.{All, AllPairs};
 ghost use Rattle.std.specs.List.Sorted.{IsPartitionPoint};
 ghost use Rattle.std.specs.Map.{remove_entry};
 ghost use Rattle.std.specs.BTreeMap.{is_at};
 ghost use Rattle.std.specs.Ordering.{nat_cmp};
-ghost use Rattle.hub_index.specs.Pages.{AreLaid, ArePages, IsPage, rows_of, page_count};
+ghost use Rattle.hub_index.specs.Pages.{AreLaid, IsPage, rows_of, page_count};
 
 use crate::SeqIndex;
 use crate::page::{PAGE_SIZE, Page};
@@ -43,13 +43,11 @@ impl Model for PageIndex {
     ghost invariant = { λ a. ArePages a.pages.items };
 }
 
-// The page of a sequence, and its slot there.
-fn slot_of(seq: u64) -> (u64, usize)
-    requires { 0 < seq }
-    ensures seq { 256 * result.0 + result.1 + 1 ≡ seq }
+// The page of the sequence behind this one, and its slot there.
+fn slot_of(before: u64) -> (u64, usize)
+    ensures before { 256 * result.0 + result.1 ≡ before }
     ensures slot { result.1 < 256 }
 {
-    let before = seq - 1;
     (before / PAGE_SIZE, (before % PAGE_SIZE) as usize)
 }
 
@@ -95,14 +93,14 @@ fn add_row(
     ensures rising { OnOk result (AllPairs (λ a b. a.0 < b.0) pages.new.items) }
     ensures err { OnErr result (pages.new.items ≡ pages.old.items) }
 {
-    let (number, slot) = slot_of(seq);
+    let (number, slot) = slot_of(seq - 1);
     let end = pages.len();
     if end > 0 && pages[end - 1].0 == number {
-        pages[end - 1].1.fill(slot, document);
+        pages[end - 1].1.put(slot, Some(document));
         return Ok(());
     }
     let mut page = Page::new(alloc)?;
-    page.fill(slot, document);
+    page.put(slot, Some(document));
     pages.push((number, page))?;
     Ok(())
 }
@@ -116,13 +114,13 @@ fn remove_row(pages: &mut Vec<(u64, Page)>, seq: u64)
     ensures pages { All IsPage pages.new.items }
     ensures rising { AllPairs (λ a b. a.0 < b.0) pages.new.items }
 {
-    let (number, slot) = slot_of(seq);
+    let (number, slot) = slot_of(seq - 1);
     let at = place_of(pages.as_slice(), number);
     if at == pages.len() || pages[at].0 != number {
         return;
     }
     let page = &mut pages[at].1;
-    page.clear(slot);
+    page.put(slot, None);
     if page.live() == 0 {
         pages.remove(at);
     }
@@ -140,35 +138,6 @@ fn row_after(pages: &[(u64, Page)], place: u64) -> Option<(u64, u32)>
         }
     }
     None
-}
-
-// The last row below a place.
-fn row_before(pages: &[(u64, Page)], place: u64) -> Option<(u64, u32)>
-    requires { AreLaid pages.now }
-    ensures { result ≡ find (λ r. nat_lt r.0 place) (reverse (rows_of pages.now)) }
-{
-    let mut at = place_of(pages, place / PAGE_SIZE + 1);
-    while at > 0 {
-        at -= 1;
-        let (number, page) = &pages[at];
-        if let Some(row) = page.last_before(*number, place) {
-            return Some(row);
-        }
-    }
-    None
-}
-
-// How many rows lie above a place.
-fn rows_above(pages: &[(u64, Page)], place: u64) -> u64
-    requires { ArePages pages.now }
-    ensures { result ≡ count_by (λ r. nat_lt place r.0) (rows_of pages.now) }
-{
-    let mut count = 0;
-    for at in place_of(pages, place / PAGE_SIZE)..pages.len() {
-        let (number, page) = &pages[at];
-        count += page.count_after(*number, place);
-    }
-    count
 }
 
 impl PageIndex {
@@ -226,12 +195,27 @@ impl SeqIndex for PageIndex {
 
     /// As `next_after`.
     fn last_before(&self, place: u64) -> Option<(u64, u32)> {
-        row_before(self.pages.as_slice(), place)
+        let pages = self.pages.as_slice();
+        let mut at = place_of(pages, place / PAGE_SIZE + 1);
+        while at > 0 {
+            at -= 1;
+            let (number, page) = &pages[at];
+            if let Some(row) = page.last_before(*number, place) {
+                return Some(row);
+            }
+        }
+        None
     }
 
     /// It goes over the pages above the place, after a search for the first, and looks at the slots of
     /// one page.
     fn count_after(&self, place: u64) -> u64 {
-        rows_above(self.pages.as_slice(), place)
+        let pages = self.pages.as_slice();
+        let mut count = 0;
+        for at in place_of(pages, place / PAGE_SIZE)..pages.len() {
+            let (number, page) = &pages[at];
+            count += page.count_after(*number, place);
+        }
+        count
     }
 }

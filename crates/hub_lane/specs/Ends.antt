@@ -1,10 +1,8 @@
 -- The two ends of a lane, as their callers see them (own).
-use Rattle.std.specs.Prelude.{◌≡◌, ℕ, List, [], ◌∷◌, ◌++◌, Option, length}
+use Rattle.std.specs.Prelude.{◌≡◌, ℕ, List, [], ◌∷◌, ◌++◌, Option, Some, length}
 use Rattle.atomic_table.specs.Seated.{TableId}
 use Rattle.crossbeam_queue.specs.declared.array_queue.Doing.{Doing}
 use Rattle.crossbeam_queue.specs.declared.array_queue.Slotted.{Slotted}
-use Rattle.hub_lane.specs.declared.rule.View.{View}
-use Rattle.hub_lane.specs.declared.rule.View.TheVariants.{OfSender, OfReceiver}
 
 -- which lane it is: no other lane has the same
 abbrev pub LaneId : Type 0
@@ -37,6 +35,10 @@ HasBeenFull {I} capacity sent =
     (taken : List I) × (held : List I) × (length held ≡ capacity) × (sent ≡ taken ++ held)
 
 module _ {L I : Type 0} where
+  -- the label that is picked for a new lane is this one, and it allows that nothing was sent
+  abbrev pub IsNewLabel : (L → List I → Type 0) → Option L → L → Type 0
+  IsNewLabel allows picked label = (picked ≡ Some label) × allows label []
+
   -- the sender of this lane, which is new, under this label, and of this capacity
   abbrev pub new_sender : LaneId → L → ℕ → SenderState L I
   new_sender lane label capacity =
@@ -58,15 +60,3 @@ module _ {L I : Type 0} where
   -- where just a, b, c is allowed, this holds of nothing, of a, of a and b, and of all three
   abbrev pub IsAllowedBeginning : (L → List I → Type 0) → ReceiverState L I → Type 0
   IsAllowedBeginning allows r = (rest : List I) × allows r.label (r.taken ++ rest)
-
-  -- what `refuses` says, of this item and the sender of this lane, of this capacity, whose pass knows this
-  abbrev pub IsRefusal : (SenderState L I → I → Type 0) → LaneId → ℕ → View L I → I → Type 0
-  IsRefusal refuses lane capacity view item =
-      (label : L) (sent : List I) → view ≡ OfSender label sent
-      → refuses (record { lane_id = lane; label = label; sent = sent; capacity = capacity }) item
-
-  -- what `lacks` says, of the receiver of this lane whose pass knows this
-  abbrev pub IsLack : (ReceiverState L I → Type 0) → LaneId → View L I → Type 0
-  IsLack lacks lane view =
-      (label : L) (taken : List I) → view ≡ OfReceiver label taken
-      → lacks (record { lane_id = lane; label = label; taken = taken })

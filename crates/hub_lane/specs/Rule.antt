@@ -31,10 +31,6 @@ module _ {L I : Type 0} where
   new_receiver_view None = NoLabel
   new_receiver_view (Some label) = OfReceiver label []
 
-  -- a receiver's pass
-  abbrev pub IsReceiver : View L I → Type 0
-  IsReceiver view = (label : L) × (taken : List I) × (view ≡ OfReceiver label taken)
-
   -- a queue that is being made: its one pass has no label yet
   pub record IsUnlabelled (items : List I) (views : List (View L I)) : Type 0 where
     pub one_pass : views ≡ NoLabel ∷ []
@@ -58,11 +54,6 @@ module _ {L I : Type 0} (allows : L → List I → Type 0) where
   -- the receiver's pass of a lane under this label, which allows a list that begins with what was taken
   abbrev pub IsOfReceiver : L → View L I → Type 0
   IsOfReceiver label view = (view ≡ OfReceiver label (items_of view)) × HasAllowedRest view
-
-  -- a sender's pass whose label allows this item behind what was sent
-  abbrev pub IsSenderFor : View L I → I → Type 0
-  IsSenderFor view item =
-      (label : L) × (sent : List I) × (view ≡ OfSender label sent) × allows label (sent ++ item ∷ [])
 
   -- a lane: what was sent is what was taken and then what the queue holds, and the label allows what was sent
   -- with a, b and c sent and a taken it holds b and c

@@ -1,16 +1,11 @@
 //! How an end asks the queue.
 
-ghost use Rattle.std.specs.Prelude.{◌≡◌, IfErr, IfNone, IfSome, OnErr, OnOk};
-ghost use Rattle.crossbeam_queue.specs.Passes.{view, IsPassOf, IsSamePass, ruled_capacity};
-ghost use Rattle.hub_lane.specs.Ends.{IsRefusal, IsLack, lane_of};
-ghost use Rattle.hub_lane.specs.Rule.{with_item, HasAllowedRest, IsReceiver, IsSenderFor};
+ghost use Rattle.std.specs.Prelude.{◌≡◌, [], ◌∷◌, ◌++◌, IfErr, IfNone, IfSome, OnErr, OnOk};
+ghost use Rattle.hub_lane.specs.Ends.{IsAllowedBeginning, behind_push, behind_take};
 
-use crate::rule::{Kept, LaneRule, Push, Take, View};
-use crossbeam_queue::{Pass, RuledArrayQueue};
+use crate::ends::{Receiver, Sender};
+use crate::rule::{Kept, Push, Take};
 use std::sync::Wait;
-
-/// The queue of a lane.
-pub type Queue<L, I> = RuledArrayQueue<I, View<L, I>, LaneRule<L, I>>;
 
 /// A handle by which a lane is asked: every handle that may wait is one. Code with this bound knows
 /// nothing of `refuses` and `lacks` but what a call of this trait told it. So no layer that has it,
@@ -25,24 +20,18 @@ pub trait Asks<L: Kept<I>, I>: Wait {
     ghost lacks: { Self → ReceiverState L I → Type 0 };
 
     /// Sends an item where there is room, for `Sender::push`. It takes no memory.
-    fn offer(&self, queue: &Queue<L, I>, pass: &mut Pass<I, View<L, I>>, item: I) -> Result<(), I>
-        requires queue { IsPassOf queue.now pass.old }
-        requires allowed { IsSenderFor L.allows (view pass.old) item }
-        ensures queue { IsSamePass pass.old pass.new }
-        ensures sent { OnOk result (view pass.new ≡ with_item (view pass.old) item) }
-        ensures same { IfErr result (λ back. (back ≡ item) × (view pass.new ≡ view pass.old)) }
-        ensures full { OnErr result (IsRefusal (refuses self.now)
-            (lane_of queue.now) (ruled_capacity queue.now) (view pass.old) item) };
+    fn offer(&self, sender: &mut Sender<L, I>, item: I) -> Result<(), I>
+        requires allowed { L.allows sender.old.label (sender.old.sent ++ item ∷ []) }
+        ensures sent { OnOk result (sender.new ≡ behind_push sender.old item) }
+        ensures same { IfErr result (λ back. (back ≡ item) × (sender.new ≡ sender.old)) }
+        ensures full { OnErr result (refuses self.now sender.old item) };
 
     /// Takes the front item where there is one, for `Receiver::take`. It takes no memory.
-    fn poll(&self, queue: &Queue<L, I>, pass: &mut Pass<I, View<L, I>>) -> Option<I>
-        requires queue { IsPassOf queue.now pass.old }
-        requires receiver { IsReceiver (view pass.old) }
-        ensures queue { IsSamePass pass.old pass.new }
-        ensures taken { IfSome result (λ item. view pass.new ≡ with_item (view pass.old) item) }
-        ensures allowed { IfSome result (λ _. HasAllowedRest L.allows (view pass.new)) }
-        ensures same { IfNone result (view pass.new ≡ view pass.old) }
-        ensures none { IfNone result (IsLack (lacks self.now) (lane_of queue.now) (view pass.old)) };
+    fn poll(&self, receiver: &mut Receiver<L, I>) -> Option<I>
+        ensures taken { IfSome result (λ item. receiver.new ≡ behind_take receiver.old item) }
+        ensures same { IfNone result (receiver.new ≡ receiver.old) }
+        ensures none { IfNone result (lacks self.now receiver.old) }
+        ensures allowed { IsAllowedBeginning L.allows receiver.new };
 }
 
 /// By asking the queue itself.
@@ -55,11 +44,17 @@ impl<L: Kept<I>, I, R: Wait> Asks<L, I> for R {
     // What was taken is all that was sent by that moment, which the label allows.
     ghost lacks = { λ rt receiver. L.allows receiver.label receiver.taken };
 
-    fn offer(&self, queue: &Queue<L, I>, pass: &mut Pass<I, View<L, I>>, item: I) -> Result<(), I> {
-        queue.push_as::<Push, R>(self, pass, item)
+    fn offer(&self, sender: &mut Sender<L, I>, item: I) -> Result<(), I> {
+        sender
+            .lane
+            .queue
+            .push_as::<Push, R>(self, &mut sender.pass, item)
     }
 
-    fn poll(&self, queue: &Queue<L, I>, pass: &mut Pass<I, View<L, I>>) -> Option<I> {
-        queue.pop_as::<Take<L>, R>(self, pass)
+    fn poll(&self, receiver: &mut Receiver<L, I>) -> Option<I> {
+        receiver
+            .lane
+            .queue
+            .pop_as::<Take<L>, R>(self, &mut receiver.pass)
     }
 }

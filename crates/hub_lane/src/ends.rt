@@ -1,24 +1,27 @@
 //! The two ends of a lane.
 
-ghost use Rattle.std.specs.Prelude.{◌≡◌, ◌<◌, [], ◌∷◌, ◌++◌, Some, IfOk, IfErr, IfSome, IfNone, OnErr, OnOk};
+ghost use Rattle.std.specs.Prelude.{◌≡◌, ◌<◌, [], ◌∷◌, ◌++◌, IfOk, IfErr, IfSome, IfNone, OnErr, OnOk};
 ghost use Rattle.crossbeam_queue.specs.Passes.{view, IsPassOf, ruled_capacity};
 ghost use Rattle.hub_lane.specs.declared.rule.View.TheVariants.{NoLabel};
 ghost use Rattle.hub_lane.specs.Ends.{IsAllowedBeginning, behind_push, behind_take, lane_of};
-ghost use Rattle.hub_lane.specs.Ends.{new_receiver, new_sender};
+ghost use Rattle.hub_lane.specs.Ends.{IsNewLabel, new_receiver, new_sender};
 
-use crate::asks::{Asks, Queue};
-use crate::rule::{Kept, NewLabel, TwoEnds, View};
-use crossbeam_queue::Pass;
+use crate::asks::Asks;
+use crate::rule::{Kept, LaneRule, NewLabel, TwoEnds, View};
+use crossbeam_queue::{Pass, RuledArrayQueue};
 use std::alloc::{AllocError, Global};
 use std::marker::{Brand, Model};
 use std::sync::Arc;
+
+// The queue of a lane.
+type Queue<L, I> = RuledArrayQueue<I, View<L, I>, LaneRule<L, I>>;
 
 /// What the two ends of a lane share. It is dropped with the second of them, and items that were
 /// not taken are dropped with it. It serves 2^62 items: after them no push and no take returns.
 #[derive(Drop)]
 pub struct Lane<L: Kept<I>, I> {
     // The items that were sent and not taken yet.
-    queue: Queue<L, I>,
+    pub(crate) queue: Queue<L, I>,
     // Which lists of items may be sent.
     label: L,
 }
@@ -34,9 +37,9 @@ pub struct Full<I>(
 /// was sent, and how many items the lane holds at most.
 pub struct Sender<L: Kept<I>, I> {
     // The receiver has the other handle on it.
-    lane: Arc<Lane<L, I>, Global>,
+    pub(crate) lane: Arc<Lane<L, I>, Global>,
     // What this end sent. It has no bytes, and stays with the end.
-    pass: Pass<I, View<L, I>>,
+    pub(crate) pass: Pass<I, View<L, I>>,
 }
 
 impl<L: Kept<I> + Drop, I: Drop> Drop for Sender<L, I> {
@@ -69,9 +72,9 @@ impl<L: Kept<I>, I> Model for Sender<L, I> {
 /// that was taken.
 pub struct Receiver<L: Kept<I>, I> {
     // The sender has the other handle on it.
-    lane: Arc<Lane<L, I>, Global>,
+    pub(crate) lane: Arc<Lane<L, I>, Global>,
     // What this end took. It has no bytes, and stays with the end.
-    pass: Pass<I, View<L, I>>,
+    pub(crate) pass: Pass<I, View<L, I>>,
 }
 
 impl<L: Kept<I> + Drop, I: Drop> Drop for Receiver<L, I> {
@@ -124,9 +127,8 @@ impl<L: Kept<I> + Drop, I: Drop> Lane<L, I> {
         mut pass: Pass<I, View<L, I>>,
         label: L,
     ) -> Result<(Sender<L, I>, Receiver<L, I>), AllocError>
-        requires name { N.label ≡ Some label }
+        requires label { IsNewLabel L.allows N.label label }
         requires pass { IsPassOf queue pass × (view pass ≡ NoLabel) }
-        requires allowed { L.allows label [] }
         ensures sender { IfOk result (λ ends. ends.0
             ≡ new_sender (lane_of queue) label (ruled_capacity queue)) }
         ensures receiver { IfOk result (λ ends. ends.1 ≡ new_receiver (lane_of queue) label) }
@@ -162,7 +164,7 @@ impl<L: Kept<I>, I> Sender<L, I> {
         ensures same { IfErr result (λ full. (full.0 ≡ item) × (self.new ≡ self.old)) }
         ensures full { OnErr result (R.refuses rt.now self.old item) }
     {
-        match rt.offer(&self.lane.queue, &mut self.pass, item) {
+        match rt.offer(self, item) {
             Ok(()) => Ok(()),
             Err(item) => Err(Full(item)),
         }
@@ -188,6 +190,6 @@ impl<L: Kept<I>, I> Receiver<L, I> {
         ensures none { IfNone result (R.lacks rt.now self.old) }
         ensures allowed { IsAllowedBeginning L.allows self.new }
     {
-        rt.poll(&self.lane.queue, &mut self.pass)
+        rt.poll(self)
     }
 }

@@ -1,11 +1,12 @@
 //! The parameters of a document's routes.
 
 ghost use Rattle.std.specs.Prelude.{◌≡◌, IfOk, OnErr, codes, option_map, string_bytes};
+ghost use Rattle.std.specs.Cow.{cow_str_bytes};
 ghost use Rattle.std.specs.Option.{option_copied};
 ghost use Rattle.hub_params.specs.DocParams.{doc_asked, is_value};
 ghost use Rattle.hub_params.specs.Encoded.{text_in};
 ghost use Rattle.hub_params.specs.Query.{written_of};
-ghost use Rattle.hub_params.specs.Room.{DocNeedsRoom, HasBytes, HasEscapedName, IsEscaped};
+ghost use Rattle.hub_params.specs.Room.{DocNeedsRoom, HasBytes, HasEscapedName};
 
 use crate::query::{decoded, later};
 use form_urlencoded::{decode, raw_pairs};
@@ -51,8 +52,8 @@ impl DocParams {
         let values = DocValues::read(alloc, query)?;
         let rev = text(alloc, values.rev)?;
         let open_revs = text(alloc, values.open_revs)?;
-        let revs = is_text(alloc, values.revs, "true")?;
-        let keeps_revs = is_text(alloc, values.new_edits, "false")?;
+        let revs = is_text(&decoded(alloc, values.revs)?, "true");
+        let keeps_revs = is_text(&decoded(alloc, values.new_edits)?, "false");
         Ok(DocParams {
             rev,
             open_revs,
@@ -119,12 +120,11 @@ fn text(alloc: Global, value: Option<&[u8]>) -> Result<Option<String>, AllocErro
 }
 
 // Whether there is a value, and it is this text.
-fn is_text(alloc: Global, value: Option<&[u8]>, wanted: &str) -> Result<bool, AllocError>
-    ensures answer { IfOk result (λ b. b ≡ is_value wanted.now (text_in value.entry)) }
-    ensures memory { OnErr result (IsEscaped (option_copied value.entry)) }
+fn is_text(value: &Option<CowStr<'_>>, wanted: &str) -> bool
+    ensures { result ≡ is_value wanted.now (option_map cow_str_bytes value.now) }
 {
-    match decoded(alloc, value)? {
-        None => Ok(false),
-        Some(found) => Ok(found.as_str() == wanted),
+    match value {
+        None => false,
+        Some(found) => found.as_str() == wanted,
     }
 }

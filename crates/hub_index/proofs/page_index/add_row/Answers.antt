@@ -19,8 +19,8 @@ returns-then-index-number-clause-ok c =
     same_number es at c.slot_of-number.result.0 x c.index.result.now l c.index_mut.ensures.value
     c.index.ensures c.if-index-number.true in
     let is : 256 * x.0 + c.slot_of-number.result.1 + 1 ≡ c.args.seq =
-    omega (arith, number, c.slot_of-number.ensures.seq) in
-    ap (λ (w : List (Option ℕ)). rows_of (set es at (x.0, w))) c.fill.ensures
+    omega (arith, number, c.slot_of-number.ensures.before, c.requires.positive) in
+    ap (λ (w : List (Option ℕ)). rows_of (set es at (x.0, w))) c.put.ensures
     ∙ pages_filled es at x l c.index_mut.ensures.value c.requires.laid.each c.slot_of-number.result.1
     c.args.seq
     c.slot_of-number.ensures.slot is (omega (arith, c.len-end.ensures)) c.requires.above c.args.document
@@ -35,8 +35,8 @@ returns-then-index-number-clause-pages c =
     same_number es at c.slot_of-number.result.0 x c.index.result.now l c.index_mut.ensures.value
     c.index.ensures c.if-index-number.true in
     let is : 256 * x.0 + c.slot_of-number.result.1 + 1 ≡ c.args.seq =
-    omega (arith, number, c.slot_of-number.ensures.seq) in
-    subst (λ (w : List (Option ℕ)). All IsPage (set es at (x.0, w))) (sym c.fill.ensures)
+    omega (arith, number, c.slot_of-number.ensures.before, c.requires.positive) in
+    subst (λ (w : List (Option ℕ)). All IsPage (set es at (x.0, w))) (sym c.put.ensures)
     (pages_filled_are es at x l c.index_mut.ensures.value
     c.requires.laid.each c.slot_of-number.result.1 c.args.seq c.slot_of-number.ensures.slot is
     (omega (arith, c.len-end.ensures)) c.requires.above c.args.document (omega (arith, c.ranges.seq.fits)))
@@ -49,21 +49,23 @@ pushed es new k w slots put filled = put ∙ ap (λ (s : List (Option ℕ)). es 
 pub returns-clause-ok : goal.returns-clause-ok
 returns-clause-ok c =
     ap rows_of
-    (pushed c.args.pages.now.items c.push.new.self.items c.slot_of-number.result.0 c.fill-2.new.self
+    (pushed c.args.pages.now.items c.push.new.self.items c.slot_of-number.result.0 c.put-2.new.self
     (set c.in_ok-page.page c.slot_of-number.result.1 (Some c.args.document))
-    c.in_ok-push.ensures.items c.fill-2.ensures)
+    c.in_ok-push.ensures.items c.put-2.ensures)
     ∙ rows_added c.slot_of-number.result.0 c.slot_of-number.result.1 c.args.seq c.slot_of-number.ensures.slot
-    c.slot_of-number.ensures.seq c.args.document c.in_ok-page.page c.in_ok-page.ensures.size
+    (omega (arith, c.slot_of-number.ensures.before, c.requires.positive))
+    c.args.document c.in_ok-page.page c.in_ok-page.ensures.size
     c.in_ok-page.ensures.empty c.args.pages.now.items
 
 pub returns-clause-pages : goal.returns-clause-pages
 returns-clause-pages c =
     subst (All IsPage)
-    (sym (pushed c.args.pages.now.items c.push.new.self.items c.slot_of-number.result.0 c.fill-2.new.self
+    (sym (pushed c.args.pages.now.items c.push.new.self.items c.slot_of-number.result.0 c.put-2.new.self
     (set c.in_ok-page.page c.slot_of-number.result.1 (Some c.args.document))
-    c.in_ok-push.ensures.items c.fill-2.ensures))
+    c.in_ok-push.ensures.items c.put-2.ensures))
     (added_is c.slot_of-number.result.0 c.slot_of-number.result.1 c.args.seq c.slot_of-number.ensures.slot
-    c.slot_of-number.ensures.seq c.args.document c.in_ok-page.page c.in_ok-page.ensures.size
+    (omega (arith, c.slot_of-number.ensures.before, c.requires.positive))
+    c.args.document c.in_ok-page.page c.in_ok-page.ensures.size
     c.in_ok-page.ensures.empty c.args.pages.now.items (omega (arith, c.ranges.seq.fits)) c.requires.laid.each)
 
 pub returns-clause-rising : goal.returns-clause-rising
@@ -75,14 +77,15 @@ returns-clause-rising c =
           let last : c.len-end.result - 1 + 1 ≡ length es =
           omega (arith, c.len-end.ensures, w.if-end-gt0.true) in
           below_new k c.slot_of-number.result.1 c.args.seq c.slot_of-number.ensures.slot
-          c.slot_of-number.ensures.seq es (c.len-end.result - 1) w.index.result.now last w.index.ensures
+          (omega (arith, c.slot_of-number.ensures.before, c.requires.positive))
+          es (c.len-end.result - 1) w.index.result.now last w.index.ensures
           w.if-index-number.false c.requires.laid.rising c.requires.laid.each c.requires.above
       | else-end-gt0-via-else-end-gt0 w ↦
           λ z d l. absurd (omega (arith, l, c.len-end.ensures, w.if-end-gt0.false))
     ] in
     subst (AllPairs (λ (a b : ℕ × List (Option ℕ)). a.0 < b.0))
-    (sym (pushed c.args.pages.now.items c.push.new.self.items c.slot_of-number.result.0 c.fill-2.new.self
+    (sym (pushed c.args.pages.now.items c.push.new.self.items c.slot_of-number.result.0 c.put-2.new.self
     (set c.in_ok-page.page c.slot_of-number.result.1 (Some c.args.document))
-    c.in_ok-push.ensures.items c.fill-2.ensures))
+    c.in_ok-push.ensures.items c.put-2.ensures))
     (all_pairs_push (λ (a b : ℕ × List (Option ℕ)). a.0 < b.0) es
     (k, set c.in_ok-page.page c.slot_of-number.result.1 (Some c.args.document)) c.requires.laid.rising low)

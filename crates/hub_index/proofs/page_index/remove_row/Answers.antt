@@ -24,7 +24,7 @@ returns-then-at-len-clause-rows c =
     c.as_slice.ensures.value c.place_of-at.ensures.parted
     in
     pages_missed k c.slot_of-number.result.1 c.args.seq c.slot_of-number.ensures.slot
-    c.slot_of-number.ensures.seq es c.requires.pages
+    (omega (arith, c.slot_of-number.ensures.before, c.requires.positive)) es c.requires.pages
     (none_there es k at c.requires.rising parted (λ d l q. elim c.then-at-len.branch [
       | then-at-len-via-then-at-len w ↦ omega (arith, l, w.if-at-len.true, c.len.ensures)
       | then-at-len-via-else-at-len+then-index-number w ↦
@@ -45,11 +45,12 @@ returns-then-live-eq0-clause-rows c =
     same_number es at c.slot_of-number.result.0 x c.index.result.now l c.index_mut.ensures.value
     c.index.ensures c.if-index-number.false in
     let i = c.slot_of-number.result.1 in
-    let is : 256 * x.0 + i + 1 ≡ c.args.seq = omega (arith, number, c.slot_of-number.ensures.seq) in
-    ap rows_of (c.remove.ensures.items ∙ remove_set es at (x.0, c.clear.new.self))
+    let is : 256 * x.0 + i + 1 ≡ c.args.seq =
+    omega (arith, number, c.slot_of-number.ensures.before, c.requires.positive) in
+    ap rows_of (c.remove.ensures.items ∙ remove_set es at (x.0, c.put.new.self))
     ∙ (rows_dropped es
     at x l c.index_mut.ensures.value c.requires.pages i c.args.seq c.slot_of-number.ensures.slot is
-    (set x.1 i None) (ap (count_by is_some) (sym c.clear.ensures) ∙ (sym c.live.ensures ∙ c.if-live-eq0.true))
+    (set x.1 i None) (ap (count_by is_some) (sym c.put.ensures) ∙ (sym c.live.ensures ∙ c.if-live-eq0.true))
     ∙ pages_cleared es at x l c.index_mut.ensures.value c.requires.pages i c.args.seq
     c.slot_of-number.ensures.slot is c.requires.rising)
 
@@ -58,7 +59,7 @@ returns-then-live-eq0-clause-pages c =
     let es : List (ℕ × List (Option ℕ)) = c.args.pages.now.items in
     let at = c.place_of-at.result in
     let x : ℕ × List (Option ℕ) = c.index_mut.result.now in
-    subst (All IsPage) (sym (c.remove.ensures.items ∙ remove_set es at (x.0, c.clear.new.self)))
+    subst (All IsPage) (sym (c.remove.ensures.items ∙ remove_set es at (x.0, c.put.new.self)))
     (dropped_is es at c.requires.pages)
 
 pub returns-then-live-eq0-clause-rising : goal.returns-then-live-eq0-clause-rising
@@ -69,7 +70,7 @@ returns-then-live-eq0-clause-rising c =
     let l : at < length es =
     omega (arith, c.place_of-at.ensures.within, c.as_slice.ensures.len, c.if-at-len.false, c.len.ensures) in
     subst (AllPairs (λ (a b : ℕ × List (Option ℕ)). a.0 < b.0))
-    (sym (c.remove.ensures.items ∙ remove_set es at (x.0, c.clear.new.self)))
+    (sym (c.remove.ensures.items ∙ remove_set es at (x.0, c.put.new.self)))
     (all_pairs_remove (λ (a b : ℕ × List (Option ℕ)). a.0 < b.0) es at l c.requires.rising)
 
 pub returns-else-live-eq0-clause-rows : goal.returns-else-live-eq0-clause-rows
@@ -83,8 +84,8 @@ returns-else-live-eq0-clause-rows c =
     same_number es at c.slot_of-number.result.0 x c.index.result.now l c.index_mut.ensures.value
     c.index.ensures c.if-index-number.false in
     let is : 256 * x.0 + c.slot_of-number.result.1 + 1 ≡ c.args.seq =
-    omega (arith, number, c.slot_of-number.ensures.seq) in
-    ap (λ (w : List (Option ℕ)). rows_of (set es at (x.0, w))) c.clear.ensures
+    omega (arith, number, c.slot_of-number.ensures.before, c.requires.positive) in
+    ap (λ (w : List (Option ℕ)). rows_of (set es at (x.0, w))) c.put.ensures
     ∙ pages_cleared es at x l c.index_mut.ensures.value c.requires.pages c.slot_of-number.result.1 c.args.seq
     c.slot_of-number.ensures.slot is c.requires.rising
 
@@ -99,13 +100,14 @@ returns-else-live-eq0-clause-pages c =
     let number : x.0 ≡ c.slot_of-number.result.0 =
     same_number es at c.slot_of-number.result.0 x c.index.result.now l c.index_mut.ensures.value
     c.index.ensures c.if-index-number.false in
-    let is : 256 * x.0 + i + 1 ≡ c.args.seq = omega (arith, number, c.slot_of-number.ensures.seq) in
-    let count : count_by is_some c.clear.new.self ≡ count_by is_some (set x.1 i None) =
-    ap (count_by is_some) c.clear.ensures in
+    let is : 256 * x.0 + i + 1 ≡ c.args.seq =
+    omega (arith, number, c.slot_of-number.ensures.before, c.requires.positive) in
+    let count : count_by is_some c.put.new.self ≡ count_by is_some (set x.1 i None) =
+    ap (count_by is_some) c.put.ensures in
     let live : 0 < count_by is_some (set x.1 i None) =
     omega (arith, count, c.live.ensures, c.if-live-eq0.false) in
-    All-set IsPage es at (x.0, c.clear.new.self)
-    (subst (λ (w : List (Option ℕ)). IsPage (x.0, w)) (sym c.clear.ensures)
+    All-set IsPage es at (x.0, c.put.new.self)
+    (subst (λ (w : List (Option ℕ)). IsPage (x.0, w)) (sym c.put.ensures)
     (cleared_is x.0 i c.args.seq c.slot_of-number.ensures.slot is x.1
     (is_page es at x l c.index_mut.ensures.value c.requires.pages) live))
     c.requires.pages

@@ -1,6 +1,6 @@
 use Rattle.std.proofs.Common.{◌≡◌, ℕ, ◌+◌, drop, count_by, nat_lt}
 use Rattle.hub_index.specs.Pages.{rows_of}
-use Rattle.hub_index.proofs.page_index.rows_above.Given as goal
+use Rattle.hub_index.proofs.page_index.PageIndexSeqIndex.count_after.Given as goal
 
 abbrev pub invariant-loop-at : goal.invariant-loop-at
 invariant-loop-at l =

@@ -1,6 +1,6 @@
 use Rattle.std.proofs.Common.{◌≡◌, ℕ, ◌≤◌, length, take, find, reverse, nat_lt}
 use Rattle.hub_index.specs.Pages.{rows_of}
-use Rattle.hub_index.proofs.page_index.row_before.Given as goal
+use Rattle.hub_index.proofs.page_index.PageIndexSeqIndex.last_before.Given as goal
 
 abbrev pub invariant-loop-at : goal.invariant-loop-at
 invariant-loop-at l = record {
