@@ -1,8 +1,8 @@
 //! A hub of databases behind locks.
 
-ghost use Rattle.std.specs.Prelude.{◌≡◌, ◌↔◌, ◌⊎◌, ◌<◌, ◌-◌, ◌^◌, [], true, false, Ok, Err, map};
+ghost use Rattle.std.specs.Prelude.{◌≡◌, ◌↔◌, ◌⊎◌, [], true, false, Ok, Err, map};
 ghost use Rattle.std.specs.Prelude.{string_bytes, Contains, IfErr, IfOk, IsSome, OnOk};
-ghost use Rattle.hub_databases.specs.Kept.{AreNames, most_databases, with_made, with_name, without_name};
+ghost use Rattle.hub_databases.specs.Kept.{AreNames, most_databases, with_made, without_name};
 ghost use Rattle.hub_databases.specs.Names.{is_name as is_database_name};
 ghost use Rattle.hub_databases.specs.Refusals.{IsCreationFault, IsFree, IsRemovalFault};
 ghost use Rattle.hub_params.specs.FeedShown.{params_asked};
