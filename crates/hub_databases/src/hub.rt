@@ -1,8 +1,8 @@
 //! A hub of databases behind locks.
 
-ghost use Rattle.std.specs.Prelude.{◌≡◌, ◌↔◌, ◌⊎◌, ◌<◌, ◌-◌, ◌^◌, [], true, false, Ok, Err, map};
+ghost use Rattle.std.specs.Prelude.{◌≡◌, ◌↔◌, ◌⊎◌, [], true, false, Ok, Err, map};
 ghost use Rattle.std.specs.Prelude.{string_bytes, Contains, IfErr, IfOk, IsSome, OnOk};
-ghost use Rattle.hub_databases.specs.Kept.{AreNames, most_databases, with_made, with_name, without_name};
+ghost use Rattle.hub_databases.specs.Kept.{AreNames, most_databases, with_made, without_name};
 ghost use Rattle.hub_databases.specs.Names.{is_name as is_database_name};
 ghost use Rattle.hub_databases.specs.Refusals.{IsCreationFault, IsFree, IsRemovalFault};
 ghost use Rattle.hub_params.specs.FeedShown.{params_asked};
@@ -72,21 +72,6 @@ impl Hub {
         }
     }
 
-    // Puts an empty database of the next life under a name. It is not counted yet.
-    fn add(&self, names: &mut Names, name: &str) -> Result<(), HubFault>
-        requires { is_database_name name.now ≡ true }
-        ensures free { OnOk result (IsFree names.old name.now) }
-        ensures low { OnOk result (names.old.made < 2 ^ 64 - 1) }
-        ensures ok { OnOk result (names.new ≡ with_name name.now names.old) }
-        ensures err { IfErr result (λ e. (names.new ≡ names.old) × IsCreationFault names.old name.now e) }
-    {
-        let life = names.next_life(name)?;
-        let key = name.to_string(self.alloc)?;
-        let db = HubDb::new(self.alloc, self.limits, name, life)?;
-        names.put(key, db)?;
-        Ok(())
-    }
-
     // Makes an empty database under a name and notes that, or does neither. It is counted once it is
     // noted: lives are numbered as databases are made, from 1, and no number is left out or given twice.
     fn put<R: Wait>(
@@ -101,7 +86,7 @@ impl Hub {
         ensures ok { OnOk result (names.new ≡ with_made name.now names.old) }
         ensures err { IfErr result (λ e. (names.new ≡ names.old) × IsCreationFault names.old name.now e) }
     {
-        if let Err(fault) = self.add(names, name) {
+        if let Err(fault) = names.add(self.alloc, self.limits, name) {
             notice.lapse();
             return Err(fault);
         }

@@ -1,13 +1,14 @@
 //! The databases of a hub by their names.
 
-ghost use Rattle.std.specs.Prelude.{◌≡◌, ◌↔◌, ◌≤◌, ◌+◌, ◌-◌, ◌^◌, ◌<◌, [], true, Err, map};
-ghost use Rattle.std.specs.Prelude.{string_bytes, Contains, IsSome, OnOk, OnErr, IfErr, IfOk, IfSome};
+ghost use Rattle.std.specs.Prelude.{◌≡◌, ◌↔◌, ◌≤◌, ◌+◌, ◌-◌, ◌^◌, ◌<◌, [], true, map};
+ghost use Rattle.std.specs.Prelude.{string_bytes, Contains, IsSome, OnOk, IfErr, IfOk, IfSome};
 ghost use Rattle.hub_databases.specs.Kept.{AreNames, most_databases, with_name, without_name};
 ghost use Rattle.hub_databases.specs.Names.{is_name as is_database_name};
 ghost use Rattle.hub_databases.specs.Refusals.{IsCreationFault, IsFree};
 
 use crate::fault::HubFault;
 use crate::hub_db::HubDb;
+use hub_document::Limits;
 use std::alloc::{AllocError, Global};
 use std::collections::BTreeMap;
 use std::marker::Model;
@@ -54,15 +55,15 @@ impl Names {
         self.list.get(name)
     }
 
-    /// The life of the next one, where it may come under this name: how many were made so far, and one
-    /// more. Else it is the first refusal that holds. The numbers end at 2^64 - 1: the log of updates,
-    /// which has a note for each, is full long before. It costs a search among the names.
-    pub(crate) fn next_life(&self, name: &str) -> Result<u64, HubFault>
-        ensures free { OnOk result (IsFree self.now name.now) }
-        ensures ok { IfOk result (λ life. life ≡ self.now.made + 1) }
-        ensures err { IfErr result (λ e. IsCreationFault self.now name.now e) }
-        ensures last { result ≡ Err HubFault.SequenceFull → self.now.made ≡ 2 ^ 64 - 1 }
-        ensures memory { ¬ (result ≡ Err HubFault.NoMemory) }
+    /// Puts an empty database of the next life under a name, where it may come there. It is not counted yet.
+    /// Else all stays, and it is the first refusal that holds. The numbers of lives end at 2^64 - 1: the log of
+    /// updates, which has a note for each, is full long before. It costs a search among the names.
+    pub(crate) fn add(&mut self, alloc: Global, limits: Limits, name: &str) -> Result<(), HubFault>
+        requires { is_database_name name.now ≡ true }
+        ensures free { OnOk result (IsFree self.old name.now) }
+        ensures low { OnOk result (self.old.made < 2 ^ 64 - 1) }
+        ensures ok { OnOk result (self.new ≡ with_name name.now self.old) }
+        ensures err { IfErr result (λ e. (self.new ≡ self.old) × IsCreationFault self.old name.now e) }
     {
         if self.find(name).is_some() {
             return Err(HubFault::Exists);
@@ -73,21 +74,11 @@ impl Names {
         if self.made == u64::MAX {
             return Err(HubFault::SequenceFull);
         }
-        Ok(self.made + 1)
-    }
-
-    /// Puts a database under its name, which has none, where there is room. It is not counted yet. It costs
-    /// a search among the names.
-    pub(crate) fn put(&mut self, name: String, db: HubDb) -> Result<(), AllocError>
-        requires name { is_database_name (string_bytes name) ≡ true }
-        requires own { db ≡ string_bytes name }
-        requires free { IsFree self.old (string_bytes name) }
-        ensures ok { OnOk result (self.new ≡ with_name (string_bytes name) self.old) }
-        ensures err { OnErr result (self.new ≡ self.old) }
-    {
-        match self.list.insert(name, db) {
+        let key = name.to_string(alloc)?;
+        let db = HubDb::new(alloc, limits, name, self.made + 1)?;
+        match self.list.insert(key, db) {
             Ok(_) => Ok(()),
-            Err(_) => Err(AllocError),
+            Err(_) => Err(HubFault::NoMemory),
         }
     }
 

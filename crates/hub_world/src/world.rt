@@ -79,7 +79,7 @@ impl World {
         ensures err { OnErr result
             ((self.new ≡ self.old) × MayFail self.old (write_of new_edits docs)) }
     {
-        let Ok((batch, _)) = self.locked.store(&mut NoCount, docs.into_vec(), new_edits) else {
+        let Ok((batch, _)) = self.locked.store(&mut NoCount, docs.list, new_edits) else {
             return Err(AllocError);
         };
         Ok(Reply::Outcomes(batch))
@@ -150,13 +150,6 @@ impl World {
         Reply::Nothing
     }
 
-    // The front of a feed's lane is taken.
-    fn take(&mut self, feed: FeedId) -> Reply
-        ensures { Applies self.old (Event.Take feed) result self.new }
-    {
-        Reply::Took(self.locked.take(feed))
-    }
-
     // A feed's subscriber is gone.
     fn finish(&mut self, feed: FeedId) -> Reply
         ensures { Applies self.old (Event.Finish feed) result self.new }
@@ -190,7 +183,7 @@ impl World {
             Event::Hand(feed) => self.hand(feed),
             Event::Heartbeat(feed) => Ok(self.beat(feed)),
             Event::Expire(feed) => Ok(self.expire(feed)),
-            Event::Take(feed) => Ok(self.take(feed)),
+            Event::Take(feed) => Ok(Reply::Took(self.locked.take(feed))),
             Event::Finish(feed) => Ok(self.finish(feed)),
             Event::Delete => Ok(self.delete()),
         }

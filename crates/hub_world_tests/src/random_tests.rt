@@ -234,8 +234,12 @@ fn params(alloc: Global, random: &mut Random) -> Result<FeedParams, Fail> {
 fn event(alloc: Global, seen: &Seen, random: &mut Random) -> Result<Event, Fail> {
     match random.below(200) {
         0 => Ok(Event::Delete),
-        1..=30 => Ok(Event::Write(Docs::new(writes(alloc, seen, random)?))),
-        31..=50 => Ok(Event::Interactive(Docs::new(drafts(alloc, seen, random)?))),
+        1..=30 => Ok(Event::Write(Docs {
+            list: writes(alloc, seen, random)?,
+        })),
+        31..=50 => Ok(Event::Interactive(Docs {
+            list: drafts(alloc, seen, random)?,
+        })),
         51..=72 => Ok(Event::Begin(params(alloc, random)?)),
         73..=142 => Ok(Event::Hand(seen.feed(random))),
         143..=156 => Ok(Event::Heartbeat(seen.feed(random))),
@@ -369,7 +373,7 @@ fn places_in(alloc: Global, event: &Event) -> Result<Vec<usize>, AllocError> {
     let mut places = Vec::new(alloc);
     match event {
         Event::Write(docs) | Event::Interactive(docs) => {
-            for doc in docs.list() {
+            for doc in &docs.list {
                 places.push(place_of(doc.id.as_str()))?;
             }
         }

@@ -56,7 +56,7 @@ fn write(alloc: Global, texts: &[&str], new_edits: bool) -> Result<Event, AllocE
         };
         docs.push(doc)?;
     }
-    let docs = Docs::new(docs);
+    let docs = Docs { list: docs };
     Ok(if new_edits {
         Event::Interactive(docs)
     } else {

@@ -14,7 +14,7 @@ use Rattle.hub_world.proofs.world.World.write.Goals as goal
 -- the step
 leads : (c : goal.In-Ok)
     → Leads (core_of c.self.inside.locked)
-    (write_of c.args.new_edits (take (length c.in-Ok.batch.replies) c.into_vec.result.items))
+    (write_of c.args.new_edits (take (length c.in-Ok.batch.replies) c.docs.inside.list.items))
     (reply.Outcomes (whole_batch c.in-Ok.batch.replies)) (core_of c.store.new.self)
 leads c =
     let old = c.self.inside.locked in
@@ -24,15 +24,15 @@ leads c =
     ap core_of c.store.ensures.rest
     ∙ ap (λ (db : Database). record { db = db; lanes = map held_entry old.senders }) did.adds.rest in
     subst (λ z. Leads (core_of old)
-    (write_of c.args.new_edits (take (length c.in-Ok.batch.replies) c.into_vec.result.items))
+    (write_of c.args.new_edits (take (length c.in-Ok.batch.replies) c.docs.inside.list.items))
     (reply.Outcomes (whole_batch c.in-Ok.batch.replies)) z) (sym core)
-    (stored_leads c.args.new_edits (core_of old) (take (length c.in-Ok.batch.replies) c.into_vec.result.items)
+    (stored_leads c.args.new_edits (core_of old) (take (length c.in-Ok.batch.replies) c.docs.inside.list.items)
     c.in-Ok.batch.replies c.store.new.self.state.journal did.replies)
 
 pub invariant_of-self-2 : goal.invariant_of-self-2
 invariant_of-self-2 c =
     leads_world c.self.inside.locked c.store.new.self
-    (write_of c.args.new_edits (take (length c.in-Ok.batch.replies) c.into_vec.result.items))
+    (write_of c.args.new_edits (take (length c.in-Ok.batch.replies) c.docs.inside.list.items))
     (reply.Outcomes (whole_batch c.in-Ok.batch.replies)) c.self.invariant (leads c)
     (kept_lists c.self.inside.locked c.store.new.self c.self.invariant c.store.ensures.rest
     (ap (λ (db : Database). db.limits.lane) c.in-Ok.ensures.batch.adds.rest))
@@ -45,16 +45,16 @@ returns-clause-ok c =
     let did = c.in-Ok.ensures.batch in
     let new_edits = c.args.new_edits in
     subst (λ (docs : List Doc). Applies c.args.self.now (write_of new_edits docs) r new
-    × Answers c.args.self.now (write_of new_edits docs) r new) c.into_vec.ensures
-    (stored_applies new_edits c.args.self.now new c.into_vec.result.items c.in-Ok.batch
+    × Answers c.args.self.now (write_of new_edits docs) r new) c.docs.view_is
+    (stored_applies new_edits c.args.self.now new c.docs.inside.list.items c.in-Ok.batch
     (from_same old c.args.self.now new
-    (write_of new_edits (take (length c.in-Ok.batch.replies) c.into_vec.result.items))
+    (write_of new_edits (take (length c.in-Ok.batch.replies) c.docs.inside.list.items))
     (reply.Outcomes (whole_batch c.in-Ok.batch.replies)) c.self.view_is (leads c))
     (record {
       whole = did.whole;
       stopped = did.stopped;
       stops = λ stopped. subst (λ (core : Core). StopsAt new_edits core.db.deleted new.db.journal
-          (length c.in-Ok.batch.replies) c.into_vec.result.items)
+          (length c.in-Ok.batch.replies) c.docs.inside.list.items)
           c.self.view_is (did.stops stopped);
     }))
 
@@ -63,5 +63,5 @@ returns-in_default-clause-err c =
     let err = c.in_default.ensures.err in (
       ap core_of err.1 ∙ c.self.view_is,
       stored_may_fail c.args.new_edits c.args.self.now c.args.docs
-          (omega (arith, err.0.1, ap length c.into_vec.ensures)),
+          (omega (arith, err.0.1, ap length c.docs.view_is)),
     )
