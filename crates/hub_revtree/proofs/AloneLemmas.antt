@@ -1,7 +1,7 @@
 -- The winner alone: its revision as a row lists it, and its mark.
 use Rattle.std.proofs.Common.{◌≡◌, ◌≤◌, ℕ, List, [], ◌∷◌, length, take, Bool}
-use Rattle.std.proofs.Common.{true, false, Contains, subst, refl, sym, ap, ◌∙◌}
-use Rattle.std.specs.Prelude.{Result, Ok, Err, OnErr, Option, Some, None, IsSomeAnd}
+use Rattle.std.proofs.Common.{true, false, Contains, subst, refl, sym, ap, ◌∙◌, arith}
+use Rattle.std.specs.Prelude.{Result, Ok, Err, IfOk, OnErr, Option, Some, None, IsSomeAnd}
 use Rattle.std.specs.Prelude.{find, slice_get, option_map, option_and_then}
 use Rattle.std.proofs.lemmas.Option.{same_Some, slice_get_past}
 use Rattle.hub_document.specs.Changes.{IsDigestText}
@@ -19,6 +19,7 @@ use Rattle.hub_revtree.specs.Stem.{Stem, AreStems, branches_of}
 use Rattle.hub_revtree.specs.Tree.{IsRevTree}
 use Rattle.hub_revtree.specs.Winner.{head_in, winner_of}
 use Rattle.hub_revtree.proofs.HeadLemmas.{among, leaf_headed}
+use Rattle.hub_revtree.proofs.StemLemmas.{as_many}
 use Rattle.hub_revtree.proofs.StemLooks.{head_at, head_found, some_headed}
 use Rattle.hub_revtree.proofs.TreeLemmas.{lent}
 
@@ -70,10 +71,33 @@ module _ (stems : List Stem) (a : AreStems stems) (k : ℕ) (stem : Stem)
       (find (λ b. is_first r.0 b.path) (branches_of stems))
       (some_headed stems a r.0 stem r.0 stem.deleted body there r.1 refl is)).1)
 
+-- what the winner's revision alone and its mark are, and the leaves' first
+pub alone_of : (leaves : List Leaf) (changes : List Revision)
+    → option_map (λ w. w.rev ∷ []) (winner_of leaves) ≡ Some changes → changes ≡ take 1 (revisions_of leaves)
+alone_of [] changes e = absurd (cc)
+alone_of (leaf ∷ leaves) changes e = sym (same_Some _ changes e)
+
+pub mark_of : (leaves : List Leaf) (deleted : Bool)
+    → option_map (λ w. w.deleted) (winner_of leaves) ≡ Some deleted → deleted ≡ is_deleted leaves
+mark_of [] deleted e = absurd (cc)
+mark_of (leaf ∷ leaves) deleted e = sym (same_Some _ deleted e)
+
+-- what holds of each value that is answered holds of the answer
+pub ok_of : {A E : Type 0} (r : Result A E) (P Q : A → Type 0) → IfOk r P → ((x : A) → P x → Q x) → IfOk r Q
+ok_of (Ok x) P Q h f = f x h
+ok_of (Err e) P Q h f = h
+
 -- past the branches stands none
 pub no_head : (branches : List Branch) (k : ℕ) → length branches ≤ k
     → option_and_then head_in (slice_get branches k) ≡ None
 no_head branches k past = ap (option_and_then head_in) (slice_get_past branches k past)
+
+-- past the stems stands no head
+pub no_stem : (stems : List Stem) (branches : List Branch) (k : ℕ) → branches_of stems ≡ branches
+    → length stems ≤ k → option_and_then head_in (slice_get branches k) ≡ None
+no_stem stems branches k same past =
+    let many : length (branches_of stems) ≡ length branches = ap length same in
+    no_head branches k (omega (arith, past, as_many stems, many))
 
 -- and without one there is no leaf
 pub no_winner : (leaves : List Leaf) → winner_of leaves ≡ None

@@ -1,5 +1,5 @@
 -- What is lent of an edit, among the branches and among the edits that they are.
-use Rattle.std.proofs.Common.{◌≡◌, ℕ, List, [], ◌∷◌, length, take, Bool}
+use Rattle.std.proofs.Common.{◌≡◌, ◌≤◌, ℕ, List, [], ◌∷◌, length, take, Bool}
 use Rattle.std.proofs.Common.{Contains, inl, inr, refl, ap, ◌∙◌, subst, sym}
 use Rattle.std.specs.Prelude.{Option, Some, None, slice_get, find, option_map}
 use Rattle.std.proofs.lemmas.Bool.{cases_Bool}
@@ -16,9 +16,13 @@ use Rattle.hub_model.proofs.Tests.{edits_in as edits_in_of, in_edits, is_known_f
 use Rattle.hub_document.proofs.PlaceLemmas.{named}
 use Rattle.hub_revtree.specs.Branch.{Branch, edit_of, edits_in}
 use Rattle.hub_revtree.specs.Extend.{path_to}
+use Rattle.hub_revtree.specs.Mark.{AreStemsOf}
+use Rattle.hub_revtree.specs.Stem.{Stem, AreStems, branches_of}
 use Rattle.hub_revtree.specs.Tree.{IsRevTree, Tip, tip, tip_of}
 use Rattle.hub_revtree.proofs.JoinLemmas.{there}
 use Rattle.hub_revtree.proofs.LineLemmas.{edit_front}
+use Rattle.hub_revtree.proofs.StemLooks.{found_head, long_edit, long_headed, no_edit, no_long}
+use Rattle.hub_revtree.proofs.StemLooks.{none_headed, none_long, some_edit, some_headed}
 use Rattle.hub_revtree.proofs.TreeLemmas.{all_of_one}
 
 -- the branch that a revision heads, as an edit
@@ -135,6 +139,58 @@ headed_long branches edits revision same =
     (among branches revision
     ∙ (sym (ap (find (is_head revision)) (all_of_one branches))
     ∙ ap (λ fs. find (is_head revision) (edits_of fs [])) same))
+
+-- what is lent of the stem of a number, where there is one
+module _ (stems : List Stem) (branches : List Branch) (edits : List Edit) (are : AreStemsOf stems branches)
+    (same : edits_in branches ≡ edits) (k : ℕ) where
+  tips : option_map (λ b. tip_of (edit_of b)) (slice_get (branches_of stems) k)
+      ≡ option_map tip_of (slice_get edits k)
+  tips =
+      ap (λ bs. option_map (λ b. tip_of (edit_of b)) (slice_get bs k)) are.shown
+      ∙ numbered_by branches edits k same
+
+  lengths : option_map (λ b. length b.path) (slice_get (branches_of stems) k)
+      ≡ option_map (λ e. length e.path) (slice_get edits k)
+  lengths =
+      ap (λ bs. option_map (λ b. length b.path) (slice_get bs k)) are.shown
+      ∙ numbered_long branches edits k same
+
+  pub no_stem_tip : length stems ≤ k → None ≡ option_map tip_of (slice_get edits k)
+  no_stem_tip past = sym (no_edit stems are.stems k past) ∙ tips
+
+  pub no_stem_long : length stems ≤ k → None ≡ option_map (λ e. length e.path) (slice_get edits k)
+  no_stem_long past = sym (no_long stems k past) ∙ lengths
+
+  pub stem_tip : (stem : Stem) (revision : Revision) (deleted : Bool) (body : List ℕ)
+      → slice_get stems k ≡ Some stem → slice_get stem.revisions 0 ≡ Some revision
+      → deleted ≡ stem.deleted → body ≡ stem.body
+      → Some (tip revision deleted body) ≡ option_map tip_of (slice_get edits k)
+  stem_tip stem revision deleted body e head mark members =
+      some_edit stems are.stems k stem revision deleted body e head mark members ∙ tips
+
+  pub stem_long : (stem : Stem) (count : ℕ) → slice_get stems k ≡ Some stem → count ≡ stem.count
+      → Some count ≡ option_map (λ e. length e.path) (slice_get edits k)
+  stem_long stem count e is = long_edit stems are.stems k stem count e is ∙ lengths
+
+-- what is lent of the stem that a revision heads, if there is one
+pub map_map : {A B C : Type 0} (o : Option A) (g : A → B) (f : B → C)
+    → option_map (λ x. f (g x)) o ≡ option_map f (option_map g o)
+map_map None g f = refl
+map_map (Some x) g f = refl
+
+module _ (stems : List Stem) (a : AreStems stems) (revision : Revision) where
+  pub headed_tip : (o : Option Stem) → o ≡ find (λ s. is_first revision s.revisions) stems
+      → option_map (λ s. tip revision s.deleted s.body) o
+      ≡ option_map (λ b. tip_of (edit_of b)) (find (λ b. is_first revision b.path) (branches_of stems))
+  headed_tip None e = sym (none_headed stems a revision e)
+  headed_tip (Some s) e =
+      some_headed stems a revision s revision s.deleted s.body e (found_head stems revision s e) refl refl
+
+  pub headed_count : (o : Option Stem) → o ≡ find (λ s. is_first revision s.revisions) stems
+      → option_map (λ s. s.count) o
+      ≡ option_map (λ b. length b.path) (find (λ b. is_first revision b.path) (branches_of stems))
+  headed_count None e = sym (none_long stems a revision e)
+  headed_count (Some s) e = long_headed stems a revision s s.count e refl
 
 -- the edit of a leaf is the one that its revision heads
 module _ (journal : List Edit) (id : List ℕ) (legal : IsLegal journal) where

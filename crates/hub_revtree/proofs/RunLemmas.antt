@@ -310,3 +310,14 @@ module _ (revisions : List Revision) (n most : ℕ) (d : List ℕ) (line : List 
           → map encode_lower ds ≡ map (λ (revision : Revision). revision.hash) (revisions_from n ds)
       hashes n [] = refl
       hashes n (c ∷ ds) = ap (λ z. encode_lower c ∷ z) (hashes (n - 1) ds)
+
+-- digests from a generation down are a path, where they are no more than that
+pub down_path : (n : ℕ) (d : List ℕ) (ds : List (List ℕ)) → length ds < n → IsPath (revisions_from n (d ∷ ds))
+down_path n d [] low = omega (arith, low)
+down_path n d (e ∷ ds) low = (omega (arith, low), down_path (n - 1) e ds (omega (arith, low)))
+
+-- so are those on a line
+pub shared_path : (n : ℕ) (d : List ℕ) (line : List (List ℕ)) → length line < n
+    → IsPath (revisions_from n (take n (d ∷ line)))
+shared_path n d line low =
+    rw (take_all n (d ∷ line) (omega (arith, low))) (down_path n d line low)

@@ -9,7 +9,7 @@
 -- too, but stem 0 is the first. Nothing stands behind 3-c' in stem 0, and 2-b' does in stem 2. So the link at
 -- 3-c' is 2.
 use Rattle.std.specs.Prelude.{◌≡◌, ℕ, ◌+◌, ◌-◌, ◌<◌, ◌≤◌, ◌⊎◌, List, length, map, slice_get, nat_eq, true}
-use Rattle.std.specs.Prelude.{Option, Some, None, IsSome}
+use Rattle.std.specs.Prelude.{take, Option, Some, None, IsSome}
 use Rattle.std.specs.HashMap.{get}
 use Rattle.std.specs.BTreeMap.{BTreeMap, get as ordered_get}
 use Rattle.hex.specs.Hex.{encode_lower}
@@ -119,13 +119,21 @@ pub record AreToldOf (list : List Stem) (firsts : Firsts) : Type 0 where
   pub stems : AreStems list
   pub told : AreTold (Has list) (entry_in firsts) (other_in firsts)
 
--- these are stems of a tree, and the last of them has this number
-pub record IsLastOf (list : List Stem) (number : ℕ) : Type 0 where
+-- these are stems of a tree, the last of them has this number, and it has a revision at this place
+pub record IsOfLast (list : List Stem) (number at : ℕ) : Type 0 where
   pub stems : AreStems list
   pub newest : number + 1 ≡ length list
+  pub within : at < length (revisions_at list number)
 
 -- the same, and each of their revisions is told
-pub record IsLastTold (list : List Stem) (firsts : Firsts) (number : ℕ) : Type 0 where
+pub record IsOfLastTold (list : List Stem) (firsts : Firsts) (number at : ℕ) : Type 0 where
   pub stems : AreStems list
   pub newest : number + 1 ≡ length list
+  pub within : at < length (revisions_at list number)
   pub told : AreTold (Has list) (entry_in firsts) (other_in firsts)
+
+-- these are stems of a tree, one at least, and the index is one of all but the last
+pub record IsIndexBefore (earlier : Index) (list : List Stem) : Type 0 where
+  pub stems : AreStems list
+  pub some : 1 ≤ length list
+  pub index : IsIndex earlier (take (length list - 1) list)

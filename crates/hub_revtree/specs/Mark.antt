@@ -4,10 +4,12 @@
 -- behind 3-c, so that the first stem is noted as inner, and the two others are not.
 use Rattle.std.specs.Prelude.{◌≡◌, ℕ, List, map, slice_get, Some, Bool, true, false, ◌||◌}
 use Rattle.std.specs.List.{list_any}
+use Rattle.hub_model.specs.Journal.{IsLegal}
 use Rattle.hub_model.specs.Revision.{Revision}
+use Rattle.hub_revtree.specs.Branch.{Branch, edits_in}
 use Rattle.hub_revtree.specs.declared.mark.Mark.{Mark}
 use Rattle.hub_revtree.specs.declared.mark.Mark.TheVariants.{Leaf, DeletedLeaf, Inner, DeletedInner}
-use Rattle.hub_revtree.specs.Stem.{Stem, is_behind_newest}
+use Rattle.hub_revtree.specs.Stem.{Stem, AreStems, branches_of, is_behind_newest}
 
 -- whether a mark is that of an edit that deletes the document
 abbrev pub deletes : Mark → Bool
@@ -70,3 +72,10 @@ Notes before this after =
 pub record NotesOnly (before : List Stem) (this : Revision → Bool) (after : List Stem) : Type 0 where
   pub plain : map plain after ≡ map plain before
   pub noted : Notes before this after
+
+-- these are stems of a tree, noted so; their branches are these, and the edits of these are a legal journal
+pub record AreStemsOf (list : List Stem) (branches : List Branch) : Type 0 where
+  pub stems : AreStems list
+  pub marked : AreMarked list
+  pub shown : branches_of list ≡ branches
+  pub legal : IsLegal (edits_in branches)

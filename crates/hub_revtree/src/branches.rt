@@ -5,7 +5,6 @@ ghost use Rattle.std.specs.Prelude.{min, take, is_some, false, find, not, ◌&&�
 ghost use Rattle.std.specs.Prelude.{slice_get, IfNone, IfSome, IfOk, IsSomeAnd, IsTrue, OnOk, OnErr, true};
 ghost use Rattle.std.specs.List.{list_any, list_all};
 ghost use Rattle.hex.specs.Hex.{encode_lower};
-ghost use Rattle.hub_document.specs.Changes.{IsDigestText};
 ghost use Rattle.hub_model.specs.Journal.{IsAcceptable, IsLegal};
 ghost use Rattle.hub_model.specs.Leaves.{is_behind_head as stands_behind_head};
 ghost use Rattle.hub_model.specs.Missing.{highest as highest_of, missing as missing_from};
@@ -18,12 +17,12 @@ ghost use Rattle.hub_revtree.specs.Extend.{line_to};
 ghost use Rattle.hub_revtree.specs.Index.{IsIndexed};
 ghost use Rattle.hub_model.specs.Revision.{Revision};
 ghost use Rattle.hub_revtree.specs.Lookup.{AreIndexed};
+ghost use Rattle.hub_revtree.specs.Mark.{AreStemsOf};
 ghost use Rattle.hub_revtree.specs.Common.{last_in};
 ghost use Rattle.hub_revtree.specs.Stem.{Stem, AreStems, IsBrought, branches_of};
 ghost use Rattle.hub_revtree.specs.Tree.{nameless, tip, tip_of};
 
 use crate::candidates::Candidates;
-use crate::heads::StoredEdit;
 use crate::index::{Index, renewed};
 use crate::inner::note_inner;
 use crate::leaf::Winner;
@@ -34,7 +33,7 @@ use crate::stems::{
     Meeting, agreeing, append_digests, append_from, headed, is_newest, line_length, met_by, new_in,
     place_behind, place_of, place_up_to,
 };
-use hub_document::{Body, Changes, Path, RevId};
+use hub_document::{Body, Path, RevId};
 use std::alloc::{AllocError, Global};
 use std::marker::Model;
 
@@ -81,21 +80,6 @@ fn lent(index: &Option<Box<Index>>) -> Option<&Index>
     match index {
         Some(index) => Some(index),
         None => None,
-    }
-}
-
-// An edit as it is lent, with this revision.
-fn stored(stem: &Stem, rev: RevId) -> StoredEdit<'_>
-    ensures rev { result.rev ≡ rev }
-    ensures deleted { result.deleted ≡ stem.now.deleted }
-    ensures body { result.body.now ≡ stem.now.body }
-    ensures count { result.count ≡ stem.now.count }
-{
-    StoredEdit {
-        rev,
-        deleted: stem.mark().deleted(),
-        body: stem.body(),
-        count: stem.count(),
     }
 }
 
@@ -175,9 +159,11 @@ impl Branches {
         }
     }
 
-    /// What they take their memory from.
-    pub(crate) fn allocator(&self) -> Global {
-        *self.stems.allocator()
+    /// What each of them brought. Constant time.
+    pub(crate) fn stems(&self) -> &Vec<Stem>
+        ensures { AreStemsOf result.now.items self.now.list }
+    {
+        &self.stems
     }
 
     /// How many there are.
@@ -201,27 +187,14 @@ impl Branches {
         count
     }
 
-    /// The edit of this number. Constant time.
-    pub(crate) fn edit(&self, at: usize) -> Option<StoredEdit<'_>>
-        ensures tip { option_map (λ e. tip e.rev e.deleted e.body.now) result
-            ≡ option_map (λ b. tip_of (edit_of b)) (slice_get self.now.list at) }
-        ensures count { option_map (λ e. e.count) result
-            ≡ option_map (λ b. length b.path) (slice_get self.now.list at) }
-        ensures some { IfSome result (λ e. 1 ≤ e.count) }
-    {
-        let stem = self.stems.as_slice().get(at)?;
-        Some(stored(stem, stem.head()))
-    }
-
-    /// The edit that the revision heads. One find.
-    pub(crate) fn headed(&self, rev: &RevId) -> Option<StoredEdit<'_>>
-        ensures tip { option_map (λ e. tip e.rev e.deleted e.body.now) result
+    /// What the edit brought that the revision heads. One find.
+    pub(crate) fn headed(&self, rev: &RevId) -> Option<&Stem>
+        ensures tip { option_map (λ s. tip rev.now s.now.deleted s.now.body) result
             ≡ option_map (λ b. tip_of (edit_of b)) (find (λ b. is_first rev.now b.path) self.now.list) }
-        ensures count { option_map (λ e. e.count) result
+        ensures count { option_map (λ s. s.now.count) result
             ≡ option_map (λ b. length b.path) (find (λ b. is_first rev.now b.path) self.now.list) }
     {
-        let stem = headed(self.stems.as_slice(), lent(&self.index), rev)?;
-        Some(stored(stem, *rev))
+        headed(self.stems.as_slice(), lent(&self.index), rev)
     }
 
     /// The revision of the edit of this number, and its mark. Constant time.
@@ -260,39 +233,6 @@ impl Branches {
         }
     }
 
-    /// The revision of the edit of this number, as a row lists it. It takes memory only where its hash is no
-    /// digest's text. Constant time.
-    pub(crate) fn head_alone(&self, alloc: Global, at: usize) -> Result<Changes, AllocError>
-        requires { at < length self.now.list }
-        ensures ok { IfOk result (λ changes.
-            option_map (λ w. w.rev ∷ []) (option_and_then head_in (slice_get self.now.list at))
-            ≡ Some changes) }
-        ensures memory { OnErr result
-            (IsSomeAnd (option_and_then head_in (slice_get self.now.list at))
-            (λ w. ¬ IsDigestText w.rev.hash)) }
-    {
-        let changes = self.stems[at].run().newest(alloc)?;
-        Ok(changes)
-    }
-
-    /// The members of the edit of this number, which is the one that its revision heads. Constant time.
-    pub(crate) fn body(&self, at: usize) -> &Body
-        requires { at < length self.now.list }
-        ensures { IsSomeAnd (option_and_then head_in (slice_get self.now.list at)) (λ w.
-            option_map (λ b. b.body) (find (λ b. is_first w.rev b.path) self.now.list) ≡ Some result.now) }
-    {
-        self.stems[at].body()
-    }
-
-    /// Whether the edit of this number deletes the document. Constant time.
-    pub(crate) fn is_head_deleted(&self, at: usize) -> bool
-        requires { at < length self.now.list }
-        ensures { option_map (λ w. w.deleted) (option_and_then head_in (slice_get self.now.list at))
-            ≡ Some result }
-    {
-        self.stems[at].mark().deleted()
-    }
-
     /// Whether a path names the revision. One find; constant time where its generation is above all others.
     pub(crate) fn is_named(&self, rev: &RevId) -> bool
         ensures { result ≡ list_any (λ b. names b.path rev.now) self.now.list }
@@ -302,11 +242,13 @@ impl Branches {
 
     /// Whether the revision of the edit of this number stands behind a head. Constant time.
     pub(crate) fn is_head_inner(&self, at: usize) -> bool
-        requires { at < length self.now.list }
         ensures { (w : Winner) → option_and_then head_in (slice_get self.now.list at) ≡ Some w
             → result ≡ list_any (λ b. stands_behind_head w.rev (edit_of b)) self.now.list }
     {
-        self.stems[at].mark().is_inner()
+        match self.stems.as_slice().get(at) {
+            Some(stem) => stem.mark().is_inner(),
+            None => false,
+        }
     }
 
     /// Whether a path names the revision, and it stands behind no head. One find.
@@ -393,7 +335,7 @@ impl Branches {
     pub(crate) fn new_count(&self, path: &Path) -> Option<usize>
         requires { IsHistory path.now }
         ensures agrees { is_some result ≡ list_all (λ b. agrees_with path.now b.path) self.now.list }
-        ensures within { IfSome result (λ n. n ≤ length path.now) }
+        ensures within { IfSome result (λ n. (1 ≤ n) × (n ≤ length path.now)) }
     {
         agreeing(
             self.stems.as_slice(),
@@ -408,7 +350,7 @@ impl Branches {
         ensures list { self.new.list ≡ self.old.list }
         ensures candidates { IfSome result (AreCandidates self.old.list) }
     {
-        let alloc = self.allocator();
+        let alloc = *self.stems.allocator();
         match &mut self.index {
             Some(index) => Some(index.candidates.take().unwrap_or(Candidates::new(alloc))),
             None => None,

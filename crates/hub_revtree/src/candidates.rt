@@ -143,7 +143,7 @@ impl Candidates {
             let at = self.count;
             if let Some(leaf) = branches.head_if_leaf(at) {
                 let number = kept_number(at)?;
-                let candidate = Candidate::new(branches.allocator(), &leaf, number)?;
+                let candidate = Candidate::new(*branches.stems().allocator(), &leaf, number)?;
                 self.heap.push(candidate)?;
             }
             self.count = at + 1;

@@ -119,18 +119,6 @@ impl RevTree {
         Ok(Some(line))
     }
 
-    // The path with the revision in front of the known one, as revisions.
-    fn revisions_on(&self, alloc: Global, rev: &DigestRev, older: &RevId) -> Result<Run, AllocError>
-        ensures { IfOk result (λ path. path ≡ rev.now ∷ line_to self.now.edits (Some older.now)) }
-    {
-        let branches = self.branches();
-        let count = usize::from(branches.line_length(older));
-        let mut revisions = Vec::with_capacity(alloc, 1 + count)?;
-        revisions.push(rev.rev())?;
-        branches.append_line(older, &mut revisions)?;
-        Ok(Run::whole(revisions))
-    }
-
     // The path with the revision in front of the one that it extends, if there is one: it shares what stands
     // behind it where `shared_line` does, and else is in memory of its own size. A revision that stands alone
     // takes none.
@@ -149,10 +137,15 @@ impl RevTree {
         if let Some(line) = self.shared_line(alloc, older)? {
             return Ok(Run::on(rev, line));
         }
-        match self.digests_on(alloc, rev, older)? {
-            Some(path) => Ok(path),
-            None => self.revisions_on(alloc, rev, older),
+        if let Some(path) = self.digests_on(alloc, rev, older)? {
+            return Ok(path);
         }
+        let branches = self.branches();
+        let count = usize::from(branches.line_length(older));
+        let mut revisions = Vec::with_capacity(alloc, 1 + count)?;
+        revisions.push(rev.rev())?;
+        branches.append_line(older, &mut revisions)?;
+        Ok(Run::whole(revisions))
     }
 
     // The edit with the revision in front of the one that it extends, with memory for it. The revision alone
@@ -168,7 +161,7 @@ impl RevTree {
         ensures { MakesReady self.old self.new
             (nameless (rev.now ∷ line_to self.old.edits older.now) deleted body) result }
     {
-        let alloc = self.branches().allocator();
+        let alloc = *self.branches().stems().allocator();
         let path = self.path_on(alloc, rev, older)?;
         self.ready_with(path, Run::of_one(rev), deleted, body)
     }
@@ -198,7 +191,7 @@ impl RevTree {
         ensures memory { result ≡ Err EditFault.NoMemory
             → HasNextRevision self.old.edits (draft [] parent deleted body) }
     {
-        let alloc = self.branches().allocator();
+        let alloc = *self.branches().stems().allocator();
         let older = self.extended(parent)?;
         let rev = match next_rev(alloc, id, older, deleted, &body) {
             Ok(rev) => rev,

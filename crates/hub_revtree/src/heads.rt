@@ -6,6 +6,7 @@ ghost use Rattle.hub_model.specs.Walk.{is_head};
 ghost use Rattle.hub_revtree.specs.Extend.{path_to};
 ghost use Rattle.hub_revtree.specs.Tree.{tip, tip_of};
 
+use crate::stem::Stem;
 use crate::tree::RevTree;
 use hub_document::{Body, RevId};
 
@@ -23,6 +24,21 @@ pub struct StoredEdit<'a> {
     pub count: u16,
 }
 
+// An edit as it is lent, with this revision.
+fn stored(stem: &Stem, rev: RevId) -> StoredEdit<'_>
+    ensures rev { result.rev ≡ rev }
+    ensures deleted { result.deleted ≡ stem.now.deleted }
+    ensures body { result.body.now ≡ stem.now.body }
+    ensures count { result.count ≡ stem.now.count }
+{
+    StoredEdit {
+        rev,
+        deleted: stem.mark().deleted(),
+        body: stem.body(),
+        count: stem.count(),
+    }
+}
+
 impl RevTree {
     /// The edit of this number, from 0 in the order in which they were taken. Constant time.
     pub fn edit(&self, at: usize) -> Option<StoredEdit<'_>>
@@ -32,7 +48,8 @@ impl RevTree {
             ≡ option_map (λ e. Some e.path) (slice_get self.now.edits at) }
         ensures some { IfSome result (λ e. 1 ≤ e.count) }
     {
-        self.branches().edit(at)
+        let stem = self.branches().stems().as_slice().get(at)?;
+        Some(stored(stem, stem.head()))
     }
 
     /// The edit that the revision heads; None where it heads none, as an ancestor does that came
@@ -43,6 +60,7 @@ impl RevTree {
         ensures path { option_map (λ e. option_map (take e.count) (path_to self.now.edits e.rev)) result
             ≡ option_map (λ e. Some e.path) (find (is_head rev.now) (edits_of self.now.edits [])) }
     {
-        self.branches().headed(rev)
+        let stem = self.branches().headed(rev)?;
+        Some(stored(stem, *rev))
     }
 }

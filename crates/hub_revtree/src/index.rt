@@ -7,7 +7,8 @@ ghost use Rattle.hub_model.specs.Revision.{Revision, revision_cmp};
 ghost use Rattle.hub_revtree.specs.Candidates.{candidates_in};
 ghost use Rattle.hub_revtree.specs.First.{first_put};
 ghost use Rattle.hub_revtree.specs.Index.{AreLinked, AreTold, AreToldOf, Has, HasTo, IsFirstPlace};
-ghost use Rattle.hub_revtree.specs.Index.{IsIndex, IsIndexed, IsLastOf, IsLastTold, IsNewestLine};
+ghost use Rattle.hub_revtree.specs.Index.{IsIndex, IsIndexBefore, IsIndexed, IsNewestLine, IsOfLast};
+ghost use Rattle.hub_revtree.specs.Index.{IsOfLastTold};
 ghost use Rattle.hub_revtree.specs.Index.{entry_in, link_in, number_in, other_in};
 ghost use Rattle.hub_revtree.specs.Stem.{AreStems, has_revision, revisions_at};
 
@@ -106,8 +107,7 @@ impl Firsts {
     // Takes in the revision at this place of the newest stem, which has this number. Constant time where the
     // key of its hash is a new one; else at most log n comparisons of revisions.
     fn add_at(&mut self, stems: &[Stem], number: u32, at: usize) -> Result<(), AllocError>
-        requires last { IsLastOf stems.now number }
-        requires within { at < length (revisions_at stems.now number) }
+        requires last { IsOfLast stems.now number at }
         requires told { AreTold (HasTo stems.now number at) (entry_in self.old) (other_in self.old) }
         ensures { OnOk result
             (AreTold (HasTo stems.now number (at + 1)) (entry_in self.new) (other_in self.new)) }
@@ -127,30 +127,6 @@ impl Firsts {
         put_at(&mut self.others, &rev, number)
     }
 
-    // Takes in the revisions of the newest stem, which has this number. It costs what `add_at` does for each.
-    fn add_all(&mut self, stems: &[Stem], number: u32) -> Result<(), AllocError>
-        requires last { IsLastOf stems.now number }
-        requires told { AreTold (Has (take number stems.now)) (entry_in self.old) (other_in self.old) }
-        ensures { OnOk result (AreTold (Has stems.now) (entry_in self.new) (other_in self.new)) }
-    {
-        for at in 0..stems[number as usize].run().len() {
-            self.add_at(stems, number, at)?;
-        }
-        Ok(())
-    }
-
-    // The place of the revision in the stem that the others tell. At most log n comparisons of revisions.
-    fn place_other(&self, stems: &[Stem], rev: &RevId) -> Option<Place>
-        requires { AreToldOf stems.now self.now }
-        ensures found { IfSome result (IsFirstPlace stems.now rev.now) }
-        ensures none { IfNone result (other_in self.now rev.now ≡ None) }
-    {
-        match number_at(&self.others, rev) {
-            Some(number) => place_in(stems, number as usize, rev),
-            None => None,
-        }
-    }
-
     /// Where the revision stands in the first of the stems that has it; None where none has it. Constant time
     /// where its hash is a digest's text and that stem is the first with its first eight bytes; else at most
     /// log n comparisons of revisions.
@@ -159,15 +135,17 @@ impl Firsts {
         ensures found { IfSome result (IsFirstPlace stems.now rev.now) }
         ensures none { IfNone result (has_revision stems.now rev.now ≡ false) }
     {
-        let Some(key) = key_of_rev(rev) else {
-            return self.place_other(stems, rev);
-        };
-        let Some(&number) = self.stems.get(&key) else {
-            return None;
-        };
-        match place_in(stems, number as usize, rev) {
-            Some(place) => Some(place),
-            None => self.place_other(stems, rev),
+        if let Some(key) = key_of_rev(rev) {
+            let Some(&number) = self.stems.get(&key) else {
+                return None;
+            };
+            if let Some(place) = place_in(stems, number as usize, rev) {
+                return Some(place);
+            }
+        }
+        match number_at(&self.others, rev) {
+            Some(number) => place_in(stems, number as usize, rev),
+            None => None,
         }
     }
 
@@ -180,8 +158,7 @@ impl Firsts {
         number: u32,
         at: usize,
     ) -> Result<(), AllocError>
-        requires last { IsLastTold stems.now self.now number }
-        requires within { at < length (revisions_at stems.now number) }
+        requires last { IsOfLastTold stems.now self.now number at }
         requires linked { AreLinked (HasTo stems.now number at) stems.now (number_in links.old) }
         ensures { OnOk result
             (AreLinked (HasTo stems.now number (at + 1)) stems.now (number_in links.new)) }
@@ -198,43 +175,29 @@ impl Firsts {
         }
         put_at(links, &rev, number)
     }
-
-    // Links the revisions of the newest stem, which has this number. It costs what `link_at` does for each.
-    fn link_all(
-        &self,
-        links: &mut BTreeMap<RevKey, u32>,
-        stems: &[Stem],
-        number: u32,
-    ) -> Result<(), AllocError>
-        requires last { IsLastTold stems.now self.now number }
-        requires linked { AreLinked (Has (take number stems.now)) (take number stems.now)
-            (number_in links.old) }
-        ensures { OnOk result (AreLinked (Has stems.now) stems.now (number_in links.new)) }
-    {
-        for at in 0..stems[number as usize].run().len() {
-            self.link_at(links, stems, number, at)?;
-        }
-        Ok(())
-    }
 }
 
 impl Index {
     // Takes in the newest of the stems, of all others of which it is an index. It costs what
     // `add_at` does for each of its revisions, and where it joins others what `link_at` does.
     fn add(&mut self, stems: &[Stem]) -> Result<(), AllocError>
-        requires stems { AreStems stems.now }
-        requires some { 1 ≤ length stems.now }
-        requires index { IsIndex self.old (take (length stems.now - 1) stems.now) }
+        requires { IsIndexBefore self.old stems.now }
         ensures index { OnOk result (IsIndex self.new stems.now) }
         ensures candidates { self.new.candidates ≡ self.old.candidates }
     {
         let newest = stems.len() - 1;
         let number = kept_number(newest)?;
-        self.firsts.add_all(stems, number)?;
+        let count = stems[newest].run().len();
+        for at in 0..count {
+            self.firsts.add_at(stems, number, at)?;
+        }
         if !stems[newest].joins() {
             return Ok(());
         }
-        self.firsts.link_all(&mut self.links, stems, number)
+        for place in 0..count {
+            self.firsts.link_at(&mut self.links, stems, number, place)?;
+        }
+        Ok(())
     }
 
     /// The number of a later stem that goes on behind the revision, where the first one that has it does not.

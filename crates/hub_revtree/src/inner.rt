@@ -1,19 +1,17 @@
 //! Which of the stems' newest revisions stand behind others.
 
 ghost use Rattle.std.specs.Prelude.{◌≡◌, ◌<◌, ◌||◌, Some, drop, false, length, option_map};
-ghost use Rattle.std.specs.Prelude.{slice_get, slice_set, true, vec_capacity, vec_len, IfSome};
+ghost use Rattle.std.specs.Prelude.{slice_get, slice_set, true, vec_capacity, vec_len};
 ghost use Rattle.std.specs.List.{list_any};
-ghost use Rattle.hub_model.specs.Revision.{is_same};
 ghost use Rattle.hub_model.specs.Path.{IsPath, names};
 ghost use Rattle.hub_revtree.specs.Lookup.{AreIndexed, IsPlaceIn, MayCome};
 ghost use Rattle.hub_revtree.specs.Mark.{NotesOnly, with_note};
-ghost use Rattle.hub_revtree.specs.Stem.{Stem as StemModel, AreStems, IsWithin, has_revision, is_at};
+ghost use Rattle.hub_revtree.specs.Stem.{Stem as StemModel, has_revision, is_at};
 
 use crate::index::Index;
 use crate::run::Run;
 use crate::stem::{Place, Standing, Stem};
 use crate::stems::place_of;
-use hub_document::RevId;
 
 // Notes the stem of this number as inner. Constant time.
 fn note(stems: &mut [Stem], number: usize)
@@ -34,27 +32,6 @@ fn note_at(stems: &mut [Stem], place: Place)
     }
 }
 
-// The same, where there is a place.
-fn note_parent(stems: &mut [Stem], parent: Option<Place>)
-    requires stems { AreStems stems.old }
-    requires within { IfSome parent (IsWithin stems.old) }
-    ensures { NotesOnly stems.old (λ r. is_at stems.old r parent) stems.new }
-{
-    if let Some(place) = parent {
-        note_at(stems, place);
-    }
-}
-
-// Notes the stem as inner whose newest revision this is, if there is one. One find.
-fn note_headed(stems: &mut [Stem], index: Option<&Index>, rev: &RevId)
-    requires { AreIndexed stems.old (option_map (λ i. i.now) index) }
-    ensures { NotesOnly stems.old (λ r. is_same r rev.now) stems.new }
-{
-    if let Some(place) = place_of(stems, index, rev) {
-        note_at(stems, place);
-    }
-}
-
 // Notes the stems as inner whose newest revisions are among these behind the first, where one of these may be
 // known. A find for each of these.
 fn note_joined(stems: &mut [Stem], index: Option<&Index>, run: &Run, joins: bool)
@@ -67,20 +44,23 @@ fn note_joined(stems: &mut [Stem], index: Option<&Index>, run: &Run, joins: bool
         return;
     }
     for at in (1..run.len()).rev() {
-        note_headed(stems, index, &run.at(at));
+        if let Some(place) = place_of(stems, index, &run.at(at)) {
+            note_at(stems, place);
+        }
     }
 }
 
 // Notes the stems as inner whose newest revisions stand behind that of the stem with these
 // revisions, which is to come behind them.
 fn note_behind(stems: &mut [Stem], index: Option<&Index>, run: &Run, standing: &Standing)
-    requires indexed { AreIndexed stems.old (option_map (λ i. i.now) index) }
-    requires comes { MayCome stems.old run.now standing.now }
+    requires { MayCome stems.old (option_map (λ i. i.now) index) run.now standing.now }
     ensures { NotesOnly stems.old
         (λ r. is_at stems.old r standing.now.parent || names (drop 1 run.now) r) stems.new }
 {
     note_joined(stems, index, run, standing.joins);
-    note_parent(stems, standing.parent);
+    if let Some(place) = standing.parent {
+        note_at(stems, place);
+    }
 }
 
 /// Notes the stems as inner whose newest revisions stand behind that of the stem with these revisions, which
@@ -91,8 +71,7 @@ pub(crate) fn note_inner(
     run: &Run,
     standing: &Standing,
 )
-    requires indexed { AreIndexed stems.old.items (option_map (λ i. i.now) index) }
-    requires comes { MayCome stems.old.items run.now standing.now }
+    requires { MayCome stems.old.items (option_map (λ i. i.now) index) run.now standing.now }
     ensures notes { NotesOnly stems.old.items
         (λ r. is_at stems.old.items r standing.now.parent || names (drop 1 run.now) r) stems.new.items }
     ensures len { vec_len stems.new ≡ vec_len stems.old }

@@ -62,7 +62,7 @@ impl RevTree {
             ≡ option_map (λ e. e.body) (find (is_head rev.now) self.now.edits) }
     {
         match self.branches().headed(rev) {
-            Some(edit) => Some(edit.body),
+            Some(stem) => Some(stem.body()),
             None => None,
         }
     }

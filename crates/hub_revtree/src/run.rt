@@ -49,7 +49,11 @@ impl Model for Run {
 
     ghost Value = { List Revision };
 
+    ghost use Rattle.hub_model.specs.Path.{IsPath};
+
     ghost view = { λ a. kept_in a.kept };
+
+    ghost invariant = { λ a. IsPath (kept_in a.kept) };
 }
 
 // The digests whose texts the hashes are; None where a hash is another text. It costs their number.
@@ -145,7 +149,7 @@ impl Run {
     /// where there is one whose hash is a digest's text. It costs their number.
     pub(crate) fn front(alloc: Global, revisions: &[RevId], count: usize) -> Result<Run, AllocError>
         requires path { IsPath revisions.now }
-        requires within { count ≤ length revisions.now }
+        requires within { (1 ≤ count) × (count ≤ length revisions.now) }
         ensures { IfOk result (λ run. run ≡ take count revisions.now) }
     {
         let newest = &revisions[0];
@@ -173,6 +177,7 @@ impl Run {
 
     /// All of them, in their own vector. It takes no memory.
     pub(crate) fn whole(revisions: Vec<RevId>) -> Run
+        requires { IsPath revisions.items }
         ensures { result ≡ revisions.items }
     {
         Run {
@@ -183,6 +188,7 @@ impl Run {
     /// The revisions whose hashes are the texts of the digests, from this generation down. It takes no
     /// memory.
     pub(crate) fn from_digests(newest: u16, digests: Vec<[u8; 16]>) -> Run
+        requires { IsPath (revisions_from newest digests.items) }
         ensures { result ≡ revisions_from newest digests.items }
     {
         Run {
@@ -234,7 +240,6 @@ impl Run {
 
     /// The newest one's generation.
     pub(crate) fn generation(&self) -> u16
-        requires { IsPath self.now }
         ensures { option_map (λ r. r.generation) (slice_get self.now 0) ≡ Some result }
     {
         match &self.kept {
@@ -247,8 +252,7 @@ impl Run {
 
     /// The revision at this place, counted from the newest. Constant time.
     pub(crate) fn at(&self, place: usize) -> RevId
-        requires path { IsPath self.now }
-        requires within { place < length self.now }
+        requires { place < length self.now }
         ensures { slice_get self.now place ≡ Some result }
     {
         match &self.kept {
@@ -279,7 +283,6 @@ impl Run {
 
     /// The newest revision alone, as a row lists it. It takes memory only where a hash is no digest's text.
     pub(crate) fn newest(&self, alloc: Global) -> Result<Changes, AllocError>
-        requires { IsPath self.now }
         ensures ok { IfOk result (λ changes. changes ≡ take 1 self.now) }
         ensures memory { OnErr result (IsSomeAnd (slice_get self.now 0) (λ r. ¬ IsDigestText r.hash)) }
     {
@@ -299,8 +302,7 @@ impl Run {
 
     /// Whether the revision is the one at this place. It compares no hashes where the generations differ.
     pub(crate) fn is_at(&self, place: usize, sought: &Sought) -> bool
-        requires path { IsPath self.now }
-        requires within { place < length self.now }
+        requires { place < length self.now }
         ensures { result ≡ is_first sought.now (drop place self.now) }
     {
         match &self.kept {
@@ -319,7 +321,6 @@ impl Run {
 
     /// Where the revision stands, counted from the newest. Constant time.
     pub(crate) fn position(&self, sought: &Sought) -> Option<u16>
-        requires { IsPath self.now }
         ensures found { IfSome result (λ k. slice_get self.now k ≡ Some sought.now) }
         ensures absent { IfNone result (names self.now sought.now ≡ false) }
     {
@@ -341,7 +342,6 @@ impl Run {
     /// Puts the revision at this place, and those behind it, behind what the vector holds. It costs their
     /// number.
     pub(crate) fn append_from(&self, at: usize, line: &mut Vec<RevId>) -> Result<(), AllocError>
-        requires { IsPath self.now }
         ensures { OnOk result (line.new.items ≡ line.old.items ++ drop at self.now) }
     {
         for place in at..self.len() {
@@ -374,8 +374,7 @@ impl Run {
     /// For how many the revisions from this place on are these, as far as both go; None where one of them
     /// differs. It costs their number.
     pub(crate) fn common(&self, at: usize, revisions: &[RevId]) -> Option<usize>
-        requires path { IsPath self.now }
-        requires within { at ≤ length self.now }
+        requires { at ≤ length self.now }
         ensures { result ≡ common_of revisions.now (drop at self.now) }
     {
         let count = (self.len() - at).min(revisions.len());

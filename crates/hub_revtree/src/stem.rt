@@ -67,6 +67,7 @@ impl Model for Stem {
     ghost Value = { Stem };
 
     ghost use Rattle.std.specs.Prelude.{length, nat_lt};
+    ghost use Rattle.hub_model.specs.Path.{IsPath};
     ghost use Rattle.hub_revtree.specs.Mark.{deletes, is_passed};
 
     ghost view = { λ a. record {
@@ -79,11 +80,14 @@ impl Model for Stem {
       inner = is_passed a.mark;
       body = a.body;
     } };
+
+    ghost invariant = { λ a. IsPath a.run };
 }
 
 impl Stem {
     /// The stem of these, whose newest revision is a leaf.
     pub(crate) fn new(run: Run, standing: Standing, deleted: bool, body: Body) -> Stem
+        requires path { IsPath run }
         requires stands { IfSome standing.parent (λ _. length run < standing.reach) }
         requires free { IfNone standing.parent (standing.reach ≤ length run) }
         ensures { result ≡ record {
@@ -174,7 +178,6 @@ impl Stem {
 
     /// The newest of them. Constant time.
     pub(crate) fn head(&self) -> RevId
-        requires { IsPath self.now.revisions }
         ensures { slice_get self.now.revisions 0 ≡ Some result }
     {
         self.run.at(0)
@@ -182,7 +185,6 @@ impl Stem {
 
     /// Whether the revision is the newest. Constant time.
     pub(crate) fn is_head(&self, sought: &Sought) -> bool
-        requires { IsPath self.now.revisions }
         ensures { result ≡ is_first sought.now self.now.revisions }
     {
         self.run.is_at(0, sought)

@@ -27,7 +27,6 @@ use std::alloc::AllocError;
 
 /// Where the revision stands in the stem of this number, if it does. Constant time.
 pub(crate) fn place_in(stems: &[Stem], number: usize, rev: &RevId) -> Option<Place>
-    requires { AreStems stems.now }
     ensures found { IfSome result (StandsAt stems.now rev.now) }
     ensures stem { IfSome result (λ place. place.stem ≡ number) }
     ensures none { IfNone result (names (revisions_at stems.now number) rev.now ≡ false) }
@@ -111,7 +110,6 @@ pub(crate) fn headed<'a>(stems: &'a [Stem], index: Option<&Index>, rev: &RevId) 
 
 /// Whether the revision is the newest of the newest stem. Constant time.
 pub(crate) fn is_newest(stems: &[Stem], rev: &RevId) -> bool
-    requires { AreStems stems.now }
     ensures { result ≡ is_first rev.now (revisions_at stems.now (length stems.now - 1)) }
 {
     match stems.last() {
@@ -225,25 +223,6 @@ pub(crate) fn behind_in(stems: &[Stem], number: usize, sought: &Sought) -> Optio
     }
 }
 
-// The place directly behind the revision in what the stem of its link brought, if it has one. At most log n
-// comparisons of revisions.
-fn linked(stems: &[Stem], index: &Index, rev: &RevId) -> Option<Place>
-    requires stems { AreStems stems.now }
-    requires links { AreLinked (Has stems.now) stems.now (link_in index.now) }
-    ensures found { IfSome result (IsBehind stems.now rev.now) }
-    ensures none { IfNone result (link_in index.now rev.now ≡ None) }
-{
-    match index.link(rev) {
-        Some(number) => {
-            if number >= stems.len() {
-                return None;
-            }
-            behind_in(stems, number, &Sought::once(rev))
-        }
-        None => None,
-    }
-}
-
 /// The place directly behind the revision in what a stem brought. With an index it costs what
 /// `place_of` does, and where the first stem that has the revision has none behind it one more look
 /// there, at most log n comparisons of revisions; else one look a stem.
@@ -253,13 +232,12 @@ pub(crate) fn place_behind(stems: &[Stem], index: Option<&Index>, rev: &RevId) -
     ensures none { IfNone result ((r : Revision) → ¬ IsBrought stems.now r rev.now) }
 {
     if let Some(index) = index {
-        let Some(place) = index.firsts.place(stems, rev) else {
-            return None;
-        };
-        return match behind_in(stems, place.stem, &Sought::once(rev)) {
-            Some(behind) => Some(behind),
-            None => linked(stems, index, rev),
-        };
+        let place = index.firsts.place(stems, rev)?;
+        if let Some(behind) = behind_in(stems, place.stem, &Sought::once(rev)) {
+            return Some(behind);
+        }
+        let number = index.link(rev)?;
+        return behind_in(stems, number, &Sought::once(rev));
     }
     let sought = Sought::among(rev, stems.len());
     for number in 0..stems.len() {
@@ -371,8 +349,8 @@ fn place_or_told(
     }
 }
 
-/// Of a path that agrees with all stored ones, how many of its revisions its edit's stem is to keep; None
-/// where it does not agree. It costs what `place_of` does for each revision that no path names, but constant
+/// Of a path that agrees with all stored ones, how many of its revisions its edit's stem is to keep, one at
+/// least; None where it does not agree. It costs what `place_of` does for each revision that no path names, but constant
 /// time for each of a generation above the highest; and the path's length; and what `beyond` does for each
 /// chain behind which it goes on.
 pub(crate) fn agreeing(
@@ -385,7 +363,7 @@ pub(crate) fn agreeing(
     requires history { IsHistory revisions.now }
     ensures agrees { is_some result ≡ list_all (λ b. agrees_with revisions.now b.path)
         (branches_of stems.now) }
-    ensures within { IfSome result (λ n. n ≤ length revisions.now) }
+    ensures within { IfSome result (λ n. (1 ≤ n) × (n ≤ length revisions.now)) }
 {
     let mut at = 0usize;
     let mut told = None;
@@ -394,7 +372,7 @@ pub(crate) fn agreeing(
             Some(place) => {
                 let count = common(stems, place, &revisions[at..])?;
                 if count == revisions.len() - at {
-                    return Some(at);
+                    return Some(at.max(1));
                 }
                 at += count;
                 told = beyond(stems, index, place);
@@ -425,8 +403,7 @@ pub(crate) struct Meeting {
 /// is the front of one chain. It costs what `place_of` does for each revision that no path names, but
 /// constant time for each of a generation above the highest.
 pub(crate) fn met_by(stems: &[Stem], index: Option<&Index>, highest: u16, path: &Run) -> Meeting
-    requires indexed { AreIndexedUpTo stems.now (option_map (λ i. i.now) index) highest }
-    requires path { IsPath path.now }
+    requires { AreIndexedUpTo stems.now (option_map (λ i. i.now) index) highest }
     ensures kept { result.at ≤ length path.now }
     ensures within { IfSome result.place (IsWithin stems.now) }
     ensures same { IfSome result.place (λ p. slice_get path.now result.at ≡ rev_at stems.now (Some p)) }

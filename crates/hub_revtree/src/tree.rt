@@ -171,7 +171,7 @@ impl RevTree {
         ensures none { IfNone result ((mark : Bool) → ¬ IsMarked self.now.edits [] rev.now mark) }
     {
         match self.branches.headed(rev) {
-            Some(edit) => Some(edit.deleted),
+            Some(stem) => Some(stem.mark().deleted()),
             None => None,
         }
     }
@@ -192,10 +192,9 @@ impl RevTree {
             (IsSomeAnd (slice_get (revisions_of (leaves_of self.now.edits [])) 0)
             (λ r. ¬ IsDigestText r.hash)) }
     {
-        if self.best < self.branches.len() {
-            self.branches.head_alone(alloc, self.best)
-        } else {
-            Ok(Changes::new(Revisions::new(Vec::new(alloc))))
+        match self.branches.stems().as_slice().get(self.best) {
+            Some(stem) => stem.run().newest(alloc),
+            None => Ok(Changes::new(Revisions::new(Vec::new(alloc)))),
         }
     }
 
@@ -203,10 +202,8 @@ impl RevTree {
     pub fn winner_body(&self) -> Option<&Body>
         ensures { option_map (λ b. b.now) result ≡ doc_of true (leaves_of self.now.edits []) }
     {
-        if self.best >= self.branches.len() {
-            return None;
-        }
-        Some(self.branches.body(self.best))
+        let stem = self.branches.stems().as_slice().get(self.best)?;
+        Some(stem.body())
     }
 
     /// Whether the best leaf deletes the document; false of a tree with no edit. Constant time.
@@ -214,10 +211,10 @@ impl RevTree {
         ensures mark { result ≡ is_deleted (leaves_of self.now.edits []) }
         ensures tree { IsRevTree self.now.edits }
     {
-        if self.best >= self.branches.len() {
-            return false;
+        match self.branches.stems().as_slice().get(self.best) {
+            Some(stem) => stem.mark().deleted(),
+            None => false,
         }
-        self.branches.is_head_deleted(self.best)
     }
 
     /// The revision of the best leaf; None of a tree with no edit. Constant time.
@@ -259,7 +256,7 @@ impl RevTree {
         let Some(new) = self.branches.new_count(&path) else {
             return Err(MergeFault::Contradicts);
         };
-        let run = Run::front(self.branches.allocator(), path.revisions(), new)?;
+        let run = Run::front(*self.branches.stems().allocator(), path.revisions(), new)?;
         let ready = self.ready_with(Run::whole(path.into_revisions()), run, deleted, body)?;
         Ok(Some(ready))
     }

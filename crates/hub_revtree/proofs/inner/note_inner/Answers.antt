@@ -5,8 +5,8 @@ use Rattle.hub_revtree.specs.Stem.{is_at}
 use Rattle.hub_revtree.proofs.MarkLemmas.{lent_back, long_same}
 use Rattle.hub_revtree.proofs.inner.note_inner.Goals as goal
 
-pub note_behind-requires-clause-comes : goal.note_behind-requires-clause-comes
-note_behind-requires-clause-comes c = rw c.as_mut_slice.ensures.value c.requires.comes
+pub note_behind-requires : goal.note_behind-requires
+note_behind-requires c = rw c.as_mut_slice.ensures.value c.requires
 
 pub returns-clause-notes : goal.returns-clause-notes
 returns-clause-notes c =

@@ -46,15 +46,8 @@ overflow_sub-len c =
     (c.requires.stems.falling c.loop-below.at c.index-stems-at-2.result there) in
     omega (arith, some, c.len.ensures, ap length c.run-run.ensures)
 
-pub at-requires-clause-path : goal.at-requires-clause-path
-at-requires-clause-path c =
-    let there =
-    read_stem c.args.stems.now c.loop-below.at c.index-stems-at-2.result c.loop-below.invariant.within
-    c.index-stems-at-2.is in
-    rw c.run-run.ensures (c.requires.stems.falling c.loop-below.at c.index-stems-at-2.result there)
-
-pub at-requires-clause-within : goal.at-requires-clause-within
-at-requires-clause-within c =
+pub at-requires : goal.at-requires
+at-requires c =
     let there =
     read_stem c.args.stems.now c.loop-below.at c.index-stems-at-2.result c.loop-below.invariant.within
     c.index-stems-at-2.is in

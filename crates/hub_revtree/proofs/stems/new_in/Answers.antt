@@ -32,13 +32,6 @@ overflow_add-count c =
     c.loop-at.count c.loop-at.invariant in
     omega (arith, few)
 
-pub at-requires-clause-path : goal.at-requires-clause-path
-at-requires-clause-path c =
-    let there =
-    read_stem c.args.stems.now c.args.number c.index-stems-number.result c.requires.within
-    c.index-stems-number.is in
-    rw c.run-run.ensures (c.requires.stems.falling c.args.number c.index-stems-number.result there)
-
 pub loop-at-preserved : goal.loop-at-preserved
 loop-at-preserved c =
     let earlier = take c.args.number c.args.stems.now in

@@ -10,14 +10,6 @@ index-stem-requires c =
     (ap (λ (storage : Storage). storage.list) c.self.view_is) c.requires in
     omega (arith, low, c.self.inside.stems.ok.0)
 
-pub head-requires : goal.head-requires
-head-requires c =
-    let low =
-    low_stem c.self.inside.stems.items c.args.self.now.list c.args.at
-    (ap (λ (storage : Storage). storage.list) c.self.view_is) c.requires in
-    c.self.invariant.0.falling c.args.at c.index-stem.result.now
-    (read_stem c.self.inside.stems.items c.args.at c.index-stem.result.now low c.index-stem.ensures)
-
 pub returns : goal.returns
 returns c =
     let low =

@@ -62,6 +62,28 @@ kept-run-requires-clause-some c =
     } in
     some_kept xs c.self.invariant.0 legal c.args.path c.args.deleted c.args.body ok _ _ _ _ is
 
+pub new-requires-clause-path : goal.new-requires-clause-path
+new-requires-clause-path c =
+    let xs = c.self.inside.stems.items in
+    let legal = c.self.invariant.5 in
+    let ok = rw (sym c.self.view_is) at c.requires.acceptable in
+    let met = rw c.as_slice-stems.ensures.value at c.met_by-met.ensures in
+    let is : Meets xs c.args.path c.met_by-met.result.at c.met_by-met.result.place c.met_by-met.result.behind
+    c.met_by-met.result.joins =
+    record {
+      kept = met.kept;
+      within = met.within;
+      same = met.same;
+      long = met.behind;
+      rest = met.rest;
+      none = met.none;
+      fresh = met.fresh;
+    } in
+    let some = some_kept xs c.self.invariant.0 legal c.args.path c.args.deleted c.args.body ok _ _ _ _ is in
+    rw c.kept-run.ensures.run
+    (take_falls c.met_by-met.result.at c.args.path
+    (λ z. omega (arith, z, some)) c.requires.acceptable.history.falls)
+
 pub new-requires-clause-stands : goal.new-requires-clause-stands
 new-requires-clause-stands c =
     let xs = c.self.inside.stems.items in
@@ -133,8 +155,8 @@ line_of c =
       | else-whole w ↦ rw w.line2-is tt
     ]
 
-pub note_inner-requires-clause-comes : goal.note_inner-requires-clause-comes
-note_inner-requires-clause-comes c =
+pub note_inner-requires : goal.note_inner-requires
+note_inner-requires c =
     let xs = c.self.inside.stems.items in
     let legal = c.self.invariant.5 in
     let ok = rw (sym c.self.view_is) at c.requires.acceptable in
@@ -152,6 +174,10 @@ note_inner-requires-clause-comes c =
     } in
     let some = some_kept xs c.self.invariant.0 legal c.args.path c.args.deleted c.args.body ok _ _ _ _ is in
     record {
+      stems = c.self.invariant.0;
+      index =
+          rw c.lent-3.ensures
+          (c.without_line-index.ensures.index xs (rw c.take.ensures.value c.self.invariant.2));
       path =
           rw c.kept-run.ensures.run
           (take_falls c.met_by-met.result.at c.args.path

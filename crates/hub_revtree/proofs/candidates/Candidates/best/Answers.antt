@@ -4,18 +4,12 @@ use Rattle.hub_revtree.specs.Candidate.{Candidate}
 use Rattle.hub_revtree.specs.Candidates.{winner_in}
 use Rattle.hub_revtree.specs.Winner.{head_in}
 use Rattle.hub_revtree.proofs.CandidateLemmas.{below_bound, first_given_up, none_wins}
-use Rattle.hub_revtree.proofs.CandidateLemmas.{nothing_in, top_wins, top_within}
+use Rattle.hub_revtree.proofs.CandidateLemmas.{nothing_in, top_wins}
 use Rattle.hub_revtree.proofs.candidates.Candidates.best.Goals as goal
 use Rattle.hub_revtree.proofs.candidates.Candidates.best.Goals.{In-Some}
 
 here : (c : In-Some) → Contains (heap_items c.loop-top.self.heap) c.in-Some.top.now
 here c = (0, c.in-Some.ensures.item.3.0, sym c.in-Some.ensures.lookup)
-
-pub is_head_inner-requires : goal.is_head_inner-requires
-is_head_inner-requires c =
-    rw (sym c.top.view_is)
-    at (top_within c.args.branches.now.list c.loop-top.self c.loop-top.invariant.candidates c.in-Some.top.now
-    (here (goal.at.is_head_inner-requires c).In-Some))
 
 pub returns-then-not-is_head_inner-clause-best : goal.returns-then-not-is_head_inner-clause-best
 returns-then-not-is_head_inner-clause-best c =

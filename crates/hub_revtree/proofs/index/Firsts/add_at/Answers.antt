@@ -23,7 +23,7 @@ pub returns-then-first-number : goal.returns-then-first-number
 returns-then-first-number c =
     let xs = c.args.stems.now in
     let low : c.args.number < length xs = omega (arith, c.requires.last.newest) in
-    let i = get_some _ c.args.at c.requires.within in
+    let i = get_some _ c.args.at c.requires.last.within in
     let back =
     read_back xs c.args.number c.args.at c.index-stems-number.result i.0 low c.index-stems-number.is i.1 in
     own_entry xs c.args.number c.args.at i.0 i.1 (entry_in c.args.self.now) (entry_in c.put.new.self)

@@ -1,14 +1,8 @@
 use Rattle.std.proofs.Common.{sym}
 use Rattle.hub_revtree.specs.Index.{entry_in, other_in}
 use Rattle.hub_revtree.proofs.FirstLemmas.{entry_place, nowhere, nowhere_else, nowhere_keyed}
-use Rattle.hub_revtree.proofs.StepLemmas.{none_map}
 use Rattle.hub_revtree.proofs.index.Firsts.place.Goals as goal
-
-pub returns-in_default-clause-none : goal.returns-in_default-clause-none
-returns-in_default-clause-none c =
-    none_map c.place_other.result _ _ c.place_other.ensures.none
-    (λ none. nowhere c.args.stems.now (entry_in c.args.self.now) (other_in c.args.self.now) c.requires.told
-    c.args.rev.now (λ key m is q h. c.in_default.ensures key is) none)
+use Rattle.hub_revtree.proofs.index.Firsts.place.Goals.{in-Some+in-Some-get+in_default-place_in, in_default}
 
 pub returns-in_default-get-clause-none : goal.returns-in_default-get-clause-none
 returns-in_default-get-clause-none c =
@@ -22,8 +16,12 @@ returns-in-Some-place_in-clause-found c =
     (sym c.in-Some-get.ensures.value) c.in-Some-place_in.ensures.stem c.in-Some-place_in.ensures.found
 
 pub returns-in-None-clause-none : goal.returns-in-None-clause-none
-returns-in-None-clause-none c =
-    none_map c.place_other-in-None.result _ _ c.place_other-in-None.ensures.none
-    (λ none. nowhere_else c.args.stems.now (entry_in c.args.self.now) (other_in c.args.self.now)
-    c.requires.told c.args.rev.now c.in-Some.key c.in-Some-get.field-0.now c.in-Some.ensures
-    (sym c.in-Some-get.ensures.value) c.in-None.ensures.none none)
+returns-in-None-clause-none c = elim c.match-key_of_rev.branch [
+  | in-Some+in-Some-get+in_default-place_in w ↦
+      nowhere_else c.args.stems.now (entry_in c.args.self.now) (other_in c.args.self.now)
+      c.requires.told c.args.rev.now w.in-Some.key w.in-Some-get.field-0.now w.in-Some.ensures
+      (sym w.in-Some-get.ensures.value) w.in_default-place_in.ensures.none (sym c.in-None.ensures)
+  | in_default w ↦
+      nowhere c.args.stems.now (entry_in c.args.self.now) (other_in c.args.self.now) c.requires.told
+      c.args.rev.now (λ key m is q h. w.in_default.ensures key is) (sym c.in-None.ensures)
+]

@@ -1,9 +1,25 @@
-use Rattle.std.proofs.Common.{◌≡◌, ◌∙◌, ◌-◌, ◌+◌, length, take, sym, subst, arith}
-use Rattle.std.proofs.lemmas.Result.{on_ok_weaker}
-use Rattle.hub_revtree.specs.Index.{AreLinked, Has, link_in}
-use Rattle.hub_revtree.proofs.LinkLemmas.{link_fresh, link_start}
+use Rattle.std.proofs.Common.{◌≡◌, ◌∙◌, ◌-◌, ◌+◌, ap, length, take, sym, refl, subst, arith}
+use Rattle.hub_revtree.specs.Index.{AreLinked, AreTold, Has, entry_in, link_in, other_in}
+use Rattle.hub_revtree.proofs.FirstLemmas.{told_end, told_start}
+use Rattle.hub_revtree.proofs.IndexLemmas.{read_long}
+use Rattle.hub_revtree.proofs.LinkLemmas.{link_end, link_fresh, link_start}
 use Rattle.hub_revtree.proofs.StemLooks.{read_stem}
 use Rattle.hub_revtree.proofs.index.Index.add.Goals as goal
+
+pub loop-at-init : goal.loop-at-init
+loop-at-init c =
+    let xs = c.args.stems.now in
+    let n = c.in_ok-number.number in
+    let same : n ≡ length xs - 1 = omega (arith, c.in_ok-number.ensures) in
+    let firsts = c.args.self.now.firsts in
+    record {
+      told =
+          told_start xs n (entry_in firsts) (other_in firsts)
+          (subst (λ k. AreTold (Has (take k xs)) (entry_in firsts) (other_in firsts)) (sym same)
+          c.requires.index.0);
+      links = refl;
+      candidates = refl;
+    }
 
 pub returns-then-not-joins-clause-index : goal.returns-then-not-joins-clause-index
 returns-then-not-joins-clause-index c =
@@ -11,24 +27,70 @@ returns-then-not-joins-clause-index c =
     let n = c.in_ok-number.number in
     let same : n ≡ length xs - 1 = omega (arith, c.in_ok-number.ensures) in
     let long : length xs ≡ n + 1 = omega (arith, same, c.requires.some) in
+    let all =
+    read_long xs n c.index-stems-newest.result (omega (arith, long)) (rw same c.index-stems-newest.is) in
     let there =
-    read_stem xs n c.index-stems-newest.result (omega (arith, long)) (rw same c.index-stems-newest.is) in
-    let linked : AreLinked (Has (take n xs)) (take n xs) (link_in c.args.self.now) =
-    subst (λ k. AreLinked (Has (take k xs)) (take k xs) (link_in c.args.self.now))
-    (sym same) c.requires.index.1 in (
-      c.in_ok-add_all.ensures,
-      link_fresh xs c.requires.stems n c.index-stems-newest.result (link_in c.args.self.now) long there
-          (sym c.joins.ensures ∙ c.if-not-joins.true) (link_start xs n (link_in c.args.self.now) linked),
+    read_stem xs n c.index-stems-newest-2.result (omega (arith, long)) (rw same c.index-stems-newest-2.is) in
+    let linked : AreLinked (Has (take n xs)) (take n xs) (link_in c.loop-at.self) =
+    subst (λ l. AreLinked (Has (take n xs)) (take n xs) l) (sym c.loop-at.invariant.links)
+    (subst (λ k. AreLinked (Has (take k xs)) (take k xs) (link_in c.args.self.now))
+    (sym same) c.requires.index.1) in (
+      told_end xs n c.loop-at.at (entry_in c.loop-at.self.firsts) (other_in c.loop-at.self.firsts)
+          (omega (arith, long))
+          (omega (arith, all, c.loop-at-test.false, c.len-count.ensures, ap length c.run.ensures))
+          c.loop-at.invariant.told,
+      link_fresh xs c.requires.stems n c.index-stems-newest-2.result (link_in c.loop-at.self) long there
+          (sym c.joins.ensures ∙ c.if-not-joins.true) (link_start xs n (link_in c.loop-at.self) linked),
     )
 
-pub link_all-requires-clause-linked : goal.link_all-requires-clause-linked
-link_all-requires-clause-linked c =
+pub loop-place-init : goal.loop-place-init
+loop-place-init c =
     let xs = c.args.stems.now in
     let n = c.in_ok-number.number in
     let same : n ≡ length xs - 1 = omega (arith, c.in_ok-number.ensures) in
-    subst (λ k. AreLinked (Has (take k xs)) (take k xs) (link_in c.args.self.now))
-    (sym same) c.requires.index.1
+    let long : length xs ≡ n + 1 = omega (arith, same, c.requires.some) in
+    let all =
+    read_long xs n c.index-stems-newest.result (omega (arith, long)) (rw same c.index-stems-newest.is) in
+    let linked : AreLinked (Has (take n xs)) (take n xs) (link_in c.loop-at.self) =
+    subst (λ l. AreLinked (Has (take n xs)) (take n xs) l) (sym c.loop-at.invariant.links)
+    (subst (λ k. AreLinked (Has (take k xs)) (take k xs) (link_in c.args.self.now))
+    (sym same) c.requires.index.1) in
+    record {
+      told =
+          told_end xs n c.loop-at.at (entry_in c.loop-at.self.firsts) (other_in c.loop-at.self.firsts)
+          (omega (arith, long))
+          (omega (arith, all, c.loop-at-test.false, c.len-count.ensures, ap length c.run.ensures))
+          c.loop-at.invariant.told;
+      linked = link_start xs n (link_in c.loop-at.self) linked;
+      candidates = refl;
+    }
+
+pub link_at-requires-clause-last : goal.link_at-requires-clause-last
+link_at-requires-clause-last c =
+    let xs = c.args.stems.now in
+    let n = c.in_ok-number.number in
+    let same : n ≡ length xs - 1 = omega (arith, c.in_ok-number.ensures) in
+    let long : length xs ≡ n + 1 = omega (arith, same, c.requires.some) in
+    let all =
+    read_long xs n c.index-stems-newest.result (omega (arith, long)) (rw same c.index-stems-newest.is) in
+    record {
+      stems = c.requires.stems;
+      newest = omega (arith, long);
+      within =
+          omega (arith, all, c.loop-place-test.true, c.len-count.ensures, ap length c.run.ensures);
+      told = c.loop-place.invariant.told;
+    }
 
 pub returns-clause-index : goal.returns-clause-index
 returns-clause-index c =
-    on_ok_weaker c.link_all.result (λ linked. (c.in_ok-add_all.ensures, linked)) c.link_all.ensures
+    let xs = c.args.stems.now in
+    let n = c.in_ok-number.number in
+    let same : n ≡ length xs - 1 = omega (arith, c.in_ok-number.ensures) in
+    let long : length xs ≡ n + 1 = omega (arith, same, c.requires.some) in
+    let all =
+    read_long xs n c.index-stems-newest.result (omega (arith, long)) (rw same c.index-stems-newest.is) in (
+      c.loop-place.invariant.told,
+      link_end xs n c.loop-place.place (link_in c.loop-place.self) (omega (arith, long))
+          (omega (arith, all, c.loop-place-test.false, c.len-count.ensures, ap length c.run.ensures))
+          c.loop-place.invariant.linked,
+    )

@@ -1,4 +1,5 @@
-use Rattle.std.proofs.Common.{◌<◌, ◌^◌, ◌∙◌, ap, sym, arith, rules}
+use Rattle.std.proofs.Common.{◌<◌, ◌^◌, ◌∙◌, ap, sym, subst, arith, rules}
+use Rattle.hub_model.specs.Path.{IsPath}
 use Rattle.std.specs.Prelude.{Some}
 use Rattle.hub_revtree.specs.Run.{kept_in}
 use Rattle.hub_revtree.proofs.RunLemmas.{digest_length, digest_low, digest_read}
@@ -12,7 +13,7 @@ overflow_cast-place c =
     omega (
       arith,
       digest_low c.args.self.now c.in-Digests.newest c.in-Digests.digests.items is c.args.place
-          c.requires.path c.requires.within,
+          (subst IsPath c.self.view_is c.self.invariant) c.requires,
       below,
     )
 
@@ -22,7 +23,7 @@ overflow_sub-newest c =
     omega (
       arith,
       digest_low c.args.self.now c.in-Digests.newest c.in-Digests.digests.items is c.args.place
-          c.requires.path c.requires.within,
+          (subst IsPath c.self.view_is c.self.invariant) c.requires,
     )
 
 pub index-requires : goal.index-requires
@@ -30,7 +31,7 @@ index-requires c =
     let is = sym (ap kept_in c.in-Digests.is) ∙ c.self.view_is in
     omega (
       arith,
-      c.requires.within,
+      c.requires,
       digest_length c.args.self.now c.in-Digests.newest c.in-Digests.digests.items is,
       c.in-Digests.digests.ok.0,
     )
@@ -41,21 +42,21 @@ from_digest-requires-in-Digests c =
     omega (
       arith,
       digest_low c.args.self.now c.in-Digests.newest c.in-Digests.digests.items is c.args.place
-          c.requires.path c.requires.within,
+          (subst IsPath c.self.view_is c.self.invariant) c.requires,
     )
 
 pub returns-in-Digests : goal.returns-in-Digests
 returns-in-Digests c =
     let is = sym (ap kept_in c.in-Digests.is) ∙ c.self.view_is in
     digest_read c.args.self.now c.in-Digests.newest c.in-Digests.digests.items is c.args.place
-    c.index.result.now c.requires.within c.index.ensures
+    c.index.result.now c.requires c.index.ensures
     ∙ ap Some (sym c.from_digest-in-Digests.ensures)
 
 pub returns-in-Texts : goal.returns-in-Texts
 returns-in-Texts c =
     let is = sym (ap kept_in c.in-Texts.is) ∙ c.self.view_is in
     texts_read c.args.self.now c.in-Texts.revisions.items c.args.place c.index-in-Texts.result.now is
-    c.requires.within c.index-in-Texts.ensures
+    c.requires c.index-in-Texts.ensures
 
 pub overflow_cast-place-in-Shared : goal.overflow_cast-place-in-Shared
 overflow_cast-place-in-Shared c =
@@ -64,7 +65,7 @@ overflow_cast-place-in-Shared c =
     omega (
       arith,
       shared_low c.args.self.now c.in-Shared.newest c.in-Shared.field-1 c.in-Shared.digest c.in-Shared.line
-          is c.args.place c.requires.path c.requires.within,
+          is c.args.place (subst IsPath c.self.view_is c.self.invariant) c.requires,
       below,
     )
 
@@ -74,7 +75,7 @@ overflow_sub-newest-in-Shared c =
     omega (
       arith,
       shared_low c.args.self.now c.in-Shared.newest c.in-Shared.field-1 c.in-Shared.digest c.in-Shared.line
-          is c.args.place c.requires.path c.requires.within,
+          is c.args.place (subst IsPath c.self.view_is c.self.invariant) c.requires,
     )
 
 pub digest_at-requires : goal.digest_at-requires
@@ -82,7 +83,7 @@ digest_at-requires c =
     let is = sym (ap kept_in c.in-Shared.is) ∙ c.self.view_is in
     omega (
       arith,
-      c.requires.within,
+      c.requires,
       shared_length c.args.self.now c.in-Shared.newest c.in-Shared.field-1
           c.in-Shared.digest c.in-Shared.line is,
     )
@@ -93,12 +94,12 @@ from_digest-requires-in-Shared c =
     omega (
       arith,
       shared_low c.args.self.now c.in-Shared.newest c.in-Shared.field-1 c.in-Shared.digest c.in-Shared.line
-          is c.args.place c.requires.path c.requires.within,
+          is c.args.place (subst IsPath c.self.view_is c.self.invariant) c.requires,
     )
 
 pub returns-in-Shared : goal.returns-in-Shared
 returns-in-Shared c =
     let is = sym (ap kept_in c.in-Shared.is) ∙ c.self.view_is in
     shared_read c.args.self.now c.in-Shared.newest c.in-Shared.field-1 c.in-Shared.digest c.in-Shared.line
-    is c.args.place c.digest_at.result.now c.requires.within c.digest_at.ensures
+    is c.args.place c.digest_at.result.now c.requires c.digest_at.ensures
     ∙ ap Some (sym c.from_digest-in-Shared.ensures)

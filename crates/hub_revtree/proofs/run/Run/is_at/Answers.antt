@@ -1,4 +1,5 @@
-use Rattle.std.proofs.Common.{◌<◌, ◌^◌, ◌∙◌, ap, sym, arith, rules}
+use Rattle.std.proofs.Common.{◌<◌, ◌^◌, ◌∙◌, ap, sym, subst, arith, rules}
+use Rattle.hub_model.specs.Path.{IsPath}
 use Rattle.hub_revtree.specs.Run.{kept_in}
 use Rattle.hub_revtree.proofs.RunLemmas.{digest_first, digest_length, digest_low}
 use Rattle.hub_revtree.proofs.RunLemmas.{shared_first, shared_length, shared_low}
@@ -11,7 +12,7 @@ overflow_cast-place c =
     omega (
       arith,
       digest_low c.args.self.now c.in-Digests.newest c.in-Digests.digests.items is c.args.place
-          c.requires.path c.requires.within,
+          (subst IsPath c.self.view_is c.self.invariant) c.requires,
       below,
     )
 
@@ -21,7 +22,7 @@ overflow_sub-newest c =
     omega (
       arith,
       digest_low c.args.self.now c.in-Digests.newest c.in-Digests.digests.items is c.args.place
-          c.requires.path c.requires.within,
+          (subst IsPath c.self.view_is c.self.invariant) c.requires,
     )
 
 pub index-requires : goal.index-requires
@@ -29,7 +30,7 @@ index-requires c =
     let is = sym (ap kept_in c.in-Digests.is) ∙ c.self.view_is in
     omega (
       arith,
-      c.requires.within,
+      c.requires,
       digest_length c.args.self.now c.in-Digests.newest c.in-Digests.digests.items is,
       c.in-Digests.digests.ok.0,
     )
@@ -39,7 +40,7 @@ returns-in-Digests c =
     let is = sym (ap kept_in c.in-Digests.is) ∙ c.self.view_is in
     c.is_of-in-Digests.ensures
     ∙ sym (digest_first c.args.self.now c.in-Digests.newest c.in-Digests.digests.items is c.args.place
-    c.index.result.now c.args.sought.now c.requires.within c.index.ensures)
+    c.index.result.now c.args.sought.now c.requires c.index.ensures)
 
 pub overflow_cast-place-in-Shared : goal.overflow_cast-place-in-Shared
 overflow_cast-place-in-Shared c =
@@ -48,7 +49,7 @@ overflow_cast-place-in-Shared c =
     omega (
       arith,
       shared_low c.args.self.now c.in-Shared.newest c.in-Shared.field-1 c.in-Shared.digest c.in-Shared.line
-          is c.args.place c.requires.path c.requires.within,
+          is c.args.place (subst IsPath c.self.view_is c.self.invariant) c.requires,
       below,
     )
 
@@ -58,7 +59,7 @@ overflow_sub-newest-in-Shared c =
     omega (
       arith,
       shared_low c.args.self.now c.in-Shared.newest c.in-Shared.field-1 c.in-Shared.digest c.in-Shared.line
-          is c.args.place c.requires.path c.requires.within,
+          is c.args.place (subst IsPath c.self.view_is c.self.invariant) c.requires,
     )
 
 pub digest_at-requires : goal.digest_at-requires
@@ -66,7 +67,7 @@ digest_at-requires c =
     let is = sym (ap kept_in c.in-Shared.is) ∙ c.self.view_is in
     omega (
       arith,
-      c.requires.within,
+      c.requires,
       shared_length c.args.self.now c.in-Shared.newest c.in-Shared.field-1
           c.in-Shared.digest c.in-Shared.line is,
     )
@@ -77,4 +78,4 @@ returns-in-Shared c =
     c.is_of-in-Shared.ensures
     ∙ sym (shared_first c.args.self.now c.in-Shared.newest c.in-Shared.field-1
     c.in-Shared.digest c.in-Shared.line is c.args.place c.digest_at.result.now c.args.sought.now
-    c.requires.within c.digest_at.ensures)
+    c.requires c.digest_at.ensures)
