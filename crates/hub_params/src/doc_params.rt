@@ -1,12 +1,11 @@
 //! The parameters of a document's routes.
 
-ghost use Rattle.std.specs.Prelude.{◌≡◌, IfOk, OnErr, codes, option_map, string_bytes};
+ghost use Rattle.std.specs.Prelude.{◌≡◌, IfOk, OnErr, option_map, string_bytes};
 ghost use Rattle.std.specs.Cow.{cow_str_bytes};
 ghost use Rattle.std.specs.Option.{option_copied};
 ghost use Rattle.hub_params.specs.DocParams.{doc_asked, is_value};
 ghost use Rattle.hub_params.specs.Encoded.{text_in};
-ghost use Rattle.hub_params.specs.Query.{written_of};
-ghost use Rattle.hub_params.specs.Room.{DocNeedsRoom, HasBytes, HasEscapedName};
+ghost use Rattle.hub_params.specs.Room.{DocNeedsRoom, HasBytes};
 
 use crate::query::{decoded, later};
 use form_urlencoded::{decode, raw_pairs};
@@ -49,39 +48,6 @@ impl DocParams {
         ensures asked { IfOk result (λ p. p ≡ doc_asked query.now) }
         ensures memory { OnErr result (DocNeedsRoom query.now) }
     {
-        let values = DocValues::read(alloc, query)?;
-        let rev = text(alloc, values.rev)?;
-        let open_revs = text(alloc, values.open_revs)?;
-        let revs = is_text(&decoded(alloc, values.revs)?, "true");
-        let keeps_revs = is_text(&decoded(alloc, values.new_edits)?, "false");
-        Ok(DocParams {
-            rev,
-            open_revs,
-            revs,
-            new_edits: !keeps_revs,
-        })
-    }
-}
-
-// The last value of each name that is read, not decoded yet.
-#[derive(Clone, Copy)]
-struct DocValues<'q> {
-    rev: Option<&'q [u8]>,
-    open_revs: Option<&'q [u8]>,
-    revs: Option<&'q [u8]>,
-    new_edits: Option<&'q [u8]>,
-}
-
-impl<'q> DocValues<'q> {
-    fn read(alloc: Global, query: &'q [u8]) -> Result<DocValues<'q>, AllocError>
-        ensures rev { IfOk result (λ v. option_copied v.rev ≡ written_of (codes "rev") query.now) }
-        ensures open_revs { IfOk result
-            (λ v. option_copied v.open_revs ≡ written_of (codes "open_revs") query.now) }
-        ensures revs { IfOk result (λ v. option_copied v.revs ≡ written_of (codes "revs") query.now) }
-        ensures new_edits { IfOk result
-            (λ v. option_copied v.new_edits ≡ written_of (codes "new_edits") query.now) }
-        ensures memory { OnErr result (HasEscapedName query.now) }
-    {
         let mut rev = None;
         let mut open_revs = None;
         let mut revs = None;
@@ -94,11 +60,15 @@ impl<'q> DocValues<'q> {
             revs = later("revs", name, value, revs);
             new_edits = later("new_edits", name, value, new_edits);
         }
-        Ok(DocValues {
+        let rev = text(alloc, rev)?;
+        let open_revs = text(alloc, open_revs)?;
+        let revs = is_text(&decoded(alloc, revs)?, "true");
+        let keeps_revs = is_text(&decoded(alloc, new_edits)?, "false");
+        Ok(DocParams {
             rev,
             open_revs,
             revs,
-            new_edits,
+            new_edits: !keeps_revs,
         })
     }
 }

@@ -3,7 +3,7 @@ use Rattle.std.specs.Option.{option_copied}
 use Rattle.form_urlencoded.specs.Parse.{raw_pairs_left}
 use Rattle.hub_params.specs.Query.{written_of}
 use Rattle.hub_params.proofs.QueryLemmas.{last_with, IsPlainFrom}
-use Rattle.hub_params.proofs.doc_params.DocValues.read.Given as goal
+use Rattle.hub_params.proofs.doc_params.DocParams.read.Given as goal
 
 abbrev pub invariant-loop-encoded : goal.invariant-loop-encoded
 invariant-loop-encoded l = record {

@@ -2,10 +2,11 @@ use Rattle.std.proofs.Common.{◌≡◌, ◌∷◌, codes, rules, ◌∙◌}
 use Rattle.form_urlencoded.specs.Form.{raw_pairs}
 use Rattle.form_urlencoded.specs.Parse.{raw_pairs_left}
 use Rattle.hub_params.specs.Encoded.{decoded}
-use Rattle.hub_params.specs.Room.{HasEscapedName}
+use Rattle.hub_params.specs.Room.{DocNeedsRoom}
+use Rattle.hub_params.specs.Room as needs
 use Rattle.hub_params.proofs.QueryLemmas.{read_none, read_one, plain_from_all, plain_from_rest, escaped_name}
 use Rattle.hub_params.proofs.RoomLemmas.{at_any_error}
-use Rattle.hub_params.proofs.doc_params.DocValues.read.Goals as goal
+use Rattle.hub_params.proofs.doc_params.DocParams.read.Goals as goal
 
 pub loop-encoded-init : goal.loop-encoded-init
 loop-encoded-init c =
@@ -27,8 +28,8 @@ returns-in_err-decoded_name-clause-memory c =
     let left = raw_pairs_left c.loop-encoded.encoded-iterator in
     let rest = raw_pairs_left c.next.new.self in
     let taken : left ≡ (name, value) ∷ rest = search rules in
-    at_any_error _ (λ _. HasEscapedName c.args.query.now) (λ _. escaped_name c.args.query.now name value
-    left rest taken c.loop-encoded.invariant.plain c.in_err-decoded_name.ensures.borrows)
+    at_any_error _ (λ _. DocNeedsRoom c.args.query.now) (λ _. needs.name (escaped_name c.args.query.now name value
+    left rest taken c.loop-encoded.invariant.plain c.in_err-decoded_name.ensures.borrows))
 
 pub loop-encoded-preserved-in_ok-decoded_name : goal.loop-encoded-preserved-in_ok-decoded_name
 loop-encoded-preserved-in_ok-decoded_name c =
