@@ -268,8 +268,8 @@ impl Contents {
     pub(crate) fn write_edits(&mut self, docs: Vec<Doc>, new_edits: bool) -> Result<Batch, DbFault>
         ensures batch { IfOk result
             (IsBatch new_edits false self.old.limits.journal self.old.journal self.new.journal docs.items) }
-        ensures rest { self.new ≡ record self.old { journal = self.new.journal } }
-        ensures grows { length self.old.journal ≤ length self.new.journal }
+        ensures rest { (self.new ≡ record self.old { journal = self.new.journal })
+            × (length self.old.journal ≤ length self.new.journal) }
         ensures err { IfErr result (λ e. (e ≡ DbFault.NoMemory) × (self.new ≡ self.old)) }
     {
         let mut list = Vec::new(self.alloc);

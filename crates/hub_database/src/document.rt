@@ -152,7 +152,7 @@ impl Document {
         requires acceptable { IsAcceptable self.old.tree.edits ready }
         requires room { length ready.path ≤ self.old.tree.room }
         requires entry { vec_len journal.old + 1 ≤ vec_capacity journal.old }
-        requires few { length self.old.tree.edits ≤ length journal.old.items }
+        requires few { length self.old.tree.edits < 2 ^ 32 }
         requires limit { length journal.old.items + 1 < 2 ^ 32 }
         ensures rev { head_of ready ≡ Some result }
         ensures filed { filed self.new ≡ record {

@@ -20,9 +20,8 @@ impl DbState {
     // than ids are listed. It costs what `Listing::holds` and `Listing::first_between` do.
     fn first_listed(&mut self, feed: FeedId, at: usize) -> Option<Option<u64>>
         requires placed { Some at ≡ position (is_of feed.number) self.old.feeds }
-        ensures same { self.new ≡ self.old }
-        ensures first { IfSome result (λ first. IsFirst first (current self.old.journal)
-            (entry_in feed.number self.old.feeds)) }
+        ensures { (self.new ≡ self.old) × IfSome result (λ first.
+            IsFirst first (current self.old.journal) (entry_in feed.number self.old.feeds)) }
     {
         let state = self.feeds.state_at(feed, at);
         let ids = state.listed()?;
@@ -37,7 +36,8 @@ impl DbState {
     }
 
     /// The sequence of the first row in reach of the feed that stands here, if it is open. It costs
-    /// what `first_listed` does, and where that knows nothing what `Feeds::first_at` does.
+    /// what `first_listed` does, and where that knows nothing what `FeedState::first_of_open`
+    /// does.
     pub(crate) fn first_at(&mut self, feed: FeedId, at: usize) -> Option<u64>
         requires placed { Some at ≡ position (is_of feed.number) self.old.feeds }
         ensures same { self.new ≡ self.old }
@@ -45,14 +45,14 @@ impl DbState {
     {
         match self.first_listed(feed, at) {
             Some(first) => first,
-            None => { self.feeds.first_at(&self.contents, feed, at) }
+            None => self.feeds.state_at(feed, at).first_of_open(&self.contents),
         }
     }
 
     /// What a feed has to hand now. An item is made and nothing changes: `accept_item` goes on. A
     /// feed that has nothing to hand goes to the journal's length. It costs what
-    /// `FeedState::next_item` does, and a binary search among the feeds unless the last call was for
-    /// the same feed. A feed of listed documents that asks again with no write between costs a look in
+    /// `FeedState::first_of_open` and `FeedState::next_item_at` do, and a binary search among the feeds
+    /// unless the last call was for the same feed. A feed of listed documents that asks again with no write between costs a look in
     /// the map of ids for each id and a sort of their rows, once until the next write, and then a
     /// binary search among those rows and what the row costs.
     pub fn next_item(&mut self, feed: FeedId) -> Result<Next<ChangeRow>, AllocError>

@@ -68,7 +68,7 @@ impl FeedHost for DbState {
 
     /// Constant time.
     fn life(&self) -> u64 {
-        self.contents.life()
+        self.contents.life
     }
 
     /// Constant time.
@@ -87,8 +87,8 @@ impl FeedHost for DbState {
         if let Some(fault) = self.refusal() {
             return Err(fault);
         }
+        let life = self.life();
         let length = self.contents.length();
-        let life = self.contents.life();
         match self.feeds.open(params, length, life) {
             Ok(feed) => Ok(feed),
             Err(AllocError) => Err(OpenFault::NoMemory),

@@ -47,7 +47,10 @@ impl ReceiptRoom {
         ensures ok { IfOk result (λ room. room ≡ ids_of docs.now) }
         ensures memory { OnErr result (0 < length docs.now) }
     {
-        let ids = ids_of(alloc, docs)?;
+        let mut ids = Vec::new(alloc);
+        for doc in docs {
+            ids.push(doc.id.copy()?)?;
+        }
         let mut receipts = Vec::new(alloc);
         receipts.try_reserve(ids.len())?;
         Ok(ReceiptRoom { ids, receipts })
@@ -59,21 +62,18 @@ impl ReceiptRoom {
         requires fits { before < 2 ^ 32 }
         ensures { result.items ≡ receipts_from before self replies.now }
     {
-        let ReceiptRoom { ids, receipts } = self;
-        receipts_of(receipts, before, ids, replies)
+        let ReceiptRoom { ids, mut receipts } = self;
+        let mut next = before;
+        let mut at = 0;
+        for id in ids {
+            if at >= replies.len() {
+                break;
+            }
+            next = add(&mut receipts, next, id, replies[at]);
+            at += 1;
+        }
+        receipts
     }
-}
-
-// Copies of the documents' ids.
-fn ids_of(alloc: Global, docs: &[Doc]) -> Result<Vec<DocId>, AllocError>
-    ensures ok { IfOk result (λ ids. ids.items ≡ ids_of docs.now) }
-    ensures memory { OnErr result (0 < length docs.now) }
-{
-    let mut ids = Vec::new(alloc);
-    for doc in docs {
-        ids.push(doc.id.copy()?)?;
-    }
-    Ok(ids)
 }
 
 // One receipt more, where the document was stored behind so many edits; and how many edits there are
@@ -94,30 +94,6 @@ fn add(receipts: &mut Vec<Receipt>, before: u64, id: DocId, reply: Outcome<RevId
         Outcome::Known => before,
         Outcome::Refused(_) => before,
     }
-}
-
-// The receipts of documents that were answered so, behind so many edits, in room that was made.
-fn receipts_of(
-    mut receipts: Vec<Receipt>,
-    before: u64,
-    ids: Vec<DocId>,
-    replies: &[Outcome<RevId>],
-) -> Vec<Receipt>
-    requires fits { before < 2 ^ 32 }
-    requires empty { receipts.items ≡ [] }
-    requires room { vec_len ids ≤ vec_capacity receipts }
-    ensures { result.items ≡ receipts_from before ids.items replies.now }
-{
-    let mut next = before;
-    let mut at = 0;
-    for id in ids {
-        if at >= replies.len() {
-            break;
-        }
-        next = add(&mut receipts, next, id, replies[at]);
-        at += 1;
-    }
-    receipts
 }
 
 /// Why receipts are not all of a journal.

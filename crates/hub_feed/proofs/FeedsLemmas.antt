@@ -85,12 +85,12 @@ behind_opened len life number params feeds behind =
     (since_within params.since len life, bound_behind params.mode len)
 
 -- a feed that looks, or goes on, stays behind it
-behind_bound : (len : ℕ) (mode : Mode) (bound : Option ℕ) → IfSome bound (λ b. b ≤ len)
-    → IfSome (bound_after mode bound len) (λ b. b ≤ len)
-behind_bound len Normal bound h = h
-behind_bound len Longpoll None h = omega arith
-behind_bound len Longpoll (Some bound) h = h
-behind_bound len Continuous bound h = h
+behind_bound : (len m : ℕ) → len ≤ m → (mode : Mode) (bound : Option ℕ) → IfSome bound (λ b. b ≤ m)
+    → IfSome (bound_after mode bound len) (λ b. b ≤ m)
+behind_bound len m le Normal bound h = h
+behind_bound len m le Longpoll None h = le
+behind_bound len m le Longpoll (Some bound) h = h
+behind_bound len m le Continuous bound h = h
 
 pub looks_behind : (len : ℕ) (due : Due) (feed : Feed) → IsBehind len feed
     → IsBehind len (after_next feed due len)
@@ -99,20 +99,21 @@ looks_behind len (DueEnd last_seq) feed h = h
 looks_behind len DueNothing feed h = (omega arith, h.1)
 looks_behind len DueGone feed h = h
 
-pub goes_behind : (rows : List Current) (len : ℕ) → ((row : Current) → Contains rows row → row.seq ≤ len)
-    → (feed : Feed) → IsBehind len feed → IsBehind len (after_due feed (due rows feed) len)
-goes_behind rows len within feed h = from feed.status
+pub goes_behind : (rows : List Current) (len m : ℕ) → len ≤ m
+    → ((row : Current) → Contains rows row → row.seq ≤ len)
+    → (feed : Feed) → IsBehind m feed → IsBehind m (after_due feed (due rows feed) len)
+goes_behind rows len m le within feed h = from feed.status
   where
     opened : (maybe_row : Option Current) (bound : Option ℕ) → find (is_in_reach feed) rows ≡ maybe_row
-        → feed.bound ≡ bound → IsBehind len (after_due feed (due_open maybe_row bound) len)
+        → feed.bound ≡ bound → IsBehind m (after_due feed (due_open maybe_row bound) len)
     opened (Some row) bound e q = (
-      within row (find_is (is_in_reach feed) rows row e).1,
-      behind_bound len feed.params.mode feed.bound h.1,
+      (let low = within row (find_is (is_in_reach feed) rows row e).1 in omega (arith, low, le)),
+      behind_bound len m le feed.params.mode feed.bound h.1,
     )
-    opened None (Some bound) e q = (subst (λ maybe_row. IfSome maybe_row (λ b. b ≤ len)) q h.1, h.1)
-    opened None None e q = (omega arith, h.1)
+    opened None (Some bound) e q = (subst (λ maybe_row. IfSome maybe_row (λ b. b ≤ m)) q h.1, h.1)
+    opened None None e q = (le, h.1)
 
-    from : (status : Status) → IsBehind len (after_due feed (due_at status rows feed) len)
+    from : (status : Status) → IsBehind m (after_due feed (due_at status rows feed) len)
     from Open = opened (find (is_in_reach feed) rows) feed.bound refl refl
     from Ending = h
     from Ended = h

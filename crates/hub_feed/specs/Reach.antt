@@ -1,5 +1,5 @@
 -- The rows that a step of a feed looks at (CouchDB API reference, _changes with since).
-use Rattle.std.specs.Prelude.{◌≡◌, ℕ, List, ◌&&◌, min, Bool, Option, Some, None, option_map, find, nat_lt}
+use Rattle.std.specs.Prelude.{◌≡◌, ℕ, ◌≤◌, List, ◌&&◌, min, Bool, Option, Some, None, option_map, find, nat_lt}
 use Rattle.std.specs.Prelude.{IfSome}
 use Rattle.std.specs.List.{list_any}
 use Rattle.std.specs.Str.{bytes_eq}
@@ -40,3 +40,11 @@ listed_in Design = None
 abbrev pub IsFirst : Option ℕ → List Current → Option Feed → Type 0
 IsFirst first rows feed =
     IfSome feed (λ f. f.status ≡ Open → first ≡ option_map (λ c. c.seq) (find (is_in_reach f) rows))
+
+-- A feed is ready for a step while there are so many edits with these current rows: it has come no further
+-- than the last edit, and where it is open the first row in reach has this sequence, or there is none. Of 9
+-- edits with rows at 2, 6 and 9 an open feed at place 3 without a bound or a filter is so with 6; at place 12
+-- no feed is.
+pub record IsReady (length : ℕ) (rows : List Current) (feed : Feed) (seq : Option ℕ) : Type 0 where
+  pub reached : feed.place ≤ length
+  pub first : feed.status ≡ Open → seq ≡ option_map (λ c. c.seq) (find (is_in_reach feed) rows)

@@ -12,7 +12,7 @@ ghost use Rattle.hub_params.specs.FeedModel.{params_of};
 ghost use Rattle.hub_feed.specs.Due.{after_sequence, due_sequence};
 ghost use Rattle.hub_feed.specs.Hand.{HandsTo, MayTake};
 ghost use Rattle.hub_feed.specs.Next.{next_of, after_next, IsRowDue};
-ghost use Rattle.hub_feed.specs.Reach.{first_listed, lesser, listed_in};
+ghost use Rattle.hub_feed.specs.Reach.{IsReady, first_listed, lesser, listed_in};
 ghost use Rattle.hub_feed.specs.Shown.{status_of};
 ghost use Rattle.hub_feed.specs.declared.next.Next.TheVariants.{Give};
 
@@ -213,8 +213,10 @@ impl FeedState {
         }
     }
 
-    /// The sequence of the first row in reach of a feed that is open. It costs what `next_item` says.
-    pub(crate) fn first_of_open<S: Source>(&self, source: &S) -> Option<u64>
+    /// The sequence of the first row in reach of a feed that is open. It costs a step of the source for
+    /// each row that does not pass, and one more. With listed ids there are so many steps at most as
+    /// ids, and then a `Source::next_of` for each.
+    pub fn first_of_open<S: Source>(&self, source: &S) -> Option<u64>
         ensures { self.now.status ≡ Open
             → result ≡ option_map (λ c. c.seq) (find (is_in_reach self.now) (S.current source.now)) }
     {
@@ -242,34 +244,16 @@ impl FeedState {
         }
     }
 
-    /// What the feed has to hand now, of the source that it was opened on. An item is made and
-    /// nothing changes: `accept_item` goes on. A feed that has nothing to hand goes to the source's
-    /// length. Only a row takes memory. It costs a step of the source for each row that does not
-    /// pass, one more, and what the row costs; an end costs the count of the rows above it. With
-    /// listed ids there are so many steps at most as ids, and then a `Source::next_of` for each.
-    pub fn next_item<S: Source>(&mut self, source: &S) -> Result<Next<S::Row>, AllocError>
-        requires reached { self.old.place ≤ S.length source.now }
-        ensures ok { IfOk result (λ next.
-            next ≡ next_of (S.shown source.now self.old.params.style self.old.params.include_docs)
-            (S.current source.now) (due (S.current source.now) self.old)) }
-        ensures new { IfOk result (λ next.
-            self.new ≡ after_next self.old (due (S.current source.now) self.old) (S.length source.now)) }
-        ensures err { OnErr result ((self.new ≡ self.old) × IsRowDue (due (S.current source.now) self.old)) }
-    {
-        let first = self.first_of_open(source);
-        self.next_item_at(source, first)
-    }
-
-    /// What `next_item` says, where the first row in reach of an open feed is known: it has this
-    /// sequence, if there is one. It costs what the row does, or the count of the rows above an end.
+    /// What the feed has to hand now, of the source that it was opened on, where the first row in reach
+    /// of an open feed is known: it has this sequence, if there is one. An item is made and nothing
+    /// changes: `accept_item` goes on. A feed that has nothing to hand goes to the source's length.
+    /// Only a row takes memory. It costs what the row does, or the count of the rows above an end.
     pub fn next_item_at<S: Source>(
         &mut self,
         source: &S,
         first: Option<u64>,
     ) -> Result<Next<S::Row>, AllocError>
-        requires reached { self.old.place ≤ S.length source.now }
-        requires first { self.old.status ≡ Open
-            → first ≡ option_map (λ c. c.seq) (find (is_in_reach self.old) (S.current source.now)) }
+        requires { IsReady (S.length source.now) (S.current source.now) self.old first }
         ensures ok { IfOk result (λ next.
             next ≡ next_of (S.shown source.now self.old.params.style self.old.params.include_docs)
             (S.current source.now) (due (S.current source.now) self.old)) }
@@ -320,7 +304,7 @@ impl FeedState {
         }
     }
 
-    /// Goes on behind the item that `next_item` gives now. It takes no memory, and constant time.
+    /// Goes on behind the item that `next_item_at` gives now. It takes no memory, and constant time.
     pub fn accept_item<S: Source>(&mut self, source: &S, item: &Item<S::Row>)
         requires due { item_of (S.shown source.now self.old.params.style self.old.params.include_docs)
             (S.current source.now) (due (S.current source.now) self.old)
@@ -374,9 +358,7 @@ impl FeedState {
         handle: &H,
         sink: &mut K,
     ) -> Result<Handed, AllocError>
-        requires reached { self.old.place ≤ S.length source.now }
-        requires first { self.old.status ≡ Open
-            → first ≡ option_map (λ c. c.seq) (find (is_in_reach self.old) (S.current source.now)) }
+        requires ready { IsReady (S.length source.now) (S.current source.now) self.old first }
         requires may { IfSome (item_of
             (S.shown source.now self.old.params.style self.old.params.include_docs)
             (S.current source.now) (due (S.current source.now) self.old))

@@ -5,11 +5,10 @@ ghost use Rattle.std.specs.Prelude.{nat_le, position, Some, None, IfSome, IfOk, 
 ghost use Rattle.hub_model.specs.Entries.{changed, entry_in, is_of, without};
 ghost use Rattle.hub_model.specs.Feed.{begin, expire};
 ghost use Rattle.hub_params.specs.FeedModel.{params_of};
-ghost use Rattle.hub_feed.specs.Feeds.{AreBehind, ended, feeds_of, over};
+ghost use Rattle.hub_feed.specs.Feeds.{AreBehind, IsChangedTo, IsReadyAt, ended, feeds_of, over};
 ghost use Rattle.hub_feed.specs.Hand.{HandsTo, MayTake};
 ghost use Rattle.hub_feed.specs.Host.{answered, behind_answer, due_to, handed, is_beat_due, item_due};
 ghost use Rattle.hub_feed.specs.Next.{IsRowDue};
-ghost use Rattle.hub_feed.specs.Reach.{IsFirst};
 ghost use Rattle.hub_feed.specs.declared.next.Next.TheVariants.{Nothing};
 
 use crate::feed::FeedState;
@@ -103,8 +102,7 @@ impl Feeds {
     /// Where a feed stands, if there is one of this number. A binary search, unless the last call was
     /// for the same feed. The next call for it finds it in constant time.
     pub fn place(&mut self, feed: FeedId) -> Option<usize>
-        ensures same { self.new ≡ self.old }
-        ensures at { result ≡ position (is_of feed.number) self.old.feeds }
+        ensures { (self.new ≡ self.old) × (result ≡ position (is_of feed.number) self.old.feeds) }
     {
         let at = place_near(self.list.as_slice(), self.near, feed.number)?;
         self.near = at;
@@ -121,16 +119,6 @@ impl Feeds {
         &state.1
     }
 
-    /// The sequence of the first row in reach of the feed that stands here, if it is open. It costs
-    /// what `FeedState::next_item` says.
-    pub fn first_at<S: Source>(&self, source: &S, feed: FeedId, at: usize) -> Option<u64>
-        requires placed { Some at ≡ position (is_of feed.number) self.now.feeds }
-        ensures { IsFirst result (S.current source.now) (entry_in feed.number self.now.feeds) }
-    {
-        let state = &self.list[at];
-        state.1.first_of_open(source)
-    }
-
     /// What the feed that stands here has to hand now, of the source that they all follow, where the
     /// first row in reach of the feed, if it is open, has this sequence. An item is made and nothing
     /// changes: `accept_item` goes on. A feed that has nothing to hand goes to the source's length.
@@ -142,9 +130,8 @@ impl Feeds {
         at: usize,
         first: Option<u64>,
     ) -> Result<Next<S::Row>, AllocError>
-        requires behind { AreBehind (S.length source.now) self.old.feeds }
-        requires placed { Some at ≡ position (is_of feed.number) self.old.feeds }
-        requires first { IsFirst first (S.current source.now) (entry_in feed.number self.old.feeds) }
+        requires { IsReadyAt (S.length source.now) (S.current source.now) self.old.feeds feed.number at
+            first }
         ensures ok { IfOk result (λ next. next ≡ answered
             (over (S.length source.now) (S.current source.now) (S.shown source.now) self.old) feed.number) }
         ensures new { IfOk result (λ next. self.new ≡ feeds_of (behind_answer (over (S.length source.now)
@@ -171,9 +158,8 @@ impl Feeds {
         handle: &H,
         sink: &mut K,
     ) -> Result<Handed, AllocError>
-        requires behind { AreBehind (S.length source.now) self.old.feeds }
-        requires placed { Some at ≡ position (is_of feed.number) self.old.feeds }
-        requires first { IsFirst first (S.current source.now) (entry_in feed.number self.old.feeds) }
+        requires ready { IsReadyAt (S.length source.now) (S.current source.now) self.old.feeds feed.number
+            at first }
         requires may { IfSome (item_due
             (over (S.length source.now) (S.current source.now) (S.shown source.now) self.old) feed.number)
             (MayTake K.allows K.sent sink.old) }
@@ -196,13 +182,11 @@ impl Feeds {
     /// Goes on behind the item that `next_at` gives now. It takes no memory, and constant time where
     /// the last item was made for this feed.
     pub fn accept_item<S: Source>(&mut self, source: &S, feed: FeedId, item: &Item<S::Row>)
-        requires behind { AreBehind (S.length source.now) self.old.feeds }
         requires due { item_due
             (over (S.length source.now) (S.current source.now) (S.shown source.now) self.old) feed.number
             ≡ Some item.now }
-        ensures new { self.new ≡ feeds_of (handed
-            (over (S.length source.now) (S.current source.now) (S.shown source.now) self.old) feed.number) }
-        ensures behind { AreBehind (S.length source.now) self.new.feeds }
+        ensures { IsChangedTo (handed (over (S.length source.now) (S.current source.now)
+            (S.shown source.now) self.old) feed.number).feeds (S.length source.now) self.old self.new }
     {
         let Some(at) = place_near(self.list.as_slice(), self.near, feed.number) else {
             return;
@@ -226,8 +210,7 @@ impl Feeds {
     /// A feed's time without an item is over: an open feed that waits is ending. It takes no memory,
     /// and costs a binary search.
     pub fn expire(&mut self, feed: FeedId)
-        ensures new { self.new ≡ record self.old { feeds = changed feed.number expire self.old.feeds } }
-        ensures behind { (length : ℕ) → AreBehind length self.old.feeds → AreBehind length self.new.feeds }
+        ensures { IsChangedTo (changed feed.number expire self.old.feeds) 0 self.old self.new }
     {
         let Some(at) = place_of(self.list.as_slice(), feed.number) else {
             return;
@@ -239,8 +222,7 @@ impl Feeds {
     /// Forgets a feed, if there is one of this number. It takes no memory, and costs a look at each
     /// feed.
     pub fn finish(&mut self, feed: FeedId)
-        ensures new { self.new ≡ record self.old { feeds = without feed.number self.old.feeds } }
-        ensures behind { (length : ℕ) → AreBehind length self.old.feeds → AreBehind length self.new.feeds }
+        ensures { IsChangedTo (without feed.number self.old.feeds) 0 self.old self.new }
     {
         let number = feed.number;
         self.list.retain(|kept| kept.0 != number);
@@ -249,8 +231,7 @@ impl Feeds {
     /// What they follow is deleted: each feed that is open is ending. It takes no memory, and costs a
     /// step for each feed.
     pub fn end_all(&mut self)
-        ensures new { self.new ≡ record self.old { feeds = map ended self.old.feeds } }
-        ensures behind { (length : ℕ) → AreBehind length self.old.feeds → AreBehind length self.new.feeds }
+        ensures { IsChangedTo (map ended self.old.feeds) 0 self.old self.new }
     {
         end_each(&mut self.list);
     }

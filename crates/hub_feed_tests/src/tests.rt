@@ -72,11 +72,14 @@ fn next_step_of(next: &Next<Shown>) -> Step {
     }
 }
 
+// The number of the life that the edits are of.
+const LIFE: u64 = 4;
+
 // A feed that is opened on the edits.
 fn begin(params: FeedParams, edits: &Edits) -> FeedState
     ensures { IsWithin result (length edits.now.ids.now) }
 {
-    FeedState::begin(params, edits.length(), edits.life())
+    FeedState::begin(params, edits.length(), LIFE)
 }
 
 // What the feed hands now, without taking it.
@@ -84,7 +87,8 @@ fn look(feed: &mut FeedState, edits: &Edits) -> Result<Step, AllocError>
     requires { IsWithin feed.old (length edits.now.ids.now) }
     ensures { IsWithin feed.new (length edits.now.ids.now) }
 {
-    let next = feed.next_item(edits)?;
+    let first = feed.first_of_open(edits);
+    let next = feed.next_item_at(edits, first)?;
     Ok(next_step_of(&next))
 }
 
@@ -93,7 +97,8 @@ fn take(feed: &mut FeedState, edits: &Edits) -> Result<Step, AllocError>
     requires { IsWithin feed.old (length edits.now.ids.now) }
     ensures { IsWithin feed.new (length edits.now.ids.now) }
 {
-    let next = feed.next_item(edits)?;
+    let first = feed.first_of_open(edits);
+    let next = feed.next_item_at(edits, first)?;
     let step = next_step_of(&next);
     if let Next::Give(item) = &next {
         feed.accept_item(edits, item);

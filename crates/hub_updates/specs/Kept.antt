@@ -1,6 +1,7 @@
 -- How a log keeps its notes (own).
-use Rattle.std.specs.Prelude.{◌≡◌, ℕ, ◌≤◌, List, length, map, slice_get, slice_set, string_bytes, Option}
+use Rattle.std.specs.Prelude.{◌≡◌, ℕ, ◌<◌, ◌≤◌, List, length, map, slice_get, slice_set, string_bytes, Option}
 use Rattle.std.specs.Prelude.{Some}
+use Rattle.std.specs.List.{All}
 use Rattle.hub_index.specs.Indexed.{IsIndexed, id_in}
 use Rattle.hub_model.specs.Updates.{Note, edits_of_log, id_of, note_of}
 use Rattle.hub_updates.specs.declared.log.Pair.{Pair}
@@ -25,6 +26,11 @@ note_at ids k = note_of (id_in (slice_get ids k))
 -- the pairs are cd and ud, with the latest sequences 1 and 3, and the notes are kept as 0, 1 and 1.
 abbrev pub notes_of : List (List ℕ × ℕ) → List ℕ → List Note
 notes_of ids entries = map (note_at ids) entries
+
+-- a sequence from 1 on that lies above those of all rows: above rows at 3 and 5 that is 6, and not 5
+pub record IsNext (index : List (ℕ × ℕ)) (seq : ℕ) : Type 0 where
+  pub positive : 0 < seq
+  pub above : All (λ (r : ℕ × ℕ). r.0 < seq) index
 
 -- What holds of the pairs, of their numbers by id, of the notes, and of the rows: an id has a number where it
 -- is the id of a pair, which is then of this number; each id is that of a note; each note is of a pair; and

@@ -81,13 +81,14 @@ impl FeedHost for UpdatesState {
         if let Some(fault) = self.refusal() {
             return Err(fault);
         }
-        match self.feeds.open(params, self.log.length(), self.log.life()) {
+        let life = self.life();
+        match self.feeds.open(params, self.log.length(), life) {
             Ok(feed) => Ok(feed),
             Err(AllocError) => Err(OpenFault::NoMemory),
         }
     }
 
-    /// It costs what `Feeds::first_at` and `Feeds::hand_at` do, and a binary search among the feeds
+    /// It costs what `FeedState::first_of_open` and `Feeds::hand_at` do, and a binary search among the feeds
     /// unless the last hand was to the same feed.
     fn hand<K: Sink<Item<UpdateRow>>, H: Pushes<K, Item<UpdateRow>>>(
         &mut self,
@@ -98,7 +99,7 @@ impl FeedHost for UpdatesState {
         let Some(at) = self.feeds.place(feed) else {
             return Ok(Handed::Gone);
         };
-        let first = self.feeds.first_at(&self.log, feed, at);
+        let first = self.feeds.state_at(feed, at).first_of_open(&self.log);
         self.feeds.hand_at(&self.log, feed, at, first, handle, sink)
     }
 

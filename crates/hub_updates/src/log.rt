@@ -2,12 +2,12 @@
 
 ghost use Rattle.std.specs.Prelude.{ℕ, List, ◌≡◌, ◌+◌, ◌-◌, ◌^◌, ◌<◌, ◌++◌, ◌∷◌, [], Some, None};
 ghost use Rattle.std.specs.Prelude.{length, option_map, slice_get, string_bytes, IfOk, OnOk, OnErr};
+ghost use Rattle.std.specs.Prelude.{MatchResult};
 ghost use Rattle.std.specs.BTreeMap.{get_by_text};
-ghost use Rattle.std.specs.List.{All};
 ghost use Rattle.std.specs.Map.{update};
 ghost use Rattle.std.specs.Str.{bytes_eq};
 ghost use Rattle.hub_index.specs.Rows.{seq_of, moved};
-ghost use Rattle.hub_updates.specs.Kept.{ids_of, raised};
+ghost use Rattle.hub_updates.specs.Kept.{IsNext, ids_of, raised};
 
 use crate::notice::Notice;
 use hub_index::{PageIndex, SeqIndex};
@@ -69,8 +69,7 @@ fn raise(
     requires there { number < length pairs.old.items }
     requires own { seq_of number index.old
         ≡ option_map (λ p. p.1) (slice_get (ids_of pairs.old.items) number) }
-    requires positive { 0 < seq }
-    requires above { All (λ r. r.0 < seq) index.old }
+    requires next { IsNext index.old seq }
     ensures pairs { OnOk result (ids_of pairs.new.items ≡ raised number seq (ids_of pairs.old.items)) }
     ensures index { OnOk result (index.new ≡ moved index.old number seq) }
     ensures err { OnErr result ((ids_of pairs.new.items ≡ ids_of pairs.old.items)
@@ -79,34 +78,6 @@ fn raise(
     let pair = &mut pairs[number as usize];
     index.move_to(number, Some(pair.latest), seq)?;
     pair.latest = seq;
-    Ok(())
-}
-
-// Takes in the id of a new pair, and its row. An error leaves both as they were.
-fn enter(
-    numbers: &mut BTreeMap<String, u32>,
-    index: &mut PageIndex,
-    id: &str,
-    key: String,
-    number: u32,
-    seq: u64,
-) -> Result<(), AllocError>
-    requires key { string_bytes key ≡ id.now }
-    requires new { get_by_text numbers.old id.now ≡ None }
-    requires own { seq_of number index.old ≡ None }
-    requires positive { 0 < seq }
-    requires above { All (λ r. r.0 < seq) index.old }
-    ensures numbers { OnOk result ((q : List ℕ)
-        → get_by_text numbers.new q ≡ update bytes_eq (get_by_text numbers.old) id.now (Some number) q) }
-    ensures index { OnOk result (index.new ≡ moved index.old number seq) }
-    ensures err { OnErr result (((q : List ℕ) → get_by_text numbers.new q ≡ get_by_text numbers.old q)
-        × (index.new ≡ index.old)) }
-{
-    numbers.insert(key, number)?;
-    if let Err(AllocError) = index.move_to(number, None, seq) {
-        numbers.remove(id);
-        return Err(AllocError);
-    }
     Ok(())
 }
 
@@ -123,8 +94,7 @@ fn add(
     requires room { length pairs.old.items < 2 ^ 32 }
     requires new { get_by_text numbers.old (string_bytes id) ≡ None }
     requires own { seq_of (length pairs.old.items) index.old ≡ None }
-    requires positive { 0 < seq }
-    requires above { All (λ r. r.0 < seq) index.old }
+    requires next { IsNext index.old seq }
     ensures number { IfOk result (λ number. number ≡ length pairs.old.items) }
     ensures pairs { OnOk result
         (ids_of pairs.new.items ≡ ids_of pairs.old.items ++ (string_bytes id, seq) ∷ []) }
@@ -138,7 +108,11 @@ fn add(
     pairs.try_reserve(1)?;
     let key = String::from_str(alloc, id.as_str())?;
     let number = pairs.len() as u32;
-    enter(numbers, index, id.as_str(), key, number, seq)?;
+    numbers.insert(key, number)?;
+    if let Err(AllocError) = index.move_to(number, None, seq) {
+        numbers.remove(id.as_str());
+        return Err(AllocError);
+    }
     pairs.push_reserved(Pair { id, latest: seq });
     Ok(number)
 }
@@ -163,8 +137,9 @@ impl Log {
     /// first note of a pair two copies of its id. An error leaves all as it was.
     pub(crate) fn note(&mut self, notice: &Notice) -> Result<(), AllocError>
         requires room { length self.old.notes < 2 ^ 32 - 1 }
-        ensures ok { OnOk result (self.new ≡ record self.old { notes = self.old.notes ++ notice.now ∷ [] }) }
-        ensures err { OnErr result (self.new ≡ self.old) }
+        ensures { MatchResult result
+            (λ _. self.new ≡ record self.old { notes = self.old.notes ++ notice.now ∷ [] })
+            (λ _. self.new ≡ self.old) }
     {
         self.notes.try_reserve(1)?;
         let seq = self.notes.len() as u64 + 1;

@@ -1,5 +1,5 @@
 -- What is found among the rows that are kept is the first in reach.
-use Rattle.std.proofs.Common.{◌<◌, AllPairs, map, string_bytes, refl, subst, sym}
+use Rattle.std.proofs.Common.{◌<◌, AllPairs, map, string_bytes, refl, rules, subst, sym}
 use Rattle.hub_model.specs.Current.{current}
 use Rattle.hub_model.specs.Entries.{entry_in}
 use Rattle.hub_model.specs.Filter.{DocIds}
@@ -13,8 +13,8 @@ first_between-requires c =
     subst (AllPairs (λ m n. m < n)) (sym (c.if-not-holds.ensures.held refl))
     (passing_rises (DocIds (map string_bytes c.in_ok-ids.ids.now)) c.self.inside.contents.journal)
 
-pub returns-clause-first : goal.returns-clause-first
-returns-clause-first c =
+pub returns : goal.returns
+returns c =
     let id = c.args.feed.number in
     let first = c.first_between.result in
     let J = c.self.inside.contents.journal in
@@ -24,5 +24,8 @@ returns-clause-first c =
     first
     c.in_ok-ids.ensures c.place-2.ensures c.bound.ensures
     (c.if-not-holds.ensures.held refl) c.first_between.ensures in
-    let there = subst (IsFirst first (current J)) (sym c.state_at-state.ensures.found) is in
-    subst (λ (db : Database). IsFirst first (current db.journal) (entry_in id db.feeds)) c.self.view_is there
+    let there = subst (IsFirst first (current J)) (sym c.state_at-state.ensures.found) is in (
+      search rules,
+      subst (λ (db : Database). IsFirst first (current db.journal) (entry_in id db.feeds)) c.self.view_is
+          there,
+    )

@@ -1,5 +1,5 @@
 -- What the feeds answer is what the database answers, and the rows that are kept stay so.
-use Rattle.std.proofs.Common.{◌≡◌, ◌∙◌, length, sym, subst, ap, refl, None}
+use Rattle.std.proofs.Common.{◌≡◌, ◌∙◌, length, sym, subst, ap, refl, rules, None}
 use Rattle.hub_model.specs.Current.{current}
 use Rattle.hub_model.specs.Entries.{entry_in}
 use Rattle.hub_model.specs.Row.{ChangeRow, row_of}
@@ -31,11 +31,15 @@ returns-in_default-clause-ok c =
     let db = c.args.self.now in
     let none : entry_in id db.feeds ≡ None =
     subst (λ (database : Database). entry_in id database.feeds ≡ None) c.self.view_is
-    (no_entry id state.feeds.feeds (sym c.in_default.ensures.at)) in
+    (no_entry id state.feeds.feeds (sym c.in_default.ensures.1)) in
     let gone : Next ChangeRow = Gone in (
       subst (λ o. gone ≡ answer_of (hosted_of db) o) (sym none) refl,
-      ap whole c.place.ensures.same ∙ c.self.view_is,
+      ap whole c.place.ensures.0 ∙ c.self.view_is,
     )
+
+pub next_at-requires : goal.next_at-requires
+next_at-requires c =
+    record { behind = c.self-2.invariant.0; placed = search rules; first = search rules }
 
 pub invariant_of-self-3 : goal.invariant_of-self-3
 invariant_of-self-3 c =

@@ -11,7 +11,7 @@ invariant_of-self c =
     let id = c.args.feed.number in
     let list = c.self.inside.feeds in
     let J = c.self.inside.contents.journal in (
-      c.expire.ensures.behind (length J) c.self.invariant.0,
+      c.expire.ensures.behind (length J) (omega arith) c.self.invariant.0,
       subst (λ (z : FeedList). IsListing J z.feeds z.next c.self.inside.listing) (sym c.expire.ensures.new)
           (kept_on J list.feeds (changed id expire list.feeds) list.next list.next (omega arith)
           (one_asks id list.next expire list.feeds expires_asking) c.self.inside.listing

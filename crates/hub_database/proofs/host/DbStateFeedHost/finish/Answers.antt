@@ -10,7 +10,7 @@ invariant_of-self c =
     let id = c.args.feed.number in
     let list = c.self.inside.feeds in
     let J = c.self.inside.contents.journal in (
-      c.finish.ensures.behind (length J) c.self.invariant.0,
+      c.finish.ensures.behind (length J) (omega arith) c.self.invariant.0,
       subst (λ (z : FeedList). IsListing J z.feeds z.next c.self.inside.listing) (sym c.finish.ensures.new)
           (kept_on J list.feeds (without id list.feeds) list.next list.next (omega arith)
           (one_goes id list.next list.feeds) c.self.inside.listing c.self.invariant.1),

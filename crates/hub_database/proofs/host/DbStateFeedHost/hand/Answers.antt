@@ -1,5 +1,5 @@
 -- A hand of the feeds is a hand of the database, and the rows that are kept stay so.
-use Rattle.std.proofs.Common.{◌≡◌, ◌∙◌, sym, subst, ap, refl, None}
+use Rattle.std.proofs.Common.{◌≡◌, ◌∙◌, sym, subst, ap, refl, rules, None}
 use Rattle.std.specs.Prelude.{length}
 use Rattle.hub_model.specs.Current.{current}
 use Rattle.hub_model.specs.Entries.{entry_in}
@@ -35,12 +35,16 @@ returns-in_default-clause-ok g c =
     let sink = c.args.sink.now in
     let none : entry_in id db.feeds ≡ None =
     subst (λ (database : Database). entry_in id database.feeds ≡ None) c.self.view_is
-    (no_entry id state.feeds.feeds (sym c.in_default.ensures.at)) in
+    (no_entry id state.feeds.feeds (sym c.in_default.ensures.1)) in
     subst (λ o. HandsTo g.K.Sink.behind (g.H.Pushes.refuses c.args.handle.now) db
     (with_hosted db (handed (hosted_of db) id))
     (with_hosted db (behind_answer (hosted_of db) id Nothing)) sink
     (answer_of (hosted_of db) o) Gone (whole c.place.new.self) sink) (sym none)
-    (refl, ap whole c.place.ensures.same ∙ c.self.view_is, refl)
+    (refl, ap whole c.place.ensures.0 ∙ c.self.view_is, refl)
+
+pub hand_at-requires-clause-ready : goal.hand_at-requires-clause-ready
+hand_at-requires-clause-ready g c =
+    record { behind = c.self-2.invariant.0; placed = search rules; first = search rules }
 
 pub invariant_of-self-3 : goal.invariant_of-self-3
 invariant_of-self-3 g c =
@@ -94,7 +98,7 @@ returns-clause-ok g c =
     } in
     let same =
     c.self-2.view_is
-    ∙ (c.first_at-first.ensures.same ∙ (ap of_first c.place.ensures.same ∙ c.self.view_is)) in
+    ∙ (c.first_at-first.ensures.same ∙ (ap of_first c.place.ensures.0 ∙ c.self.view_is)) in
     let old = db.feeds in
     let new = c.hand_at.new.self in
     let behind = g.K.Sink.behind in

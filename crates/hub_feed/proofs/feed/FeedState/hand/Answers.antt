@@ -15,7 +15,7 @@ row-requires g c =
     let f = c.args.self.now in
     let rows = g.S.Source.current c.args.source.now in
     let (row, is, here, same, reached) =
-    row_here rows f c.in-Row.seq (sym c.in-Row.is ∙ c.due-due.ensures rows c.requires.first) in
+    row_here rows f c.in-Row.seq (sym c.in-Row.is ∙ c.due-due.ensures rows c.requires.ready.first) in
     (row, here, same)
 
 pub give-requires-clause-item : goal.give-requires-clause-item
@@ -23,7 +23,7 @@ give-requires-clause-item g c =
     let f = c.args.self.now in
     let rows = g.S.Source.current c.args.source.now in
     let (row, is, here, same, reached) =
-    row_here rows f c.in-Row.seq (sym c.in-Row.is ∙ c.due-due.ensures rows c.requires.first) in
+    row_here rows f c.in-Row.seq (sym c.in-Row.is ∙ c.due-due.ensures rows c.requires.ready.first) in
     let show = λ (feed : Feed).
     g.S.Source.shown c.args.source.now feed.params.style feed.params.include_docs in
     let shown : c.in_ok-row-in-Row.row ≡ show f row =
@@ -36,7 +36,7 @@ give-requires-clause-may g c =
     let f = c.args.self.now in
     let rows = g.S.Source.current c.args.source.now in
     let (row, is, here, same, reached) =
-    row_here rows f c.in-Row.seq (sym c.in-Row.is ∙ c.due-due.ensures rows c.requires.first) in
+    row_here rows f c.in-Row.seq (sym c.in-Row.is ∙ c.due-due.ensures rows c.requires.ready.first) in
     let show = λ (feed : Feed).
     g.S.Source.shown c.args.source.now feed.params.style feed.params.include_docs in
     let shown : c.in_ok-row-in-Row.row ≡ show f row =
@@ -51,7 +51,7 @@ returns-in_ok-row-in-Row-clause-ok g c =
     let f = c.args.self.now in
     let rows = g.S.Source.current c.args.source.now in
     let (row, is, here, same, reached) =
-    row_here rows f c.in-Row.seq (sym c.in-Row.is ∙ c.due-due.ensures rows c.requires.first) in
+    row_here rows f c.in-Row.seq (sym c.in-Row.is ∙ c.due-due.ensures rows c.requires.ready.first) in
     let show = λ (feed : Feed).
     g.S.Source.shown c.args.source.now feed.params.style feed.params.include_docs in
     let shown : c.in_ok-row-in-Row.row ≡ show f row =

@@ -7,15 +7,20 @@ use Rattle.hub_feed.specs.Host.{handed, item_due}
 use Rattle.hub_feed.proofs.FeedsLemmas.{behind_changed, goes_behind, numbered_changed}
 use Rattle.hub_feed.proofs.feeds.Feeds.accept_item.Goals as goal
 
-pub returns-in_default-clause-new : goal.returns-in_default-clause-new
-returns-in_default-clause-new g c =
+pub returns-in_default : goal.returns-in_default
+returns-in_default g c =
     let id = c.args.feed.number in
     let none : position (λ (p : ℕ × Feed). nat_eq p.0 id) c.self.inside.list.items ≡ None =
     rw c.as_slice.ensures.value at (sym c.place_near.ensures ∙ c.in_default.is) in
-    subst (λ (list : FeedList). list ≡ feeds_of (handed (over (g.S.Source.length c.args.source.now)
-    (g.S.Source.current c.args.source.now) (g.S.Source.shown c.args.source.now) list) id)) c.self.view_is
-    (ap (λ (fs : List (ℕ × Feed)). record { feeds = fs; next = c.self.inside.next })
-    (sym (changed_absent id _ c.self.inside.list.items (no_entry id c.self.inside.list.items none))))
+    record {
+      new =
+          subst (λ (list : FeedList). list ≡ feeds_of (handed (over (g.S.Source.length c.args.source.now)
+          (g.S.Source.current c.args.source.now) (g.S.Source.shown c.args.source.now) list) id))
+          c.self.view_is
+          (ap (λ (fs : List (ℕ × Feed)). record { feeds = fs; next = c.self.inside.next })
+          (sym (changed_absent id _ c.self.inside.list.items (no_entry id c.self.inside.list.items none))));
+      behind = λ len least behind. behind;
+    }
 
 pub accept_item-requires : goal.accept_item-requires
 accept_item-requires g c =
@@ -49,8 +54,8 @@ invariant_of-self g c =
     c.self.invariant.rising c.accept_item.ensures))
     (numbered_changed id change c.self.inside.next feeds c.self.invariant)
 
-pub returns-clause-new : goal.returns-clause-new
-returns-clause-new g c =
+pub returns : goal.returns
+returns g c =
     let id = c.args.feed.number in
     let feeds = c.self.inside.list.items in
     let len = g.S.Source.length c.args.source.now in
@@ -60,31 +65,21 @@ returns-clause-new g c =
     let p = c.index_mut-feed.result.now in
     let is = c.index_mut-feed.ensures.value in
     let change : Feed → Feed = λ f. after_due f (due rows f) len in
-    subst (λ (list : FeedList). ◌≡◌ {A = FeedList}
-    (record {
-      feeds = slice_set feeds c.in-Some.at (p.0, c.accept_item.new.self);
-      next = c.self.inside.next;
-    })
-    (feeds_of (handed (over len rows (g.S.Source.shown c.args.source.now) list) id))) c.self.view_is
-    (ap (λ (fs : List (ℕ × Feed)). record { feeds = fs; next = c.self.inside.next })
-    (changed_here id feeds c.in-Some.at placed p is change c.accept_item.new.self c.self.invariant.rising
-    c.accept_item.ensures))
-
-pub returns-clause-behind : goal.returns-clause-behind
-returns-clause-behind g c =
-    let id = c.args.feed.number in
-    let feeds = c.self.inside.list.items in
-    let len = g.S.Source.length c.args.source.now in
-    let rows = g.S.Source.current c.args.source.now in
-    let placed : Some c.in-Some.at ≡ position (λ (p : ℕ × Feed). nat_eq p.0 id) feeds =
-    rw c.as_slice.ensures.value at c.in-Some.ensures in
-    let p = c.index_mut-feed.result.now in
-    let is = c.index_mut-feed.ensures.value in
-    let change : Feed → Feed = λ f. after_due f (due rows f) len in
-    let behind : AreBehind len feeds =
-    subst (λ (list : FeedList). AreBehind len list.feeds) (sym c.self.view_is) c.requires.behind in
-    subst (AreBehind len)
-    (sym (changed_here id feeds c.in-Some.at placed p is change c.accept_item.new.self
-    c.self.invariant.rising c.accept_item.ensures))
-    (behind_changed id change len feeds
-    (goes_behind rows len (g.met.S.Source.within c.args.source.now)) behind)
+    let now =
+    changed_here id feeds c.in-Some.at placed p is change c.accept_item.new.self
+    c.self.invariant.rising c.accept_item.ensures in
+    record {
+      new =
+          subst (λ (list : FeedList). ◌≡◌ {A = FeedList}
+          (record {
+            feeds = slice_set feeds c.in-Some.at (p.0, c.accept_item.new.self);
+            next = c.self.inside.next;
+          })
+          (feeds_of (handed (over len rows (g.S.Source.shown c.args.source.now) list) id))) c.self.view_is
+          (ap (λ (fs : List (ℕ × Feed)). record { feeds = fs; next = c.self.inside.next }) now);
+      behind = λ m least behind.
+          subst (AreBehind m) (sym now)
+          (behind_changed id change m feeds
+          (goes_behind rows len m least (g.met.S.Source.within c.args.source.now))
+          (subst (λ (list : FeedList). AreBehind m list.feeds) (sym c.self.view_is) behind));
+    }

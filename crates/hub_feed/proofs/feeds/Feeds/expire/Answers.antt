@@ -7,15 +7,19 @@ use Rattle.hub_feed.specs.Feeds.{AreBehind, AreNumbered, FeedList}
 use Rattle.hub_feed.proofs.FeedsLemmas.{behind_changed, expired_behind, numbered_changed}
 use Rattle.hub_feed.proofs.feeds.Feeds.expire.Goals as goal
 
-pub returns-in_default-clause-new : goal.returns-in_default-clause-new
-returns-in_default-clause-new c =
+pub returns-in_default : goal.returns-in_default
+returns-in_default c =
     let none : position (λ (p : ℕ × Feed). nat_eq p.0 c.args.feed.number) c.self.inside.list.items ≡ None =
     rw c.as_slice.ensures.value at (sym c.place_of.ensures ∙ c.in_default.is) in
-    subst (λ (list : FeedList). list ≡ record list { feeds = changed c.args.feed.number expire list.feeds })
-    c.self.view_is
-    (ap (λ (fs : List (ℕ × Feed)). record { feeds = fs; next = c.self.inside.next })
-    (sym (changed_absent c.args.feed.number expire c.self.inside.list.items
-    (no_entry c.args.feed.number c.self.inside.list.items none))))
+    record {
+      new =
+          subst (λ (list : FeedList).
+          list ≡ record list { feeds = changed c.args.feed.number expire list.feeds }) c.self.view_is
+          (ap (λ (fs : List (ℕ × Feed)). record { feeds = fs; next = c.self.inside.next })
+          (sym (changed_absent c.args.feed.number expire c.self.inside.list.items
+          (no_entry c.args.feed.number c.self.inside.list.items none))));
+      behind = λ len least behind. behind;
+    }
 
 pub invariant_of-self : goal.invariant_of-self
 invariant_of-self c =
@@ -29,8 +33,8 @@ invariant_of-self c =
     subst (AreNumbered c.self.inside.next) (sym now)
     (numbered_changed id expire c.self.inside.next feeds c.self.invariant)
 
-pub returns-clause-new : goal.returns-clause-new
-returns-clause-new c =
+pub returns : goal.returns
+returns c =
     let id = c.args.feed.number in
     let feeds = c.self.inside.list.items in
     let placed : Some c.in-Some.at ≡ position (λ (p : ℕ × Feed). nat_eq p.0 id) feeds =
@@ -38,23 +42,17 @@ returns-clause-new c =
     let now =
     changed_here id feeds c.in-Some.at placed c.index_mut-feed.result.now c.index_mut-feed.ensures.value
     expire c.expire.new.self c.self.invariant.rising c.expire.ensures in
-    subst (λ (list : FeedList). ◌≡◌ {A = FeedList}
-    (record {
-      feeds = slice_set feeds c.in-Some.at (c.index_mut-feed.result.now.0, c.expire.new.self);
-      next = c.self.inside.next;
-    })
-    (record list { feeds = changed id expire list.feeds })) c.self.view_is
-    (ap (λ (fs : List (ℕ × Feed)). record { feeds = fs; next = c.self.inside.next }) now)
-
-pub returns-clause-behind : goal.returns-clause-behind
-returns-clause-behind c =
-    let id = c.args.feed.number in
-    let feeds = c.self.inside.list.items in
-    let placed : Some c.in-Some.at ≡ position (λ (p : ℕ × Feed). nat_eq p.0 id) feeds =
-    rw c.as_slice.ensures.value at c.in-Some.ensures in
-    let now =
-    changed_here id feeds c.in-Some.at placed c.index_mut-feed.result.now c.index_mut-feed.ensures.value
-    expire c.expire.new.self c.self.invariant.rising c.expire.ensures in
-    λ len behind. subst (AreBehind len) (sym now)
-    (behind_changed id expire len feeds (expired_behind len)
-    (subst (λ (list : FeedList). AreBehind len list.feeds) (sym c.self.view_is) behind))
+    record {
+      new =
+          subst (λ (list : FeedList). ◌≡◌ {A = FeedList}
+          (record {
+            feeds = slice_set feeds c.in-Some.at (c.index_mut-feed.result.now.0, c.expire.new.self);
+            next = c.self.inside.next;
+          })
+          (record list { feeds = changed id expire list.feeds })) c.self.view_is
+          (ap (λ (fs : List (ℕ × Feed)). record { feeds = fs; next = c.self.inside.next }) now);
+      behind = λ len least behind.
+          subst (AreBehind len) (sym now)
+          (behind_changed id expire len feeds (expired_behind len)
+          (subst (λ (list : FeedList). AreBehind len list.feeds) (sym c.self.view_is) behind));
+    }

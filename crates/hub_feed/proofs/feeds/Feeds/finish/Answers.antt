@@ -13,18 +13,17 @@ invariant_of-self c =
     subst (AreNumbered c.self.inside.next) (sym left)
     (numbered_left c.self.inside.next c.args.feed.number c.self.inside.list.items c.self.invariant)
 
-pub returns-clause-new : goal.returns-clause-new
-returns-clause-new c =
+pub returns : goal.returns
+returns c =
     let left : c.retain.new.self.items ≡ without c.args.feed.number c.self.inside.list.items =
     filter_same _ _ _ (λ x b f' k. search rules) _ _ c.retain.ensures.filtered in
-    subst (λ (list : FeedList). record { feeds = c.retain.new.self.items; next = c.self.inside.next }
-    ≡ record list { feeds = without c.args.feed.number list.feeds }) c.self.view_is
-    (ap (λ (fs : List (ℕ × Feed)). record { feeds = fs; next = c.self.inside.next }) left)
-
-pub returns-clause-behind : goal.returns-clause-behind
-returns-clause-behind c =
-    let left : c.retain.new.self.items ≡ without c.args.feed.number c.self.inside.list.items =
-    filter_same _ _ _ (λ x b f' k. search rules) _ _ c.retain.ensures.filtered in
-    λ len behind. subst (AreBehind len) (sym left)
-    (behind_left len c.args.feed.number c.self.inside.list.items
-    (subst (λ (list : FeedList). AreBehind len list.feeds) (sym c.self.view_is) behind))
+    record {
+      new =
+          subst (λ (list : FeedList). record { feeds = c.retain.new.self.items; next = c.self.inside.next }
+          ≡ record list { feeds = without c.args.feed.number list.feeds }) c.self.view_is
+          (ap (λ (fs : List (ℕ × Feed)). record { feeds = fs; next = c.self.inside.next }) left);
+      behind = λ len least behind.
+          subst (AreBehind len) (sym left)
+          (behind_left len c.args.feed.number c.self.inside.list.items
+          (subst (λ (list : FeedList). AreBehind len list.feeds) (sym c.self.view_is) behind));
+    }

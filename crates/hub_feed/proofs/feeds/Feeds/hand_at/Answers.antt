@@ -1,5 +1,5 @@
 -- The feed that stands here hands, and the others stay.
-use Rattle.std.proofs.Common.{◌≡◌, sym, subst, ap, refl, ℕ, List, Some}
+use Rattle.std.proofs.Common.{◌≡◌, sym, subst, ap, refl, rules, arith, ℕ, List, Some}
 use Rattle.std.specs.Prelude.{position, slice_set, option_and_then, IfSome}
 use Rattle.hub_model.specs.Entries.{entry_in, is_of}
 use Rattle.hub_model.specs.Feed.{Feed, DueNothing, due, after_due, after_nothing}
@@ -16,18 +16,23 @@ use Rattle.hub_feed.proofs.FeedsLemmas.{ok_or_err}
 use Rattle.hub_feed.proofs.HandLemmas.{hands_keeps, hands_lifted}
 use Rattle.hub_feed.proofs.feeds.Feeds.hand_at.Goals as goal
 
-pub hand-requires-clause-first : goal.hand-requires-clause-first
-hand-requires-clause-first g c =
+pub hand-requires-clause-ready : goal.hand-requires-clause-ready
+hand-requires-clause-ready g c =
     let id = c.args.feed.number in
     let feeds = c.self.inside.list.items in
     let rows = g.S.Source.current c.args.source.now in
     let placed = subst (λ (list : FeedList). Some c.args.at ≡ position (is_of id) list.feeds)
     (sym c.self.view_is)
-    c.requires.placed in
+    c.requires.ready.placed in
     let asked = subst (λ (list : FeedList). IsFirst c.args.first rows (entry_in id list.feeds))
-    (sym c.self.view_is) c.requires.first in
-    subst (IsFirst c.args.first rows)
-    (entry_here id feeds c.args.at placed c.index_mut-state.result.now c.index_mut-state.ensures.value) asked
+    (sym c.self.view_is) c.requires.ready.first in
+    record {
+      reached = search rules;
+      first =
+          subst (IsFirst c.args.first rows)
+          (entry_here id feeds c.args.at placed c.index_mut-state.result.now c.index_mut-state.ensures.value)
+          asked;
+    }
 
 pub hand-requires-clause-may : goal.hand-requires-clause-may
 hand-requires-clause-may g c =
@@ -38,7 +43,7 @@ hand-requires-clause-may g c =
     let shown = g.S.Source.shown c.args.source.now in
     let may = MayTake g.K.Sink.allows g.K.Sink.sent c.args.sink.now in
     let placed = subst (λ (z : FeedList). Some c.args.at ≡ position (is_of id) z.feeds) (sym c.self.view_is)
-    c.requires.placed in
+    c.requires.ready.placed in
     let asked = subst (λ (z : FeedList). IfSome (item_due (over len rows shown z) id) may)
     (sym c.self.view_is) c.requires.may in
     let list : FeedList = record { feeds = feeds; next = c.self.inside.next } in
@@ -57,7 +62,7 @@ returns-clause-ok g c =
     let is = c.index_mut-state.ensures.value in
     let new = c.hand.new.self in
     let placed = subst (λ (z : FeedList). Some at ≡ position (is_of id) z.feeds) (sym c.self.view_is)
-    c.requires.placed in
+    c.requires.ready.placed in
     let list : List (ℕ × Feed) → FeedList = λ fs. record { feeds = fs; next = c.self.inside.next } in
     let behind = g.K.Sink.behind in
     let refuses = g.H.Pushes.refuses c.args.handle.now in
@@ -95,7 +100,7 @@ returns-clause-err g c =
     let is = c.index_mut-state.ensures.value in
     let new = c.hand.new.self in
     let placed = subst (λ (z : FeedList). Some at ≡ position (is_of id) z.feeds) (sym c.self.view_is)
-    c.requires.placed in
+    c.requires.ready.placed in
     let list : List (ℕ × Feed) → FeedList = λ fs. record { feeds = fs; next = c.self.inside.next } in
     err_then c.hand.result
     (λ w. (
@@ -118,9 +123,9 @@ returns-clause-behind g c =
     let is = c.index_mut-state.ensures.value in
     let new = c.hand.new.self in
     let placed = subst (λ (z : FeedList). Some at ≡ position (is_of id) z.feeds) (sym c.self.view_is)
-    c.requires.placed in
+    c.requires.ready.placed in
     let behind : AreBehind len feeds =
-    subst (λ (z : FeedList). AreBehind len z.feeds) (sym c.self.view_is) c.requires.behind in
+    subst (λ (z : FeedList). AreBehind len z.feeds) (sym c.self.view_is) c.requires.ready.behind in
     let goes : Feed → Feed = λ feed. after_due feed (due rows feed) len in
     let looks : Feed → Feed = λ feed. after_nothing feed len in
     let list : FeedList = record { feeds = feeds; next = c.self.inside.next } in
@@ -130,8 +135,8 @@ returns-clause-behind g c =
     (subst (AreBehind len) (sym (stays_here id feeds at placed p is p.1 refl)) behind)
     (subst (AreBehind len)
     (sym (changed_here id feeds at placed p is goes (goes p.1) c.self.invariant.rising refl))
-    (behind_changed id goes len feeds (goes_behind rows len (g.met.S.Source.within c.args.source.now))
-    behind))
+    (behind_changed id goes len feeds
+    (goes_behind rows len len (omega arith) (g.met.S.Source.within c.args.source.now)) behind))
     (subst (AreBehind len)
     (sym (changed_here id feeds at placed p is looks (looks p.1) c.self.invariant.rising refl))
     (behind_changed id looks len feeds (λ feed. looks_behind len DueNothing feed) behind))

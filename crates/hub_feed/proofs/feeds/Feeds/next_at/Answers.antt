@@ -1,4 +1,4 @@
-use Rattle.std.proofs.Common.{◌≡◌, sym, subst, ap, ℕ, List, Some}
+use Rattle.std.proofs.Common.{◌≡◌, sym, subst, ap, rules, ℕ, List, Some}
 use Rattle.std.specs.Prelude.{position, slice_set}
 use Rattle.hub_model.specs.Entries.{entry_in, is_of}
 use Rattle.hub_model.specs.Feed.{Feed, due}
@@ -11,8 +11,8 @@ use Rattle.hub_feed.proofs.FeedsLemmas.{behind_changed, behind_here, both_ok, er
 use Rattle.hub_feed.proofs.FeedsLemmas.{looks_behind, numbered_changed, ok_or_err}
 use Rattle.hub_feed.proofs.feeds.Feeds.next_at.Goals as goal
 
-pub next_item_at-requires-clause-first : goal.next_item_at-requires-clause-first
-next_item_at-requires-clause-first g c =
+pub next_item_at-requires : goal.next_item_at-requires
+next_item_at-requires g c =
     let id = c.args.feed.number in
     let feeds = c.self.inside.list.items in
     let rows = g.S.Source.current c.args.source.now in
@@ -21,8 +21,13 @@ next_item_at-requires-clause-first g c =
     c.requires.placed in
     let asked = subst (λ (list : FeedList). IsFirst c.args.first rows (entry_in id list.feeds))
     (sym c.self.view_is) c.requires.first in
-    subst (IsFirst c.args.first rows)
-    (entry_here id feeds c.args.at placed c.index_mut-state.result.now c.index_mut-state.ensures.value) asked
+    record {
+      reached = search rules;
+      first =
+          subst (IsFirst c.args.first rows)
+          (entry_here id feeds c.args.at placed c.index_mut-state.result.now c.index_mut-state.ensures.value)
+          asked;
+    }
 
 pub invariant_of-self : goal.invariant_of-self
 invariant_of-self g c =

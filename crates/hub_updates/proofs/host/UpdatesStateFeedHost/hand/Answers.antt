@@ -1,5 +1,5 @@
 -- A hand of the feeds is a hand of the log.
-use Rattle.std.proofs.Common.{◌≡◌, ◌∙◌, sym, subst, ap, refl, None}
+use Rattle.std.proofs.Common.{◌≡◌, ◌∙◌, sym, subst, ap, refl, rules, None}
 use Rattle.std.specs.Prelude.{length}
 use Rattle.hub_model.specs.Entries.{entry_in}
 use Rattle.hub_model.specs.Current.{current}
@@ -8,12 +8,24 @@ use Rattle.hub_model.proofs.Entries.{no_entry}
 use Rattle.hub_feed.specs.Feeds.{FeedList, feeds_of, over}
 use Rattle.hub_feed.specs.Hand.{HandsTo}
 use Rattle.hub_feed.specs.Host.{answer_of, answered, behind_answer, handed}
+use Rattle.hub_feed.specs.Reach.{IsFirst}
 use Rattle.hub_feed.specs.declared.handed.Handed.TheVariants.{Gone}
 use Rattle.hub_feed.specs.declared.next.Next.TheVariants.{Nothing}
 use Rattle.hub_feed.proofs.FeedsLemmas.{both_ok}
 use Rattle.hub_feed.proofs.HandLemmas.{hands_lifted}
 use Rattle.hub_updates.specs.Log.{Updates, hosted_of, with_hosted}
 use Rattle.hub_updates.proofs.host.UpdatesStateFeedHost.hand.Goals as goal
+
+pub hand_at-requires-clause-ready : goal.hand_at-requires-clause-ready
+hand_at-requires-clause-ready g c =
+    let rows = current (edits_of_log c.self.inside.log.notes) in
+    record {
+      behind = search rules;
+      placed = search rules;
+      first =
+          subst (IsFirst c.first_of_open-first.result rows) (sym c.state_at.ensures.found)
+          c.first_of_open-first.ensures;
+    }
 
 pub returns-in_default-clause-ok : goal.returns-in_default-clause-ok
 returns-in_default-clause-ok g c =
@@ -30,12 +42,12 @@ returns-in_default-clause-ok g c =
     } in
     let none : entry_in id log.feeds ≡ None =
     subst (λ (updates : Updates). entry_in id updates.feeds ≡ None) c.self.view_is
-    (no_entry id state.feeds.feeds (sym c.in_default.ensures.at)) in
+    (no_entry id state.feeds.feeds (sym c.in_default.ensures.1)) in
     subst (λ o. HandsTo g.K.Sink.behind (g.H.Pushes.refuses c.args.handle.now) log
     (with_hosted log (handed (hosted_of log) id))
     (with_hosted log (behind_answer (hosted_of log) id Nothing)) sink
     (answer_of (hosted_of log) o) Gone (whole c.place.new.self) sink) (sym none)
-    (refl, ap whole c.place.ensures.same ∙ c.self.view_is, refl)
+    (refl, ap whole c.place.ensures.0 ∙ c.self.view_is, refl)
 
 pub returns-clause-ok : goal.returns-clause-ok
 returns-clause-ok g c =
@@ -48,7 +60,7 @@ returns-clause-ok g c =
       limits = state.limits;
       life = state.log.life;
     } in
-    let same = ap whole c.place.ensures.same ∙ c.self.view_is in
+    let same = ap whole c.place.ensures.0 ∙ c.self.view_is in
     let old = c.place.new.self in
     let new = c.hand_at.new.self in
     let behind = g.K.Sink.behind in

@@ -18,16 +18,19 @@ raise-requires-clause-there c =
       length-map s.pairs.items pair_of,
     )
 
-pub raise-requires-clause-above : goal.raise-requires-clause-above
-raise-requires-clause-above c =
+pub raise-requires-clause-next : goal.raise-requires-clause-next
+raise-requires-clause-next c =
     let s = c.self.inside in
-    λ k d l. omega (
-      arith,
-      kept_rows (get_by_text s.numbers) (ids_of s.pairs.items) s.notes.items s.index c.self.invariant k d l,
-      c.len.ensures,
-      c.in_ok-try_reserve.ensures.len,
-      s.notes.ok.0,
-    )
+    record {
+      positive = omega arith;
+      above = λ k d l. omega (
+        arith,
+        kept_rows (get_by_text s.numbers) (ids_of s.pairs.items) s.notes.items s.index c.self.invariant k d l,
+        c.len.ensures,
+        c.in_ok-try_reserve.ensures.len,
+        s.notes.ok.0,
+      );
+    }
 
 pub add-requires-clause-own : goal.add-requires-clause-own
 add-requires-clause-own c =
@@ -35,16 +38,19 @@ add-requires-clause-own c =
     rw (sym (length-map s.pairs.items pair_of))
     (kept_past (get_by_text s.numbers) (ids_of s.pairs.items) s.notes.items s.index c.self.invariant)
 
-pub add-requires-clause-above : goal.add-requires-clause-above
-add-requires-clause-above c =
+pub add-requires-clause-next : goal.add-requires-clause-next
+add-requires-clause-next c =
     let s = c.self.inside in
-    λ k d l. omega (
-      arith,
-      kept_rows (get_by_text s.numbers) (ids_of s.pairs.items) s.notes.items s.index c.self.invariant k d l,
-      c.len.ensures,
-      c.in_ok-try_reserve.ensures.len,
-      s.notes.ok.0,
-    )
+    record {
+      positive = omega arith;
+      above = λ k d l. omega (
+        arith,
+        kept_rows (get_by_text s.numbers) (ids_of s.pairs.items) s.notes.items s.index c.self.invariant k d l,
+        c.len.ensures,
+        c.in_ok-try_reserve.ensures.len,
+        s.notes.ok.0,
+      );
+    }
 
 pub invariant_of-self-in-Some : goal.invariant_of-self-in-Some
 invariant_of-self-in-Some c =
@@ -76,8 +82,8 @@ invariant_of-self-in-None c =
     (rw c.try_reserve.ensures.items at c.push_reserved-in-None.ensures.items)
     c.in_ok-number-in-None.ensures.index).0
 
-pub returns-in_ok-raise-in-Some-clause-ok : goal.returns-in_ok-raise-in-Some-clause-ok
-returns-in_ok-raise-in-Some-clause-ok c =
+pub returns-in_ok-raise-in-Some : goal.returns-in_ok-raise-in-Some
+returns-in_ok-raise-in-Some c =
     let s = c.self.inside in
     let known : get_by_text s.numbers (id_of c.args.notice.now) ≡ Some c.in-Some.number =
     sym (rw c.id.ensures at c.in-Some.ensures) in
@@ -90,8 +96,8 @@ returns-in_ok-raise-in-Some-clause-ok c =
     c.push_reserved.new.self.items c.raise.new.index c.in_ok-raise-in-Some.ensures.pairs
     (rw c.try_reserve.ensures.items at c.push_reserved.ensures.items) c.in_ok-raise-in-Some.ensures.index).1)
 
-pub returns-in_ok-number-in-None-clause-ok : goal.returns-in_ok-number-in-None-clause-ok
-returns-in_ok-number-in-None-clause-ok c =
+pub returns-in_ok-number-in-None : goal.returns-in_ok-number-in-None
+returns-in_ok-number-in-None c =
     let s = c.self.inside in
     let text : string_bytes c.in_ok-id-in-None.id ≡ id_of c.args.notice.now =
     c.in_ok-id-in-None.ensures.ok ∙ c.id-in-None.ensures in

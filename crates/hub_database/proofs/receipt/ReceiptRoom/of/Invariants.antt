@@ -1,6 +1,6 @@
 use Rattle.std.proofs.Common.{◌≡◌, take}
 use Rattle.hub_database.specs.Receipts.{ids_of}
-use Rattle.hub_database.proofs.receipt.ids_of.Given as goal
+use Rattle.hub_database.proofs.receipt.ReceiptRoom.of.Given as goal
 
 -- the ids of the documents so far
 abbrev pub invariant-loop-doc : goal.invariant-loop-doc
