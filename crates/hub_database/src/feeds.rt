@@ -52,9 +52,9 @@ impl DbState {
     /// What a feed has to hand now. An item is made and nothing changes: `accept_item` goes on. A
     /// feed that has nothing to hand goes to the journal's length. It costs what
     /// `FeedState::first_of_open` and `FeedState::next_item_at` do, and a binary search among the feeds
-    /// unless the last call was for the same feed. A feed of listed documents that asks again with no write between costs a look in
-    /// the map of ids for each id and a sort of their rows, once until the next write, and then a
-    /// binary search among those rows and what the row costs.
+    /// unless the last call was for the same feed. A feed of listed documents that asks again with no
+    /// write between costs a look in the map of ids for each id and a sort of their rows, once until
+    /// the next write, and then a binary search among those rows and what the row costs.
     pub fn next_item(&mut self, feed: FeedId) -> Result<Next<ChangeRow>, AllocError>
         ensures ok { IfOk result (λ next. (next ≡ answered (hosted_of self.old) feed.number)
             × (self.new ≡ with_hosted self.old (behind_answer (hosted_of self.old) feed.number next))) }

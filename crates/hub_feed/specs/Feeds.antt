@@ -38,8 +38,9 @@ pub record IsReadyAt (length : ℕ) (rows : List Current) (feeds : List (ℕ × 
   pub placed : Some at ≡ position (is_of id) feeds
   pub first : IsFirst seq rows (entry_in id feeds)
 
--- The list has these feeds now, and still the number of the next one; and those that were behind the last of
--- `least` or more edits are so still.
+-- The list has these feeds now, and still the number of the next one; and feeds that were behind the last of
+-- `least` or more edits are so still. Where feed 3 of the feeds 3 and 5 is forgotten, the list is changed so
+-- to feed 5 alone, with 0 as `least`; a feed that hands a row while there are 9 edits changes it with 9.
 pub record IsChangedTo (feeds : List (ℕ × Feed)) (least : ℕ) (old now : FeedList) : Type 0 where
   pub new : now ≡ record old { feeds = feeds }
   pub behind : (length : ℕ) → least ≤ length → AreBehind length old.feeds → AreBehind length now.feeds

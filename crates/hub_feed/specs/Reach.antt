@@ -1,6 +1,6 @@
 -- The rows that a step of a feed looks at (CouchDB API reference, _changes with since).
-use Rattle.std.specs.Prelude.{◌≡◌, ℕ, ◌≤◌, List, ◌&&◌, min, Bool, Option, Some, None, option_map, find, nat_lt}
-use Rattle.std.specs.Prelude.{IfSome}
+use Rattle.std.specs.Prelude.{◌≡◌, ℕ, ◌≤◌, List, ◌&&◌, min, Bool, Option, Some, None, option_map, find}
+use Rattle.std.specs.Prelude.{nat_lt, IfSome}
 use Rattle.std.specs.List.{list_any}
 use Rattle.std.specs.Str.{bytes_eq}
 use Rattle.hub_model.specs.Current.{Current}
