@@ -37,6 +37,8 @@ impl Source for Contents {
 
     ghost length = { λ f. length f.journal };
 
+    ghost life = { λ f. f.life };
+
     ghost current = { λ f. current f.journal };
 
     ghost shown = { λ f style include_docs c. row_of f.journal style include_docs c };
@@ -52,6 +54,11 @@ impl Source for Contents {
     /// Constant time.
     fn length(&self) -> u64 {
         self.journal.len() as u64
+    }
+
+    /// Constant time.
+    fn life(&self) -> u64 {
+        self.life
     }
 
     /// It costs what `SeqIndex::next_after` does.

@@ -244,10 +244,25 @@ impl FeedState {
         }
     }
 
-    /// What the feed has to hand now, of the source that it was opened on, where the first row in reach
-    /// of an open feed is known: it has this sequence, if there is one. An item is made and nothing
-    /// changes: `accept_item` goes on. A feed that has nothing to hand goes to the source's length.
-    /// Only a row takes memory. It costs what the row does, or the count of the rows above an end.
+    /// What the feed has to hand now, of the source that it was opened on. An item is made and
+    /// nothing changes: `accept_item` goes on. A feed that has nothing to hand goes to the source's
+    /// length. Only a row takes memory. It costs what `first_of_open` does, and what the row costs; an end
+    /// costs the count of the rows above it.
+    pub fn next_item<S: Source>(&mut self, source: &S) -> Result<Next<S::Row>, AllocError>
+        requires reached { self.old.place ≤ S.length source.now }
+        ensures ok { IfOk result (λ next.
+            next ≡ next_of (S.shown source.now self.old.params.style self.old.params.include_docs)
+            (S.current source.now) (due (S.current source.now) self.old)) }
+        ensures new { IfOk result (λ next.
+            self.new ≡ after_next self.old (due (S.current source.now) self.old) (S.length source.now)) }
+        ensures err { OnErr result ((self.new ≡ self.old) × IsRowDue (due (S.current source.now) self.old)) }
+    {
+        let first = self.first_of_open(source);
+        self.next_item_at(source, first)
+    }
+
+    /// What `next_item` says, where the first row in reach of an open feed is known: it has this
+    /// sequence, if there is one. It costs what the row does, or the count of the rows above an end.
     pub fn next_item_at<S: Source>(
         &mut self,
         source: &S,
@@ -304,7 +319,7 @@ impl FeedState {
         }
     }
 
-    /// Goes on behind the item that `next_item_at` gives now. It takes no memory, and constant time.
+    /// Goes on behind the item that `next_item` gives now. It takes no memory, and constant time.
     pub fn accept_item<S: Source>(&mut self, source: &S, item: &Item<S::Row>)
         requires due { item_of (S.shown source.now self.old.params.style self.old.params.include_docs)
             (S.current source.now) (due (S.current source.now) self.old)

@@ -29,6 +29,9 @@ pub trait Source {
     /// How many edits there are.
     ghost length: { Self → ℕ };
 
+    /// The number of the life that the edits are of: of what is made again under its name, another one.
+    ghost life: { Self → ℕ };
+
     /// The current rows.
     ghost current: { Self → List Current };
 
@@ -41,6 +44,10 @@ pub trait Source {
     /// How many edits there are.
     fn length(&self) -> u64
         ensures { result ≡ length self.now };
+
+    /// The number of the life that they are of.
+    fn life(&self) -> u64
+        ensures { result ≡ life self.now };
 
     /// The first current row above a place and not above the bound, if there is one: its sequence
     /// and its id. It takes no memory.

@@ -72,14 +72,11 @@ fn next_step_of(next: &Next<Shown>) -> Step {
     }
 }
 
-// The number of the life that the edits are of.
-const LIFE: u64 = 4;
-
 // A feed that is opened on the edits.
 fn begin(params: FeedParams, edits: &Edits) -> FeedState
     ensures { IsWithin result (length edits.now.ids.now) }
 {
-    FeedState::begin(params, edits.length(), LIFE)
+    FeedState::begin(params, edits.length(), edits.life())
 }
 
 // What the feed hands now, without taking it.
@@ -87,8 +84,7 @@ fn look(feed: &mut FeedState, edits: &Edits) -> Result<Step, AllocError>
     requires { IsWithin feed.old (length edits.now.ids.now) }
     ensures { IsWithin feed.new (length edits.now.ids.now) }
 {
-    let first = feed.first_of_open(edits);
-    let next = feed.next_item_at(edits, first)?;
+    let next = feed.next_item(edits)?;
     Ok(next_step_of(&next))
 }
 
@@ -97,8 +93,7 @@ fn take(feed: &mut FeedState, edits: &Edits) -> Result<Step, AllocError>
     requires { IsWithin feed.old (length edits.now.ids.now) }
     ensures { IsWithin feed.new (length edits.now.ids.now) }
 {
-    let first = feed.first_of_open(edits);
-    let next = feed.next_item_at(edits, first)?;
+    let next = feed.next_item(edits)?;
     let step = next_step_of(&next);
     if let Next::Give(item) = &next {
         feed.accept_item(edits, item);

@@ -20,6 +20,8 @@ impl Source for Log {
 
     ghost length = { λ log. length log.notes };
 
+    ghost life = { λ log. log.life };
+
     ghost current = { λ log. current (edits_of_log log.notes) };
 
     ghost shown = { λ log style include_docs c. update_row_of (edits_of_log log.notes) style include_docs c };
@@ -35,6 +37,11 @@ impl Source for Log {
     /// Constant time.
     fn length(&self) -> u64 {
         self.notes.len() as u64
+    }
+
+    /// Constant time.
+    fn life(&self) -> u64 {
+        self.life
     }
 
     /// It costs what `SeqIndex::next_after` does.

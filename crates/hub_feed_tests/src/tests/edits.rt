@@ -27,6 +27,8 @@ impl<'a> Source for Edits<'a> {
 
     ghost length = { λ s. list_length s.ids.now };
 
+    ghost life = { λ s. 4 };
+
     ghost current = { λ s. rows_of 1 s.ids.now };
 
     ghost shown = { λ s style include_docs c.
@@ -42,6 +44,10 @@ impl<'a> Source for Edits<'a> {
 
     fn length(&self) -> u64 {
         self.ids.len() as u64
+    }
+
+    fn life(&self) -> u64 {
+        4
     }
 
     fn next_after(&self, place: u64, bound: Option<u64>) -> Option<(u64, &str)> {

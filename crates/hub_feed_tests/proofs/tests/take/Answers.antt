@@ -18,7 +18,7 @@ accept_item-requires c =
     let next = c.in_ok-next.ensures in
     record {
       due =
-          given_accepted show (rows_of 1 edits) c.in-Give.item c.args.feed.now c.next_item_at.new.self
+          given_accepted show (rows_of 1 edits) c.in-Give.item c.args.feed.now c.next_item.new.self
           (length edits) (sym c.in-Give.is ∙ next.ok) next.new;
     }
 
@@ -31,4 +31,4 @@ returns-in-Give c =
     subst (λ (feed : Feed). IsWithin feed (length edits)) (sym next.new)
     (within_next c.args.feed.now (due rows c.args.feed.now) (length edits) c.requires) in
     subst (λ (feed : Feed). IsWithin feed (length edits)) (sym c.accept_item.ensures)
-    (within_due rows c.next_item_at.new.self (length edits) (rows_within edits) looked)
+    (within_due rows c.next_item.new.self (length edits) (rows_within edits) looked)
