@@ -1,5 +1,7 @@
 -- Appends to a buffer.
-use Rattle.std.proofs.Common.{◌≡◌, ℕ, List, ◌++◌, Result, Ok, Err, OnOk, ap, ◌∙◌, length, take, arith}
+use Rattle.std.proofs.Common.{◌≡◌, ℕ, List, ◌++◌, Result, Ok, Err, OnOk, ap, sym, ◌∙◌, length, take, arith}
+use Rattle.std.proofs.Common.{append_assoc}
+use Rattle.std.specs.Prelude.{is_ok, if◌then◌else◌}
 use Rattle.std.proofs.lemmas.Grind.{common_steps}
 use lib.Seq.{take-append_seam}
 use Rattle.hub_document.specs.Appends.{Appends}
@@ -21,3 +23,16 @@ appended {result = result} text old new e = record { ok = on_ok result e; front 
 pub front-front : (old mid new more : List ℕ) → mid ≡ old ++ more → take (length mid) new ≡ mid
     → take (length old) new ≡ old
 front-front old mid new more e h = grind (arith, common_steps, e, h, ap length e, ap (take (length old)) h)
+
+-- a text of two parts, of which the first stands there and the last is appended, or not for want of memory
+pub appended_behind : {E : Type 0} (r : Result (Unit {0}) E) (text first last old mid new : List ℕ)
+    → text ≡ first ++ last → mid ≡ old ++ first → new ≡ (if is_ok r then mid ++ last else mid)
+    → Appends text r old new
+appended_behind (Ok u) text first last old mid new whole there now =
+    appended text old new
+    (now
+    ∙ ap (λ l. l ++ last) there
+    ∙ append_assoc old first last
+    ∙ ap (λ l. old ++ l) (sym whole))
+appended_behind (Err e) text first last old mid new whole there now =
+    record { ok = tt; front = front_of first old new (now ∙ there) }

@@ -16,7 +16,7 @@ use Rattle.hub_document.proofs.MadeLemmas.{is_hash_of}
 use Rattle.hub_model.specs.Revision.{text_of}
 use Rattle.json.specs.Print.{quoted}
 use Rattle.hub_document.proofs.RevisionLemmas.{hash_revision, laid_out}
-use Rattle.hub_document.proofs.WriteLemmas.{three_parts, quoted_text}
+use Rattle.hub_document.proofs.WriteLemmas.{quoted_text}
 
 -- the text of a digest has 32 letters
 pub text_length : (d : List ℕ) → length d ≡ 16 → length (encode_lower d) ≡ 32
@@ -38,13 +38,6 @@ quoted_parts d n low high fits sized =
     quoted_text (record { generation = n; hash = encode_lower d })
     (hash_revision n (encode_lower d) low high (is_hash_of d fits sized))
     ∙ ap (λ l. 34 ∷ l) (append_assoc (decimal n) (45 ∷ encode_lower d) (34 ∷ []))
-
-pub digest_quoted : (o d new : List ℕ) (n : ℕ) → 1 ≤ n → n < 2 ^ 16 → IsBytes d → length d ≡ 16
-    → new ≡ ((o ++ 34 ∷ []) ++ decimal n) ++ 45 ∷ (encode_lower d ++ 34 ∷ [])
-    → new ≡ o ++ quoted (text_of (record { generation = n; hash = encode_lower d }))
-digest_quoted o d new n low high fits sized parts =
-    rw (quoted_parts d n low high fits sized)
-    (parts ∙ three_parts o (34 ∷ []) (decimal n) (45 ∷ (encode_lower d ++ 34 ∷ [])))
 
 -- and is the hash there
 pub text_kept : (d out zeros : List ℕ) → length d ≡ 16 → out ≡ encode_lower d

@@ -1,5 +1,6 @@
 pub mod AppendLemmas
 mod AskedLemmas
+mod BodyLemmas
 pub mod MadeLemmas
 pub mod DigestLemmas
 pub mod PartLemmas

@@ -1,9 +1,9 @@
 -- The parts of a document's text, and the text that they make together.
-use Rattle.std.proofs.Common.{◌≡◌, ℕ, ◌<◌, ◌≤◌, ◌^◌, List, [], ◌∷◌, ◌++◌, length, map, take}
+use Rattle.std.proofs.Common.{◌≡◌, ℕ, ◌+◌, ◌-◌, ◌<◌, ◌≤◌, ◌^◌, List, [], ◌∷◌, ◌++◌, length, map, take, drop}
 use Rattle.std.proofs.Common.{take_all, refl, sym, ap, ◌∙◌, arith, append_assoc, append-nil}
-use Rattle.std.proofs.Common.{decimal, codes, true, false, eqb, Option, None, Some, Result, Ok, Err}
-use Rattle.std.proofs.lemmas.Bool.Decides.{nat_tests}
-use Rattle.std.specs.Prelude.{flat_map, is_ok, option_map, if◌then◌else◌}
+use Rattle.std.proofs.Common.{decimal, codes, true, Option, None, Some}
+use Rattle.std.proofs.lemmas.List.{length-take-le, length-drop, length-append}
+use Rattle.std.specs.Prelude.{flat_map, option_map}
 use Rattle.std.specs.List.{join_with_byte}
 use Rattle.json.specs.Print.{escape, escape_byte, quoted}
 use Rattle.hub_model.specs.Revision.{Revision, text_of}
@@ -13,9 +13,8 @@ use Rattle.hub_document.specs.DocText.{member_text, rev_member, deleted_member, 
 use Rattle.hub_document.specs.DocText.{history_text, inside, if_some, doc_text, local_text}
 use Rattle.hub_document.specs.Joined.{after_commas, head_text, ids_text, start_text, count_text, rest_text}
 use Rattle.hub_document.specs.SpecialText.{special_text}
-use Rattle.hub_document.specs.Appends.{Appends}
-use Rattle.hub_document.proofs.AppendLemmas.{appended, front_of}
-use Rattle.hub_document.proofs.WriteLemmas.{quoted_count, three_parts}
+use Rattle.hub_document.specs.Braced.{IsBraced}
+use Rattle.hub_document.proofs.WriteLemmas.{quoted_count}
 
 -- ---- the names of members
 
@@ -80,38 +79,42 @@ count_is n small =
     ap (λ l. 44 ∷ l)
     (rev_name (quoted (codes "0-" ++ decimal n)) ∙ ap (λ l. codes "\"_rev\":" ++ l) (quoted_count n small))
 
-pub rest_none : (body : List ℕ) → inside body ≡ [] → rest_text body ≡ codes "}"
-unfolding rest_text
-rest_none body none = rw none refl
-
 rest_if : (i : List ℕ) → 0 < length i → after_commas (if_some i) ≡ 44 ∷ i
 rest_if [] some = absurd (omega arith)
 rest_if (b ∷ bs) some = one_after (b ∷ bs)
 
-pub rest_some : (body : List ℕ) → 0 < length (inside body)
-    → rest_text body ≡ codes "," ++ (inside body ++ codes "}")
+rest_short : (i : List ℕ) → length i ≡ 0 → after_commas (if_some i) ++ codes "}" ≡ i ++ 125 ∷ []
+rest_short [] none = refl
+rest_short (b ∷ bs) none = absurd (omega (arith, none))
+
+drop_first : (t : List ℕ) → 1 ≤ length t → drop 1 (t ++ 125 ∷ []) ≡ drop 1 t ++ 125 ∷ []
+drop_first [] some = absurd (omega (arith, some))
+drop_first (x ∷ xs) some = refl
+
+-- behind its first brace an object's text is what stands inside, and the brace
+inside_closed : (body : List ℕ) → IsBraced body → drop 1 body ≡ inside body ++ 125 ∷ []
+inside_closed body braced =
+    let some : 1 ≤ length (take (length body - 1) body) =
+    omega (arith, length-take-le (length body - 1) body (omega arith), braced.some) in
+    ap (drop 1) (sym braced.closed) ∙ drop_first (take (length body - 1) body) some
+
+inside_size : (body : List ℕ) → IsBraced body → length body ≡ length (inside body) + 2
+inside_size body braced =
+    let size = ap length (inside_closed body braced) in
+    omega (arith, size, length-drop 1 body, length-append (inside body) (125 ∷ []), braced.some)
+
+-- so an object without members of its own is its second brace
+pub rest_none : (body : List ℕ) → IsBraced body → length body ≤ 2 → rest_text body ≡ drop 1 body
 unfolding rest_text
-rest_some body some = ap (λ l. l ++ codes "}") (rest_if (inside body) some)
+rest_none body braced short =
+    rest_short (inside body) (omega (arith, inside_size body braced)) ∙ sym (inside_closed body braced)
 
--- an object without members of its own
-pub nothing_inside : {E : Type 0} (r : Result (Unit {0}) E) (held new body i : List ℕ)
-    → i ≡ inside body → eqb (length i) 0 ≡ true → new ≡ (if is_ok r then held ++ codes "}" else held)
-    → Appends (rest_text body) r held new
-nothing_inside (Ok u) held new body [] is none h =
-    appended (rest_text body) held new (h ∙ ap (λ l. held ++ l) (sym (rest_none body (sym is))))
-nothing_inside (Ok u) held new body (b ∷ bs) is none h = absurd (grind (arith, nat_tests))
-nothing_inside (Err e) held new body i is none h =
-    record { ok = tt; front = front_of [] held new (h ∙ sym (append-nil held)) }
-
--- and one with some
-pub rest_written : (held new body i : List ℕ) → i ≡ inside body → eqb (length i) 0 ≡ false
-    → new ≡ ((held ++ codes ",") ++ i) ++ codes "}" → new ≡ held ++ rest_text body
-rest_written held new body i is some h =
-    let there : 0 < length (inside body) = rw (← is) (grind (arith, nat_tests)) in
-    h
-    ∙ three_parts held (codes ",") i (codes "}")
-    ∙ ap (λ l. held ++ (codes "," ++ (l ++ codes "}"))) is
-    ∙ ap (λ l. held ++ l) (sym (rest_some body there))
+-- and one with some all of it, behind a comma
+pub rest_some : (body : List ℕ) → IsBraced body → 2 < length body → rest_text body ≡ 44 ∷ drop 1 body
+unfolding rest_text
+rest_some body braced long =
+    ap (λ l. l ++ codes "}") (rest_if (inside body) (omega (arith, inside_size body braced)))
+    ∙ ap (λ l. 44 ∷ l) (sym (inside_closed body braced))
 
 -- ---- what stands between commas
 

@@ -1,16 +1,15 @@
 -- In a path a revision stands at the one place that its generation tells.
-use Rattle.std.proofs.Common.{◌≡◌, ◌≢◌, ℕ, suc, zero, ◌+◌, ◌-◌, ◌<◌, ◌≤◌, List, [], ◌∷◌, length, get_or}
-use Rattle.std.proofs.Common.{true, false, Option, Some, None, inl, inr, arith, refl, sym, ap, ◌∙◌, subst}
-use Rattle.std.specs.Prelude.{drop, slice_get, MatchOption}
+use Rattle.std.proofs.Common.{◌≡◌, ◌≢◌, ℕ, suc, zero, ◌+◌, ◌-◌, ◌<◌, ◌≤◌, List, [], ◌∷◌, length}
+use Rattle.std.proofs.Common.{true, false, Option, Some, None, inl, inr, arith, refl, sym, ap, subst}
+use Rattle.std.specs.Prelude.{slice_get, MatchOption}
 use Rattle.std.specs.Borrow.{Bor}
 use Rattle.std.specs.List.{HoldsAt}
 use Rattle.std.specs.Option.{option_copied}
-use Rattle.std.proofs.lemmas.Bool.{cases_Bool, both_ways}
+use Rattle.std.proofs.lemmas.Bool.{cases_Bool}
 use Rattle.std.proofs.lemmas.Option.{same_Some, slice_get_past, slice_get_read}
 use Rattle.hub_model.specs.Revision.{Revision, is_same}
-use Rattle.hub_model.specs.Path.{Falls, IsPath, names, behind}
-use Rattle.hub_document.specs.Lines.{from_on}
-use Rattle.hub_model.proofs.Tests.{same_is, same_self, or_false, or_right}
+use Rattle.hub_model.specs.Path.{Falls, IsPath, names}
+use Rattle.hub_model.proofs.Tests.{same_is, same_self, or_right}
 
 -- one revision has one generation
 same_generation : (revision other : Revision) → revision ≡ other → revision.generation ≡ other.generation
@@ -90,28 +89,13 @@ not_named (y ∷ revisions) revision other k f h is n =
       | inr t ↦ t
     ]
 
--- a path has a first revision
-pub first_read : (revisions : List Revision) (revision : Revision) → IsPath revisions
-    → revision ≡ get_or revisions 0 revision → slice_get revisions 0 ≡ Some revision
-first_read [] revision f is = absurd f
-first_read (other ∷ revisions) revision f is = ap Some (sym is)
-
--- so where the path ends before its place
+-- so neither is one where the path ends before its place
 pub past_end : (revisions : List Revision) (revision other : Revision) (k : ℕ) → IsPath revisions
     → slice_get revisions 0 ≡ Some revision
     → k ≡ revision.generation - other.generation → length revisions ≤ k → names revisions other ≡ false
 past_end revisions revision other k f h is past =
     not_named revisions revision other k f h is
     (λ e. let none : slice_get revisions k ≡ None = slice_get_past revisions k past in cc)
-
--- or another stands there
-pub other_there : (revisions : List Revision) (revision r y : Revision) (k : ℕ) → IsPath revisions
-    → slice_get revisions 0 ≡ Some revision
-    → k ≡ revision.generation - r.generation → slice_get revisions k ≡ Some y → is_same y r ≡ false
-    → names revisions r ≡ false
-other_there revisions revision r y k f h is there other =
-    not_named revisions revision r k f h is
-    (λ e. both_ways _ other (subst (λ z. is_same z r ≡ true) (same_Some r y (sym e ∙ there)) (same_self r)))
 
 -- and one that stands somewhere is
 pub named : (revisions : List Revision) (k : ℕ) (revision : Revision) → slice_get revisions k ≡ Some revision
@@ -123,57 +107,9 @@ named (other ∷ revisions) zero revision h =
 named (other ∷ revisions) (suc k) revision h =
     or_right (is_same revision other) (names revisions revision) (named revisions k revision h)
 
--- what stands behind it is at the next place
-pub behind_at : (revisions : List Revision) (k : ℕ) (revision : Revision) → IsPath revisions
-    → slice_get revisions k ≡ Some revision → behind revision revisions ≡ slice_get revisions (suc k)
-behind_at [] k revision f h = absurd f
-behind_at (other ∷ revisions) zero revision f h =
-    let same : is_same revision other ≡ true = subst (λ z. is_same revision z ≡ true)
-    (sym (same_Some other revision h)) (same_self revision) in
-    rw same refl
-behind_at (other ∷ []) (suc k) revision f h = absurd (cc)
-behind_at (other ∷ y ∷ revisions) (suc k) revision f h =
-    let g = lower other (y ∷ revisions) (suc k) revision f h in
-    elim (cases_Bool (is_same revision other)) [
-      | inl t ↦ absurd (omega (arith, g, same_generation revision other (same_is revision other t)))
-      | inr t ↦ rw t (behind_at (y ∷ revisions) k revision f.1 h)
-    ]
-
--- and nothing stands behind one that is not named
-pub behind_none : (revisions : List Revision) (revision : Revision) → names revisions revision ≡ false
-    → behind revision revisions ≡ None
-behind_none [] revision h = refl
-behind_none (other ∷ revisions) revision h =
-    let n = or_false (is_same revision other) (names revisions revision) h in
-    rw n.0 (behind_none revisions revision n.1)
-
 -- a copy of what `get` gives
 pub copied_at : {X : Type 0} (xs : List X) (k : ℕ) (o : Option (Bor X))
     → MatchOption o (length xs ≤ k) (λ x. (k < length xs) × HoldsAt {X = X} (λ y. x.now ≡ y) xs k)
     → option_copied o ≡ slice_get xs k
 copied_at xs k None h = sym (slice_get_past xs k h)
 copied_at xs k (Some x) h = sym (slice_get_read xs _ k x.now refl h.0 (h.1 x.now))
-
--- from a revision on the path is what stands from its place on
-pub from_on_at : (revisions : List Revision) (k : ℕ) (revision : Revision) → IsPath revisions
-    → slice_get revisions k ≡ Some revision → from_on revision revisions ≡ drop k revisions
-from_on_at [] k revision f h = absurd f
-from_on_at (other ∷ revisions) zero revision f h =
-    let same : is_same revision other ≡ true = subst (λ z. is_same revision z ≡ true)
-    (sym (same_Some other revision h)) (same_self revision) in
-    rw same refl
-from_on_at (other ∷ []) (suc k) revision f h = absurd (cc)
-from_on_at (other ∷ y ∷ revisions) (suc k) revision f h =
-    let g = lower other (y ∷ revisions) (suc k) revision f h in
-    elim (cases_Bool (is_same revision other)) [
-      | inl t ↦ absurd (omega (arith, g, same_generation revision other (same_is revision other t)))
-      | inr t ↦ rw t (from_on_at (y ∷ revisions) k revision f.1 h)
-    ]
-
--- and from one on that is not named nothing does
-pub from_on_none : (revisions : List Revision) (revision : Revision) → names revisions revision ≡ false
-    → from_on revision revisions ≡ []
-from_on_none [] revision h = refl
-from_on_none (other ∷ revisions) revision h =
-    let n = or_false (is_same revision other) (names revisions revision) h in
-    rw n.0 (from_on_none revisions revision n.1)

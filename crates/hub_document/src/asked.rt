@@ -33,14 +33,6 @@ impl Model for Asked {
 }
 
 impl Asked {
-    // These revisions of the document of this id.
-    fn of_id(alloc: Global, id: &str, revs: Revisions) -> Result<Asked, AllocError>
-        ensures { IfOk result (λ a. a ≡ record { id = id.now; revs = revs }) }
-    {
-        let id = String::from_str(alloc, id)?;
-        Ok(Asked { id, revs })
-    }
-
     /// A copy. It costs the length of the id and of the revisions.
     pub fn copy(&self, alloc: Global) -> Result<Asked, AllocError>
         ensures { IfOk result (λ copy. copy ≡ self.now) }
@@ -100,7 +92,8 @@ fn asked_of(alloc: Global, members: &Map<String, Value>) -> Result<Option<Vec<As
         let Some(revs) = revs_in(alloc, member)? else {
             return Ok(None);
         };
-        asked.push(Asked::of_id(alloc, key.as_str(), revs)?)?;
+        let id = String::from_str(alloc, key.as_str())?;
+        asked.push(Asked { id, revs })?;
     }
     Ok(Some(asked))
 }

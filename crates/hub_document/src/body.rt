@@ -3,7 +3,9 @@
 ghost use Rattle.std.specs.Prelude.{◌≡◌, codes, false, IfOk};
 ghost use Rattle.serde_json.specs.View.{members_view};
 ghost use Rattle.serde_json.specs.Written.{members_have_float};
+ghost use Rattle.hub_document.specs.Appends.{Appends};
 ghost use Rattle.hub_document.specs.BodyText.{body_text};
+ghost use Rattle.hub_document.specs.Joined.{rest_text};
 
 use crate::members::is_hidden;
 use crate::write::write_value;
@@ -28,6 +30,10 @@ impl Model for Body {
     ghost Value = { List ℕ };
 
     ghost view = { λ a. a.text.items };
+
+    ghost use Rattle.hub_document.specs.Braced.{IsBraced};
+
+    ghost invariant = { λ a. IsBraced a.text.items };
 }
 
 impl Body {
@@ -36,6 +42,19 @@ impl Body {
         ensures { result.now ≡ self.now }
     {
         self.text.as_slice()
+    }
+
+    /// Appends the members behind a comma, where there are any, and the brace. The text is copied as it
+    /// stands.
+    pub(crate) fn put_rest(&self, out: &mut Vec<u8>) -> Result<(), AllocError>
+        ensures { Appends (rest_text self.now) result out.old.items out.new.items }
+    {
+        let rest = &self.text[1..];
+        if rest.len() == 1 {
+            return out.extend_from_slice(rest);
+        }
+        out.push(b',')?;
+        out.extend_from_slice(rest)
     }
 
     /// The body without members, `{}`.

@@ -3,13 +3,12 @@
 ghost use Rattle.std.specs.Prelude.{◌≡◌, IfOk};
 ghost use Rattle.hub_document.specs.Appends.{Appends, AppendsWhole};
 ghost use Rattle.hub_document.specs.DocText.{doc_text};
-ghost use Rattle.hub_document.specs.SpecialText.{special_text};
 
 use crate::body::Body;
 use crate::doc_id::DocId;
 use crate::path::Path;
 use crate::revision::RevId;
-use crate::text::{put_deleted, put_head, put_path, put_rest, put_rev};
+use crate::text::{put_deleted, put_head, put_path, put_rev};
 use std::alloc::{AllocError, Global};
 use thiserror::Error;
 
@@ -63,22 +62,14 @@ impl Doc {
     }
 }
 
-// The members that are not its own.
-fn put_special(out: &mut Vec<u8>, doc: &Doc) -> Result<(), AllocError>
-    ensures { Appends (special_text doc.now) result out.old.items out.new.items }
+fn put_doc(out: &mut Vec<u8>, doc: &Doc) -> Result<(), AllocError>
+    ensures { Appends (doc_text doc.now) result out.old.items out.new.items }
 {
     put_head(out, doc.id.as_str())?;
     put_rev(out, &doc.rev)?;
     put_deleted(out, doc.deleted)?;
     put_path(out, &doc.path)?;
-    Ok(())
-}
-
-fn put_doc(out: &mut Vec<u8>, doc: &Doc) -> Result<(), AllocError>
-    ensures { Appends (doc_text doc.now) result out.old.items out.new.items }
-{
-    put_special(out, doc)?;
-    put_rest(out, &doc.body)?;
+    doc.body.put_rest(out)?;
     Ok(())
 }
 

@@ -7,7 +7,6 @@ ghost use Rattle.hub_document.specs.Local.{is_named_so as is_named_as};
 ghost use Rattle.hub_document.specs.Ids.{IsDocId, is_id as is_id_text, id_of as id_in, short_id};
 ghost use Rattle.hub_document.specs.IdForm.{bytes_in};
 
-use crate::id_text::IdText;
 use arrayvec::ArrayString;
 use serde_json::Value;
 use std::alloc::{AllocError, Global};
@@ -20,8 +19,10 @@ use std::sync::Arc;
 enum Form {
     // One of 16 bytes at most, in the value itself.
     Inline(ArrayString<16>),
-    // A longer one, in a piece that its copies share.
-    Shared(Arc<IdText, Global>),
+    // A longer one of 32 bytes at most, as most ids are, in a piece that its copies share.
+    Shared(Arc<ArrayString<32>, Global>),
+    // A longer one, in memory of its own behind such a piece.
+    Long(Arc<String, Global>),
 }
 
 /// A document's id, seen as its bytes: 1 to 512 bytes of UTF-8. One that begins with `_` is
@@ -72,9 +73,12 @@ impl DocId {
         requires { IsDocId text.now }
         ensures { IfOk result (λ i. i ≡ text.now) }
     {
-        let form = match ArrayString::from(text) {
-            Ok(short) => Form::Inline(short),
-            Err(_) => Form::Shared(Arc::new(alloc, IdText::copied(alloc, text)?)?),
+        let form = if let Ok(short) = ArrayString::from(text) {
+            Form::Inline(short)
+        } else if let Ok(text) = ArrayString::from(text) {
+            Form::Shared(Arc::new(alloc, text)?)
+        } else {
+            Form::Long(Arc::new(alloc, String::from_str(alloc, text)?)?)
         };
         Ok(DocId { form })
     }
@@ -87,6 +91,7 @@ impl DocId {
         match &self.form {
             Form::Inline(text) => text.as_str(),
             Form::Shared(text) => text.as_str(),
+            Form::Long(text) => text.as_str(),
         }
     }
 
@@ -105,6 +110,7 @@ impl DocId {
         let form = match &self.form {
             Form::Inline(text) => Form::Inline(*text),
             Form::Shared(text) => Form::Shared(text.clone()?),
+            Form::Long(text) => Form::Long(text.clone()?),
         };
         Ok(DocId { form })
     }

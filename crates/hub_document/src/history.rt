@@ -1,9 +1,9 @@
 //! The revision and the history that a document's members name.
 
-ghost use Rattle.std.specs.Prelude.{◌≡◌, IfOk, IfSome, IfNone, None, is_some, option_map, option_and_then};
+ghost use Rattle.std.specs.Prelude.{◌≡◌, IfOk, IfSome, IfNone, None, is_some, option_map};
 ghost use Rattle.serde_json.specs.View.{view, items_view};
-ghost use Rattle.hub_document.specs.Histories.{rev_of as rev_in, hashed_at, falling, starting};
-ghost use Rattle.hub_document.specs.Histories.{history_in, is_head as is_head_of, if_head};
+ghost use Rattle.hub_document.specs.Histories.{rev_of as rev_in, hashed_at, falling};
+ghost use Rattle.hub_document.specs.Histories.{history_in, is_head as is_head_of};
 ghost use Rattle.hub_document.specs.Histories.{alone as alone_of, path_of as path_in};
 
 use crate::path::Path;
@@ -74,36 +74,22 @@ fn falling_from(
     Ok(Some(revisions))
 }
 
-// The generation that a history of these hashes starts from, where it is within the limits and there is one
-// hash at least. None is a fault.
-fn start_of(start: u64, ids: &Vec<Value>) -> Option<u16>
+// The generation that the history which `_revisions` writes starts from, where it is within the limits, and
+// its hashes, of which there is one at least. None is a fault.
+fn start_of(history: &Value) -> Option<(u16, &Vec<Value>)>
     ensures some { IfSome result
-        (λ n. falling n (items_view ids.now.items) ≡ starting start (items_view ids.now.items)) }
-    ensures none { IfNone result (starting start (items_view ids.now.items) ≡ None) }
+        (λ p. falling p.0 (items_view p.1.now.items) ≡ history_in (view history.now)) }
+    ensures none { IfNone result (history_in (view history.now) ≡ None) }
 {
+    let start = history.get("start").and_then(Value::as_u64)?;
+    let ids = history.get("ids").and_then(Value::as_array)?;
     if ids.is_empty() {
         return None;
     }
     if start == 0 || start > 65535 {
         return None;
     }
-    Some(start as u16)
-}
-
-// The history that `_revisions` writes. None is a fault.
-fn history_of(alloc: Global, value: &Value) -> Result<Option<Vec<RevId>>, AllocError>
-    ensures { IfOk result (λ o. option_map (λ v. v.items) o ≡ history_in (view value.now)) }
-{
-    let Some(start) = value.get("start").and_then(Value::as_u64) else {
-        return Ok(None);
-    };
-    let Some(ids) = value.get("ids").and_then(Value::as_array) else {
-        return Ok(None);
-    };
-    match start_of(start, ids) {
-        Some(start) => falling_from(alloc, start, ids),
-        None => Ok(None),
-    }
+    Some((start as u16, ids))
 }
 
 // Whether a revision that is named is the first of the history.
@@ -147,22 +133,6 @@ fn begins_with(rev: Option<RevId>, start: u16, ids: &Vec<Value>) -> bool
     }
 }
 
-// Whether `_revisions` writes a history whose first revision this is, where one is named.
-fn is_history(rev: Option<RevId>, value: &Value) -> bool
-    ensures { result ≡ is_some (option_and_then (if_head rev) (history_in (view value.now))) }
-{
-    let Some(start) = value.get("start").and_then(Value::as_u64) else {
-        return false;
-    };
-    let Some(ids) = value.get("ids").and_then(Value::as_array) else {
-        return false;
-    };
-    match start_of(start, ids) {
-        Some(start) => is_falling(start, ids) && begins_with(rev, start, ids),
-        None => false,
-    }
-}
-
 /// The path of an edit that another database made. None is a fault. It costs the history's length.
 pub(crate) fn path_of(
     alloc: Global,
@@ -174,7 +144,10 @@ pub(crate) fn path_of(
     let Some(history) = value.get("_revisions") else {
         return alone(alloc, rev);
     };
-    let Some(revisions) = history_of(alloc, history)? else {
+    let Some((start, ids)) = start_of(history) else {
+        return Ok(None);
+    };
+    let Some(revisions) = falling_from(alloc, start, ids)? else {
         return Ok(None);
     };
     if is_head(rev, revisions.as_slice()) {
@@ -189,8 +162,11 @@ pub(crate) fn path_of(
 pub(crate) fn is_path(rev: Option<RevId>, value: &Value) -> bool
     ensures { result ≡ is_some (path_in rev (view value.now)) }
 {
-    match value.get("_revisions") {
-        Some(history) => is_history(rev, history),
-        None => rev.is_some(),
+    let Some(history) = value.get("_revisions") else {
+        return rev.is_some();
+    };
+    match start_of(history) {
+        Some((start, ids)) => is_falling(start, ids) && begins_with(rev, start, ids),
+        None => false,
     }
 }

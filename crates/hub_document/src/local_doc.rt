@@ -15,7 +15,7 @@ use crate::doc_id::is_named_so;
 use crate::members::{are_good_members, is_deleted};
 use crate::numbers::members_have_float;
 use crate::read::read_value;
-use crate::text::{put_count, put_head, put_rest};
+use crate::text::{put_count, put_head};
 use serde_json::{Map, Value};
 use std::alloc::{AllocError, Global};
 use std::marker::Model;
@@ -48,23 +48,15 @@ impl LocalId {
         if !is_local_id(text) || text.len() > 512 {
             return Ok(None);
         }
-        let id = LocalId::copied(alloc, text)?;
-        Ok(Some(id))
-    }
-
-    fn copied(alloc: Global, text: &str) -> Result<LocalId, AllocError>
-        requires { IsLocalId text.now }
-        ensures { IfOk result (λ i. i ≡ text.now) }
-    {
         let text = String::from_str(alloc, text)?;
-        Ok(LocalId { text })
+        Ok(Some(LocalId { text }))
     }
 
     /// The id's text. Constant time.
     pub fn as_str(&self) -> &str
         ensures { result.now ≡ self.now }
     {
-        self.text.as_str()
+        &self.text
     }
 
     /// The text itself. It takes no memory.
@@ -91,32 +83,6 @@ pub struct LocalDoc {
     pub body: Body,
 }
 
-// The local document that an object is.
-fn local_from(
-    alloc: Global,
-    id: &str,
-    value: &Value,
-    members: &Map<String, Value>,
-) -> Result<LocalDoc, DocFault>
-    ensures { Reads (local_of id.now (view value.now) (members_view members.now.entries)) result }
-{
-    if members_have_float(members) {
-        return Err(DocFault::BadNumber);
-    }
-    if !is_local_id(id) || !is_named_so(id, value) {
-        return Err(DocFault::BadId);
-    }
-    if !are_good_members(members) || is_deleted(value) {
-        return Err(DocFault::BadMember);
-    }
-    if id.len() > 512 {
-        return Err(DocFault::TooLong);
-    }
-    let id = LocalId::copied(alloc, id)?;
-    let body = body_of(alloc, members)?;
-    Ok(LocalDoc { id, body })
-}
-
 impl LocalDoc {
     /// The local document that a JSON text is under the id that the request names, or the first
     /// fault. Its `_rev` is not looked at. It costs the text's length, and takes room before it is known
@@ -129,7 +95,24 @@ impl LocalDoc {
         let Some(members) = value.as_object() else {
             return Err(DocFault::NotObject);
         };
-        local_from(alloc, id, &value, members)
+        if members_have_float(members) {
+            return Err(DocFault::BadNumber);
+        }
+        if !is_local_id(id) || !is_named_so(id, &value) {
+            return Err(DocFault::BadId);
+        }
+        if !are_good_members(members) || is_deleted(&value) {
+            return Err(DocFault::BadMember);
+        }
+        if id.len() > 512 {
+            return Err(DocFault::TooLong);
+        }
+        let text = String::from_str(alloc, id)?;
+        let body = body_of(alloc, members)?;
+        Ok(LocalDoc {
+            id: LocalId { text },
+            body,
+        })
     }
 }
 
@@ -138,7 +121,7 @@ fn put_local(out: &mut Vec<u8>, id: &str, count: u64, body: &Body) -> Result<(),
 {
     put_head(out, id)?;
     put_count(out, count)?;
-    put_rest(out, body)?;
+    body.put_rest(out)?;
     Ok(())
 }
 

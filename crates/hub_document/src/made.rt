@@ -46,22 +46,14 @@ fn hash_parent(hasher: &mut Md5, parent: &Option<RevId>)
     hasher.update(b"\",");
 }
 
-// Hashes the JSON string of a text that needs no escape, and a comma.
-fn hash_plain(hasher: &mut Md5, text: &str)
-    requires { escape text.now ≡ text.now }
-    ensures { Takes (quoted text.now ++ codes ",") hasher.old hasher.new }
-{
-    hasher.update(b"\"");
-    hasher.update(text.as_bytes());
-    hasher.update(b"\",");
-}
-
 // Hashes the JSON string of any text, and a comma.
 fn hash_quoted(alloc: Global, hasher: &mut Md5, text: &str) -> Result<(), AllocError>
     ensures { OnOk result (Takes (quoted text.now ++ codes ",") hasher.old hasher.new) }
 {
     if is_plain(text.as_bytes()) {
-        hash_plain(hasher, text);
+        hasher.update(b"\"");
+        hasher.update(text.as_bytes());
+        hasher.update(b"\",");
         return Ok(());
     }
     let mut string = Vec::new(alloc);

@@ -29,43 +29,30 @@ fn plain_16(text: &[u8], at: usize) -> bool
         == 0
 }
 
-fn plain_few(text: &[u8]) -> bool
-    ensures { OnTrue result (PlainBetween text.now 0 (length text.now)) }
-{
-    for &byte in text {
-        if byte == b'"' || byte == b'\\' || byte < 0x20 {
-            return false;
-        }
-    }
-    true
-}
-
-fn plain_long(text: &[u8]) -> bool
-    requires { 16 ≤ length text.now }
-    ensures { OnTrue result (PlainBetween text.now 0 (length text.now)) }
-{
-    let mut at = 0;
-    while text.len() - at > 16 {
-        if !plain_16(text, at) {
-            return false;
-        }
-        at += 16;
-    }
-    plain_16(text, text.len() - 16)
-}
-
 // Two loads that overlap cover a short text, as ids are.
 fn plain_all(text: &[u8]) -> bool
     ensures { OnTrue result (PlainBetween text.now 0 (length text.now)) }
 {
     let len = text.len();
     if len < 8 {
-        plain_few(text)
-    } else if len <= 16 {
-        plain_8(text, 0) && plain_8(text, len - 8)
-    } else {
-        plain_long(text)
+        for &byte in text {
+            if byte == b'"' || byte == b'\\' || byte < 0x20 {
+                return false;
+            }
+        }
+        return true;
     }
+    if len <= 16 {
+        return plain_8(text, 0) && plain_8(text, len - 8);
+    }
+    let mut at = 0;
+    while len - at > 16 {
+        if !plain_16(text, at) {
+            return false;
+        }
+        at += 16;
+    }
+    plain_16(text, len - 16)
 }
 
 /// Whether a text needs no escape. It looks at 8 or 16 bytes at a time.

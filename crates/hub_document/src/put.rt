@@ -14,7 +14,7 @@ use crate::history::rev_of;
 use crate::numbers::members_have_float;
 use crate::read::{read_value, with_path};
 use crate::revision::RevId;
-use serde_json::{Map, Value};
+use serde_json::Value;
 use std::alloc::Global;
 
 // The revision, unless the document names another one. None is a fault.
@@ -43,34 +43,6 @@ fn named_by(rev: Option<&str>, value: &Value) -> Option<Option<RevId>>
     unless_other(asked, named)
 }
 
-// The document that an object is under the id.
-fn put_from(
-    alloc: Global,
-    id: &str,
-    rev: Option<&str>,
-    new_edits: bool,
-    value: &Value,
-    members: &Map<String, Value>,
-) -> Result<Doc, DocFault>
-    ensures { Reads
-        (put_of id.now (option_map (λ s. s.now) rev.entry) new_edits (view value.now)
-        (members_view members.now.entries)) result }
-{
-    if members_have_float(members) {
-        return Err(DocFault::BadNumber);
-    }
-    if !is_id(id) || !is_named_so(id, value) {
-        return Err(DocFault::BadId);
-    }
-    let Some(named) = named_by(rev, value) else {
-        return Err(DocFault::BadRev);
-    };
-    if !new_edits {
-        return Err(DocFault::BadMember);
-    }
-    with_path(alloc, value, members, id, named, None)
-}
-
 /// The document that a JSON value is under the id that a request names, as `Doc::read_put`. It costs the
 /// value's size.
 pub fn put_doc(
@@ -88,7 +60,19 @@ pub fn put_doc(
     let Some(members) = value.as_object() else {
         return Err(DocFault::NotObject);
     };
-    put_from(alloc, id, rev, new_edits, value, members)
+    if members_have_float(members) {
+        return Err(DocFault::BadNumber);
+    }
+    if !is_id(id) || !is_named_so(id, value) {
+        return Err(DocFault::BadId);
+    }
+    let Some(named) = named_by(rev, value) else {
+        return Err(DocFault::BadRev);
+    };
+    if !new_edits {
+        return Err(DocFault::BadMember);
+    }
+    with_path(alloc, value, members, id, named, None)
 }
 
 impl Doc {

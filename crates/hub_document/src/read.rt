@@ -4,7 +4,7 @@ ghost use Rattle.std.specs.Prelude.{is_some, not, IfSome, ◌≡◌, length, nat
 ghost use Rattle.std.specs.Prelude.{◌⊎◌, IfOk, IfErr, IsOk, Ok, Err, Some, None, false};
 ghost use Rattle.serde_json.specs.View.{view, members_view};
 ghost use Rattle.hub_document.specs.Read.{with_path as path_gives, with_rev as rev_gives};
-ghost use Rattle.hub_document.specs.Read.{with_id as id_gives, document_of, IsStorable};
+ghost use Rattle.hub_document.specs.Read.{IsStorable};
 ghost use Rattle.hub_document.specs.Read.{history_of as history_in, doc_of, doc_in};
 ghost use Rattle.hub_document.specs.Reading.{Reads, ReadsEdit, ReadsJson};
 ghost use Rattle.hub_document.specs.SpecialMembers.{are_good_members as are_good};
@@ -110,66 +110,6 @@ fn without_path(
     }
 }
 
-// The rest, where `_rev` is known.
-fn with_rev(
-    alloc: Global,
-    new_edits: bool,
-    value: &Value,
-    members: &Map<String, Value>,
-    id: &str,
-    rev: Option<RevId>,
-) -> Result<Doc, DocFault>
-    requires { IsStorable (members_view members.now.entries) id.now }
-    ensures { ReadsEdit new_edits
-        (rev_gives new_edits (view value.now) (members_view members.now.entries) id.now rev) result }
-{
-    let history = match history_of(alloc, new_edits, rev, value) {
-        Ok(history) => history,
-        Err(_) => return Err(without_path(value, members, id, &rev)),
-    };
-    let Some((head, path)) = history else {
-        return Err(DocFault::BadRevisions);
-    };
-    with_path(alloc, value, members, id, head, path)
-}
-
-// The rest, where the id is known.
-fn with_id(
-    alloc: Global,
-    new_edits: bool,
-    value: &Value,
-    members: &Map<String, Value>,
-    id: &str,
-) -> Result<Doc, DocFault>
-    requires { IsStorable (members_view members.now.entries) id.now }
-    ensures { ReadsEdit new_edits
-        (id_gives new_edits (view value.now) (members_view members.now.entries) id.now) result }
-{
-    let Some(rev) = rev_of(value, new_edits) else {
-        return Err(DocFault::BadRev);
-    };
-    with_rev(alloc, new_edits, value, members, id, rev)
-}
-
-// The document that an object is.
-fn document_from(
-    alloc: Global,
-    new_edits: bool,
-    value: &Value,
-    members: &Map<String, Value>,
-) -> Result<Doc, DocFault>
-    ensures { ReadsEdit new_edits
-        (document_of new_edits (view value.now) (members_view members.now.entries)) result }
-{
-    if members_have_float(members) {
-        return Err(DocFault::BadNumber);
-    }
-    let Some(id) = id_of(value) else {
-        return Err(DocFault::BadId);
-    };
-    with_id(alloc, new_edits, value, members, id)
-}
-
 /// The JSON value that a text is. It costs the text's length. Whatever the text is, it takes room
 /// before that is known; an empty one takes none.
 pub fn read_value(alloc: Global, bytes: &[u8]) -> Result<Value, DocFault>
@@ -198,7 +138,23 @@ pub fn read_doc(alloc: Global, value: &Value, new_edits: bool) -> Result<Doc, Do
     let Some(members) = value.as_object() else {
         return Err(DocFault::NotObject);
     };
-    document_from(alloc, new_edits, value, members)
+    if members_have_float(members) {
+        return Err(DocFault::BadNumber);
+    }
+    let Some(id) = id_of(value) else {
+        return Err(DocFault::BadId);
+    };
+    let Some(rev) = rev_of(value, new_edits) else {
+        return Err(DocFault::BadRev);
+    };
+    let history = match history_of(alloc, new_edits, rev, value) {
+        Ok(history) => history,
+        Err(_) => return Err(without_path(value, members, id, &rev)),
+    };
+    let Some((head, path)) = history else {
+        return Err(DocFault::BadRevisions);
+    };
+    with_path(alloc, value, members, id, head, path)
 }
 
 impl Doc {

@@ -13,8 +13,9 @@ ghost use Rattle.hub_document.specs.Appends.{Appends, AppendsWhole};
 ghost use Rattle.hub_document.specs.RevisionLaws.{TextsRead, ReadsAreTexts};
 ghost use Rattle.hub_document.specs.RevisionText.{number_of, is_hash as is_hash_text, with_hash, revision_of};
 
+use crate::sequence::{put_before, put_bytes};
 pub use digest_rev::DigestRev;
-use itoa::Buffer;
+use itoa::{Buffer, write_digits};
 use std::alloc::AllocError;
 use std::marker::Model;
 
@@ -67,6 +68,9 @@ impl RevId {
         self.number == other.number && self.hash() == other.hash()
     }
 }
+
+// The room of the longest text in quotes: a number of 5 digits, a dash, a hash and two quotes.
+const ROOM: usize = 72;
 
 // The generation, and what stands past its dash.
 fn read_number(bytes: &[u8]) -> Option<(u16, &[u8])>
@@ -170,10 +174,14 @@ impl RevId {
     pub fn print_quoted(&self, out: &mut Vec<u8>) -> Result<(), AllocError>
         ensures { Appends (quoted (text_of self.now)) result out.old.items out.new.items }
     {
-        out.push(b'"')?;
-        self.print(out)?;
-        out.push(b'"')?;
-        Ok(())
+        // The text is made from its end on, and appended once.
+        let number = u64::from(self.generation());
+        let mut text = [b'"'; ROOM];
+        let hash_at = put_bytes(&mut text, ROOM - 1, self.hash());
+        let dash_at = put_before(&mut text, hash_at, b'-');
+        let number_at = write_digits(number, &mut text, dash_at);
+        let at = put_before(&mut text, number_at, b'"');
+        out.extend_from_slice(&text[at..])
     }
 
     /// Writes its hash as a JSON string behind what the vector holds. After an error it is as with

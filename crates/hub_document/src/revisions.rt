@@ -33,7 +33,7 @@ impl Revisions {
     pub fn as_slice(&self) -> &[RevId]
         ensures { result.now ≡ self.now }
     {
-        self.list.as_slice()
+        &self.list
     }
 
     /// A copy. It costs the list's length, and of an empty list takes no memory.

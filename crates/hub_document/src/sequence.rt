@@ -1,6 +1,6 @@
 //! The texts of sequences.
 
-ghost use Rattle.std.specs.Prelude.{◌≡◌, ◌+◌, ◌<◌, ◌≤◌, ◌∷◌, length, drop};
+ghost use Rattle.std.specs.Prelude.{◌≡◌, ◌+◌, ◌<◌, ◌≤◌, ◌∷◌, ◌++◌, length, drop};
 ghost use Rattle.hub_document.specs.Appends.{Appends};
 ghost use Rattle.hub_document.specs.SequenceText.{sequence_text};
 
@@ -10,8 +10,19 @@ use std::alloc::AllocError;
 // The room of the longest text: two numbers of 20 digits, two quotes and a dash.
 const ROOM: usize = 43;
 
-// Writes the byte so that it ends at `end`, and returns where it stands.
-fn put_before(text: &mut [u8], end: usize, byte: u8) -> usize
+/// Writes the bytes so that they end at `end`, and returns where they begin.
+pub(crate) fn put_bytes(text: &mut [u8], end: usize, bytes: &[u8]) -> usize
+    requires { (length bytes.now ≤ end) × (end ≤ length text.old) }
+    ensures start { result + length bytes.now ≡ end }
+    ensures written { drop result text.new ≡ bytes.now ++ drop end text.old }
+{
+    let at = end - bytes.len();
+    text[at..end].copy_from_slice(bytes);
+    at
+}
+
+/// Writes the byte so that it ends at `end`, and returns where it stands.
+pub(crate) fn put_before(text: &mut [u8], end: usize, byte: u8) -> usize
     requires { (0 < end) × (end ≤ length text.old) }
     ensures start { result + 1 ≡ end }
     ensures written { drop result text.new ≡ byte ∷ drop end text.old }

@@ -4,11 +4,10 @@ ghost use Rattle.std.specs.Prelude.{◌≡◌, Some};
 ghost use Rattle.json.specs.Print.{quoted};
 ghost use Rattle.hub_document.specs.Appends.{Appends};
 ghost use Rattle.hub_document.specs.DocText.{rev_member, deleted_member};
-ghost use Rattle.hub_document.specs.DocText.{history_member, history_text, inside};
+ghost use Rattle.hub_document.specs.DocText.{history_member, history_text};
 ghost use Rattle.hub_document.specs.Joined.{after_commas, head_text, ids_text};
-ghost use Rattle.hub_document.specs.Joined.{start_text, count_text, rest_text};
+ghost use Rattle.hub_document.specs.Joined.{start_text, count_text};
 
-use crate::body::Body;
 use crate::path::Path;
 use crate::plain::is_plain;
 use crate::revision::{DigestRev, RevId};
@@ -17,17 +16,6 @@ use json::Writer;
 use std::alloc::AllocError;
 use std::mem;
 
-// Appends the JSON string of any text.
-fn put_escaped(out: &mut Vec<u8>, text: &str) -> Result<(), AllocError>
-    ensures { Appends (quoted text.now) result out.old.items out.new.items }
-{
-    let alloc = *out.allocator();
-    let mut writer = Writer::new(mem::replace(out, Vec::new(alloc)));
-    let done = writer.string(text);
-    *out = writer.into_inner();
-    done
-}
-
 /// Appends the JSON string of a text. Where that needs more memory than there is, what was held
 /// still stands in front, and a part may stand behind it; so it is with all that is written here. It
 /// costs the text's length, and copies nothing else.
@@ -35,7 +23,11 @@ pub fn put_quoted(out: &mut Vec<u8>, text: &str) -> Result<(), AllocError>
     ensures { Appends (quoted text.now) result out.old.items out.new.items }
 {
     if !is_plain(text.as_bytes()) {
-        return put_escaped(out, text);
+        let alloc = *out.allocator();
+        let mut writer = Writer::new(mem::replace(out, Vec::new(alloc)));
+        let done = writer.string(text);
+        *out = writer.into_inner();
+        return done;
     }
     out.push(b'"')?;
     out.extend_from_slice(text.as_bytes())?;
@@ -123,30 +115,6 @@ pub(crate) fn put_path(out: &mut Vec<u8>, path: &Option<Path>) -> Result<(), All
     };
     out.extend_from_slice(b",\"_revisions\":")?;
     put_history(out, path)?;
-    Ok(())
-}
-
-// What stands between the braces of an object.
-fn inside_of(text: &[u8]) -> &[u8]
-    ensures { result.now ≡ inside text.now }
-{
-    match text {
-        [_, inside @ .., _] => inside,
-        _ => &[],
-    }
-}
-
-// A body's own members, and the brace. The text is copied as it stands.
-pub(crate) fn put_rest(out: &mut Vec<u8>, body: &Body) -> Result<(), AllocError>
-    ensures { Appends (rest_text body.now) result out.old.items out.new.items }
-{
-    let inside = inside_of(body.as_bytes());
-    if inside.is_empty() {
-        return out.extend_from_slice(b"}");
-    }
-    out.push(b',')?;
-    out.extend_from_slice(inside)?;
-    out.push(b'}')?;
     Ok(())
 }
 

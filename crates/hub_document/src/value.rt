@@ -125,27 +125,20 @@ impl JsonRoom {
         if bytes.len() > SHORT {
             return read_value(alloc, bytes);
         }
-        read_with(alloc, bytes, &mut self.scratch)
+        let Ok(text) = simdutf8::compat::from_utf8(bytes) else {
+            return Err(DocFault::NotJson);
+        };
+        let Ok(mut reader) = Reader::new(text, &mut self.scratch) else {
+            return Err(DocFault::NoMemory);
+        };
+        let tree = match Tree::read(alloc, &mut reader, MAX_DEPTH) {
+            Ok(tree) => tree,
+            Err(Error::OutOfMemory) => return Err(DocFault::NoMemory),
+            Err(_) => return Err(DocFault::NotJson),
+        };
+        if reader.next().is_some() {
+            return Err(DocFault::NotJson);
+        }
+        value_of(alloc, &tree)
     }
-}
-
-/// The JSON value that a text is.
-fn read_with(alloc: Global, bytes: &[u8], scratch: &mut Scratch) -> Result<Value, DocFault>
-    ensures { ReadsJson bytes.now result }
-{
-    let Ok(text) = simdutf8::compat::from_utf8(bytes) else {
-        return Err(DocFault::NotJson);
-    };
-    let Ok(mut reader) = Reader::new(text, scratch) else {
-        return Err(DocFault::NoMemory);
-    };
-    let tree = match Tree::read(alloc, &mut reader, MAX_DEPTH) {
-        Ok(tree) => tree,
-        Err(Error::OutOfMemory) => return Err(DocFault::NoMemory),
-        Err(_) => return Err(DocFault::NotJson),
-    };
-    if reader.next().is_some() {
-        return Err(DocFault::NotJson);
-    }
-    value_of(alloc, &tree)
 }

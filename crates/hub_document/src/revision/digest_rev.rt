@@ -1,6 +1,6 @@
 //! Revisions whose hashes are digests, in little memory.
 
-ghost use Rattle.std.specs.Prelude.{◌≡◌, ◌≤◌, ◌<◌, ◌∷◌, [], ◌++◌, IfNone, IfSome};
+ghost use Rattle.std.specs.Prelude.{◌≡◌, ◌≤◌, ◌<◌, IfNone, IfSome};
 ghost use Rattle.hex.specs.Hex.{encode_lower};
 ghost use Rattle.json.specs.Print.{quoted};
 ghost use Rattle.hub_model.specs.Revision.{text_of};
@@ -8,7 +8,6 @@ ghost use Rattle.hub_document.specs.Appends.{Appends};
 
 use crate::revision::RevId;
 use crate::revision::digest::write_digits;
-use itoa::Buffer;
 use std::alloc::AllocError;
 use std::marker::Model;
 
@@ -34,8 +33,7 @@ impl Model for DigestRev {
 
 // The text of the revision of this digest and a generation of one digit, as a JSON string.
 fn short_text(generation: u16, digest: &[u8; 16]) -> [u8; 36]
-    requires positive { 1 ≤ generation }
-    requires one_digit { generation < 10 }
+    requires { (1 ≤ generation) × (generation < 10) }
     ensures { result ≡ quoted (text_of (record {
       generation = generation;
       hash = encode_lower digest.now;
@@ -46,31 +44,6 @@ fn short_text(generation: u16, digest: &[u8; 16]) -> [u8; 36]
     text[2] = b'-';
     write_digits(&mut text[3..35], digest);
     text
-}
-
-// What stands behind the generation: a dash, the text of the digest and the quote.
-fn ending(digest: &[u8; 16]) -> [u8; 34]
-    ensures { result ≡ 45 ∷ (encode_lower digest.now ++ 34 ∷ []) }
-{
-    let mut text = [b'"'; 34];
-    text[0] = b'-';
-    write_digits(&mut text[1..33], digest);
-    text
-}
-
-// Appends the text of the revision of this generation and digest, as a JSON string.
-fn put_long(out: &mut Vec<u8>, generation: u16, digest: &[u8; 16]) -> Result<(), AllocError>
-    requires { 1 ≤ generation }
-    ensures { Appends (quoted (text_of (record {
-      generation = generation;
-      hash = encode_lower digest.now;
-    }))) result out.old.items out.new.items }
-{
-    let mut number = Buffer::new();
-    out.extend_from_slice(b"\"")?;
-    out.extend_from_slice(number.format(generation).as_bytes())?;
-    out.extend_from_slice(ending(digest).as_slice())?;
-    Ok(())
 }
 
 impl DigestRev {
@@ -95,16 +68,6 @@ impl DigestRev {
         ensures { self.now.hash ≡ encode_lower result }
     {
         self.digest
-    }
-
-    /// The same once more. Constant time.
-    pub fn copy(&self) -> DigestRev
-        ensures { result ≡ self.now }
-    {
-        DigestRev {
-            generation: self.generation,
-            digest: self.digest,
-        }
     }
 
     /// The same with the text of its hash. Constant time.
@@ -134,7 +97,7 @@ impl DigestRev {
     {
         match self.short_text() {
             Some(text) => out.extend_from_slice(text.as_slice()),
-            None => put_long(out, self.generation, &self.digest),
+            None => self.rev().print_quoted(out),
         }
     }
 }

@@ -40,29 +40,14 @@ fn contents(rt: HostRuntime) -> Result<(), Fail> {
     Ok(())
 }
 
-// Revisions, whether the path has them, and what stands behind them.
-const PATH: &str = "2-c | in | 1-a
-1-a | in | none
-1-c | out | none
-2-a | out | none
-3-c | out | none";
-
 // Whether the document's path is 2-c, 1-a.
 fn is_path(doc: &Doc) -> bool {
     let Some(path) = &doc.path else {
         return false;
     };
-    for line in PATH.lines() {
-        let (text, rest) = parts(line);
-        let (place, behind) = parts(rest);
-        let Some(rev) = RevId::read(text) else {
-            return false;
-        };
-        if path.names(&rev) != (place == "in") || path.behind(&rev) != RevId::read(behind) {
-            return false;
-        }
-    }
-    Some(path.head()) == RevId::read("2-c") && path.revisions().len() == 2
+    Some(path.head()) == RevId::read("2-c")
+        && path.revisions().get(1).copied() == RevId::read("1-a")
+        && path.revisions().len() == 2
 }
 
 #[test]

@@ -2,8 +2,8 @@
 
 use super::tables::{again, grown, is_shown, same, same_bytes};
 use hub_document::{
-    Changes, DigestRev, Doc, DocFault, LentChanges, Path, RevId, Revisions, is_plain, place_in,
-    put_quoted, put_sequence, read_doc, read_value,
+    Changes, DigestRev, Doc, DocFault, LentChanges, RevId, Revisions, is_plain, put_quoted,
+    put_sequence, read_doc, read_value,
 };
 use std::alloc::{AllocError, Global};
 use std::test::Fail;
@@ -57,40 +57,19 @@ fn revisions_with_digests(rt: HostRuntime) {
 #[test]
 fn revisions_in_little_memory(rt: HostRuntime) {
     let rev = DigestRev::new(3, DIGEST);
-    let copy = rev.copy();
-    let found = (copy.generation(), copy.digest(), Some(rev.rev()));
+    let found = (rev.generation(), rev.digest(), Some(rev.rev()));
     same(&rt, &found, &(3, DIGEST, RevId::read(MADE)));
 }
 
 const HISTORY: &str = r#"{"_id":"a","_revisions":{"start":3,"ids":["c","b","a"]}}"#;
 
-// Revisions, where they stand in 3-c 2-b 1-a, and how many stand there from them on.
-const PLACES: [(&str, Option<u16>, usize); 5] = [
-    ("3-c", Some(0), 3),
-    ("2-b", Some(1), 2),
-    ("1-a", Some(2), 1),
-    ("2-c", None, 0),
-    ("4-c", None, 0),
-];
-
-// Where a revision stands in a path.
-fn place_of(path: &Path, rev: &RevId) -> Option<u16> {
-    let _head = path.head();
-    place_in(path.revisions(), rev)
-}
-
 #[test]
-fn places_in_a_path(rt: HostRuntime) -> Result<(), Fail> {
+fn revisions_of_a_path(rt: HostRuntime) -> Result<(), Fail> {
     let alloc = rt.alloc();
     let Doc { path, .. } = again!(Doc::read(alloc, HISTORY.as_bytes(), false))?;
     let Some(path) = path else {
         return Err(Fail::new("no path"));
     };
-    for (text, place, count) in PLACES {
-        let rev = RevId::read(text).expect(&rt, "a revision");
-        let found = (text, place_of(&path, &rev), path.line(&rev).len());
-        same(&rt, &found, &(text, place, count));
-    }
     let revisions = path.into_revisions();
     let found = (revisions.len(), revisions.as_slice().last().copied());
     same(&rt, &found, &(3, RevId::read("1-a")));
@@ -105,10 +84,9 @@ fn lent_first(changes: &Changes) -> (bool, Option<RevId>) {
     }
 }
 
-// The list of a row's revisions, of a copy of them.
-fn list_of(alloc: Global, changes: &Changes) -> Result<Revisions, AllocError> {
-    let copy = changes.copy(alloc)?;
-    copy.into_revisions(alloc)
+// The list of a row's one revision, of this digest.
+fn list_of(alloc: Global, generation: u16, digest: [u8; 16]) -> Result<Revisions, AllocError> {
+    Changes::of_digest(DigestRev::new(generation, digest)).into_revisions(alloc)
 }
 
 #[test]
@@ -123,7 +101,7 @@ fn revisions_of_rows(rt: HostRuntime) -> Result<(), Fail> {
     }
     let changes = Changes::of_digest(DigestRev::new(3, DIGEST));
     same(&rt, &lent_first(&changes), &(true, RevId::read(MADE)));
-    let list = grown!(list_of(alloc, &changes))?;
+    let list = grown!(list_of(alloc, 3, DIGEST))?;
     let found = (list.as_slice().len(), list.as_slice().first().copied());
     same(&rt, &found, &(1, RevId::read(MADE)));
     Ok(())

@@ -1,5 +1,5 @@
 use Rattle.std.proofs.Common.{◌≡◌, ℕ, List, [], ◌∷◌, ◌++◌, Option, Some, None, option_map}
-use Rattle.std.proofs.Common.{string_bytes, refl, sym, ap, ◌∙◌, append_assoc}
+use Rattle.std.proofs.Common.{string_bytes, refl, sym, ap, ◌∙◌, append_assoc, rules}
 use Rattle.hub_model.specs.Missing.{Asked}
 use Rattle.hub_model.specs.Revision.{Revision}
 use Rattle.serde_json.specs.Data.{Data, Members, member}
@@ -28,9 +28,9 @@ loop-key-preserved c =
     let revs = c.in-Some-2.revs in
     let found : revs_in (view c.in-Some.member.now) ≡ Some revs = sym c.in_ok-revs.ensures ∙ c.in-Some-2.is in
     let one : List ℕ → Asked = λ id. record { id = id; revs = revs } in
+    let same : string_bytes c.in_ok-id.id ≡ string_bytes c.in-Some.key.now = search rules in
     let pushed : c.push.new.self.items ≡ done ++ one (string_bytes c.in-Some.key.now) ∷ [] =
-    c.in_ok-push.ensures.items
-    ∙ ap (λ a. done ++ a ∷ []) (c.in_ok-of_id.ensures ∙ ap one c.as_str.ensures.value) in
+    c.in_ok-push.ensures.items ∙ ap (λ id. done ++ one id ∷ []) same in
     rw pushed (
     c.loop-key.invariant
     ∙ ap (λ es. option_map (λ others. done ++ others) (asked_of (members_view es))) c.in-Some.ensures.steps

@@ -6,6 +6,7 @@ use Rattle.serde_json.specs.View.{members_view}
 use Rattle.serde_json.specs.Written.{outline}
 use Rattle.serde_json.proofs.Texts.{print-outline}
 use Rattle.hub_document.specs.BodyText.{plain}
+use Rattle.hub_document.proofs.BodyLemmas.{body_braced}
 use Rattle.hub_document.proofs.body.body_of.Goals as goal
 
 pub returns : goal.returns
@@ -18,3 +19,6 @@ returns c =
     ∙ ap (λ bs. bs ++ print c.end_object.new.self.tokens) before
     ∙ ap print tokens
     ∙ print-outline whole
+
+pub invariant_of-result : goal.invariant_of-result
+invariant_of-result c = body_braced (members_view c.args.members.now.entries) _ (returns c)

@@ -1,8 +1,14 @@
-use Rattle.std.proofs.Common.{◌≡◌, rules}
+use Rattle.std.proofs.Common.{◌≡◌, ◌∙◌, ap, rules}
 use Rattle.json.specs.Print.{escape}
 use Rattle.hub_document.proofs.AppendLemmas.{appended}
-use Rattle.hub_document.proofs.WriteLemmas.{quoted_plain, three_parts}
+use Rattle.hub_document.proofs.WriteLemmas.{quoted_plain, string_written, three_parts}
 use Rattle.hub_document.proofs.text.put_quoted.Goals as goal
+
+pub returns-then-not-is_plain : goal.returns-then-not-is_plain
+returns-then-not-is_plain c =
+    string_written c.string-done.result c.args.text.now c.args.out.now.items _ _ _ _
+    (c.string-done.ensures.room.0 ∙ c.new-writer.ensures.before ∙ ap (λ v. v.items) c.replace.ensures.value)
+    c.new-writer.ensures.tokens c.into_inner.ensures.items c.string-done.ensures.ok
 
 pub returns : goal.returns
 returns c =

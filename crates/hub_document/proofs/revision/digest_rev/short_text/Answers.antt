@@ -6,8 +6,8 @@ use Rattle.hub_document.proofs.revision.digest_rev.short_text.Goals as goal
 pub returns : goal.returns
 returns c =
     rw (
-      quoted_parts c.args.digest.now c.args.generation c.requires.positive
-          (omega (arith, c.requires.one_digit)) c.fits-digest c.told-digest,
-      decimal_digit c.args.generation c.requires.one_digit,
+      quoted_parts c.args.digest.now c.args.generation c.requires.0
+          (omega (arith, c.requires.1)) c.fits-digest c.told-digest,
+      decimal_digit c.args.generation c.requires.1,
       c.write_digits.ensures,
     ) refl

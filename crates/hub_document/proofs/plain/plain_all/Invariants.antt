@@ -1,6 +1,9 @@
 use Rattle.std.proofs.Common.{◌-◌, ◌≤◌, length}
 use Rattle.json.specs.Written.{PlainBetween}
-use Rattle.hub_document.proofs.plain.plain_long.Given as goal
+use Rattle.hub_document.proofs.plain.plain_all.Given as goal
+
+abbrev pub invariant-loop-byte : goal.invariant-loop-byte
+invariant-loop-byte l = PlainBetween l.text 0 l.byte-index
 
 abbrev pub invariant-loop-at : goal.invariant-loop-at
 invariant-loop-at l = (l.at ≤ length l.text) × PlainBetween l.text 0 l.at

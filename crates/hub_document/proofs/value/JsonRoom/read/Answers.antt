@@ -4,7 +4,7 @@ use Rattle.json.specs.Value.{value_view}
 use Rattle.serde_json.specs.Read.{of_json}
 use Rattle.hub_document.specs.Read.{json_of}
 use Rattle.hub_document.proofs.ValueLemmas.{no_text, of_any_err, opened_bytes, some_bytes, whole_value}
-use Rattle.hub_document.proofs.value.read_with.Goals as goal
+use Rattle.hub_document.proofs.value.JsonRoom.read.Goals as goal
 
 pub returns-in_default : goal.returns-in_default
 returns-in_default c = record {
