@@ -43,9 +43,9 @@ pub record IsLineStart (list : List Stem) (told : Option Index) (place : Place) 
   pub legal : IsLegal (edits_in (branches_of list))
   pub within : IsWithin list place
 
--- a stem with these revisions, standing so, may come behind the stems of a tree with its index, as above: the
--- revisions are a path; it stands on a place of the stems, or on nothing; and where it joins none, none of its
--- revisions is one of theirs
+-- a stem with these revisions, standing so, may come behind the stems of a tree with its index, as above:
+-- the revisions are a path; it stands on a place of the stems, or on nothing; and where it joins none, none
+-- of its revisions is one of theirs
 pub record MayCome (list : List Stem) (told : Option Index) (run : List Revision) (standing : Standing) :
     Type 0 where
   pub stems : AreStems list

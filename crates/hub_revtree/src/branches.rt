@@ -2,7 +2,7 @@
 
 ghost use Rattle.std.specs.Prelude.{◌≡◌, ◌≤◌, ◌<◌, ◌+◌, ◌++◌, ◌∷◌, List, Some, [], ◌-◌, ◌^◌, length, map};
 ghost use Rattle.std.specs.Prelude.{min, take, is_some, false, find, not, ◌&&◌, option_map, option_and_then};
-ghost use Rattle.std.specs.Prelude.{slice_get, IfNone, IfSome, IfOk, IsSomeAnd, IsTrue, OnOk, OnErr, true};
+ghost use Rattle.std.specs.Prelude.{slice_get, IfNone, IfSome, IfOk, IsTrue, OnOk, OnErr, true};
 ghost use Rattle.std.specs.List.{list_any, list_all};
 ghost use Rattle.hex.specs.Hex.{encode_lower};
 ghost use Rattle.hub_model.specs.Journal.{IsAcceptable, IsLegal};

@@ -1,16 +1,16 @@
 //! An index of a tree's revisions.
 
-ghost use Rattle.std.specs.Prelude.{◌≡◌, ℕ, [], ◌+◌, ◌-◌, ◌<◌, ◌≤◌, List, Some, false, None, length};
+ghost use Rattle.std.specs.Prelude.{◌≡◌, ℕ, [], ◌+◌, ◌-◌, ◌<◌, List, Some, false, None, length};
 ghost use Rattle.std.specs.Prelude.{nat_eq, option_map, take, unwrap_or, IfNone, IfOk, IfSome, OnOk};
 ghost use Rattle.std.specs.Ordering.{eq_by_cmp};
 ghost use Rattle.hub_model.specs.Revision.{Revision, revision_cmp};
 ghost use Rattle.hub_revtree.specs.Candidates.{candidates_in};
 ghost use Rattle.hub_revtree.specs.First.{first_put};
-ghost use Rattle.hub_revtree.specs.Index.{AreLinked, AreTold, AreToldOf, Has, HasTo, IsFirstPlace};
+ghost use Rattle.hub_revtree.specs.Index.{AreLinked, AreTold, AreToldOf, HasTo, IsFirstPlace};
 ghost use Rattle.hub_revtree.specs.Index.{IsIndex, IsIndexBefore, IsIndexed, IsNewestLine, IsOfLast};
 ghost use Rattle.hub_revtree.specs.Index.{IsOfLastTold};
 ghost use Rattle.hub_revtree.specs.Index.{entry_in, link_in, number_in, other_in};
-ghost use Rattle.hub_revtree.specs.Stem.{AreStems, has_revision, revisions_at};
+ghost use Rattle.hub_revtree.specs.Stem.{AreStems, has_revision};
 
 use crate::candidates::Candidates;
 use crate::key::key_of_rev;

@@ -7,14 +7,14 @@ ghost use Rattle.std.specs.List.{list_any, list_all};
 ghost use Rattle.hex.specs.Hex.{encode_lower};
 ghost use Rattle.hub_model.specs.Journal.{IsLegal};
 ghost use Rattle.hub_model.specs.Revision.{Revision};
-ghost use Rattle.hub_model.specs.Path.{IsHistory, IsNext, IsPath, agrees as agrees_with, is_first, names};
+ghost use Rattle.hub_model.specs.Path.{IsHistory, IsNext, agrees as agrees_with, is_first, names};
 ghost use Rattle.hub_model.specs.Walk.{behind_in as behind_of};
 ghost use Rattle.hub_revtree.specs.Branch.{edits_in};
 ghost use Rattle.hub_revtree.specs.Common.{common as common_of, last_in};
 ghost use Rattle.hub_revtree.specs.Extend.{line_to};
-ghost use Rattle.hub_revtree.specs.Index.{AreLinked, GoesOn, Has, IsIndex, IsIndexed, link_in};
+ghost use Rattle.hub_revtree.specs.Index.{GoesOn, IsIndex, IsIndexed};
 ghost use Rattle.hub_revtree.specs.Lookup.{AreIndexed, AreIndexedUpTo, IsLineStart, IsNumberIn, IsPlaceIn};
-ghost use Rattle.hub_revtree.specs.Stem.{Stem as StemModel, AreStems, AreUpTo, IsBrought};
+ghost use Rattle.hub_revtree.specs.Stem.{Stem as StemModel, AreUpTo, IsBrought};
 ghost use Rattle.hub_revtree.specs.Stem.{IsBehind, IsWithin, StandsAt, branches_of, chain_from, chains_of};
 ghost use Rattle.hub_revtree.specs.Stem.{has_revision, own_path, rev_at, revisions_at};
 
@@ -350,9 +350,9 @@ fn place_or_told(
 }
 
 /// Of a path that agrees with all stored ones, how many of its revisions its edit's stem is to keep, one at
-/// least; None where it does not agree. It costs what `place_of` does for each revision that no path names, but constant
-/// time for each of a generation above the highest; and the path's length; and what `beyond` does for each
-/// chain behind which it goes on.
+/// least; None where it does not agree. It costs what `place_of` does for each revision that no path names,
+/// but constant time for each of a generation above the highest; and the path's length; and what `beyond`
+/// does for each chain behind which it goes on.
 pub(crate) fn agreeing(
     stems: &[Stem],
     index: Option<&Index>,

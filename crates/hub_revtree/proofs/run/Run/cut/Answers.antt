@@ -1,5 +1,4 @@
-use Rattle.std.proofs.Common.{arith, subst, sym}
-use Rattle.hub_model.specs.Path.{IsPath}
+use Rattle.std.proofs.Common.{arith}
 use Rattle.hub_revtree.proofs.BringLemmas.{take_falls}
 use Rattle.hub_revtree.proofs.run.Run.cut.Goals as goal
 

@@ -5,16 +5,17 @@ use Rattle.hub_revtree.proofs.run.Run.position.Goals as goal
 
 pub returns-then-own-newest-clause-absent : goal.returns-then-own-newest-clause-absent
 returns-then-own-newest-clause-absent c =
-    too_new c.args.self.now (subst IsPath c.self.view_is c.self.invariant) c.generation-newest.result c.generation-newest.ensures
-    c.args.sought.now (omega
+    too_new c.args.self.now (subst IsPath c.self.view_is c.self.invariant) c.generation-newest.result
+    c.generation-newest.ensures c.args.sought.now (omega
     (arith, c.if-own-newest.true, rw c.rev.ensures at c.generation-own.ensures.value))
 
 pub returns-then-from-len-clause-absent : goal.returns-then-from-len-clause-absent
 returns-then-from-len-clause-absent c =
     let down : c.from.result ≡ c.generation-newest.result - c.args.sought.now.generation =
     grind (arith, rw c.rev.ensures at c.generation-own.ensures.value) in
-    too_old c.args.self.now (subst IsPath c.self.view_is c.self.invariant) c.generation-newest.result c.generation-newest.ensures
-    c.args.sought.now c.from.result down (omega (arith, c.if-from-len.true, c.len.ensures))
+    too_old c.args.self.now (subst IsPath c.self.view_is c.self.invariant) c.generation-newest.result
+    c.generation-newest.ensures c.args.sought.now c.from.result down
+    (omega (arith, c.if-from-len.true, c.len.ensures))
 
 pub returns-clause-found : goal.returns-clause-found
 returns-clause-found c =

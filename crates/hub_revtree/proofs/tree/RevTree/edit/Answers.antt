@@ -1,5 +1,5 @@
-use Rattle.std.proofs.Common.{◌≡◌, ◌∙◌, arith}
-use Rattle.std.specs.Prelude.{None, Some, slice_get}
+use Rattle.std.proofs.Common.{arith}
+use Rattle.std.specs.Prelude.{None, Some}
 use Rattle.hub_revtree.specs.declared.heads.StoredEdit.{StoredEdit}
 use Rattle.hub_revtree.proofs.HeadLemmas.{no_stem_long, no_stem_tip, numbered_path, stem_long, stem_tip}
 use Rattle.hub_revtree.proofs.StemLooks.{read_stem, some_path}

@@ -1,7 +1,5 @@
-use Rattle.std.proofs.Common.{◌∙◌, ap, sym}
+use Rattle.std.proofs.Common.{◌∙◌, sym}
 use Rattle.std.proofs.lemmas.Bool.{not-false}
-use Rattle.hub_model.specs.Draft.{extended}
-use Rattle.hub_model.specs.Leaves.{leaves_of}
 use Rattle.hub_revtree.proofs.EditLemmas.{dead_extends, dead_known, known_first, known_path, leaf_known}
 use Rattle.hub_revtree.proofs.EditLemmas.{leaf_taken, no_leaf}
 use Rattle.hub_revtree.proofs.tree.RevTree.extended.Goals as goal
