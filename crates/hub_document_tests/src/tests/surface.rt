@@ -56,8 +56,8 @@ fn revisions_with_digests(rt: HostRuntime) {
 
 #[test]
 fn revisions_in_little_memory(rt: HostRuntime) {
-    let rev = DigestRev::new(3, DIGEST);
-    let found = (rev.generation(), rev.digest(), Some(rev.rev()));
+    let copy = DigestRev::new(3, DIGEST).copy();
+    let found = (copy.generation(), copy.digest(), Some(copy.rev()));
     same(&rt, &found, &(3, DIGEST, RevId::read(MADE)));
 }
 
