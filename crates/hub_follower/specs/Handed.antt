@@ -1,7 +1,8 @@
 -- How it is decided whether items are an answer to a follower that asks for changes (own).
-use Rattle.std.specs.Prelude.{◌≡◌, ◌≤◌, ℕ, List, [], ◌∷◌, length, take, AllPairs}
+use Rattle.std.specs.Prelude.{◌≡◌, ◌≤◌, ◌<◌, ℕ, List, [], ◌∷◌, length, take, AllPairs}
 use Rattle.std.specs.Prelude.{Bool, true, false, ◌&&◌, ◌||◌, nat_eq, nat_le, nat_lt}
 use Rattle.std.specs.Prelude.{Option, Some, None, option_and_then, if◌then◌else◌}
+use Rattle.std.specs.Prelude.{Result, IfOk, IfSome, OnErr}
 use Rattle.std.specs.List.{list_all, list_any}
 use Rattle.std.specs.Str.{bytes_eq}
 use Rattle.hub_model.specs.declared.feeds.Item.TheVariants.{Row, Beat, End}
@@ -10,7 +11,7 @@ use Rattle.hub_model.specs.Revision.{Revision, is_same}
 use Rattle.hub_model.specs.RightlyHanded.{ChangeItem, Follows, rows_of}
 use Rattle.hub_model.specs.Row.{ChangeRow}
 use Rattle.hub_model.specs.RowKind.{change_rows}
-use Rattle.hub_follow_model.specs.ChangesFeed.{items_of}
+use Rattle.hub_follow_model.specs.ChangesFeed.{items_of, IsChangesAnswer}
 use Rattle.hub_follower.specs.Listing.{all_above}
 
 -- The items have the shape of an answer of a database of so many edits: rows, at most 100, and then
@@ -20,6 +21,18 @@ abbrev pub IsNumbered : (edits since : ℕ) → List ChangeItem → Type 0
 IsNumbered edits since items =
     (rows : List ChangeRow) × (last : ℕ) × (pending : ℕ) × (items ≡ items_of rows last pending)
     × (length rows ≤ 100) × AllPairs (Follows change_rows) rows × (since ≤ last) × (last ≤ edits)
+
+-- It was decided whether the items are an answer above `since`: they are, and end at the sequence that was
+-- found, or none was found, and they are not. Memory runs out only where there is an edit, and the numbers of
+-- the items are those of an answer.
+pub record HasDecided {E : Type 0} (journal : List Edit) (since : ℕ) (items : List ChangeItem)
+    (result : Result (Option ℕ) E) : Type 0 where
+  pub right :
+      IfOk result (λ end. IfSome end (λ last. IsChangesAnswer journal since items (rows_of items) last))
+  pub wrong :
+      IfOk result (λ end. end ≡ None → (rows : List ChangeRow) (last : ℕ)
+      → ¬ IsChangesAnswer journal since items rows last)
+  pub memory : OnErr result ((0 < length journal) × IsNumbered (length journal) since items)
 
 -- the sequence that the end names, of items that are rows and then their one end
 abbrev pub end_of : List ChangeItem → Option ℕ

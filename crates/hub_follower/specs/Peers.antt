@@ -1,5 +1,5 @@
 -- A follower over its peers, by what each says of its own calls (own).
-use Rattle.std.specs.Prelude.{◌≡◌, ◌⊎◌, ◌<◌, ◌≤◌, ◌-◌, ◌+◌, ◌^◌, ℕ, length, Bool, false, List, [], ◌∷◌}
+use Rattle.std.specs.Prelude.{◌≡◌, ◌⊎◌, ◌<◌, ◌≤◌, ◌-◌, ◌+◌, ◌^◌, ℕ, length, Bool, false, true, List, [], ◌∷◌}
 use Rattle.std.specs.Prelude.{Some, None, Result, Ok, IfOk, IfErr, OnOk, OnErr}
 use Rattle.hub_follow_model.specs.Follower as follow
 use Rattle.hub_database.specs.declared.batch.DbFault.{DbFault}
@@ -134,6 +134,17 @@ IsFaultOfCall told.Peer = Unit {0}
 IsFaultOfCall told.NoMemory = Unit {0}
 IsFaultOfCall fault = ⊥
 
+-- What comes of a call that was made of the peer that it names, where an answer is shown so: it is answered, and
+-- the answer fits it, or it fails. The counts of faults tell it.
+pub record IsMade {S T A : Type 0} (gives_s : Gives S) (gives_t : Gives T) (loses_s : Fails S)
+    (loses_t : Fails T) (count_s : S → ℕ) (count_t : T → ℕ) (call : follow.Call) (shown : A → follow.Answer)
+    (result : Result A FollowFault) (s : S) (t : T) (s' : S) (t' : T) : Type 0 where
+  pub ok : IfOk result (λ answer. Serves gives_s gives_t call (shown answer) s t s' t')
+  pub fits : IfOk result (λ answer. follow.IsAnswerTo call (shown answer))
+  pub err : IfErr result (λ _. Loses loses_s loses_t call s t s' t')
+  pub call_fault : IfErr result IsFaultOfCall
+  pub counts : BothCount count_s count_t result s t s' t'
+
 -- the call is answered, and its answer dropped for this fault: the one that it tells, or that memory ran out
 abbrev pub Drops : {S T : Type 0} → Gives S → Gives T → follow.Call → FollowFault
     → Standing S T → Standing S T → Type 0
@@ -239,3 +250,13 @@ calls_left (follow.Busy s follow.TargetCheckpoint) = 1
 -- no call was made only where none was owed, and all stayed
 abbrev pub Idles : {S T : Type 0} → Bool → Standing S T → Standing S T → Type 0
 Idles made old new = made ≡ false → (follow.next_call old.follower ≡ None) × (new ≡ old)
+
+-- What comes of the owed call: whether one was made and its answer taken, or why it failed. The counts of
+-- faults tell it. A follower that owes nothing makes none, and all stays.
+pub record IsStep {S T : Type 0} (gives_s : Gives S) (gives_t : Gives T) (loses_s : Fails S)
+    (loses_t : Fails T) (count_s : S → ℕ) (count_t : T → ℕ) (result : Result Bool FollowFault)
+    (old new : Standing S T) : Type 0 where
+  pub idle : IfOk result (λ made. Idles made old new)
+  pub ok : IfOk result (λ made. made ≡ true → Steps gives_s gives_t old new)
+  pub err : IfErr result (λ fault. FailsSo gives_s gives_t loses_s loses_t fault old new)
+  pub counts : BothCount count_s count_t result old.source old.target new.source new.target

@@ -82,20 +82,14 @@ fn rows_by_turns<R: Wait>(
 ) -> Result<Changes, CallFault> {
     let mut rows = Vec::new(alloc);
     for _ in 0..=ROWS {
-        let Ok(_handed) = feed.hold(rt, Turn::Hand, &Open) else {
-            return Err(CallFault::NoMemory);
-        };
-        match take_rows(rt, feed, &mut rows) {
-            Ok(Some(last_seq)) => {
-                let life = feed.label().life();
-                return Ok(Changes {
-                    rows,
-                    last_seq,
-                    life,
-                });
-            }
-            Ok(None) => {}
-            Err(_) => return Err(CallFault::NoMemory),
+        feed.hold(rt, Turn::Hand, &Open)?;
+        if let Some(last_seq) = take_rows(rt, feed, &mut rows)? {
+            let life = feed.label().life();
+            return Ok(Changes {
+                rows,
+                last_seq,
+                life,
+            });
         }
     }
     Err(CallFault::Peer)
@@ -128,13 +122,8 @@ fn diffs_of<R: Wait>(
     ensures { IfOk result (λ diffs.
         IsShared (follow.RevsDiff asked.now) (follow.RevsDiffAnswer diffs.items)) }
 {
-    let Ok(asked) = copy_asked(alloc, asked) else {
-        return Err(CallFault::NoMemory);
-    };
-    match handle.look(rt, move |state| state.revs_diff(asked)) {
-        Ok(diffs) => Ok(diffs),
-        Err(fault) => Err(CallFault::from(fault)),
-    }
+    let asked = copy_asked(alloc, asked)?;
+    Ok(handle.look(rt, move |state| state.revs_diff(asked))?)
 }
 
 // These revisions of a document, with their histories.
@@ -147,15 +136,10 @@ fn documents_of<R: Wait>(
     ensures { IfOk result (λ found. IsShared (follow.OpenRevs asked.now.id asked.now.revs)
         (follow.OpenRevsAnswer (map found_edit found))) }
 {
-    let Ok(revs) = asked.revs.copy(alloc) else {
-        return Err(CallFault::NoMemory);
-    };
     let id = asked.id.as_str();
-    let which = OpenRevs::Listed(revs);
-    match handle.look(rt, |state| state.open_revs(id, &which, true)) {
-        Ok(found) => Ok(FetchedRevs::new(found)),
-        Err(fault) => Err(CallFault::from(fault)),
-    }
+    let which = OpenRevs::Listed(asked.revs.copy(alloc)?);
+    let found = handle.look(rt, |state| state.open_revs(id, &which, true))?;
+    Ok(FetchedRevs::new(found))
 }
 
 // Stores documents with their histories.
@@ -168,9 +152,7 @@ fn store_all<R: Wait>(
     ensures { IfOk result (λ replies.
         IsShared (follow.Merge (map edit_of docs.now)) (follow.MergeAnswer replies)) }
 {
-    let Ok(copies) = copy_docs(alloc, docs) else {
-        return Err(CallFault::NoMemory);
-    };
+    let copies = copy_docs(alloc, docs)?;
     match handle.store(rt, copies, false) {
         Ok(batch) if !batch.stopped => Ok(batch.replies),
         _ => Err(CallFault::NoMemory),
@@ -184,24 +166,15 @@ fn log_of<R: Wait>(
     handle: &mut Handle<Plain>,
     log_id: &str,
 ) -> Result<Option<Log>, CallFault> {
-    let found = match handle.look(rt, |state| state.local_copy(log_id)) {
-        Ok(found) => found,
-        Err(fault) => return Err(CallFault::from(fault)),
-    };
-    let Some(local) = found else {
+    let Some(local) = handle.look(rt, |state| state.local_copy(log_id))? else {
         return Ok(None);
     };
-    match Log::read(alloc, local.body.as_bytes()) {
-        Ok(log) => Ok(log),
-        Err(_) => Err(CallFault::NoMemory),
-    }
+    Ok(Log::read(alloc, local.body.as_bytes())?)
 }
 
 // The local document of a log.
 fn document_of(alloc: Global, log_id: &str, log: &Log) -> Result<LocalDoc, CallFault> {
-    let Ok(text) = log.text(alloc) else {
-        return Err(CallFault::NoMemory);
-    };
+    let text = log.text(alloc)?;
     match LocalDoc::read(alloc, log_id, text.as_slice()) {
         Ok(doc) => Ok(doc),
         Err(DocFault::NoMemory) => Err(CallFault::NoMemory),
@@ -218,10 +191,8 @@ fn keep_log<R: Wait>(
     log: &Log,
 ) -> Result<(), CallFault> {
     let doc = document_of(alloc, log_id, log)?;
-    match handle.local_put(rt, doc) {
-        Ok(_count) => Ok(()),
-        Err(fault) => Err(CallFault::from(fault)),
-    }
+    handle.local_put(rt, doc)?;
+    Ok(())
 }
 
 /// A database that threads share, as a follower's peer, by a handle of its own. A call that the database

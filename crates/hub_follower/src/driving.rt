@@ -1,10 +1,9 @@
 //! The calls of a follower, made one after the other.
 
-ghost use Rattle.std.specs.Prelude.{◌≡◌, true, None, IfOk, IfErr, OnOk, OnErr};
+ghost use Rattle.std.specs.Prelude.{◌≡◌, true, None, IfErr, OnOk, OnErr};
 ghost use Rattle.hub_follow_model.specs.Follower as follow;
 ghost use Rattle.hub_follow_model.specs.World as world;
-ghost use Rattle.hub_follower.specs.Peers.{standing_of, Serves, Loses, Steps, FailsSo, Breaks, Reaches};
-ghost use Rattle.hub_follower.specs.Peers.{Idles, BothCount, IsFaultOfCall};
+ghost use Rattle.hub_follower.specs.Peers.{standing_of, Breaks, Reaches, BothCount, IsMade, IsStep};
 ghost use Rattle.hub_follower.specs.Views.{answer_of, call_of};
 
 use crate::call::{Answer, Call};
@@ -21,14 +20,8 @@ fn made<S: Peer, T: Peer>(
     target: &mut T,
     log_id: &str,
 ) -> Result<Answer, FollowFault>
-    ensures ok { IfOk result (λ a. Serves S.gives T.gives (call_of call.entry) (answer_of a)
-        source.old target.old source.new target.new) }
-    ensures fits { IfOk result (λ a. follow.IsAnswerTo (call_of call.entry) (answer_of a)) }
-    ensures err { IfErr result (λ _. Loses S.loses T.loses (call_of call.entry)
-        source.old target.old source.new target.new) }
-    ensures call { IfErr result IsFaultOfCall }
-    ensures counts { BothCount S.fault_count T.fault_count result
-        source.old target.old source.new target.new }
+    ensures { IsMade S.gives T.gives S.loses T.loses S.fault_count T.fault_count (call_of call.entry)
+        answer_of result source.old target.old source.new target.new }
 {
     match call {
         Call::GetSource => Ok(Answer::Log(source.local_get(log_id)?)),
@@ -57,14 +50,8 @@ pub(crate) fn step<S: Peer, T: Peer>(
     target: &mut T,
     log_id: &str,
 ) -> Result<bool, FollowFault>
-    ensures idle { IfOk result (λ made. Idles made (standing_of core.old source.old target.old)
-        (standing_of core.new source.new target.new)) }
-    ensures ok { IfOk result (λ made. made ≡ true → Steps S.gives T.gives
-        (standing_of core.old source.old target.old) (standing_of core.new source.new target.new)) }
-    ensures err { IfErr result (λ e. FailsSo S.gives T.gives S.loses T.loses e
-        (standing_of core.old source.old target.old) (standing_of core.new source.new target.new)) }
-    ensures counts { BothCount S.fault_count T.fault_count result
-        source.old target.old source.new target.new }
+    ensures { IsStep S.gives T.gives S.loses T.loses S.fault_count T.fault_count result
+        (standing_of core.old source.old target.old) (standing_of core.new source.new target.new) }
 {
     let answer = match core.next_call() {
         None => return Ok(false),

@@ -192,6 +192,7 @@ impl<P: Peer> Peer for FaultPeer<P> {
     }
 
     fn faults(&self) -> u64 {
-        self.faults.saturating_add(self.peer.faults())
+        let below = self.peer.faults();
+        self.faults.saturating_add(below)
     }
 }

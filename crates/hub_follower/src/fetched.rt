@@ -1,6 +1,6 @@
 //! What a round fetched: revisions and documents that have their histories.
 
-ghost use Rattle.std.specs.Prelude.{◌≡◌, ◌++◌, ◌∷◌, [], All, OnOk, OnErr};
+ghost use Rattle.std.specs.Prelude.{◌≡◌, ◌++◌, ◌∷◌, [], All, OnOk};
 ghost use Rattle.hub_follower.specs.Fetched.{HasPath, FoundHasPath};
 
 use hub_database::OpenRev;
@@ -48,7 +48,7 @@ impl FetchedRevs {
 /// The documents that a round fetched, in order. Each has its history. Contracts see their list.
 #[derive(Debug, Drop)]
 pub(crate) struct FetchedDocs {
-    list: Vec<Doc>,
+    pub(crate) list: Vec<Doc>,
 }
 
 impl Model for FetchedDocs {
@@ -73,28 +73,12 @@ impl FetchedDocs {
         }
     }
 
-    /// One document more, behind the others. Out of memory, it is dropped, and the others stay.
+    /// One document more, behind the others. Out of memory, it is dropped.
     pub(crate) fn push(&mut self, doc: Doc) -> Result<(), AllocError>
         requires { HasPath doc }
-        ensures items { OnOk result (self.new ≡ self.old ++ doc ∷ []) }
-        ensures err { OnErr result (self.new ≡ self.old) }
+        ensures { OnOk result (self.new ≡ self.old ++ doc ∷ []) }
     {
         self.list.push(doc)?;
         Ok(())
-    }
-
-    /// The documents in order. Constant time.
-    pub(crate) fn docs(&self) -> &[Doc]
-        ensures { result.now ≡ self.now }
-    {
-        self.list.as_slice()
-    }
-
-    /// The documents in a vector. Constant time.
-    pub(crate) fn into_vec(self) -> Vec<Doc>
-        ensures items { result.items ≡ self }
-        ensures paths { All HasPath result.items }
-    {
-        self.list
     }
 }

@@ -6,7 +6,7 @@ ghost use Rattle.std.specs.List.{list_all, list_any};
 ghost use Rattle.hub_model.specs.RightlyHanded.{rows_of};
 ghost use Rattle.hub_model.specs.Row.{ChangeRow as Row};
 ghost use Rattle.hub_follow_model.specs.ChangesFeed.{IsChangesAnswer};
-ghost use Rattle.hub_follower.specs.Handed.{are_listed, are_rising, end_of, has_sequence};
+ghost use Rattle.hub_follower.specs.Handed.{are_listed, are_rising, end_of, has_sequence, HasDecided};
 ghost use Rattle.hub_follower.specs.Handed.{is_after, is_shown, numbered_end, IsNumbered};
 ghost use Rattle.hub_follower.specs.Rebuilt.{IsJudged, IsRebuilt};
 ghost use Rattle.hub_follower.specs.Worlds.{IsAnswerOf};
@@ -82,22 +82,7 @@ fn numbered_end(items: &[Item<ChangeRow>], since: u64, edits: u64) -> Option<u64
     None
 }
 
-// Whether the row was a current one when it was made. The copy is taken to that place.
-fn is_shown(
-    alloc: Global,
-    db: &DbState,
-    copy: &mut DbState,
-    row: &ChangeRow,
-) -> Result<bool, AllocError>
-    requires { IsRebuilt db.now.journal copy.old }
-    ensures { IsJudged db.now.journal (is_shown db.now.journal row.now) result copy.new }
-{
-    rebuild(alloc, db, copy, row.seen.min(db.update_seq()))?;
-    let rows = rows_above(copy, 0)?;
-    Ok(has_row(rows.as_slice(), row))
-}
-
-// Whether each row was a current one when it was made.
+// Whether each row was a current one when it was made. The copy is taken to these places.
 fn are_shown(
     alloc: Global,
     db: &DbState,
@@ -112,7 +97,9 @@ fn are_shown(
         let Item::Row(row) = item else {
             continue;
         };
-        if !is_shown(alloc, db, copy, row)? {
+        rebuild(alloc, db, copy, row.seen.min(db.update_seq()))?;
+        let rows = rows_above(copy, 0)?;
+        if !has_row(rows.as_slice(), row) {
             return Ok(false);
         }
     }
@@ -154,12 +141,7 @@ fn answer_end(
     since: u64,
     items: &[Item<ChangeRow>],
 ) -> Result<Option<u64>, AllocError>
-    ensures right { IfOk result (λ end. IfSome end (λ last.
-        IsChangesAnswer db.now.journal since items.now (rows_of items.now) last)) }
-    ensures wrong { IfOk result (λ end. end ≡ None → (rows : List Row) (last : ℕ)
-        → ¬ IsChangesAnswer db.now.journal since items.now rows last) }
-    ensures memory { OnErr result ((0 < length db.now.journal)
-        × IsNumbered (length db.now.journal) since items.now) }
+    ensures { HasDecided db.now.journal since items.now result }
 {
     let last = match numbered_end(items, since, db.update_seq()) {
         Some(last) => last,
@@ -225,10 +207,9 @@ pub(crate) fn changes_in(
     ensures wrong { IfOk result (λ found. found ≡ None → (rows : List Row) (last : ℕ)
         → ¬ IsChangesAnswer db.now.journal since items.items rows last) }
 {
-    let last_seq = match answer_end(alloc, db, since, items.as_slice()) {
-        Ok(Some(last_seq)) => last_seq,
-        Ok(None) => return Ok(None),
-        Err(refused) => return Err(refused),
+    let last_seq = match answer_end(alloc, db, since, items.as_slice())? {
+        Some(last_seq) => last_seq,
+        None => return Ok(None),
     };
     let rows = rows_of(alloc, items)?;
     let life = db.life();

@@ -25,25 +25,18 @@ fn seq_of(value: &Value) -> Option<Seq>
     ensures { result ≡ seq_value (view value.now) }
 {
     if let Some(text) = value.as_str() {
-        return match read_tagged(text) {
-            Some((n, life)) => Some(Seq::of_life(n, life)),
-            None => None,
-        };
+        let (n, life) = read_tagged(text)?;
+        return Some(Seq::of_life(n, life));
     }
-    match value.as_u64() {
-        Some(n) => Some(Seq { n, life: None }),
-        None => None,
-    }
+    let n = value.as_u64()?;
+    Some(Seq { n, life: None })
 }
 
 // The sequence that a member of a value writes.
 fn seq_at(value: &Value, name: &str) -> Option<Seq>
     ensures { result ≡ seq_at name.now (view value.now) }
 {
-    match value.get(name) {
-        Some(member) => seq_of(member),
-        None => None,
-    }
+    seq_of(value.get(name)?)
 }
 
 // The entry that a value writes.

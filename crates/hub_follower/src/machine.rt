@@ -102,19 +102,6 @@ fn gone_on(session: Session, next: Next) -> State
     }
 }
 
-// What a state without its phase is.
-fn failed(state: State) -> State
-    ensures value { follower_of result ≡ follow.after_failure (follower_of state) }
-{
-    match state {
-        State::Ready(session) => State::Ready(session),
-        State::Busy(session, _phase) => State::Ready(session),
-        State::Down => State::Down,
-        State::SourceStart(_session_id) => State::Down,
-        State::TargetStart(_session_id, _source) => State::Down,
-    }
-}
-
 // The state after an answer, with the fault of one that fails.
 fn after(alloc: Global, state: State, answer: Answer) -> (State, Result<(), FollowFault>)
     requires fits { follow.IsAnswerToNext (follow.next_call (follower_of state)) (answer_of answer) }
@@ -225,7 +212,7 @@ impl FollowCore {
             State::Busy(_session, Phase::Retrieval(next, _later, _got, _last)) => Some(
                 Call::OpenRevs(next),
             ),
-            State::Busy(_session, Phase::Storage(got, _last)) => Some(Call::Merge(got.docs())),
+            State::Busy(_session, Phase::Storage(got, _last)) => Some(Call::Merge(&got.list)),
             State::Busy(session, Phase::SourceCheckpoint) => Some(Call::PutSource(session)),
             State::Busy(session, Phase::TargetCheckpoint) => Some(Call::PutTarget(session)),
         }
@@ -251,7 +238,12 @@ impl FollowCore {
     pub fn fail(&mut self)
         ensures { self.new ≡ follow.after_failure self.old }
     {
-        let state = mem::replace(&mut self.state, State::Down);
-        self.state = failed(state);
+        self.state = match mem::replace(&mut self.state, State::Down) {
+            State::Ready(session) => State::Ready(session),
+            State::Busy(session, _phase) => State::Ready(session),
+            State::Down => State::Down,
+            State::SourceStart(_session_id) => State::Down,
+            State::TargetStart(_session_id, _source) => State::Down,
+        };
     }
 }

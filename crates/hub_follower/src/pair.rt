@@ -12,11 +12,14 @@ ghost use Rattle.hub_follower.specs.Views.{call_of};
 ghost use Rattle.hub_follower.specs.Worlds.{Answers, IsWithin, IsAnswerOf};
 
 use crate::call::{Answer, Call};
+use crate::copies::copy_asked;
+use crate::fetched::FetchedRevs;
 use crate::handed::changes_in;
 use crate::log::Log;
+use crate::rebuilt::rows_above;
 use crate::serving;
 use hub_database::DbState;
-use hub_document::{ChangeRow, Doc, Limits};
+use hub_document::{ChangeRow, Doc, Limits, OpenRevs};
 use hub_feed::FeedHost;
 use hub_follow_model::Seq;
 use hub_model::Item;
@@ -110,7 +113,8 @@ impl Pair {
         changes_in(self.alloc, &self.source, since, items)
     }
 
-    /// What the database answers that the call names.
+    /// What the database answers that the call names. Changes cost the rows of all documents above the
+    /// sequence.
     pub(crate) fn answer(&mut self, call: Call<'_>) -> Result<Answer, AllocError>
         requires { IsWithin (length self.old.source) (call_of call) }
         ensures { IfOk result (λ answer. Answers self.old (call_of call.entry) answer self.new) }
@@ -120,15 +124,20 @@ impl Pair {
             Call::GetTarget => Ok(Answer::Log(copied(self.alloc, &self.target_log)?)),
             Call::Changes(since) => {
                 let since = since.counted_in(self.source.life());
-                Ok(Answer::Changes(serving::changes(&self.source, since)?))
+                let rows = rows_above(&self.source, since)?;
+                let (edits, life) = (self.source.update_seq(), self.source.life());
+                Ok(Answer::Changes(serving::first_rows(rows, edits, life)))
             }
-            Call::RevsDiff(asked) => {
-                let missed = serving::missing(self.alloc, &self.target, asked)?;
-                Ok(Answer::RevsDiff(missed))
-            }
+            Call::RevsDiff(asked) => match self.target.revs_diff(copy_asked(self.alloc, asked)?) {
+                Ok(missed) => Ok(Answer::RevsDiff(missed)),
+                Err(_) => Err(AllocError),
+            },
             Call::OpenRevs(asked) => {
-                let found = serving::opened(self.alloc, &self.source, asked)?;
-                Ok(Answer::OpenRevs(found))
+                let which = OpenRevs::Listed(asked.revs.copy(self.alloc)?);
+                match self.source.open_revs(asked.id.as_str(), &which, true) {
+                    Ok(found) => Ok(Answer::OpenRevs(FetchedRevs::new(found))),
+                    Err(_) => Err(AllocError),
+                }
             }
             Call::Merge(docs) => {
                 let replies = serving::merged(self.alloc, &mut self.target, docs)?;

@@ -12,6 +12,7 @@ use crate::log::Log;
 use hub_database::{DbFault, Diff, Replies};
 use hub_document::{Asked, ChangeRow, Doc};
 use hub_follow_model::Seq;
+use std::alloc::AllocError;
 use thiserror::Error;
 
 /// Why a call on a peer fails.
@@ -48,6 +49,17 @@ impl From<DbFault> for CallFault {
             DbFault::NoMemory => CallFault::NoMemory,
             DbFault::Refused(_) => CallFault::Peer,
         }
+    }
+}
+
+impl From<AllocError> for CallFault {
+    ghost use Rattle.std.specs.Prelude.{◌≡◌};
+    ghost use Rattle.hub_follower.specs.declared.peer.CallFault.TheVariants.{NoMemory};
+
+    ghost from_gives = { λ _ e. e ≡ NoMemory };
+
+    fn from(_refused: AllocError) -> CallFault {
+        CallFault::NoMemory
     }
 }
 

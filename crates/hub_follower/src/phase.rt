@@ -94,7 +94,7 @@ fn storage_or_ready(got: FetchedDocs, last: Seq) -> Next
     ensures value { (s : follow.Session)
         → follower_behind s result ≡ follow.storage_or_ready s (map edit_of got) last }
 {
-    if got.docs().is_empty() {
+    if got.list.is_empty() {
         return Next::ReadyAt(last);
     }
     Next::Busy(Phase::Storage(got, last))
@@ -143,10 +143,7 @@ pub(crate) fn documents_behind(
     let mut at = 0;
     for opened in found.into_vec() {
         match opened {
-            OpenRev::Found(doc) => match got.push(doc) {
-                Ok(()) => {}
-                Err(_) => return Err(FollowFault::NoMemory),
-            },
+            OpenRev::Found(doc) => got.push(doc)?,
             OpenRev::Missing(_) => {
                 return Err(FollowFault::Lost {
                     id: asked.id,
@@ -159,22 +156,6 @@ pub(crate) fn documents_behind(
     Ok(got)
 }
 
-// That the target refused a document so.
-fn refusal(doc: Doc, fault: Fault) -> FollowFault
-    requires { HasPath doc }
-    ensures { IsFaultOf {A = ℕ} result (Err (follow.RefusedDocument (edit_of doc) fault)) }
-{
-    let Doc { id, path, .. } = doc;
-    match path {
-        Some(path) => FollowFault::Refused {
-            id,
-            rev: path.head(),
-            fault,
-        },
-        None => FollowFault::Peer,
-    }
-}
-
 /// Why the first document was refused that the target refused; one that it knew is no refusal.
 pub(crate) fn first_refusal(docs: FetchedDocs, outcomes: &[Outcome<RevId>]) -> Option<FollowFault>
     requires many { length outcomes.now ≡ length docs }
@@ -184,9 +165,14 @@ pub(crate) fn first_refusal(docs: FetchedDocs, outcomes: &[Outcome<RevId>]) -> O
     ensures none { IfNone result (follow.first_refusal (map edit_of docs) outcomes.now ≡ None) }
 {
     let mut at = 0;
-    for doc in docs.into_vec() {
+    for doc in docs.list {
         if let Outcome::Refused(fault) = outcomes[at] {
-            return Some(refusal(doc, fault));
+            let Doc { id, path, .. } = doc;
+            let rev = match path {
+                Some(path) => path.head(),
+                None => return Some(FollowFault::Peer),
+            };
+            return Some(FollowFault::Refused { id, rev, fault });
         }
         at += 1;
     }

@@ -6,11 +6,11 @@ use Rattle.hub_follower.specs.Fetched.{FoundHasPath}
 use Rattle.hub_follower.proofs.Served.{opened_shown, opened_paths}
 use Rattle.hub_follower.proofs.db_peer.documents_of.Goals as goal
 
-pub returns-in-Ok-look : goal.returns-in-Ok-look
-returns-in-Ok-look g c =
+pub returns : goal.returns
+returns g c =
     let asked = c.args.asked.now in
-    let (db, found, gave) = c.in-Ok-look.ensures.asked in
-    let shown : c.in-Ok-look.found.items ≡ map (open_rev db.journal asked.id true) asked.revs =
+    let (db, found, gave) = c.in_ok-found.ensures.asked in
+    let shown : c.in_ok-found.found.items ≡ map (open_rev db.journal asked.id true) asked.revs =
     search rules in (
       db.journal,
       found.legal,
@@ -20,7 +20,7 @@ returns-in-Ok-look g c =
 pub new-requires : goal.new-requires
 new-requires g c =
     let asked = c.args.asked.now in
-    let (db, found, gave) = c.in-Ok-look.ensures.asked in
-    let shown : c.in-Ok-look.found.items ≡ map (open_rev db.journal asked.id true) asked.revs =
+    let (db, found, gave) = c.in_ok-found.ensures.asked in
+    let shown : c.in_ok-found.found.items ≡ map (open_rev db.journal asked.id true) asked.revs =
     search rules in
     subst (λ z. All FoundHasPath z) (sym shown) (opened_paths db.journal asked.id asked.revs)

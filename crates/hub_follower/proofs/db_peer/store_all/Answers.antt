@@ -3,12 +3,12 @@ use Rattle.hub_database.specs.Edits.{writes}
 use Rattle.hub_follower.proofs.Served.{all_stored}
 use Rattle.hub_follower.proofs.db_peer.store_all.Goals as goal
 
-pub returns-in-Ok-store : goal.returns-in-Ok-store
-returns-in-Ok-store g c =
-    let stored = c.in-Ok-store.ensures.stored in
-    let rs = c.in-Ok-store.batch.replies in
-    let same = c.in-Ok.ensures in
-    let stands : c.in-Ok-store.batch.stopped ≡ false = search rules in (
+pub returns-in-Ok : goal.returns-in-Ok
+returns-in-Ok g c =
+    let stored = c.in-Ok.ensures.stored in
+    let rs = c.in-Ok.batch.replies in
+    let same = c.in_ok-copies.ensures in
+    let stands : c.in-Ok.batch.stopped ≡ false = search rules in (
       stored.db.journal,
       stored.db.limits.journal,
       stored.found.legal,
