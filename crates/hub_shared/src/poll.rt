@@ -66,13 +66,13 @@ impl<S: FeedHost, C: Count> HostFeed<S, C> {
         }
     }
 
-    /// Puts the next item into `next`, for one who sends many feeds and waits for none. Where no item is left
-    /// of the lane's blocks, one holding of the lock hands a block of as many items as it may. Where no item is
-    /// due either, a heartbeat or the end of the feed's time comes as the clock says. `None` says that the feed
-    /// waits, or that it is over (`is_over`): it finds no memory for an item, or it handed its end. A feed that
-    /// waits is to be asked again when its host has news (`watch`), and at the reading `due` of the clock at
-    /// the latest. It costs a holding where no item is left, and none where the last one found nothing more to
-    /// hand.
+    /// Puts the next item into `next`, for one who sends many feeds and waits for none. Where no item is
+    /// left of the lane's blocks, one holding of the lock hands a block of as many items as it may. Where no
+    /// item is due either, a heartbeat or the end of the feed's time comes as the clock says. `None` says
+    /// that the feed waits, or that it is over (`is_over`): it finds no memory for an item, or it handed its
+    /// end. A feed that waits is to be asked again when its host has news (`watch`), and at the reading
+    /// `due` of the clock at the latest. It costs a holding where no item is left, and none where the last
+    /// one found nothing more to hand.
     pub fn poll<R, G, K>(&mut self, rt: &R, gate: &G, clock: &K, next: &mut Option<Item<S::Row>>)
     where
         R: Asks<FeedLabel<S>, Block<S::Row>>,
