@@ -134,8 +134,8 @@ IsFaultOfCall told.Peer = Unit {0}
 IsFaultOfCall told.NoMemory = Unit {0}
 IsFaultOfCall fault = ⊥
 
--- What comes of a call that was made of the peer that it names, where an answer is shown so: it is answered, and
--- the answer fits it, or it fails. The counts of faults tell it.
+-- What comes of a call that was made of the peer that it names, where an answer is shown so: it is answered,
+-- and the answer fits it, or it fails. The counts of faults tell it.
 pub record IsMade {S T A : Type 0} (gives_s : Gives S) (gives_t : Gives T) (loses_s : Fails S)
     (loses_t : Fails T) (count_s : S → ℕ) (count_t : T → ℕ) (call : follow.Call) (shown : A → follow.Answer)
     (result : Result A FollowFault) (s : S) (t : T) (s' : S) (t' : T) : Type 0 where

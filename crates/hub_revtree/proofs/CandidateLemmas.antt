@@ -164,13 +164,6 @@ module _ (branches : List Branch) (legal : IsLegal (edits_in branches)) (candida
           absurd (contains_none _
           (subst (λ z. Contains z (candidate_of i.0 (record { rev = w.rev; deleted = win.0 }))) empty i.1))
 
--- each has a branch
-pub top_within : (branches : List Branch) (candidates : Candidates) → AreCandidates branches candidates
-    → (top : Candidate) → Contains (items candidates) top → top.number < length branches
-top_within branches candidates are top here =
-    let i = head_there branches top.number (winner_in top) (are.heads top here) in
-    slice_get_within branches top.number i.0 i.1
-
 -- an upper bound of a list is below none in it
 pub below_bound : (candidate : Candidate) (others : List Candidate)
     → IsUpperBound candidate_cmp candidate others → (y : Candidate)

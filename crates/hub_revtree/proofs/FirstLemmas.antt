@@ -474,23 +474,6 @@ module _ (stems : List Stem) (e : ℕ → Option ℕ) (o : Revision → Option �
     ),
   )
 
-  -- where the others have it
-  pub other_place : (m : ℕ) (place : Place) → o revision ≡ Some m → place.stem ≡ m
-      → slice_get (revisions_at stems place.stem) place.at ≡ Some revision → IsFirstPlace stems revision place
-  other_place m place q same there =
-      (there, subst (λ j. IsFirstWith (Has stems) j revision) (sym same) (t.others m revision q))
-
-  pub other_some : (m : ℕ) (place : Option Place) → o revision ≡ Some m
-      → IfSome place (λ p. slice_get (revisions_at stems p.stem) p.at ≡ Some revision)
-      → IfSome place (λ p. p.stem ≡ m) → IfSome place (IsFirstPlace stems revision)
-  other_some m None q there same = tt
-  other_some m (Some p) q there same = other_place m p q same there
-
-  pub other_none : (m : ℕ) (place : Option Place) → o revision ≡ Some m
-      → IfNone place (names (revisions_at stems m) revision ≡ false) → IfNone place (o revision ≡ None)
-  other_none m None q none = absurd (both_ways _ none (t.others m revision q).0)
-  other_none m (Some p) q none = tt
-
   -- where no entry is at its key
   pub nowhere_keyed : (key : ℕ) → IsKey revision.hash key → e key ≡ None → has_revision stems revision ≡ false
   nowhere_keyed key is none =

@@ -28,8 +28,9 @@ returns-in_err-decoded_name-clause-memory c =
     let left = raw_pairs_left c.loop-encoded.encoded-iterator in
     let rest = raw_pairs_left c.next.new.self in
     let taken : left ≡ (name, value) ∷ rest = search rules in
-    at_any_error _ (λ _. DocNeedsRoom c.args.query.now) (λ _. needs.name (escaped_name c.args.query.now name value
-    left rest taken c.loop-encoded.invariant.plain c.in_err-decoded_name.ensures.borrows))
+    at_any_error _ (λ _. DocNeedsRoom c.args.query.now)
+    (λ _. needs.name (escaped_name c.args.query.now name value left rest taken
+    c.loop-encoded.invariant.plain c.in_err-decoded_name.ensures.borrows))
 
 pub loop-encoded-preserved-in_ok-decoded_name : goal.loop-encoded-preserved-in_ok-decoded_name
 loop-encoded-preserved-in_ok-decoded_name c =

@@ -27,7 +27,8 @@ leads c =
     (write_of c.args.new_edits (take (length c.in-Ok.batch.replies) c.docs.inside.list.items))
     (reply.Outcomes (whole_batch c.in-Ok.batch.replies)) z) (sym core)
     (stored_leads c.args.new_edits (core_of old)
-    (take (length c.in-Ok.batch.replies) c.docs.inside.list.items) c.in-Ok.batch.replies c.store.new.self.state.journal did.replies)
+    (take (length c.in-Ok.batch.replies) c.docs.inside.list.items)
+    c.in-Ok.batch.replies c.store.new.self.state.journal did.replies)
 
 pub invariant_of-self-2 : goal.invariant_of-self-2
 invariant_of-self-2 c =
