@@ -5,7 +5,6 @@ use Rattle.std.specs.Prelude.{None, Ok, Err}
 use Rattle.std.specs.List.{flat_map}
 use Rattle.hub_http.specs.Boxes.{came_to, faults_in, is_over, pending_in}
 use Rattle.hub_http.specs.Counts.{Rose}
-use Rattle.hub_http.specs.declared.outbox.Outbox.{Outbox}
 use Rattle.hub_http.specs.Offers.{IsShort}
 use Rattle.hub_http.specs.Stream.{Asked, Spells}
 use Rattle.hub_http.specs.declared.fault.HttpFault.TheVariants as fault
@@ -24,7 +23,7 @@ use Rattle.hub_session.specs.declared.machine.Step.TheVariants.{WantsRoom, Wants
 use Rattle.hub_session.specs.Feeds.{HasStreamed, IsStreamed, items_text, rows_behind}
 use Rattle.hub_session.specs.Replies.{fault_text}
 use Rattle.hub_session.specs.Rules.{Rules, Moment, moment}
-use Rattle.hub_session.specs.Sessions.{Exchange, HasAnswer, HasServed, IsServed, IsSession, after_stream}
+use Rattle.hub_session.specs.Sessions.{Exchange, HasServed, IsServed, IsSession, after_stream}
 use Rattle.hub_session.specs.Sessions.{exchange_text, is_head, standing, stream_head}
 
 -- what a session shows
@@ -67,21 +66,6 @@ abbrev pub step_behind : Option Closing → Step
 step_behind None = Served
 step_behind (Some closing) = Ended closing
 
--- what a session shows before and behind the answer to this request, and what came of it
-pub data HasAnswered {S : Type 0} (rules : Rules S) (asked : Asked) (old : Seen S)
-    (step : Step) (new : Seen S)
-    : Type 0 where
-  -- it was answered whole
-  whole : (next : Option Closing) → new.place ≡ place_behind next → step ≡ step_behind next
-      → new.over ≡ old.over → new.bytes ≡ old.bytes
-      → HasAnswer rules asked next (moment_of old) (moment_of new) → HasAnswered rules asked old step new
-  -- it was answered by a stream, and what stands before its items is to go
-  begins : (sending : Sending) → new.place ≡ Within sending asked.close → step ≡ Served
-      → new.over ≡ old.over → new.bytes ≡ old.bytes → sending.rows ≡ 0
-      → rules.answers old.service asked (Stream sending.mode sending.life) new.service → is_head asked ≡ false
-      → new.pending ≡ old.pending ++ stream_head asked.close sending.mode
-      → HasAnswered rules asked old step new
-
 -- What a session shows before and behind a step that did something. Over a GET of a document it is one
 -- exchange. Over one of a feed of two rows it is the head of the stream, then each row, and then its End.
 pub data Steps {S : Type 0} (rules : Rules S) (old new : Seen S) (step : Step) : Type 0 where
@@ -123,6 +107,13 @@ IsStepped rules old WantsInput new =
 IsStepped rules old WantsRoom new = (0 < length old.pending) × (new ≡ old)
 IsStepped rules old WantsNews new =
     (sending : Sending) × (close : Bool) × (old.place ≡ Within sending close) × (new ≡ old)
+
+-- A session that stood at this place took a step: what it shows before and behind it; and where the step
+-- closed it as Broken, its outbox found no memory meanwhile.
+abbrev pub IsStepFrom : {S : Type 0} → Place → Rules S → (old : Session S) → Step → (new : Session S) → Type 0
+IsStepFrom place rules old step new = old.place ≡ place
+    → IsStepped rules (seen old) step (seen new)
+    × (step ≡ Ended Broken → Rose (faults_in old.outbox) (faults_in new.outbox))
 
 -- ---- other closings
 
@@ -232,10 +223,6 @@ HasRun rules run x =
 -- with these 3 offered.
 abbrev pub RunsOn : {S : Type 0} → Rules S → (Run S → Run S) → Seen S → Seen S → Type 0
 RunsOn rules next old new = (run : Run _) → HasRun rules run old → HasRun rules (next run) new
-
--- Where a step closed a session as Broken, its outbox found no memory meanwhile.
-abbrev pub BreaksByFault : Step → (old new : Outbox) → Type 0
-BreaksByFault step old new = step ≡ Ended Broken → Rose (faults_in old) (faults_in new)
 
 -- why a session at this place closed, if it did
 abbrev pub closing_at : Place → Option Closing
