@@ -1,6 +1,6 @@
 -- own: sessions that are stepped: what one shows, what one step does, and what all of its steps did.
 use Rattle.std.specs.Prelude.{◌≡◌, ⊤, ◌<◌, ◌≤◌, ◌⊎◌, ℕ, List, [], ◌++◌}
-use Rattle.std.specs.Prelude.{Bool, true, false, length, take, Option, Some}
+use Rattle.std.specs.Prelude.{Bool, true, false, length, take, IsSome, Option, Some}
 use Rattle.std.specs.Prelude.{None, Ok, Err}
 use Rattle.std.specs.List.{flat_map}
 use Rattle.hub_http.specs.Boxes.{came_to, faults_in, is_over, pending_in}
@@ -117,6 +117,12 @@ IsStepFrom place rules old step new = old.place ≡ place
 
 -- ---- other closings
 
+-- why a session at this place closed, if it did
+abbrev pub closing_at : Place → Option Closing
+closing_at Between = None
+closing_at (Within sending close) = None
+closing_at (Closed closing) = Some closing
+
 -- What a session shows before and behind a closing that tells out of memory. The refusal is to go behind what
 -- was, or where the outbox found no memory a front of the refusal. Nothing else changed. So where the end of
 -- an answer is to go, the refusal stands behind it.
@@ -144,9 +150,10 @@ GivesUpAt (Within sending close) rules old new =
     × (new ≡ record old { place = Closed Broken; service = new.service })
 GivesUpAt (Closed closing) rules old new = new ≡ old
 
--- a session was given up
-abbrev pub IsGivenUp : {S : Type 0} → Rules S → Seen S → Seen S → Type 0
-IsGivenUp rules old new = GivesUpAt old.place rules old new
+-- A session was given up: what it shows before and behind that, and that it is closed then.
+pub record IsGivenUp {S : Type 0} (rules : Rules S) (old new : Seen S) : Type 0 where
+  pub given_up : GivesUpAt old.place rules old new
+  pub closed : IsSome (closing_at new.place)
 
 -- ---- all steps
 
@@ -223,9 +230,3 @@ HasRun rules run x =
 -- with these 3 offered.
 abbrev pub RunsOn : {S : Type 0} → Rules S → (Run S → Run S) → Seen S → Seen S → Type 0
 RunsOn rules next old new = (run : Run _) → HasRun rules run old → HasRun rules (next run) new
-
--- why a session at this place closed, if it did
-abbrev pub closing_at : Place → Option Closing
-closing_at Between = None
-closing_at (Within sending close) = None
-closing_at (Closed closing) = Some closing

@@ -249,7 +249,6 @@ impl<S: Service> Session<S> {
     /// what a stream holds.
     pub fn give_up(&mut self)
         ensures told { IsGivenUp S.rules (seen self.old) (seen self.new) }
-        ensures closed { IsSome (closing_at (seen self.new).place) }
         ensures run { RunsOn S.rules (λ run. run) (seen self.old) (seen self.new) }
     {
         match self.place {
