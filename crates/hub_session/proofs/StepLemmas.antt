@@ -22,7 +22,7 @@ use Rattle.hub_session.specs.declared.machine.Step.TheVariants as step
 use Rattle.hub_session.specs.Feeds.{IsStreamed, Streams}
 use Rattle.hub_session.specs.Replies.{fault_text}
 use Rattle.hub_session.specs.Rules.{Rules, Moment}
-use Rattle.hub_session.specs.Runs.{HasAnswered, HasRun, IsOfEnd, IsStepped, Run, Seen, Steps, TellsNoMemory}
+use Rattle.hub_session.specs.Runs.{HasRun, IsOfEnd, IsStepped, Run, Seen, Steps, TellsNoMemory}
 use Rattle.hub_session.specs.Runs.{moment_of, place_behind, step_behind, with_offered}
 use Rattle.hub_session.specs.Sessions.{HasAnswer, IsServed, after_stream, is_broken}
 use Rattle.hub_session.proofs.RunLemmas.{not_end, offered_run, stepped_run}
@@ -34,14 +34,6 @@ step_broken None e = absurd (cc)
 step_broken (Some closing) e = let same : closing ≡ Broken = cc in ap (λ c. Some c) same
 
 module _ {S : Type 0} (rules : Rules S) where
-  -- a request was answered whole, and the place was set
-  pub answered_whole : (asked : Asked) (next : Option Closing) (old mid new : Seen S) (came : Step)
-      → HasAnswer rules asked next (moment_of old) (moment_of mid)
-      → mid.over ≡ old.over → mid.bytes ≡ old.bytes → new ≡ record mid { place = place_behind next }
-      → came ≡ step_behind next → HasAnswered rules asked old came new
-  answered_whole asked next old mid new came h over bytes e is =
-      subst (HasAnswered rules asked old came) (sym e) (HasAnswered.whole next refl is over bytes h)
-
   -- what came of a step that ended an answer
   of_next : (old new : Seen S) (next : Option Closing) → Steps rules old new (step_behind next)
       → IsStepped rules old (step_behind next) new
@@ -52,29 +44,19 @@ module _ {S : Type 0} (rules : Rules S) where
       → Steps rules old new (step_behind next) → IsStepped rules old came new
   by_next old new next came is h = subst (λ s. IsStepped rules old s new) (sym is) (of_next old new next h)
 
-  -- the next request was answered
-  pub stepped_request : (asked : Asked) (old : Seen S) (bytes : List ℕ) (over : Bool)
-      (new : Seen S) (came : Step)
-      → old.place ≡ Between → over ≡ old.over → Spells old.bytes asked bytes
-      → HasAnswered rules asked (record old { bytes = bytes; over = over }) came new
+  -- the next request was answered whole
+  pub stepped_whole : (asked : Asked) (next : Option Closing) (old mid new : Seen S) (came : Step)
+      → old.place ≡ Between → Spells old.bytes asked mid.bytes → mid.over ≡ old.over
+      → HasAnswer rules asked next (moment_of old) (moment_of mid)
+      → new ≡ record mid { place = place_behind next } → came ≡ step_behind next
       → IsStepped rules old came new
-  stepped_request asked old bytes over new came place kept spelt (HasAnswered.whole next p s o b h) =
-      by_next old new next came s
-      (Steps.exchanges next place p refl
-      (o ∙ kept) (λ e. absurd (not_end rules h.exchange _ next _ h.goes.goes e))
+  stepped_whole asked next old mid new came place spelt over h is came_is =
+      subst (IsStepped rules old came) (sym is)
+      (by_next old (record mid { place = place_behind next }) next came came_is
+      (Steps.exchanges next place refl refl over
+      (λ e. absurd (not_end rules h.exchange _ next _ h.goes.goes e))
       (IsServed.answered
-      (record {
-        asked = asked;
-        rest = new.bytes;
-        spelt = subst (λ l. Spells old.bytes asked l) (sym b) spelt;
-        left_is = refl;
-        answer = h;
-      })))
-  stepped_request asked old bytes over new came place kept spelt
-      (HasAnswered.begins sending p s o b none answered body sent) =
-      subst (λ c. IsStepped rules old c new) (sym s)
-      (Steps.begins asked sending place p refl (o ∙ kept) none
-      (subst (λ l. Spells old.bytes asked l) (sym b) spelt) answered body sent)
+      (record { asked = asked; rest = mid.bytes; spelt = spelt; left_is = refl; answer = h }))))
 
   -- the input ended between two requests
   pub stepped_end : (old mid new : Seen S) (came : Step) → old.place ≡ Between → old.over ≡ true

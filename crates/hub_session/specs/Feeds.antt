@@ -1,9 +1,9 @@
 -- RFC 9112, section 7.1 (chunks); own for the feed: what a stream sends for its items, and how it goes.
-use Rattle.std.specs.Prelude.{◌≡◌, ◌≤◌, ℕ, ◌+◌, List, [], ◌∷◌, ◌++◌, Bool, true, false, Some, None}
+use Rattle.std.specs.Prelude.{◌≡◌, ◌≤◌, ℕ, ◌+◌, List, [], ◌∷◌, ◌++◌, Bool, true, false, Option, Some, None}
 use Rattle.std.specs.Prelude.{MatchBool, Result, Ok, Err, if◌then◌else◌, codes}
 use Rattle.std.specs.Io.KnownBytes.{Appends}
 use Rattle.hub_model.specs.declared.feeds.Mode.{Mode}
-use Rattle.hub_http.specs.Counts.{last_count, Sends}
+use Rattle.hub_http.specs.Counts.{CallCounts, last_count, Sends}
 use Rattle.hub_http.specs.Chunks.{text_chunks}
 use Rattle.hub_http.specs.Items.{feed_head}
 use Rattle.hub_session.specs.StreamItem.{StreamItem}
@@ -11,7 +11,7 @@ use Rattle.hub_session.specs.declared.closing.StreamEnd.{StreamEnd}
 use Rattle.hub_session.specs.declared.closing.StreamEnd.TheVariants.{Complete, Stopped, NoMemory, Broken}
 use Rattle.hub_session.specs.declared.closing.StreamEnd.TheVariants.{Exhausted}
 use Rattle.hub_session.specs.Items.{is_end, rows_after, stream_item_text}
-use Rattle.hub_session.specs.Rules.{Rules, Moment}
+use Rattle.hub_session.specs.Rules.{Rules, Moment, moment}
 
 -- the last chunk of a stream
 abbrev pub last_chunk : List ℕ
@@ -101,6 +101,15 @@ pub record IsFed {S : Type 0} (rules : Rules S) (text : List StreamItem → List
   pub items : List StreamItem
   pub streams : Streams rules 0 before.service items end after.service
   pub written : Sends (is_broken end) before.written after.written (text items)
+
+-- What a call says that sends a stream to a writer: the stream was sent so, and where it ended as Broken the
+-- writer's counts tell of that. A stream whose second row is refused by the writer ends as Broken behind the
+-- first one, and either count is one more.
+pub record IsFedTo {S W : Type 0} (rules : Rules S) (written_of : W → Option (List ℕ))
+    (faults_of failures_of : W → ℕ) (text : List StreamItem → List ℕ) (end : StreamEnd)
+    (s t : S) (old new : W) : Type 0 where
+  pub fed : IsFed rules text end (moment s (written_of old)) (moment t (written_of new))
+  pub counts : CallCounts (end ≡ Broken) faults_of failures_of old new
 
 -- A stream that sent so many items, of which so many are rows, took one step. One more row or beat was
 -- written, and so many are rows then; or the stream ended so, with what was written of its last item. Behind

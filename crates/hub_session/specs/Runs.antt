@@ -1,11 +1,10 @@
 -- own: sessions that are stepped: what one shows, what one step does, and what all of its steps did.
 use Rattle.std.specs.Prelude.{◌≡◌, ⊤, ◌<◌, ◌≤◌, ◌⊎◌, ℕ, List, [], ◌++◌}
-use Rattle.std.specs.Prelude.{Bool, true, false, length, take, Option, Some}
+use Rattle.std.specs.Prelude.{Bool, true, false, length, take, IsSome, Option, Some}
 use Rattle.std.specs.Prelude.{None, Ok, Err}
 use Rattle.std.specs.List.{flat_map}
 use Rattle.hub_http.specs.Boxes.{came_to, faults_in, is_over, pending_in}
 use Rattle.hub_http.specs.Counts.{Rose}
-use Rattle.hub_http.specs.declared.outbox.Outbox.{Outbox}
 use Rattle.hub_http.specs.Offers.{IsShort}
 use Rattle.hub_http.specs.Stream.{Asked, Spells}
 use Rattle.hub_http.specs.declared.fault.HttpFault.TheVariants as fault
@@ -24,7 +23,7 @@ use Rattle.hub_session.specs.declared.machine.Step.TheVariants.{WantsRoom, Wants
 use Rattle.hub_session.specs.Feeds.{HasStreamed, IsStreamed, items_text, rows_behind}
 use Rattle.hub_session.specs.Replies.{fault_text}
 use Rattle.hub_session.specs.Rules.{Rules, Moment, moment}
-use Rattle.hub_session.specs.Sessions.{Exchange, HasAnswer, HasServed, IsServed, IsSession, after_stream}
+use Rattle.hub_session.specs.Sessions.{Exchange, HasServed, IsServed, IsSession, after_stream}
 use Rattle.hub_session.specs.Sessions.{exchange_text, is_head, standing, stream_head}
 
 -- what a session shows
@@ -66,21 +65,6 @@ place_behind (Some closing) = Closed closing
 abbrev pub step_behind : Option Closing → Step
 step_behind None = Served
 step_behind (Some closing) = Ended closing
-
--- what a session shows before and behind the answer to this request, and what came of it
-pub data HasAnswered {S : Type 0} (rules : Rules S) (asked : Asked) (old : Seen S)
-    (step : Step) (new : Seen S)
-    : Type 0 where
-  -- it was answered whole
-  whole : (next : Option Closing) → new.place ≡ place_behind next → step ≡ step_behind next
-      → new.over ≡ old.over → new.bytes ≡ old.bytes
-      → HasAnswer rules asked next (moment_of old) (moment_of new) → HasAnswered rules asked old step new
-  -- it was answered by a stream, and what stands before its items is to go
-  begins : (sending : Sending) → new.place ≡ Within sending asked.close → step ≡ Served
-      → new.over ≡ old.over → new.bytes ≡ old.bytes → sending.rows ≡ 0
-      → rules.answers old.service asked (Stream sending.mode sending.life) new.service → is_head asked ≡ false
-      → new.pending ≡ old.pending ++ stream_head asked.close sending.mode
-      → HasAnswered rules asked old step new
 
 -- What a session shows before and behind a step that did something. Over a GET of a document it is one
 -- exchange. Over one of a feed of two rows it is the head of the stream, then each row, and then its End.
@@ -124,7 +108,20 @@ IsStepped rules old WantsRoom new = (0 < length old.pending) × (new ≡ old)
 IsStepped rules old WantsNews new =
     (sending : Sending) × (close : Bool) × (old.place ≡ Within sending close) × (new ≡ old)
 
+-- A session that stood at this place took a step: what it shows before and behind it; and where the step
+-- closed it as Broken, its outbox found no memory meanwhile.
+abbrev pub IsStepFrom : {S : Type 0} → Place → Rules S → (old : Session S) → Step → (new : Session S) → Type 0
+IsStepFrom place rules old step new = old.place ≡ place
+    → IsStepped rules (seen old) step (seen new)
+    × (step ≡ Ended Broken → Rose (faults_in old.outbox) (faults_in new.outbox))
+
 -- ---- other closings
+
+-- why a session at this place closed, if it did
+abbrev pub closing_at : Place → Option Closing
+closing_at Between = None
+closing_at (Within sending close) = None
+closing_at (Closed closing) = Some closing
 
 -- What a session shows before and behind a closing that tells out of memory. The refusal is to go behind what
 -- was, or where the outbox found no memory a front of the refusal. Nothing else changed. So where the end of
@@ -153,9 +150,10 @@ GivesUpAt (Within sending close) rules old new =
     × (new ≡ record old { place = Closed Broken; service = new.service })
 GivesUpAt (Closed closing) rules old new = new ≡ old
 
--- a session was given up
-abbrev pub IsGivenUp : {S : Type 0} → Rules S → Seen S → Seen S → Type 0
-IsGivenUp rules old new = GivesUpAt old.place rules old new
+-- A session was given up: what it shows before and behind that, and that it is closed then.
+pub record IsGivenUp {S : Type 0} (rules : Rules S) (old new : Seen S) : Type 0 where
+  pub given_up : GivesUpAt old.place rules old new
+  pub closed : IsSome (closing_at new.place)
 
 -- ---- all steps
 
@@ -232,13 +230,3 @@ HasRun rules run x =
 -- with these 3 offered.
 abbrev pub RunsOn : {S : Type 0} → Rules S → (Run S → Run S) → Seen S → Seen S → Type 0
 RunsOn rules next old new = (run : Run _) → HasRun rules run old → HasRun rules (next run) new
-
--- Where a step closed a session as Broken, its outbox found no memory meanwhile.
-abbrev pub BreaksByFault : Step → (old new : Outbox) → Type 0
-BreaksByFault step old new = step ≡ Ended Broken → Rose (faults_in old) (faults_in new)
-
--- why a session at this place closed, if it did
-abbrev pub closing_at : Place → Option Closing
-closing_at Between = None
-closing_at (Within sending close) = None
-closing_at (Closed closing) = Some closing

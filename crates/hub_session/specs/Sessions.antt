@@ -1,10 +1,10 @@
 -- RFC 9112, section 9 (persistent connections); own for the answers: what a session writes, and how it goes.
-use Rattle.std.specs.Prelude.{◌≡◌, ◌≤◌, ℕ, ◌+◌, List, [], ◌∷◌, ◌++◌, Bool, true, false, Option, Some}
+use Rattle.std.specs.Prelude.{◌≡◌, ◌≤◌, ◌⊎◌, ℕ, ◌+◌, List, [], ◌∷◌, ◌++◌, Bool, true, false, Option, Some}
 use Rattle.std.specs.Prelude.{None, if◌then◌else◌, codes, bytes_eq}
 use Rattle.std.specs.List.{flat_map}
 use Rattle.std.specs.Io.KnownBytes.{Appends}
 use Rattle.hub_model.specs.declared.feeds.Mode.{Mode}
-use Rattle.hub_http.specs.Counts.{last_count, Sends}
+use Rattle.hub_http.specs.Counts.{CallCounts, last_count, Sends}
 use Rattle.hub_http.specs.Chunks.{text_chunks}
 use Rattle.hub_http.specs.Items.{feed_head}
 use Rattle.hub_http.specs.Texts.{head_text, chunked_line, reply_text}
@@ -168,6 +168,15 @@ is_broken (Fault e) = false
 is_broken Cut = false
 is_broken Broken = true
 is_broken Exhausted = false
+
+-- What a call says that tells a fault of reading a request to a writer, behind which the session closes so:
+-- the fault's text was written, and the session closes with the fault; or that broke, of which the writer's
+-- counts tell, and it closes as Broken.
+pub record HasToldFault {W : Type 0} (written_of : W → Option (List ℕ)) (faults_of failures_of : W → ℕ)
+    (fault : HttpFault) (closing : Closing) (old new : W) : Type 0 where
+  pub sent : Sends (is_broken closing) (written_of old) (written_of new) (fault_text fault)
+  pub closes : (closing ≡ Fault fault) ⊎ (closing ≡ Broken)
+  pub counts : CallCounts (closing ≡ Broken) faults_of failures_of old new
 
 -- such bytes were served, and the session closed so: the texts of the exchanges behind which it went on were
 -- written whole, one after the other, and then the text that it closed with, or where that writing broke a

@@ -1,17 +1,19 @@
 //! Answers to single requests.
-ghost use Rattle.std.specs.Prelude.{◌≡◌, ◌⊎◌, Some, is_err};
-ghost use Rattle.hub_http.specs.Counts.{CallCounts, Sends, SendsTo};
+ghost use Rattle.std.specs.Prelude.{◌≡◌, Some, is_err};
+ghost use Rattle.hub_http.specs.Counts.{CallCounts, SendsTo};
 ghost use Rattle.hub_http.specs.Stream.{asked_by};
-ghost use Rattle.hub_session.specs.Replies.{fault_text};
 ghost use Rattle.hub_session.specs.Rules.{moment};
-ghost use Rattle.hub_session.specs.Sessions.{HasAnswer, HasBegun, after_answer};
-ghost use Rattle.hub_session.specs.Sessions.{after_stream, after_whole, is_broken, is_head, stream_head};
+ghost use Rattle.hub_session.specs.Sessions.{HasBegun, HasToldFault, after_answer};
+ghost use Rattle.hub_session.specs.Sessions.{after_stream, after_whole, is_head, stream_head};
 
 use crate::closing::{Closing, StreamEnd};
-use crate::feed::{begin_items, send_items};
-use crate::reply::{fault_text, send_reply};
+use crate::feed::begin_items;
+use crate::parts::send_in_parts;
+use crate::reply::{fault_text, send_vec};
 use crate::service::{Answer, Service};
-use hub_http::{HttpFault, IoFault, Output, Request, send, stream_head_text, write_all};
+use hub_http::{
+    HttpFault, IoFault, Output, Request, reply_bytes, send, stream_head_text, write_all,
+};
 use hub_model::Mode;
 use std::alloc::Global;
 
@@ -91,7 +93,12 @@ pub(crate) fn begin_answer<W: Output, S: Service>(
     let close = request.close;
     match service.answer(request) {
         Answer::Whole(reply) => {
-            let sent = send_reply(alloc, writer, reply, head_only, close);
+            // In parts where there is no memory for the whole, so that no answer is lost behind what its
+            // request did.
+            let sent = match reply_bytes(alloc, &reply, head_only, close) {
+                Ok(bytes) => send_vec(writer, bytes),
+                Err(_) => send_in_parts(writer, reply, head_only, close),
+            };
             Begun::Answered(after_whole(sent, close))
         }
         Answer::Stream(mode, life) => {
@@ -111,33 +118,9 @@ pub(crate) fn begin_answer<W: Output, S: Service>(
     }
 }
 
-/// Answers a request, and says why the session closes behind it, if it does.
-pub(crate) fn answer_one<W: Output, S: Service>(
-    alloc: Global,
-    writer: &mut W,
-    service: &mut S,
-    request: &Request,
-) -> Option<Closing>
-    ensures told { HasAnswer S.rules (asked_by request.now) result
-        (moment service.old (W.written writer.old)) (moment service.new (W.written writer.new)) }
-    ensures counts { CallCounts (result ≡ Some Closing.Broken) W.fault_count
-        W.failure_count writer.old writer.new }
-{
-    match begin_answer(alloc, writer, service, request) {
-        Begun::Answered(next) => next,
-        Begun::Streaming(mode, life) => {
-            let end = send_items(alloc, writer, service, mode, life);
-            after_stream(request.close, end)
-        }
-    }
-}
-
 /// Answers a fault of reading a request where it has a reply, and says why the session closes.
 pub(crate) fn answer_fault<W: Output>(writer: &mut W, fault: HttpFault) -> Closing
-    ensures sent { Sends (is_broken result) (W.written writer.old) (W.written writer.new) (fault_text fault) }
-    ensures closes { (result ≡ Closing.Fault fault) ⊎ (result ≡ Closing.Broken) }
-    ensures counts { CallCounts (result ≡ Closing.Broken) W.fault_count
-        W.failure_count writer.old writer.new }
+    ensures { HasToldFault W.written W.fault_count W.failure_count fault result writer.old writer.new }
 {
     match send(writer, fault_text(fault).as_bytes()) {
         Ok(()) => Closing::Fault(fault),

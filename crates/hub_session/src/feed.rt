@@ -6,7 +6,7 @@ ghost use Rattle.hub_http.specs.Items.{feed_head};
 ghost use Rattle.hub_http.specs.Chunks.{Writes, text_chunks};
 ghost use Rattle.hub_session.specs.Items.{rows_after};
 ghost use Rattle.hub_session.specs.Feeds.{feed_text, items_text, sent_text, behind_item};
-ghost use Rattle.hub_session.specs.Feeds.{GivesBack, IsFed, IsStreamed};
+ghost use Rattle.hub_session.specs.Feeds.{GivesBack, IsFed, IsFedTo, IsStreamed};
 ghost use Rattle.hub_session.specs.Lent.{lent_in};
 ghost use Rattle.hub_session.specs.Rules.{moment};
 
@@ -152,10 +152,8 @@ pub(crate) fn send_items<W: Output, S: Service>(
     mode: Mode,
     life: u64,
 ) -> StreamEnd
-    ensures fed { IsFed S.rules (items_text mode life 0) result
-        (moment service.old (W.written writer.old)) (moment service.new (W.written writer.new)) }
-    ensures counts { CallCounts (result ≡ StreamEnd.Broken) W.fault_count
-        W.failure_count writer.old writer.new }
+    ensures { IsFedTo S.rules W.written W.fault_count W.failure_count (items_text mode life 0) result
+        service.old service.new writer.old writer.new }
 {
     let mut chunks = ChunkWriter::new(alloc);
     let mut rows = 0;

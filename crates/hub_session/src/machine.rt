@@ -2,8 +2,7 @@
 ghost use Rattle.std.specs.Prelude.{◌≡◌, ◌<◌, ◌⊎◌, ◌++◌, [], false, true, length, IsSome, OnOk, OnErr};
 ghost use Rattle.hub_http.specs.Boxes.{Hands, faults_in, handed_of, pending_in};
 ghost use Rattle.hub_http.specs.Counts.{Rose};
-ghost use Rattle.hub_http.specs.Stream.{asked_by};
-ghost use Rattle.hub_session.specs.Runs.{BreaksByFault, HasAnswered, HasRun, IsGivenUp, IsStepped};
+ghost use Rattle.hub_session.specs.Runs.{HasRun, IsGivenUp, IsStepFrom, IsStepped};
 ghost use Rattle.hub_session.specs.Runs.{RunsOn, TellsNoMemory, closing_at, new_run, place_behind, seen};
 ghost use Rattle.hub_session.specs.Runs.{step_behind, with_gone, with_offered};
 
@@ -12,7 +11,7 @@ use crate::closing::{Closing, StreamEnd};
 use crate::feed::{Sending, send_given};
 use crate::item::NextItem;
 use crate::service::Service;
-use hub_http::{ChunkWriter, Handed, HttpFault, Inbox, Next, Outbox, Request};
+use hub_http::{ChunkWriter, Handed, HttpFault, Inbox, Next, Outbox};
 use std::alloc::{AllocError, Global};
 use std::io::Write;
 
@@ -93,36 +92,28 @@ impl<S: Service> Session<S> {
         }
     }
 
-    /// Answers a request, up to the items of a stream.
-    fn answer(&mut self, request: &Request) -> Step
-        ensures told { HasAnswered S.rules (asked_by request.now) (seen self.old) result (seen self.new) }
-        ensures broken { BreaksByFault result self.old.outbox self.new.outbox }
-    {
-        match begin_answer(self.alloc, &mut self.outbox, &mut self.service, request) {
-            Begun::Answered(next) => self.go_behind(next),
-            Begun::Streaming(mode, life) => {
-                let sending = Sending {
-                    mode,
-                    life,
-                    rows: 0,
-                };
-                self.place = Place::Within(sending, request.close);
-                Step::Served
-            }
-        }
-    }
-
     /// Answers the next request, where it is whole.
     fn take_request(&mut self) -> Step
-        requires { (seen self.old).place ≡ Place.Between }
-        ensures told { IsStepped S.rules (seen self.old) result (seen self.new) }
-        ensures broken { BreaksByFault result self.old.outbox self.new.outbox }
+        ensures { IsStepFrom Place.Between S.rules self.old result self.new }
     {
         if !self.outbox.is_empty() {
             return Step::WantsRoom;
         }
         match self.inbox.next() {
-            Ok(Next::Whole(request)) => self.answer(&request),
+            Ok(Next::Whole(request)) => {
+                match begin_answer(self.alloc, &mut self.outbox, &mut self.service, &request) {
+                    Begun::Answered(next) => self.go_behind(next),
+                    Begun::Streaming(mode, life) => {
+                        let sending = Sending {
+                            mode,
+                            life,
+                            rows: 0,
+                        };
+                        self.place = Place::Within(sending, request.close);
+                        Step::Served
+                    }
+                }
+            }
             Ok(Next::NotYet) => Step::WantsInput,
             Ok(Next::End) => self.go_behind(Some(Closing::Finished)),
             Err(HttpFault::Ended) => self.go_behind(Some(Closing::Fault(HttpFault::Ended))),
@@ -135,9 +126,7 @@ impl<S: Service> Session<S> {
 
     /// Sends the next item of a stream, where there is one.
     fn send_item(&mut self, sending: Sending, close: bool) -> Step
-        requires { (seen self.old).place ≡ Place.Within sending close }
-        ensures told { IsStepped S.rules (seen self.old) result (seen self.new) }
-        ensures broken { BreaksByFault result self.old.outbox self.new.outbox }
+        ensures { IsStepFrom (Place.Within sending close) S.rules self.old result self.new }
     {
         if self.outbox.holds(FULL) {
             return Step::WantsRoom;
@@ -249,22 +238,17 @@ impl<S: Service> Session<S> {
             (seen self.old) (seen self.new) }
     {
         let handed = self.outbox.send_to(writer);
-        if !self.is_streaming() {
+        // Where items of a stream were sent since the last one was waited for, more of them follow.
+        if !matches!(self.place, Place::Within(..)) || !self.chunks.has_room() {
             self.outbox.release();
         }
         handed
-    }
-
-    /// Whether items of a stream were sent since the last one was waited for. Constant time.
-    fn is_streaming(&self) -> bool {
-        matches!(self.place, Place::Within(..)) && self.chunks.has_room()
     }
 
     /// The other side is gone: a session that did not close does so as `Broken`, and its service gets back
     /// what a stream holds.
     pub fn give_up(&mut self)
         ensures told { IsGivenUp S.rules (seen self.old) (seen self.new) }
-        ensures closed { IsSome (closing_at (seen self.new).place) }
         ensures run { RunsOn S.rules (λ run. run) (seen self.old) (seen self.new) }
     {
         match self.place {

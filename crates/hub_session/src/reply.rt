@@ -1,12 +1,9 @@
 //! Whole answers to a writer.
 ghost use Rattle.std.specs.Prelude.{◌≡◌};
 ghost use Rattle.hub_http.specs.Counts.{SendsTo};
-ghost use Rattle.hub_http.specs.Texts.{reply_text};
 ghost use Rattle.hub_session.specs.Replies.{fault_text};
 
-use crate::parts::send_in_parts;
-use hub_http::{HttpFault, IoFault, Output, Reply, no_memory_text, reply_bytes, send, write_vec};
-use std::alloc::Global;
+use hub_http::{HttpFault, IoFault, Output, no_memory_text, send, write_vec};
 
 /// The reply to a fault of reading a request, empty where it has none. It needs no memory.
 pub(crate) fn fault_text(fault: HttpFault) -> &'static str
@@ -43,28 +40,10 @@ pub(crate) fn fault_text(fault: HttpFault) -> &'static str
     }
 }
 
-/// Writes a vector's bytes, which the writer may keep, and flushes them.
-fn send_vec<W: Output>(writer: &mut W, bytes: Vec<u8>) -> Result<(), IoFault>
+/// Writes a vector's bytes, which the writer may keep, and flushes them: by one write, mostly.
+pub(crate) fn send_vec<W: Output>(writer: &mut W, bytes: Vec<u8>) -> Result<(), IoFault>
     ensures { SendsTo W.written W.fault_count W.failure_count result writer.old writer.new bytes.items }
 {
     write_vec(writer, bytes)?;
     send(writer, b"")
-}
-
-/// Writes a whole answer and flushes it: by one write, mostly, of the answer's length, or in parts where
-/// there is no memory for the whole, so that no answer is lost behind what its request did.
-pub(crate) fn send_reply<W: Output>(
-    alloc: Global,
-    writer: &mut W,
-    reply: Reply,
-    head_only: bool,
-    close: bool,
-) -> Result<(), IoFault>
-    ensures { SendsTo W.written W.fault_count W.failure_count result writer.old writer.new
-        (reply_text reply head_only close) }
-{
-    match reply_bytes(alloc, &reply, head_only, close) {
-        Ok(bytes) => send_vec(writer, bytes),
-        Err(_) => send_in_parts(writer, reply, head_only, close),
-    }
 }

@@ -6,8 +6,9 @@ ghost use Rattle.hub_http.specs.Words.{to_come, IsOpen, HasEnded, failures_of, f
 ghost use Rattle.hub_session.specs.Rules.{moment};
 ghost use Rattle.hub_session.specs.Sessions.{IsServed, IsSession};
 
-use crate::answering::{answer_fault, answer_one};
+use crate::answering::{Begun, after_stream, answer_fault, begin_answer};
 use crate::closing::Closing;
+use crate::feed::send_items;
 use crate::service::Service;
 use hub_http::{HttpFault, Input, Output, Requests};
 use std::alloc::Global;
@@ -33,7 +34,13 @@ pub fn serve_one<R: Input, W: Output, S: Service>(
         (failures_of R.failure_count) requests.old requests.new }
 {
     match requests.next() {
-        Ok(Some(request)) => answer_one(alloc, writer, service, &request),
+        Ok(Some(request)) => match begin_answer(alloc, writer, service, &request) {
+            Begun::Answered(next) => next,
+            Begun::Streaming(mode, life) => {
+                let end = send_items(alloc, writer, service, mode, life);
+                after_stream(request.close, end)
+            }
+        },
         Ok(None) => Some(Closing::Finished),
         Err(HttpFault::Ended) => Some(Closing::Fault(HttpFault::Ended)),
         Err(fault) => Some(answer_fault(writer, fault)),

@@ -9,17 +9,19 @@ use Rattle.hub_session.proofs.feed.send_items.Goals as goal
 pub loop-init : goal.loop-init
 loop-init g c = (went_none _ _ _ _, omega arith, omega arith, omega arith)
 
-pub returns-in-Err-clause-fed : goal.returns-in-Err-clause-fed
-returns-in-Err-clause-fed g c =
-    went_ends g.S.Service.rules _ _ _ c.loop.counter c.loop.rows _ _ c.in-Err.end c.loop.invariant.0
-    (c.in-Err.ensures.sent c.loop.service c.loop.counter c.item.ensures)
+pub returns-in-Err : goal.returns-in-Err
+returns-in-Err g c = record {
+  fed = went_ends g.S.Service.rules _ _ _ c.loop.counter c.loop.rows _ _ c.in-Err.end c.loop.invariant.0
+      (c.in-Err.ensures.sent c.loop.service c.loop.counter c.item.ensures);
+  counts = counts_since c.loop.invariant.1 c.loop.invariant.3 (counts_for (ap Err) c.in-Err.ensures.counts);
+}
 
-pub returns-in-Err-clause-counts : goal.returns-in-Err-clause-counts
-returns-in-Err-clause-counts g c =
-    counts_since c.loop.invariant.1 c.loop.invariant.3 (counts_for (ap Err) c.in-Err.ensures.counts)
-
-pub returns-clause-counts : goal.returns-clause-counts
-returns-clause-counts g c = counts_only c.loop.invariant.1 c.loop.invariant.3 (λ is. cc)
+pub returns : goal.returns
+returns g c = record {
+  fed = went_ends g.S.Service.rules _ _ _ c.loop.counter c.loop.rows _ _ Exhausted c.loop.invariant.0
+      ([], Streams.gives_up c.drop_stream.ensures c.loop-test.false, Appends-nil _);
+  counts = counts_only c.loop.invariant.1 c.loop.invariant.3 (λ is. cc);
+}
 
 pub loop-preserved : goal.loop-preserved
 loop-preserved g c = (
@@ -32,8 +34,3 @@ loop-preserved g c = (
 
 pub send_given-requires : goal.send_given-requires
 send_given-requires g c = omega (arith, c.loop.invariant.2, c.loop-test.true)
-
-pub returns-clause-fed : goal.returns-clause-fed
-returns-clause-fed g c =
-    went_ends g.S.Service.rules _ _ _ c.loop.counter c.loop.rows _ _ Exhausted c.loop.invariant.0
-    ([], Streams.gives_up c.drop_stream.ensures c.loop-test.false, Appends-nil _)

@@ -5,32 +5,32 @@ use Rattle.hub_session.proofs.AnswerLemmas.{broken_stream}
 use Rattle.hub_session.proofs.StepLemmas.{step_broken, stepped_ends, streamed_out}
 use Rattle.hub_session.proofs.machine.Session.send_item.Goals as goal
 
-pub returns-then-sending-eq18446744073709551615-clause-told :
-    goal.returns-then-sending-eq18446744073709551615-clause-told
-returns-then-sending-eq18446744073709551615-clause-told g c =
+pub returns-then-sending-eq18446744073709551615 : goal.returns-then-sending-eq18446744073709551615
+returns-then-sending-eq18446744073709551615 g c = λ place.
     let old = seen c.args.self.now in
     let mid = seen (record c.args.self.now { service = c.drop_stream.new.self }) in
-    stepped_ends g.S.Service.rules c.args.sending c.args.close Exhausted c.after_stream.result old mid
-    (seen c.go_behind.new.self) c.go_behind.result c.requires c.after_stream.ensures refl refl
-    (streamed_out g.S.Service.rules c.args.sending (moment_of old)
-    (moment_of mid) c.drop_stream.ensures refl c.if-sending-eq18446744073709551615.true)
-    c.go_behind.ensures.shown c.go_behind.ensures.step
+    let step = c.go_behind.ensures.step in (
+      stepped_ends g.S.Service.rules c.args.sending c.args.close Exhausted c.after_stream.result old mid
+          (seen c.go_behind.new.self) c.go_behind.result place c.after_stream.ensures refl refl
+          (streamed_out g.S.Service.rules c.args.sending (moment_of old)
+          (moment_of mid) c.drop_stream.ensures refl c.if-sending-eq18446744073709551615.true)
+          c.go_behind.ensures.shown step,
+      λ broken.
+          let next = step_broken c.after_stream.result (sym step ∙ broken) in
+          let end = broken_stream c.args.close Exhausted (sym c.after_stream.ensures ∙ next) in
+          absurd (cc),
+    )
 
-pub returns-then-sending-eq18446744073709551615-clause-broken :
-    goal.returns-then-sending-eq18446744073709551615-clause-broken
-returns-then-sending-eq18446744073709551615-clause-broken g c = λ broken.
-    let next = step_broken c.after_stream.result (sym c.go_behind.ensures.step ∙ broken) in
-    let end = broken_stream c.args.close Exhausted (sym c.after_stream.ensures ∙ next) in
-    absurd (cc)
+pub returns-in-Ok : goal.returns-in-Ok
+returns-in-Ok g c = λ place.
+    let given = rw c.if-not-poll_item.false at c.poll_item.ensures in (
+      Steps.sends c.args.sending c.in-Ok.rows c.args.close place refl refl refl refl
+          (c.in-Ok.ensures.sent c.args.self.now.service 0 given),
+      λ broken. let other = broken in absurd (cc),
+    )
 
-pub returns-in-Ok-clause-told : goal.returns-in-Ok-clause-told
-returns-in-Ok-clause-told g c =
-    let given = rw c.if-not-poll_item.false at c.poll_item.ensures in
-    Steps.sends c.args.sending c.in-Ok.rows c.args.close c.requires refl refl refl refl
-    (c.in-Ok.ensures.sent c.args.self.now.service 0 given)
-
-pub returns-clause-told : goal.returns-clause-told
-returns-clause-told g c =
+pub returns : goal.returns
+returns g c = λ place.
     let given = rw c.if-not-poll_item.false at c.poll_item.ensures in
     let before = c.args.self.now in
     let mid =
@@ -39,14 +39,13 @@ returns-clause-told g c =
       chunks = c.send_given.new.chunks;
       service = c.send_given.new.service;
     }) in
-    stepped_ends g.S.Service.rules c.args.sending c.args.close c.in-Err.end c.after_stream-in-Err.result
-    (seen before) mid (seen c.go_behind-in-Err.new.self) c.go_behind-in-Err.result c.requires
-    c.after_stream-in-Err.ensures refl refl
-    (λ sent low. c.in-Err.ensures.sent before.service sent given) c.go_behind-in-Err.ensures.shown
-    c.go_behind-in-Err.ensures.step
-
-pub returns-clause-broken : goal.returns-clause-broken
-returns-clause-broken g c = λ broken.
-    let next = step_broken c.after_stream-in-Err.result (sym c.go_behind-in-Err.ensures.step ∙ broken) in
-    let end = broken_stream c.args.close c.in-Err.end (sym c.after_stream-in-Err.ensures ∙ next) in
-    rw c.go_behind-in-Err.ensures.outbox (c.send_given.ensures.counts.fault (cc))
+    let step = c.go_behind-in-Err.ensures.step in (
+      stepped_ends g.S.Service.rules c.args.sending c.args.close c.in-Err.end c.after_stream-in-Err.result
+          (seen before) mid (seen c.go_behind-in-Err.new.self) c.go_behind-in-Err.result place
+          c.after_stream-in-Err.ensures refl refl
+          (λ sent low. c.in-Err.ensures.sent before.service sent given) c.go_behind-in-Err.ensures.shown step,
+      λ broken.
+          let next = step_broken c.after_stream-in-Err.result (sym step ∙ broken) in
+          let end = broken_stream c.args.close c.in-Err.end (sym c.after_stream-in-Err.ensures ∙ next) in
+          rw c.go_behind-in-Err.ensures.outbox (c.send_given.ensures.counts.fault (cc)),
+    )
