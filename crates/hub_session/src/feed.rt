@@ -52,8 +52,8 @@ fn send_item<W: Output, S: Service>(
     service: &S,
     text: &ItemText<'_>,
 ) -> Result<(), ChunkFault>
-    ensures bytes { Writes (sent_text text.now.mode text.now.life text.now.rows (lent_in text.now.item)) result
-        (W.written writer.old) (W.written writer.new) }
+    ensures bytes { Writes (sent_text text.now.mode text.now.life text.now.rows
+        (lent_in text.now.item)) result (W.written writer.old) (W.written writer.new) }
     ensures counts { CallCounts (IsErrOf result ChunkFault.IoFault) W.fault_count
         W.failure_count writer.old writer.new }
 {
