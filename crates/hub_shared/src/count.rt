@@ -48,9 +48,8 @@ pub trait Count: Drop {
 
     /// Changes nothing, and shows how the share stands to the book. It takes no memory.
     fn audit(book: &mut Self::Book, share: &mut Self::Share)
-        ensures total { total book.new ≡ total book.old }
-        ensures amount { amount share.new ≡ amount share.old }
-        ensures parts { parts share.new ≡ parts share.old }
+        ensures same { (total book.new ≡ total book.old) × (amount share.new ≡ amount share.old)
+            × (parts share.new ≡ parts share.old) }
         ensures bound { amount share.old ≤ total book.old }
         ensures whole { counts ≡ true → parts share.old ≡ all_parts → amount share.old ≡ total book.old };
 

@@ -5,9 +5,11 @@ ghost use Rattle.std.specs.Prelude.{◌≡◌, true, IfOk};
 use crate::count::{Count, NoCount, Plain};
 use crate::handle::Handle;
 use crate::host::Host;
+use crate::locked::Locked;
 use hub_database::DbState;
 use hub_document::Limits;
 use std::alloc::{AllocError, Global};
+use std::sync::{Arc, Condvar, Mutex};
 
 /// A database that threads share. Each `Db` and each `Handle` keeps it; it goes with the last of them.
 pub type Db<C> = Host<DbState, C>;
@@ -25,7 +27,9 @@ impl<C: Count> Host<DbState, C> {
     {
         let (book, share) = count.open();
         let state = DbState::new(alloc, limits, life);
-        let db = Host::of(alloc, state, limits.lane as usize, limits.hold, book)?;
+        let locked = Locked::new(alloc, state, limits.lane as usize, limits.hold, book);
+        let shared = Arc::new(alloc, (Mutex::new(locked), Condvar::new()))?;
+        let db = Host { shared, alloc };
         let handle = Handle::new(db.again()?, share);
         Ok((db, handle))
     }

@@ -1,11 +1,8 @@
 //! What threads share that keeps feeds: a lock, and news.
 
-ghost use Rattle.std.specs.Prelude.{◌<◌};
-ghost use Rattle.hub_shared.specs.Locked.{IsUnused};
-
 use crate::count::{Count, Plain};
 use crate::locked::Locked;
-use hub_feed::{FeedHost, HostView};
+use hub_feed::HostView;
 use std::alloc::{AllocError, Global};
 use std::sync::{Arc, Condvar, Mutex, Wait};
 use std::time::{self, Duration};
@@ -20,31 +17,13 @@ pub struct Host<S: HostView, C: Count = Plain> {
     /// for one call; nothing is waited for while it is held, and no other lock is taken under it. The news
     /// are told of each change that a pump may wait for, and each end of a feed, once the lock is free again.
     /// Pumps that have nothing to hand wait for the news.
-    shared: Arc<(Mutex<Locked<S, C>>, Condvar), Global>,
+    pub(crate) shared: Arc<(Mutex<Locked<S, C>>, Condvar), Global>,
     pub(crate) alloc: Global,
 }
 
 impl<S: HostView + Drop, C: Count> Drop for Host<S, C> {
     fn drop(self) {
         let Self { shared, alloc } = self;
-    }
-}
-
-impl<S: FeedHost + Drop, C: Count> Host<S, C> {
-    /// What is to lie under a lock, which has no feed: as `Locked::new`.
-    pub(crate) fn of(
-        alloc: Global,
-        state: S,
-        lane: usize,
-        hold: u64,
-        book: C::Book,
-    ) -> Result<Host<S, C>, AllocError>
-        requires room { 0 < lane }
-        requires unused { IsUnused C.counts (C.total book) (S.hosted state) }
-    {
-        let locked = Locked::new(alloc, state, lane, hold, book);
-        let shared = Arc::new(alloc, (Mutex::new(locked), Condvar::new()))?;
-        Ok(Host { shared, alloc })
     }
 }
 

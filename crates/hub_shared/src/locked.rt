@@ -17,9 +17,9 @@ use crate::block::Block;
 use crate::count::{Count, Plain};
 use crate::label::FeedLabel;
 use crate::outbox::{Outbox, Receives, Shelf, TwoEnded};
-use crate::outboxes::{outbox_of, remove, take};
+use crate::outboxes::{outbox_of, remove};
 use crate::signals::Signals;
-use crate::subscriber::{Subscriber, hand_over, make_room, watch};
+use crate::subscriber::Subscriber;
 use crate::watch::Watch;
 use hub_feed::{FeedHost, FeedId, Handed, HostView, OpenFault, Pushes};
 use hub_lane::Asks;
@@ -120,7 +120,11 @@ impl<S: HostView, C: Count> Locked<S, C> {
     pub(crate) fn watch(&mut self, feed: FeedId, news: Arc<Watch, Global>)
         ensures { self.new ≡ self.old }
     {
-        watch(&mut self.subscribers, feed.number, news);
+        let Some(at) = place_of(self.subscribers.as_slice(), feed.number) else {
+            return;
+        };
+        let entry = &mut self.subscribers[at];
+        entry.1.watch(news);
     }
 
     /// Reserves memory for as many items of a feed as may wait, those that wait among them, if there is a
@@ -132,7 +136,11 @@ impl<S: HostView, C: Count> Locked<S, C> {
         }) }
         ensures err { OnErr result (self.new ≡ self.old) }
     {
-        make_room(&mut self.subscribers, self.near, feed.number, self.lane)
+        let Some(at) = place_near(self.subscribers.as_slice(), self.near, feed.number) else {
+            return Ok(());
+        };
+        let entry = &mut self.subscribers[at];
+        entry.1.make_room(self.lane)
     }
 
     /// Gives the lane of a feed all items of it that wait, as one block, and answers how many these were:
@@ -154,13 +162,11 @@ impl<S: HostView, C: Count> Locked<S, C> {
             (IsHeldUp (R.refuses rt.now))) }
         ensures feed { IfNone result (IsSome (entry_in feed.number self.old.senders)) }
     {
-        hand_over(
-            rt,
-            self.alloc,
-            &mut self.subscribers,
-            self.near,
-            feed.number,
-        )
+        let Some(at) = place_near(self.subscribers.as_slice(), self.near, feed.number) else {
+            return Some(0);
+        };
+        let entry = &mut self.subscribers[at];
+        entry.1.hand_over(rt, self.alloc)
     }
 }
 
@@ -351,6 +357,8 @@ impl<S: FeedHost, C: Count, K: Shelf<S>> Locked<S, C, K> {
         ensures rest { self.new
             ≡ record self.old { senders = changed feed.number K.without_front self.old.senders } }
     {
-        take(&mut self.subscribers, feed.number)
+        let at = place_of(self.subscribers.as_slice(), feed.number)?;
+        let entry = &mut self.subscribers[at];
+        entry.1.take()
     }
 }

@@ -1,11 +1,9 @@
 //! The outboxes of feeds, by the numbers of the feeds.
 
-ghost use Rattle.std.specs.Prelude.{◌≡◌, Some, None, option_and_then, IfNone, IfSome};
-ghost use Rattle.hub_model.specs.Entries.{entry_in, changed, without, AreRising};
+ghost use Rattle.std.specs.Prelude.{◌≡◌, Some, None, IfNone, IfSome};
+ghost use Rattle.hub_model.specs.Entries.{entry_in, without, AreRising};
 
-use crate::outbox::Shelf;
-use hub_feed::FeedHost;
-use hub_model::{Item, place_of};
+use hub_model::place_of;
 
 /// Takes the outbox of the feed of this number out, if there is one. It costs a binary search, and a move
 /// of the outboxes behind it.
@@ -28,19 +26,4 @@ pub(crate) fn outbox_of<K>(outboxes: &[(u64, K)], feed: u64) -> Option<&K>
     let at = place_of(outboxes, feed)?;
     let entry = &outboxes[at];
     Some(&entry.1)
-}
-
-/// Takes the next item of the feed of this number, if there is one. It costs a binary search, and what
-/// `Shelf::take` does.
-pub(crate) fn take<S: FeedHost, K: Shelf<S>>(
-    outboxes: &mut Vec<(u64, K)>,
-    feed: u64,
-) -> Option<Item<S::Row>>
-    requires rising { AreRising outboxes.old.items }
-    ensures item { result ≡ option_and_then K.front (entry_in feed outboxes.old.items) }
-    ensures rest { outboxes.new.items ≡ changed feed K.without_front outboxes.old.items }
-{
-    let at = place_of(outboxes.as_slice(), feed)?;
-    let entry = &mut outboxes[at];
-    entry.1.take()
 }

@@ -18,21 +18,19 @@ use std::alloc::Global;
 use std::sync::{Arc, Wait};
 
 impl<S: FeedHost, C: Count> HostFeed<S, C> {
-    // One holding of the lock for this feed. It is over without memory for an item, and behind its end.
-    fn hold_own<R, G>(&mut self, rt: &R, turn: Turn, gate: &G)
+    // One holding of the lock for this feed, and whether its host may have more for it. The feed is over
+    // without memory for an item, and behind its end.
+    fn hold_own<R, G>(&self, rt: &R, turn: Turn, gate: &G) -> bool
     where
         R: Asks<FeedLabel<S>, Block<S::Row>>,
         G: Gate,
-        ensures { self.new ≡ self.old }
     {
         match self.host.hold_once(rt, self.id, turn, gate) {
-            Ok(holding) => {
-                self.is_behind = holding.last != Handed::Nothing;
-                if holding.last == Handed::Gone {
-                    self.signals.end();
-                }
+            Ok(holding) if holding.last != Handed::Gone => holding.last != Handed::Nothing,
+            _ => {
+                self.signals.end();
+                false
             }
-            Err(_) => self.signals.end(),
         }
     }
 
@@ -57,7 +55,7 @@ impl<S: FeedHost, C: Count> HostFeed<S, C> {
             }
             Due::Expire => {
                 self.hold_own(rt, Turn::Expire, gate);
-                self.hold_own(rt, Turn::Hand, gate);
+                self.is_behind = self.hold_own(rt, Turn::Hand, gate);
             }
             Due::Wait(most) => {
                 self.due = now.saturating_add(most);
@@ -90,7 +88,7 @@ impl<S: FeedHost, C: Count> HostFeed<S, C> {
             return;
         }
         if self.is_behind {
-            self.hold_own(rt, Turn::Hand, gate);
+            self.is_behind = self.hold_own(rt, Turn::Hand, gate);
             self.end.take_into(rt, next);
             if next.is_some() {
                 self.idle_since = None;

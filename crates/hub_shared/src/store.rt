@@ -53,8 +53,8 @@ impl<C: Count, K: Outbox<DbState>> Locked<DbState, C, K> {
             (handle_of C.parts C.amount share.old) doc (Ok w.0)) }
         ensures refused { IfErr result (λ e. IsEditedBy C.counts C.all_parts
             (handle_of C.parts C.amount share.old) doc (Err e)) }
-        ensures adds { OnOk result (Adds 1 self.old.state self.new.state) }
-        ensures rest { self.new ≡ record self.old { state = self.new.state } }
+        ensures adds { OnOk result (Adds 1 self.old.state self.new.state
+            × (self.new ≡ record self.old { state = self.new.state })) }
         ensures risen { IfOk result (λ w. HasRisen C.counts 1 w.1
             (handle_of C.parts C.amount share.old) (handle_of C.parts C.amount share.new)) }
         ensures err { OnErr result ((self.new ≡ self.old) × (C.amount share.new ≡ C.amount share.old)
@@ -81,8 +81,8 @@ impl<C: Count, K: Outbox<DbState>> Locked<DbState, C, K> {
             StoresBatch new_edits docs.items self.old.state w.0 self.new.state) }
         ensures stored { IfOk result (λ w. IsStoredBy C.counts C.all_parts
             (handle_of C.parts C.amount share.old) new_edits docs.items w.0) }
-        ensures adds { IfOk result (λ w. Adds (stored_count w.0.replies) self.old.state self.new.state) }
-        ensures rest { self.new ≡ record self.old { state = self.new.state } }
+        ensures adds { IfOk result (λ w. Adds (stored_count w.0.replies) self.old.state self.new.state
+            × (self.new ≡ record self.old { state = self.new.state })) }
         ensures raised { IfOk result (λ w. C.amount share.new ≡ C.amount share.old + w.1) }
         ensures counted { IfOk result (λ w. C.counts ≡ true → w.1 ≡ stored_count w.0.replies) }
         ensures within { OnOk result (C.amount share.new < 2 ^ 32) }

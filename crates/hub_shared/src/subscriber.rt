@@ -1,11 +1,10 @@
 //! The program's outbox of a feed: the end of a lane that sends, what waits for room in the lane, and whom to
 //! tell of the feed.
 
-ghost use Rattle.std.specs.Prelude.{◌≡◌, ◌<◌, [], length, IfOk, IfSome, IfNone, IsSome, OnErr, OnOk};
+ghost use Rattle.std.specs.Prelude.{◌≡◌, [], length, IfOk, IfSome, IfNone, OnErr, OnOk};
 ghost use Rattle.hub_lane.specs.Ends.{new_receiver};
-ghost use Rattle.hub_model.specs.Entries.{AreRising, changed, entry_in};
 ghost use Rattle.hub_params.specs.FeedModel.{params_in};
-ghost use Rattle.hub_shared.specs.Blocks.{IsHeldUp, handed_over, new_subscriber, waiting_of, with_room};
+ghost use Rattle.hub_shared.specs.Blocks.{IsHeldUp, handed_over, new_subscriber, with_room};
 
 use crate::block::Block;
 use crate::feed_end::FeedEnd;
@@ -15,7 +14,7 @@ use crate::signals::Signals;
 use crate::watch::Watch;
 use hub_feed::{HostView, Pushes, Sink};
 use hub_lane::{Asks, Full, Lane, Sender};
-use hub_model::{Item, place_near, place_of};
+use hub_model::Item;
 use hub_params::FeedParams;
 use std::alloc::{AllocError, Global};
 use std::marker::Model;
@@ -122,7 +121,6 @@ impl<S: HostView> TwoEnded<S> for Subscriber<S> {
         feed: FeedLabel<S>,
         params: &FeedParams,
     ) -> Result<(Subscriber<S>, FeedTaker<S>), AllocError>
-        requires room { 0 < capacity }
         requires allowed { S.right (params_in feed.asked) feed.since [] }
         ensures outbox { IfOk result (λ ends.
             ends.0 ≡ new_subscriber ends.1.end.lane_id feed capacity) }
@@ -240,70 +238,4 @@ impl<S: HostView> Pushes<Subscriber<S>, Item<S::Row>> for Directly {
         sink.waiting.push_reserved(item);
         Ok(())
     }
-}
-
-/// From here on this watch has the news of the feed of this number, if there is one. It costs a binary
-/// search.
-pub(crate) fn watch<S: HostView>(
-    subscribers: &mut Vec<(u64, Subscriber<S>)>,
-    feed: u64,
-    watch: Arc<Watch, Global>,
-)
-    requires rising { AreRising subscribers.old.items }
-    ensures { subscribers.new.items ≡ subscribers.old.items }
-{
-    let Some(at) = place_of(subscribers.as_slice(), feed) else {
-        return;
-    };
-    let entry = &mut subscribers[at];
-    entry.1.watch(watch);
-}
-
-/// Reserves memory for so many items of the feed of this number that wait, if there is one. It is looked
-/// for at `near` first.
-pub(crate) fn make_room<S: HostView>(
-    subscribers: &mut Vec<(u64, Subscriber<S>)>,
-    near: usize,
-    feed: u64,
-    room: usize,
-) -> Result<(), AllocError>
-    requires rising { AreRising subscribers.old.items }
-    ensures ok { OnOk result (subscribers.new.items ≡ changed feed (with_room room) subscribers.old.items) }
-    ensures err { OnErr result (subscribers.new.items ≡ subscribers.old.items) }
-{
-    let Some(at) = place_near(subscribers.as_slice(), near, feed) else {
-        return Ok(());
-    };
-    let entry = &mut subscribers[at];
-    entry.1.make_room(room)
-}
-
-/// Gives the lane of the feed of this number all that waits for it, if there is one, as
-/// `Subscriber::hand_over`. It is looked for at `near` first.
-pub(crate) fn hand_over<S, R>(
-    rt: &R,
-    alloc: Global,
-    subscribers: &mut Vec<(u64, Subscriber<S>)>,
-    near: usize,
-    feed: u64,
-) -> Option<usize>
-where
-    S: HostView,
-    R: Asks<FeedLabel<S>, Block<S::Row>>,
-    requires rising { AreRising subscribers.old.items }
-    ensures count { IfSome result (λ count. count
-        ≡ length (waiting_of (entry_in feed subscribers.old.items))) }
-    ensures over { IfSome result (λ _. subscribers.new.items
-        ≡ changed feed handed_over subscribers.old.items) }
-    ensures held_up { IfNone result (subscribers.new.items
-        ≡ changed feed (with_room 0) subscribers.old.items) }
-    ensures full { IfNone result
-        (IfSome (entry_in feed subscribers.old.items) (IsHeldUp (R.refuses rt.now))) }
-    ensures feed { IfNone result (IsSome (entry_in feed subscribers.old.items)) }
-{
-    let Some(at) = place_near(subscribers.as_slice(), near, feed) else {
-        return Some(0);
-    };
-    let entry = &mut subscribers[at];
-    entry.1.hand_over(rt, alloc)
 }

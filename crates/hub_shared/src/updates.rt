@@ -17,7 +17,7 @@ use hub_feed::OpenFault;
 use hub_params::FeedParams;
 use hub_updates::{NoteFault, Notice, UpdatesState};
 use std::alloc::{AllocError, Global};
-use std::sync::Wait;
+use std::sync::{Arc, Condvar, Mutex, Wait};
 
 /// The log of updates, which threads share. Each `Updates` keeps it; it goes with the last of them.
 pub type Updates = Host<UpdatesState>;
@@ -47,7 +47,9 @@ impl Host<UpdatesState> {
     /// A log of nothing. Its life is 0, which no database has.
     pub fn of_updates(alloc: Global, limits: Limits) -> Result<Updates, AllocError> {
         let state = UpdatesState::new(alloc, limits, 0);
-        Host::of(alloc, state, limits.lane as usize, limits.hold, NoCount)
+        let locked = Locked::new(alloc, state, limits.lane as usize, limits.hold, NoCount);
+        let shared = Arc::new(alloc, (Mutex::new(locked), Condvar::new()))?;
+        Ok(Host { shared, alloc })
     }
 
     /// Adds a notice at the end of the log, or hands it back, as `UpdatesState::note`, and tells the

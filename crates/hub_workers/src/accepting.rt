@@ -26,30 +26,18 @@ fn is_passing(error: &io::Error) -> bool
     )
 }
 
-/// The next connection. An error is one in spite of which none may be accepted.
-fn accept(listener: &TcpListener) -> io::Result<TcpStream>
-    ensures { HasNoPassingFault result }
-{
-    for stream in listener.incoming() {
-        match stream {
-            Err(error) if is_passing(&error) => {}
-            accepted => return accepted,
-        }
-    }
-    Err(io::Error::from(ErrorKind::Other))
-}
-
 /// The next connection. Where none can be accepted while others are open, as where the system has no
 /// descriptor left, it sleeps until one of them has ended, and tries again. An error is told where none is
-/// open.
+/// open, and is one in spite of which none may be accepted.
 fn accept_next<R: Wait>(rt: &R, alive: &Alive, listener: &TcpListener) -> io::Result<TcpStream>
     ensures { HasNoPassingFault result }
 {
-    for _ in rt.forever() {
-        let ended = alive.ended(rt);
-        match accept(listener) {
+    let mut ended = alive.ended(rt);
+    for stream in listener.incoming() {
+        match stream {
+            Err(error) if is_passing(&error) => {}
             Err(error) if !alive.wait_for_end(rt, ended) => return Err(error),
-            Err(_) => {}
+            Err(_) => ended = alive.ended(rt),
             accepted => return accepted,
         }
     }
