@@ -1,7 +1,7 @@
 -- The text of an object (RFC 8259, section 4).
 use Rattle.std.specs.Prelude.{◌≡◌, ◌≤◌, ◌-◌, ℕ, List, [], ◌∷◌, ◌++◌, length, drop, take}
 
--- it begins with a brace, and ends with one. Of `{}` and `{"a":1}` this holds, and of `{` and `[]` it does not.
+-- It begins with a brace, and ends with one. `{}` and `{"a":1}` are so; `{` and `[]` are not.
 pub record IsBraced (text : List ℕ) : Type 0 where
   pub some : 2 ≤ length text
   pub opened : 123 ∷ drop 1 text ≡ text
