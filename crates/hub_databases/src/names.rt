@@ -56,8 +56,8 @@ impl Names {
     }
 
     /// Puts an empty database of the next life under a name, where it may come there. It is not counted yet.
-    /// Else all stays, and the fault is the first refusal that holds. The numbers of lives end at 2^64 - 1: by
-    /// then the log of updates, which has a note for each, is full. It costs a search among the names.
+    /// Else all stays, and the fault is the first refusal that holds. The numbers of lives end at 2^64 - 1.
+    /// By then the log of updates, which has a note for each, is full. It costs a search among the names.
     pub(crate) fn add(&mut self, alloc: Global, limits: Limits, name: &str) -> Result<(), HubFault>
         requires { is_database_name name.now ≡ true }
         ensures free { OnOk result (IsFree self.old name.now) }
