@@ -192,7 +192,6 @@ impl<P: Peer> Peer for FaultPeer<P> {
     }
 
     fn faults(&self) -> u64 {
-        let below = self.peer.faults();
-        self.faults.saturating_add(below)
+        self.faults.saturating_add(self.peer.faults())
     }
 }

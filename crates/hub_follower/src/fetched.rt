@@ -1,6 +1,6 @@
 //! What a round fetched: revisions and documents that have their histories.
 
-ghost use Rattle.std.specs.Prelude.{◌≡◌, ◌++◌, ◌∷◌, [], All, OnOk};
+ghost use Rattle.std.specs.Prelude.{◌≡◌, ◌++◌, ◌∷◌, [], All, OnOk, OnErr};
 ghost use Rattle.hub_follower.specs.Fetched.{HasPath, FoundHasPath};
 
 use hub_database::OpenRev;
@@ -73,10 +73,11 @@ impl FetchedDocs {
         }
     }
 
-    /// One document more, behind the others. Out of memory, it is dropped.
+    /// One document more, behind the others. Out of memory, it is dropped, and the others stay.
     pub(crate) fn push(&mut self, doc: Doc) -> Result<(), AllocError>
         requires { HasPath doc }
-        ensures { OnOk result (self.new ≡ self.old ++ doc ∷ []) }
+        ensures items { OnOk result (self.new ≡ self.old ++ doc ∷ []) }
+        ensures err { OnErr result (self.new ≡ self.old) }
     {
         self.list.push(doc)?;
         Ok(())

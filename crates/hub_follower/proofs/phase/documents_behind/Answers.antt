@@ -39,7 +39,7 @@ loop-opened-preserved c =
       found =
           append_assoc c.loop-opened.yielded (c.in-Some.opened ∷ []) rest
           ∙ (ap (λ z. c.loop-opened.yielded ++ z) (sym step.0) ∙ i.found);
-      left = ap (λ z. opens c.args.asked.id (drop (at + 1) revs) rest z) c.in_ok-push-in-Found.ensures
+      left = ap (λ z. opens c.args.asked.id (drop (at + 1) revs) rest z) c.in_ok-push-in-Found.ensures.items
           ∙ (ap (λ z. opens c.args.asked.id z (Found doc ∷ rest) got) (sym (drop_more revs at first below))
           ∙ (ap (λ z. opens c.args.asked.id (drop at revs) z got) (sym here) ∙ i.left));
       bring = All-tail FoundHasPath (Found doc) rest bring;
