@@ -84,9 +84,10 @@ fn lent_first(changes: &Changes) -> (bool, Option<RevId>) {
     }
 }
 
-// The list of a row's one revision, of this digest.
-fn list_of(alloc: Global, generation: u16, digest: [u8; 16]) -> Result<Revisions, AllocError> {
-    Changes::of_digest(DigestRev::new(generation, digest)).into_revisions(alloc)
+// The list of a row's revisions, of a copy of them.
+fn list_of(alloc: Global, changes: &Changes) -> Result<Revisions, AllocError> {
+    let copy = changes.copy(alloc)?;
+    copy.into_revisions(alloc)
 }
 
 #[test]
@@ -101,7 +102,7 @@ fn revisions_of_rows(rt: HostRuntime) -> Result<(), Fail> {
     }
     let changes = Changes::of_digest(DigestRev::new(3, DIGEST));
     same(&rt, &lent_first(&changes), &(true, RevId::read(MADE)));
-    let list = grown!(list_of(alloc, 3, DIGEST))?;
+    let list = grown!(list_of(alloc, &changes))?;
     let found = (list.as_slice().len(), list.as_slice().first().copied());
     same(&rt, &found, &(1, RevId::read(MADE)));
     Ok(())
