@@ -21,7 +21,7 @@ leads c =
     let did = c.in-Ok.ensures.batch in
     let core : core_of c.store.new.self
     ≡ record (core_of old) { db = record old.state { journal = c.store.new.self.state.journal } } =
-    ap core_of c.store.ensures.rest
+    ap core_of c.in-Ok.ensures.adds.1
     ∙ ap (λ (db : Database). record { db = db; lanes = map held_entry old.senders }) did.adds.rest in
     subst (λ z. Leads (core_of old)
     (write_of c.args.new_edits (take (length c.in-Ok.batch.replies) c.docs.inside.list.items))
@@ -35,7 +35,7 @@ invariant_of-self-2 c =
     leads_world c.self.inside.locked c.store.new.self
     (write_of c.args.new_edits (take (length c.in-Ok.batch.replies) c.docs.inside.list.items))
     (reply.Outcomes (whole_batch c.in-Ok.batch.replies)) c.self.invariant (leads c)
-    (kept_lists c.self.inside.locked c.store.new.self c.self.invariant c.store.ensures.rest
+    (kept_lists c.self.inside.locked c.store.new.self c.self.invariant c.in-Ok.ensures.adds.1
     (ap (λ (db : Database). db.limits.lane) c.in-Ok.ensures.batch.adds.rest))
 
 pub returns-clause-ok : goal.returns-clause-ok
