@@ -165,7 +165,6 @@ struct PlainRow<'r, 's> {
 
 impl PlainRow<'_, '_> {
     // Appends its front, as far as the id.
-    #[inline(always)]
     fn put_front(&self, out: &mut Vec<u8>) -> Result<(), AllocError>
         ensures { Appends (plain_front self.now.life self.now.row.now.seq self.now.row.now.id) result
             out.old.items out.new.items }
@@ -180,7 +179,6 @@ impl PlainRow<'_, '_> {
     }
 
     // Appends its revision, and what stands between the id and it.
-    #[inline(always)]
     fn put_revision(&self, out: &mut Vec<u8>) -> Result<(), AllocError>
         ensures { Appends (codes "\",\"changes\":[{\"rev\":" ++ quoted (text_of self.now.rev.now)) result
             out.old.items out.new.items }
@@ -196,7 +194,6 @@ impl PlainRow<'_, '_> {
     }
 
     // Appends its document.
-    #[inline(always)]
     fn put_doc(&self, out: &mut Vec<u8>, body: &Body) -> Result<(), AllocError>
         ensures { Appends (doc_text (row_doc self.now.row.now body.now)) result out.old.items out.new.items }
     {
@@ -207,7 +204,6 @@ impl PlainRow<'_, '_> {
     }
 
     // Appends its end, behind the revision.
-    #[inline(always)]
     fn put_end(&self, out: &mut Vec<u8>) -> Result<(), AllocError>
         ensures { Appends (125 ∷ row_end self.now.row.now) result out.old.items out.new.items }
     {
@@ -222,7 +218,6 @@ impl PlainRow<'_, '_> {
     }
 
     // Appends all of it.
-    #[inline(always)]
     fn put(&self, out: &mut Vec<u8>) -> Result<(), AllocError>
         ensures { Appends (change_row_text self.now.life self.now.row.now) result
             out.old.items out.new.items }

@@ -77,6 +77,7 @@ impl<S: HostView> FeedEnd<S> {
     }
 
     /// The same, and puts the item into `next`, which saves a move of it.
+    #[inline(always)]
     pub fn take_into<R>(&mut self, rt: &R, next: &mut Option<Item<S::Row>>)
     where
         R: Asks<FeedLabel<S>, Block<S::Row>>,
