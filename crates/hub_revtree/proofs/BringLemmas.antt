@@ -20,6 +20,7 @@ use Rattle.hub_revtree.specs.Branch.{edit_of, edits_in}
 use Rattle.hub_revtree.specs.Common.{last_in}
 use Rattle.hub_revtree.specs.Extend.{line_to}
 use Rattle.hub_revtree.specs.Index.{IsNewestLine, newest_rev}
+use Rattle.hub_revtree.specs.Lookup.{IsMeeting}
 use Rattle.hub_revtree.specs.Stem.{Stem, AreStems, IsBrought, IsWithin, branch_of, branches_of, chain_from}
 use Rattle.hub_revtree.specs.Stem.{chain_of, chains_of, has_revision, rev_at, revisions_at, revisions_in}
 use Rattle.hub_revtree.specs.Tree.{nameless}
@@ -145,17 +146,6 @@ pub record Brings (stems : List Stem) (path : List Revision) (stem : Stem) : Typ
   pub next : IsNextStem stems stem
   pub whole : (branch_of (chain_of (chains_of stems) stem)).path ≡ path
 
--- how a path meets the stems
-pub record Meets (stems : List Stem) (path : List Revision) (at : ℕ) (place : Option Place) (behind : ℕ)
-    (joins : Bool) : Type 0 where
-  pub kept : at ≤ length path
-  pub within : IfSome place (IsWithin stems)
-  pub same : IfSome place (λ p. slice_get path at ≡ rev_at stems (Some p))
-  pub long : behind ≡ length (chain_from (chains_of stems) place)
-  pub rest : length path - at ≤ behind
-  pub none : IfNone place (at ≡ length path)
-  pub fresh : joins ≡ false → list_any (has_revision stems) (take at path) ≡ false
-
 module _ (stems : List Stem) (a : AreStems stems) (legal : IsLegal (edits_in (branches_of stems)))
     (path : List Revision) (deleted : Bool) (body : List ℕ)
     (ok : IsAcceptable (edits_in (branches_of stems)) (nameless path deleted body)) where
@@ -209,7 +199,7 @@ module _ (stems : List Stem) (a : AreStems stems) (legal : IsLegal (edits_in (br
   take_head (suc n) (other ∷ revisions) revision e = e
 
   module _ (at : ℕ) (place : Option Place) (behind : ℕ) (joins : Bool)
-      (m : Meets stems path at place behind joins) where
+      (m : IsMeeting stems path at place behind joins) where
     pub some_kept : 1 ≤ at
     some_kept = from place refl
       where

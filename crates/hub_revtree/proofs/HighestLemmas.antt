@@ -98,3 +98,11 @@ up_to_more stems stem path revision highest next a more up falls head whole is =
         )
   ];
 }
+
+-- a revision of a generation above the highest is none of the stems'
+pub above_none : (stems : List Stem) (highest : ℕ) → AreUpTo stems highest → (revision : Revision)
+    → highest < revision.generation → has_revision stems revision ≡ false
+above_none stems highest up revision high = elim (cases_Bool (has_revision stems revision)) [
+  | inl t ↦ let low = up.known revision t in absurd (omega (arith, low, high))
+  | inr f ↦ f
+]

@@ -1,8 +1,8 @@
 -- What stems brought is what stands behind what in their branches; where a path meets the stored ones.
-use Rattle.std.proofs.Common.{◌≡◌, ℕ, zero, suc, ◌+◌, ◌<◌, List, [], ◌∷◌, ◌++◌, length, drop, take}
+use Rattle.std.proofs.Common.{◌≡◌, ℕ, zero, suc, ◌+◌, ◌<◌, List, [], ◌∷◌, ◌++◌, length, drop, take, append-nil}
 use Rattle.std.proofs.Common.{true, false, ◌⊎◌, inl, inr, refl, sym, ap, ◌∙◌, subst, option_map, arith}
 use Rattle.std.specs.Prelude.{Option, Some, None, IfSome, IfNone, is_some, slice_get, Contains}
-use Rattle.std.proofs.lemmas.List.{length-append}
+use Rattle.std.proofs.lemmas.List.{length-append, length-drop}
 use Rattle.std.proofs.lemmas.Option.{get_or_from_slice_get, same_Some, slice_get-map}
 use Rattle.std.proofs.lemmas.Option.{slice_get_read, slice_get_within}
 use Rattle.hub_model.specs.Revision.{Revision}
@@ -17,12 +17,12 @@ use Rattle.hub_revtree.specs.Common.{last_in}
 use Rattle.hub_revtree.specs.Extend.{line_to}
 use Rattle.hub_revtree.specs.Stem.{Stem, AreStems, IsBrought, IsWithin, branch_of, branches_of}
 use Rattle.hub_revtree.specs.Stem.{chain_from, chain_of, chains_of, has_revision, one_of}
-use Rattle.hub_revtree.specs.Stem.{own_path, rev_at, revisions_at, revisions_in, whole_in}
+use Rattle.hub_revtree.specs.Stem.{own_from, own_path, rev_at, revisions_at, revisions_in, whole_in}
 use Rattle.hub_revtree.proofs.LineLemmas.{first_ends, has_last, last_down, line_front}
 use Rattle.hub_revtree.proofs.LineLemmas.{steps_fall, told_is, told_none}
-use Rattle.hub_revtree.proofs.RunLemmas.{get_some}
+use Rattle.hub_revtree.proofs.RunLemmas.{dropped_one, get_some}
 use Rattle.hub_revtree.proofs.StemLemmas.{any_at, as_many, chained_at, first_from, named_in}
-use Rattle.hub_revtree.proofs.StemLemmas.{own_front, rev_within, shown_at, within_rev, within_stem}
+use Rattle.hub_revtree.proofs.StemLemmas.{own_front, rest_at, rev_within, shown_at, within_rev, within_stem}
 use Rattle.hub_revtree.proofs.TreeLemmas.{all_of_one, in_tree, known_by}
 
 -- an element at a place
@@ -216,6 +216,17 @@ module _ (stems : List Stem) (a : AreStems stems) where
       (subst (λ o. IsNext (whole_in o) revision other) (chained_at stems a place.stem i.0 i.1)
       (next_whole place.at (whole_in (slice_get (chains_of stems) place.stem)) revision other n)))
 
+  -- the steps of a stem from a place on
+  pub own_steps : (place : Place) → IsWithin stems place → (revision other : Revision)
+      → IsNext (own_from stems place) revision other → IsBehind (edits_in bs) [] other revision
+  own_steps place w revision other n =
+      let i = within_stem stems place w in
+      let rest = chain_from (chains_of stems) i.0.parent in
+      from_steps place w revision other
+      (subst (λ z. IsNext z revision other) (sym (rest_at stems place i.0 a i.1 w))
+      (next_more (drop place.at i.0.revisions) rest revision other
+      (subst (λ o. IsNext (drop place.at (revisions_in o)) revision other) i.1 n)))
+
   -- nothing stands behind a revision that is not known
   pub no_line : (revision : Revision) → has_revision stems revision ≡ false
       → line_to (edits_in bs) (Some revision) ≡ []
@@ -245,21 +256,20 @@ module _ (stems : List Stem) (a : AreStems stems) where
     found_behind z (Some p) found none =
         let r = within_rev stems p found.0 in r.1 ∙ sym (told_at z r.0 (found.1 r.0 r.1))
 
-    -- the chain from a place on, and the line from what stands behind its last, are all that stands behind
-    -- the place's
-    pub place_line : (p : Place) (r : Revision) → rev_at stems (Some p) ≡ Some r → (o : Option Place)
-        → ((x : Revision) → last_in (chain_from (chains_of stems) (Some p)) ≡ Some x
-        → rev_at stems o ≡ behind_in x (edits_in bs))
-        → line_to (edits_in bs) (Some r)
-        ≡ chain_from (chains_of stems) (Some p) ++ line_to (edits_in bs) (rev_at stems o)
-    place_line p r placed o behind =
-        let f = first_from stems p r a placed in
-        let z = has_last r f.0 in
-        let told = behind z.0 (ap last_in f.1 ∙ z.1) in
-        line_front (edits_in bs) legal r f.0 (known_is (edits_in bs) [] r (place_known p r placed))
-        (λ s t n. from_steps p (rev_within stems p r placed) s t (subst (λ z. IsNext z s t) (sym f.1) n))
+    -- the line of a place's revision is a list of steps that begins with it, and the line from what stands
+    -- behind its last
+    steps_line : (p : Place) (r : Revision) → rev_at stems (Some p) ≡ Some r → (own rest : List Revision)
+        → own ≡ r ∷ rest
+        → ((s t : Revision) → IsNext own s t → IsBehind (edits_in bs) [] t s) → (o : Option Place)
+        → ((x : Revision) → last_in own ≡ Some x → rev_at stems o ≡ behind_in x (edits_in bs))
+        → line_to (edits_in bs) (Some r) ≡ own ++ line_to (edits_in bs) (rev_at stems o)
+    steps_line p r placed own rest is steps o behind =
+        let z = has_last r rest in
+        let told = behind z.0 (ap last_in is ∙ z.1) in
+        line_front (edits_in bs) legal r rest (known_is (edits_in bs) [] r (place_known p r placed))
+        (λ s t n. steps s t (subst (λ z. IsNext z s t) (sym is) n))
         z.0 z.1 (rev_at stems o) (ap (behind_in z.0) (all_of_one bs) ∙ sym told)
-        ∙ ap (λ q. q ++ line_to (edits_in bs) (rev_at stems o)) (sym f.1)
+        ∙ ap (λ q. q ++ line_to (edits_in bs) (rev_at stems o)) (sym is)
 
     -- a chain that has as many revisions as its newest's generation ends with the first one
     pub chain_ends : (k : ℕ) (stem : Stem) (g : ℕ) → slice_get stems k ≡ Some stem
@@ -324,30 +334,41 @@ module _ (stems : List Stem) (a : AreStems stems) where
         sym (ap (behind_in x) (sym (all_of_one bs))
         ∙ told_none (edits_in bs) legal x (chain_ends p.stem stem g e newest long p.at low x last))
 
-    -- a walk goes on behind a chain
+    -- where the whole chain ends with the first generation, the line is what the chain has from the place on
+    pub chain_long : (o : Option Place) (p : Place) → o ≡ Some p → (stem : Stem) (g : ℕ)
+        → slice_get stems p.stem ≡ Some stem → IsWithin stems p
+        → option_map (λ r. r.generation) (slice_get stem.revisions 0) ≡ Some g → g ≡ stem.reach
+        → length (line_to (edits_in bs) (rev_at stems o)) ≡ length (chain_from (chains_of stems) (Some p))
+    chain_long o p is stem g e w newest long =
+        let r = within_rev stems p w in
+        let f = first_from stems p r.0 a r.1 in
+        let chain = chain_from (chains_of stems) (Some p) in
+        ap (λ z. length (line_to (edits_in bs) (rev_at stems z))) is
+        ∙ ap (λ z. length (line_to (edits_in bs) z)) r.1
+        ∙ ap length (steps_line p r.0 r.1 chain f.0 f.1 (from_steps p w) None
+        (nothing_beyond p stem g e w newest long))
+        ∙ ap length (append-nil chain)
+
+    -- a walk goes on behind what a stem has from a place on
     module _ (o after : Option Place) (p : Place) (is : o ≡ Some p) (w : IsWithin stems p)
-        (behind : (x : Revision) → last_in (chain_from (chains_of stems) (Some p)) ≡ Some x
+        (behind : (x : Revision) → last_in (own_from stems p) ≡ Some x
         → rev_at stems after ≡ behind_in x (edits_in bs)) where
       pub walk_step : line_to (edits_in bs) (rev_at stems o)
-          ≡ chain_from (chains_of stems) (Some p) ++ line_to (edits_in bs) (rev_at stems after)
+          ≡ own_from stems p ++ line_to (edits_in bs) (rev_at stems after)
       walk_step =
           let r = within_rev stems p w in
           ap (λ z. line_to (edits_in bs) (rev_at stems z)) is
           ∙ ap (line_to (edits_in bs)) r.1
-          ∙ place_line p r.0 r.1 after behind
+          ∙ steps_line p r.0 r.1 (own_from stems p) _ (dropped_one (revisions_at stems p.stem) p.at r.0 r.1)
+          (own_steps p w) after behind
 
-      -- as long as the chain, and what is told behind it
+      -- as long as what it has, and what is told behind it
       pub walk_long : length (line_to (edits_in bs) (rev_at stems o))
-          ≡ length (chain_from (chains_of stems) (Some p)) + length
-          (line_to (edits_in bs) (rev_at stems after))
+          ≡ length (own_from stems p) + length (line_to (edits_in bs) (rev_at stems after))
       walk_long =
           ap length walk_step
-          ∙ length-append (chain_from (chains_of stems) (Some p)) (line_to (edits_in bs) (rev_at stems after))
+          ∙ length-append (own_from stems p) (line_to (edits_in bs) (rev_at stems after))
 
       pub walk_less : length (line_to (edits_in bs) (rev_at stems after))
           < length (line_to (edits_in bs) (rev_at stems o))
-      walk_less =
-          let r = within_rev stems p w in
-          let f = first_from stems p r.0 a r.1 in
-          let some : length (chain_from (chains_of stems) (Some p)) ≡ suc (length f.0) = ap length f.1 in
-          omega (arith, some, walk_long)
+      walk_less = omega (arith, walk_long, length-drop p.at (revisions_at stems p.stem), w)

@@ -23,5 +23,6 @@ pub mod KeyLemmas
 pub mod MeetLemmas
 pub mod BringLemmas
 pub mod StepLemmas
+pub mod WalkLemmas
 pub mod CommonLemmas
 pub mod CandidateLemmas

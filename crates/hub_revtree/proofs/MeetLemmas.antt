@@ -17,13 +17,13 @@ use Rattle.hub_revtree.specs.declared.stem.Place.{Place}
 use Rattle.hub_revtree.specs.Branch.{Branch, edit_of, edits_in}
 use Rattle.hub_revtree.specs.Common.{common, last_in}
 use Rattle.hub_revtree.specs.Stem.{Stem, AreStems, IsWithin, branches_of}
-use Rattle.hub_revtree.specs.Stem.{chain_from, chains_of, has_revision, rev_at}
+use Rattle.hub_revtree.specs.Stem.{has_revision, own_from, rev_at, revisions_at}
 use Rattle.hub_revtree.proofs.CommonLemmas.{common_some, none_of}
-use Rattle.hub_revtree.proofs.JoinLemmas.{brought_behind, from_branch, from_steps, last_append, next_taken}
+use Rattle.hub_revtree.proofs.JoinLemmas.{brought_behind, from_branch, last_append, next_taken, own_steps}
 use Rattle.hub_revtree.proofs.JoinLemmas.{next_whole, none_told_at, own as own_of, place_in, there}
 use Rattle.hub_revtree.proofs.LineLemmas.{has_last, told_behind, told_is}
 use Rattle.hub_revtree.proofs.RunLemmas.{dropped_one}
-use Rattle.hub_revtree.proofs.StemLemmas.{first_from, named_in, within_rev}
+use Rattle.hub_revtree.proofs.StemLemmas.{named_in, within_rev}
 use Rattle.hub_revtree.proofs.TreeLemmas.{all_of_one, known_by}
 
 -- ---- how far two lists are one
@@ -111,15 +111,6 @@ take_first : (n : ℕ) (revisions : List Revision) → 0 < n
 take_first zero revisions some = absurd (omega arith)
 take_first (suc n) [] some = refl
 take_first (suc n) (revision ∷ revisions) some = refl
-
--- a chain has a revision at least
-pub some_chain : (stems : List Stem) → AreStems stems → (place : Place) → IsWithin stems place
-    → 0 < length (chain_from (chains_of stems) (Some place))
-some_chain stems a place w =
-    let r = within_rev stems place w in
-    let f = first_from stems place r.0 a r.1 in
-    let long : length (chain_from (chains_of stems) (Some place)) ≡ suc (length f.0) = ap length f.1 in
-    omega (arith, long)
 
 -- ---- the look at a path, up to a place
 
@@ -234,10 +225,17 @@ module _ (stems : List Stem) (a : AreStems stems) (legal : IsLegal (edits_in (br
         | inr i ↦ i
       ]
 
-  -- a chain that the path follows
+  -- a stem that the path follows
   module _ (at : ℕ) (next : Option Place) (p : Place) (g : Goes stems path at next p) where
     abbrev chain : List Revision
-    chain = chain_from (chains_of stems) (Some p)
+    chain = own_from stems p
+
+    some_chain : 0 < length chain
+    some_chain = omega (arith, g.within, length-drop p.at (revisions_at stems p.stem))
+
+    begins_chain : (r : Revision) → rev_at stems (Some p) ≡ Some r
+        → chain ≡ r ∷ drop (suc p.at) (revisions_at stems p.stem)
+    begins_chain r e = dropped (revisions_at stems p.stem) p.at r e
 
     abbrev rest : List Revision
     rest = drop at path
@@ -256,7 +254,7 @@ module _ (stems : List Stem) (a : AreStems stems) (legal : IsLegal (edits_in (br
       c = common_some rest chain n (ap (λ z. common z chain) (sym (take_rest path at)) ∙ one)
 
       pub some_common : 0 < n
-      some_common = omega (arith, c.0, rest_long, some_chain stems a p g.within)
+      some_common = omega (arith, c.0, rest_long, some_chain)
 
       pub within_common : at + n ≤ length path
       within_common = omega (arith, c.0, length-drop at path, low)
@@ -271,8 +269,7 @@ module _ (stems : List Stem) (a : AreStems stems) (legal : IsLegal (edits_in (br
           here : rev_at stems (Some p) ≡ Some r
           here =
               let q = within_rev stems p g.within in
-              let f = first_from stems p q.0 a q.1 in
-              q.1 ∙ ap Some (same_Some q.0 r (sym (ap (λ z. slice_get z 0) f.1) ∙ first))
+              q.1 ∙ ap Some (same_Some q.0 r (sym (ap (λ z. slice_get z 0) (begins_chain q.0 q.1)) ∙ first))
 
           from : (o : Option Place) → next ≡ o → IfSome o (λ q. rev_at stems (Some q) ≡ Some r)
           from None q = tt
@@ -281,7 +278,7 @@ module _ (stems : List Stem) (a : AreStems stems) (legal : IsLegal (edits_in (br
       follows : (s r other : Revision) → IsNext (take n rest) s r → IsBehind es [] other s → r ≡ other
       follows s r other i b =
           (legal_sound es legal).tree [] r other s
-          (from_steps stems a p g.within s r (next_taken n chain s r (subst (λ z. IsNext z s r) c.1 i))) b
+          (own_steps stems a p g.within s r (next_taken n chain s r (subst (λ z. IsNext z s r) c.1 i))) b
 
       pub all_agree : at + n ≡ length path → (s r other : Revision) → IsNext path s r → IsBehind es [] other s
           → r ≡ other
@@ -306,10 +303,10 @@ module _ (stems : List Stem) (a : AreStems stems) (legal : IsLegal (edits_in (br
           ends : last_in (take (at + n) path) ≡ last_in chain
           ends =
               let r = within_rev stems p g.within in
-              let f = first_from stems p r.0 a r.1 in
-              ap last_in (take_parts at n path ∙ ap (λ z. take at path ++ z) (whole ∙ f.1))
-              ∙ last_append (take at path) r.0 f.0
-              ∙ ap last_in (sym f.1)
+              let f = begins_chain r.0 r.1 in
+              ap last_in (take_parts at n path ∙ ap (λ z. take at path ++ z) (whole ∙ f))
+              ∙ last_append (take at path) r.0 (drop (suc p.at) (revisions_at stems p.stem))
+              ∙ ap last_in (sym f)
 
     -- a path that differs from it agrees with none
     pub differs : IsHistory path → common (take (length path - at) rest) chain ≡ None
@@ -317,15 +314,16 @@ module _ (stems : List Stem) (a : AreStems stems) (legal : IsLegal (edits_in (br
     differs history none = elim (cases_Bool (list_all (λ b. agrees path b.path) (branches_of stems))) [
       | inl all ↦ absurd (
           let r = within_rev stems p g.within in
-          let f = first_from stems p r.0 a r.1 in
+          let f = begins_chain r.0 r.1 in
+          let behind = drop (suc p.at) (revisions_at stems p.stem) in
           let d = dropped path at g.first g.here in
           let same : r.0 ≡ g.first = begun all r.0 r.1 in
-          common_agrees g.first (drop (suc at) path) f.0 (λ s t other n m.
+          common_agrees g.first (drop (suc at) path) behind (λ s t other n m.
           steps_agree all s t other (next_whole at path s t (subst (λ z. IsNext z s t) (sym d) n))
-          (from_steps stems a p g.within s other
-          (subst (λ z. IsNext z s other) (sym (f.1 ∙ ap (λ v. v ∷ f.0) same)) m)))
+          (own_steps stems a p g.within s other
+          (subst (λ z. IsNext z s other) (sym (f ∙ ap (λ v. v ∷ behind) same)) m)))
           (ap₂ (λ (u : List Revision) (v : List Revision). common u v) (sym (take_rest path at ∙ d))
-          (sym (f.1 ∙ ap (λ v. v ∷ f.0) same))
+          (sym (f ∙ ap (λ v. v ∷ behind) same))
           ∙ none))
       | inr some ↦ sym some
     ]

@@ -316,36 +316,6 @@ module _ (revision : Revision) where
       ≡ option_map tip_in (find (λ s. is_first revision s.revisions) stems)
   headed_in = from_end AreHeaded (λ a. refl) headed_more
 
--- a walk goes from a place to where its stem stands
-module _ (stems : List Stem) (a : AreStems stems) (maybe_place : Option Place) (place : Place) (stem : Stem)
-    (w : IfSome maybe_place (IsWithin stems)) (is : maybe_place ≡ Some place)
-    (item : stem ≡ get_or stems place.stem stem) where
-  at_place : IsWithin stems place
-  at_place = rw is at w
-
-  stem_there : slice_get stems place.stem ≡ Some stem
-  stem_there =
-      let i = within_stem stems place at_place in
-      i.1 ∙ ap Some (sym (item ∙ get_or_from_slice_get stems place.stem i.0 stem i.1))
-
-  pub walk_on : chain_from (chains_of stems) maybe_place ≡ drop place.at stem.revisions
-      ++ chain_from (chains_of stems) stem.parent
-  walk_on = ap (chain_from (chains_of stems)) is ∙ rest_at stems place stem a stem_there at_place
-
-  pub walk_next : IfSome stem.parent (IsWithin stems)
-  walk_next = from stem.parent refl
-    where
-      from : (q : Option Place) → stem.parent ≡ q → IfSome q (IsWithin stems)
-      from None e = tt
-      from (Some q) e = (a.earlier place.stem stem q stem_there e).1
-
-  pub walk_ends : steps_left stem.parent < steps_left maybe_place
-  walk_ends = rw is (from stem.parent refl)
-    where
-      from : (q : Option Place) → stem.parent ≡ q → steps_left q < place.stem + 1
-      from None e = omega arith
-      from (Some q) e = let low = (a.earlier place.stem stem q stem_there e).0 in omega (arith, low)
-
 -- a stem as it is lent
 pub tip_shown : (stem : Stem) (revision : Revision) (deleted : Bool) (body : List ℕ)
     → slice_get stem.revisions 0 ≡ Some revision
@@ -541,3 +511,10 @@ pub none_long : (stems : List Stem) → AreStems stems
     → (rev : Revision) → None ≡ find (λ stem. is_first rev stem.revisions) stems
     → option_map (λ b. length b.path) (find (λ b. is_first rev b.path) (branches_of stems)) ≡ None
 none_long stems a rev e = long_in rev stems a ∙ ap (option_map (λ (stem : Stem). stem.count)) (sym e)
+
+-- a stem that is read at a place
+pub stem_there : (stems : List Stem) (place : Place) (stem : Stem) → IsWithin stems place
+    → stem ≡ get_or stems place.stem stem → slice_get stems place.stem ≡ Some stem
+stem_there stems place stem w is =
+    let i = within_stem stems place w in
+    read_stem stems place.stem stem (slice_get_within stems place.stem i.0 i.1) is

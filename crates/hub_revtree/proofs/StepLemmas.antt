@@ -169,52 +169,6 @@ module _ (stems : List Stem) (a : AreStems stems) (k : ℕ) (s : Stem)
             (ap (λ o. s.revisions ++ one_of (rev_at stems o)) q ∙ append-nil s.revisions)
             (subst (λ (z : Stem). IsNext (own_path stems z) revision r) (same_Some stem s (sym f ∙ e)) n))
 
--- ---- the end of a chain
-
--- the last of a chain is that of the one that it stands on
-pub end_below : (stems : List Stem) → AreStems stems
-    → (k : ℕ) (stem : Stem) (place : Place) → slice_get stems k ≡ Some stem → stem.parent ≡ Some place
-    → (place.stem < k)
-    × (last_in (whole_in (slice_get (chains_of stems) k)) ≡ last_in
-    (whole_in (slice_get (chains_of stems) place.stem)))
-end_below stems a k stem place e q =
-    let before = a.earlier k stem place e q in
-    let r = within_rev stems place before.1 in
-    let f = first_from stems place r.0 a r.1 in
-    let i = within_stem stems place before.1 in
-    let long : place.at < length (whole_in (slice_get (chains_of stems) place.stem)) =
-    let same = ap (λ o. length (whole_in o)) (chained_at stems a place.stem i.0 i.1) in
-    omega (arith, same, length-append i.0.revisions (chain_from (chains_of stems) i.0.parent), i.2) in (
-      before.0,
-      ap (λ o. last_in (whole_in o)) (chained_at stems a k stem e)
-          ∙ ap (λ o. last_in (stem.revisions ++ chain_from (chains_of stems) o)) q
-          ∙ ap (λ z. last_in (stem.revisions ++ z)) f.1
-          ∙ last_append stem.revisions r.0 f.0
-          ∙ ap last_in (sym f.1)
-          ∙ last_left place.at (whole_in (slice_get (chains_of stems) place.stem)) long,
-    )
-
--- and where it stands on none, that of its own revisions
-pub end_here : (stems : List Stem) → AreStems stems → (k : ℕ) (stem : Stem) (revision : Revision)
-    → slice_get stems k ≡ Some stem → stem.parent ≡ None
-    → slice_get stem.revisions (length stem.revisions - 1) ≡ Some revision
-    → last_in (whole_in (slice_get (chains_of stems) k)) ≡ Some revision
-end_here stems a k stem revision e q last =
-    ap (λ o. last_in (whole_in o)) (chained_at stems a k stem e)
-    ∙ ap (λ o. last_in (stem.revisions ++ chain_from (chains_of stems) o)) q
-    ∙ ap last_in (append-nil stem.revisions)
-    ∙ last_at stem.revisions (length stem.revisions - 1) revision last (omega arith)
-
--- a chain from a place on ends where the whole one does
-pub end_from : (stems : List Stem) → AreStems stems → (place : Place) → IsWithin stems place
-    → last_in (chain_from (chains_of stems) (Some place)) ≡ last_in
-    (whole_in (slice_get (chains_of stems) place.stem))
-end_from stems a place w =
-    let i = within_stem stems place w in
-    last_left place.at (whole_in (slice_get (chains_of stems) place.stem))
-    (let same = ap (λ o. length (whole_in o)) (chained_at stems a place.stem i.0 i.1) in
-    omega (arith, same, length-append i.0.revisions (chain_from (chains_of stems) i.0.parent), i.2))
-
 -- what has another behind it is a stem's own
 pub brought_has : (stems : List Stem) (other revision : Revision) → (b : IsBrought stems other revision)
     → names (revisions_at stems b.0) revision ≡ true

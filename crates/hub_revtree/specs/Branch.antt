@@ -11,11 +11,6 @@ pub record Branch : Type 0 where
   pub deleted : Bool
   pub body : List ℕ
 
--- the stored edits in the order in which they were taken, and for how many more there is memory
-pub record Storage : Type 0 where
-  pub list : List Branch
-  pub spare : ℕ
-
 -- a branch as an edit, its document's id left out
 abbrev pub edit_of : Branch → Edit
 edit_of branch = record { id = []; path = branch.path; deleted = branch.deleted; body = branch.body }

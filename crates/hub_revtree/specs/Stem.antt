@@ -12,7 +12,7 @@
 -- 5-e.
 use Rattle.std.specs.Prelude.{◌≡◌, ℕ, ◌<◌, ◌≤◌, List, [], ◌∷◌, ◌++◌, length}
 use Rattle.std.specs.Prelude.{drop, take, map, slice_get, Option, Some, None}
-use Rattle.std.specs.Prelude.{Bool, true, false, ◌||◌}
+use Rattle.std.specs.Prelude.{Bool, true, false, ◌||◌, IfSome, IfNone}
 use Rattle.std.specs.List.{list_any}
 use Rattle.hub_model.specs.Revision.{Revision}
 use Rattle.hub_model.specs.Path.{IsNext, IsPath, names, is_first}
@@ -96,6 +96,13 @@ branch_of chain =
 abbrev pub branches_of : List Stem → List Branch
 branches_of stems = map branch_of (chains_of stems)
 
+-- the stored edits in the order in which they were taken, what each of them brought, and for how many more
+-- there is memory
+pub record Storage : Type 0 where
+  pub list : List Branch
+  pub stems : List Stem
+  pub spare : ℕ
+
 -- whether one of the stems has revision
 abbrev pub has_revision : List Stem → Revision → Bool
 has_revision stems revision = list_any (λ s. names s.revisions revision) stems
@@ -103,6 +110,10 @@ has_revision stems revision = list_any (λ s. names s.revisions revision) stems
 -- the stem of this number has a revision at this place
 abbrev pub IsWithin : List Stem → Place → Type 0
 IsWithin stems place = place.at < length (revisions_at stems place.stem)
+
+-- the revisions that a stem has from the place on
+abbrev pub own_from : List Stem → Place → List Revision
+own_from stems place = drop place.at (revisions_at stems place.stem)
 
 -- each stem has a revision at least, and their generations fall by one; its newest is none of an earlier
 -- one's, and where it joins none, none of the others is; it stands on a place of an earlier one, whose
@@ -155,6 +166,12 @@ abbrev pub IsBehind : List Stem → Revision → Place → Type 0
 IsBehind stems other place =
     IsWithin stems place
     × ((revision : Revision) → StandsAt stems revision place → IsBrought stems revision other)
+
+-- what a look finds directly behind other: a place that is behind it, as above; none where no stem brought
+-- what stands there
+pub record IsFoundBehind (stems : List Stem) (other : Revision) (found : Option Place) : Type 0 where
+  pub place : IfSome found (IsBehind stems other)
+  pub none : IfNone found ((revision : Revision) → ¬ IsBrought stems revision other)
 
 -- whether revision is the revision at the place, if there is one
 abbrev pub is_at : List Stem → Revision → Option Place → Bool

@@ -1,25 +1,22 @@
 //! The stored edits of a document, which share what stands behind them.
 
 ghost use Rattle.std.specs.Prelude.{◌≡◌, ◌≤◌, ◌<◌, ◌+◌, ◌++◌, ◌∷◌, List, Some, [], ◌-◌, ◌^◌, length, map};
-ghost use Rattle.std.specs.Prelude.{min, take, is_some, false, find, not, ◌&&◌, option_map, option_and_then};
-ghost use Rattle.std.specs.Prelude.{slice_get, IfNone, IfSome, IfOk, IsTrue, OnOk, OnErr, true};
-ghost use Rattle.std.specs.List.{list_any, list_all};
+ghost use Rattle.std.specs.Prelude.{min, take, false, find, not, ◌&&◌, option_map, option_and_then};
+ghost use Rattle.std.specs.Prelude.{slice_get, IfNone, IfSome, IfOk, OnOk, OnErr, true};
+ghost use Rattle.std.specs.List.{list_any};
 ghost use Rattle.hex.specs.Hex.{encode_lower};
 ghost use Rattle.hub_model.specs.Journal.{IsAcceptable, IsLegal};
 ghost use Rattle.hub_model.specs.Leaves.{is_behind_head as stands_behind_head};
-ghost use Rattle.hub_model.specs.Missing.{highest as highest_of, missing as missing_from};
-ghost use Rattle.hub_model.specs.Path.{IsHistory, IsPath, agrees as agrees_with, is_first, names};
+ghost use Rattle.hub_model.specs.Missing.{highest as highest_of};
+ghost use Rattle.hub_model.specs.Path.{is_first, names};
 ghost use Rattle.hub_revtree.specs.Winner.{IsHeadAt, head_in};
 ghost use Rattle.hub_revtree.specs.Branch.{edit_of, edits_in, unnamed_in};
 ghost use Rattle.hub_revtree.specs.Candidates.{AreCandidates, candidates_in};
 ghost use Rattle.hub_revtree.specs.Count.{revision_count as count_of};
 ghost use Rattle.hub_revtree.specs.Extend.{line_to};
 ghost use Rattle.hub_revtree.specs.Index.{IsIndexed};
-ghost use Rattle.hub_model.specs.Revision.{Revision};
-ghost use Rattle.hub_revtree.specs.Lookup.{AreIndexed};
 ghost use Rattle.hub_revtree.specs.Mark.{AreStemsOf};
-ghost use Rattle.hub_revtree.specs.Common.{last_in};
-ghost use Rattle.hub_revtree.specs.Stem.{Stem, AreStems, IsBrought, branches_of};
+ghost use Rattle.hub_revtree.specs.Stem.{Stem, AreStems, branches_of};
 ghost use Rattle.hub_revtree.specs.Tree.{nameless, tip, tip_of};
 
 use crate::candidates::Candidates;
@@ -29,11 +26,8 @@ use crate::leaf::Winner;
 use crate::line::Line;
 use crate::run::Run;
 use crate::stem::{Standing, Stem};
-use crate::stems::{
-    Meeting, agreeing, append_digests, append_from, headed, is_newest, line_length, met_by, new_in,
-    place_behind, place_of, place_up_to,
-};
-use hub_document::{Body, Path, RevId};
+use crate::stems::{Meeting, headed, is_newest, new_in};
+use hub_document::{Body, RevId};
 use std::alloc::{AllocError, Global};
 use std::marker::Model;
 
@@ -41,17 +35,17 @@ use std::marker::Model;
 /// shares those behind them with the edit that brought these. What a find costs stands at `RevTree`.
 #[derive(Debug, Drop)]
 pub(crate) struct Branches {
-    stems: Vec<Stem>,
+    pub(crate) stems: Vec<Stem>,
     /// The highest generation of their revisions; 0 where there is none.
-    highest: u16,
+    pub(crate) highest: u16,
     /// Where their revisions stand, and the newest one's path; None where they are few, and where it found no
     /// memory.
-    index: Option<Box<Index>>,
+    pub(crate) index: Option<Box<Index>>,
 }
 
 impl Model for Branches {
     ghost use Rattle.std.specs.Prelude.{◌-◌, vec_len, vec_capacity, option_map};
-    ghost use Rattle.hub_revtree.specs.Branch.{Storage};
+    ghost use Rattle.hub_revtree.specs.Stem.{Storage};
 
     ghost Value = { Storage };
 
@@ -64,7 +58,11 @@ impl Model for Branches {
     ghost use Rattle.hub_revtree.specs.Stem.{AreStems, AreUpTo, branches_of};
 
     ghost view = { λ a.
-        record { list = branches_of a.stems.items; spare = vec_capacity a.stems - vec_len a.stems } };
+        record {
+          list = branches_of a.stems.items;
+          stems = a.stems.items;
+          spare = vec_capacity a.stems - vec_len a.stems;
+        } };
 
     ghost invariant = { λ a. AreStems a.stems.items × AreUpTo a.stems.items a.highest
         × IsIndexed (option_map (λ i. i.value) a.index) a.stems.items × AreMarked a.stems.items
@@ -73,8 +71,8 @@ impl Model for Branches {
         × IsLegal (edits_in (branches_of a.stems.items)) };
 }
 
-// The index as it is lent, if there is one.
-fn lent(index: &Option<Box<Index>>) -> Option<&Index>
+/// The index as it is lent, if there is one.
+pub(crate) fn lent(index: &Option<Box<Index>>) -> Option<&Index>
     ensures { option_map (λ i. i.now) result ≡ option_map (λ i. i.value) index.now }
 {
     match index {
@@ -113,20 +111,6 @@ fn without_line(index: Option<Box<Index>>) -> Option<Box<Index>>
         }
         None => None,
     }
-}
-
-// Whether nothing stands behind the path's last revision. Constant time where that is of the first
-// generation; else it costs what `place_behind` does.
-fn ends(stems: &[Stem], index: Option<&Index>, path: &Run) -> bool
-    requires indexed { AreIndexed stems.now (option_map (λ i. i.now) index) }
-    requires legal { IsLegal (edits_in (branches_of stems.now)) }
-    requires path { IsPath path.now }
-    ensures { IsTrue result → (x r : Revision) → last_in path.now ≡ Some x → ¬ IsBrought stems.now r x }
-{
-    if path.len() == usize::from(path.generation()) {
-        return true;
-    }
-    place_behind(stems, index, &path.at(path.len() - 1)).is_none()
 }
 
 // How a path of so many revisions goes on behind those that its stem keeps.
@@ -237,7 +221,7 @@ impl Branches {
     pub(crate) fn is_named(&self, rev: &RevId) -> bool
         ensures { result ≡ list_any (λ b. names b.path rev.now) self.now.list }
     {
-        place_up_to(self.stems.as_slice(), lent(&self.index), self.highest, rev).is_some()
+        self.place(rev).is_some()
     }
 
     /// Whether the revision of the edit of this number stands behind a head. Constant time.
@@ -262,54 +246,6 @@ impl Branches {
         }
     }
 
-    /// How many revisions this one and all that stand behind it are; 0 where no path names it. It costs a
-    /// find; and for each chain that ends above the first generation a step a stem of it, and a find.
-    pub(crate) fn line_length(&self, rev: &RevId) -> u16
-        ensures { result ≡ length (line_to (edits_in self.now.list) (Some rev.now)) }
-    {
-        // They are no more than the revision's generation.
-        let _revisions_at_most = rev.generation();
-        let index = lent(&self.index);
-        match place_of(self.stems.as_slice(), index, rev) {
-            Some(place) => line_length(self.stems.as_slice(), index, place),
-            None => 0,
-        }
-    }
-
-    /// Puts the revision and all that stands behind it behind what the vector holds; nothing where no
-    /// path names it. It costs a find, the length of what it puts there, and for each join of the line a look
-    /// for the edit that goes on: two looks in the index, or a look at each edit where there is none.
-    pub(crate) fn append_line(&self, rev: &RevId, line: &mut Vec<RevId>) -> Result<(), AllocError>
-        ensures { OnOk result
-            (line.new.items ≡ line.old.items ++ line_to (edits_in self.now.list) (Some rev.now)) }
-    {
-        let index = lent(&self.index);
-        match place_of(self.stems.as_slice(), index, rev) {
-            Some(place) => append_from(self.stems.as_slice(), index, place, line),
-            None => Ok(()),
-        }
-    }
-
-    /// Puts the digests of the revision and of all that stands behind it behind what the vector holds;
-    /// false, and nothing or some of them, where one is kept otherwise; nothing where no path names it. It
-    /// costs a find, and a copy of 16 bytes for each.
-    pub(crate) fn append_digests(
-        &self,
-        rev: &RevId,
-        digests: &mut Vec<[u8; 16]>,
-    ) -> Result<bool, AllocError>
-        ensures { IfOk result (λ all. IsTrue all
-            → map encode_lower digests.new.items
-            ≡ map encode_lower digests.old.items
-            ++ map (λ r. r.hash) (line_to (edits_in self.now.list) (Some rev.now))) }
-    {
-        let index = lent(&self.index);
-        match place_of(self.stems.as_slice(), index, rev) {
-            Some(place) => append_digests(self.stems.as_slice(), index, place, digests),
-            None => Ok(true),
-        }
-    }
-
     /// Whether an edit of many revisions shares those that stand behind it with the next ones.
     pub(crate) fn shares_lines(&self) -> bool {
         self.index.is_some()
@@ -327,22 +263,6 @@ impl Branches {
             return None;
         }
         Some(line)
-    }
-
-    /// Of a path that agrees with all stored ones, how many of its revisions its edit is to keep: all up to
-    /// the last that is new, or behind which no edit has the next one. None where it does not agree. It costs
-    /// what `agreeing` does.
-    pub(crate) fn new_count(&self, path: &Path) -> Option<usize>
-        requires { IsHistory path.now }
-        ensures agrees { is_some result ≡ list_all (λ b. agrees_with path.now b.path) self.now.list }
-        ensures within { IfSome result (λ n. (1 ≤ n) × (n ≤ length path.now)) }
-    {
-        agreeing(
-            self.stems.as_slice(),
-            lent(&self.index),
-            self.highest,
-            path.revisions(),
-        )
     }
 
     /// The candidates for the best leaf, which are no longer kept; none where there is no index.
@@ -390,10 +310,9 @@ impl Branches {
         requires room { 1 ≤ self.old.spare }
         ensures { edits_in self.new.list ≡ edits_in self.old.list ++ nameless path deleted body ∷ [] }
     {
-        let stems = self.stems.as_slice();
-        let met = met_by(stems, lent(&self.index), self.highest, &path);
+        let met = self.met_by(&path);
         let newest = path.generation();
-        let whole = ends(stems, lent(&self.index), &path);
+        let whole = self.behind_last(&path).is_none();
         self.highest = newest.max(self.highest);
         let standing = standing_of(&met, path.len());
         let index = without_line(self.index.take());

@@ -1,6 +1,6 @@
 //! Runs of revisions, in little memory.
 
-ghost use Rattle.std.specs.Prelude.{◌≡◌, ◌≤◌, ◌<◌, ◌++◌, ◌∷◌, ◌-◌, [], ◌&&◌, nat_eq, List};
+ghost use Rattle.std.specs.Prelude.{◌≡◌, ◌≤◌, ◌<◌, ◌++◌, ◌∷◌, ◌-◌, ◌^◌, [], ◌&&◌, nat_eq, List};
 ghost use Rattle.std.specs.Prelude.{length, min, Some, false, drop, map, option_map, slice_get};
 ghost use Rattle.std.specs.Prelude.{take, IfSome, IfNone, IfOk, IsSomeAnd, IsTrue, OnErr, OnOk};
 ghost use Rattle.std.specs.Str.{bytes_eq};
@@ -323,6 +323,7 @@ impl Run {
     pub(crate) fn position(&self, sought: &Sought) -> Option<u16>
         ensures found { IfSome result (λ k. slice_get self.now k ≡ Some sought.now) }
         ensures absent { IfNone result (names self.now sought.now ≡ false) }
+        ensures low { IfSome result (λ k. k < 2 ^ 16 - 1) }
     {
         if let Kept::One(newest, digest) = &self.kept {
             return is_of(*newest, digest, sought).then_some(0);

@@ -22,27 +22,7 @@ returns-in_err-at-clause-none c =
     (rw c.run-run.ensures at c.in_err-at.ensures.absent)) r)
 
 pub overflow_add-result : goal.overflow_add-result
-overflow_add-result c =
-    let there =
-    read_stem c.args.stems.now c.args.number c.index-stems-number.result c.requires.within
-    c.index-stems-number.is in
-    let newest =
-    newest_of c.index-stems-number.result.revisions c.generation-revisions_at_most.result
-    (rw c.run-run.ensures at c.generation-revisions_at_most.ensures) in
-    let few =
-    within_generation c.index-stems-number.result.revisions newest.0
-    (record { falls = c.requires.stems.falling c.args.number c.index-stems-number.result there }) newest.1 in
-    grind (
-      arith,
-      common_steps,
-      few,
-      newest.2,
-      c.generation-revisions_at_most.auto,
-      c.if-from-len.true,
-      c.from.ensures,
-      c.len.ensures,
-      ap length c.run-run.ensures,
-    )
+overflow_add-result c = omega (arith, c.in_ok-at.ensures.low)
 
 pub returns-then-from-len-clause-found : goal.returns-then-from-len-clause-found
 returns-then-from-len-clause-found c =

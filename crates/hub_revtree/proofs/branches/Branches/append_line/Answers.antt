@@ -1,23 +1,60 @@
-use Rattle.std.proofs.Common.{sym, append-nil}
-use Rattle.hub_revtree.proofs.JoinLemmas.{no_line}
-use Rattle.hub_revtree.proofs.StemLemmas.{rev_within}
+use Rattle.std.proofs.Common.{◌≡◌, ◌++◌, ◌∙◌, ap, append_assoc, get_or, refl, subst, sym}
+use Rattle.std.specs.Prelude.{Some, slice_get}
+use Rattle.hub_revtree.specs.Branch.{edits_in}
+use Rattle.hub_revtree.specs.Extend.{line_to}
+use Rattle.hub_revtree.specs.Stem.{Storage, own_from, rev_at}
+use Rattle.hub_revtree.proofs.StemLooks.{stem_there}
+use Rattle.hub_revtree.proofs.WalkLemmas.{IsStored, begins_within, line_begins, line_less, line_step, own_is}
 use Rattle.hub_revtree.proofs.branches.Branches.append_line.Goals as goal
 
-pub append_from-requires : goal.append_from-requires
-append_from-requires c =
-    rw c.as_slice-in-Some.ensures.value
-    (record {
-      stems = c.self.invariant.0;
-      index = rw c.lent-index.ensures c.self.invariant.2;
-      legal = c.self.invariant.5;
-      within =
-          rev_within c.self.inside.stems.items c.in-Some.place c.args.rev.now
-          (rw c.as_slice.ensures.value at c.in-Some.ensures.found);
-    })
+pub loop-next-init : goal.loop-next-init
+loop-next-init c =
+    let s = c.args.self.now in
+    let k : IsStored s =
+    subst IsStored c.self.view_is
+    (record { stems = c.self.invariant.0; shown = refl; legal = c.self.invariant.5 }) in
+    record {
+      within = begins_within s k c.args.rev.now c.place-next.result c.place-next.ensures.found;
+      whole = ap (λ z. c.args.line.now.items ++ z)
+          (line_begins s k c.args.rev.now c.place-next.result c.place-next.ensures.found
+          c.place-next.ensures.none);
+    }
 
-pub returns-in-None : goal.returns-in-None
-returns-in-None c =
-    let none =
-    no_line c.self.inside.stems.items c.self.invariant.0 c.args.rev.now
-    (rw c.as_slice.ensures.value at c.in-None.ensures.none) in
-    rw (sym c.self.view_is, none) (sym (append-nil c.args.line.now.items))
+pub after-next-requires : goal.after-next-requires
+after-next-requires c = rw c.in-Some.is at c.loop-next.invariant.within
+
+pub loop-next-smaller : goal.loop-next-smaller
+loop-next-smaller c =
+    let s = c.args.self.now in
+    let k : IsStored s =
+    subst IsStored c.self.view_is
+    (record { stems = c.self.invariant.0; shown = refl; legal = c.self.invariant.5 }) in
+    line_less s k c.loop-next.next c.after-next.result c.in-Some.place c.in-Some.is
+    (rw c.in-Some.is at c.loop-next.invariant.within) c.after-next.ensures.behind
+
+pub loop-next-preserved : goal.loop-next-preserved
+loop-next-preserved c =
+    let s = c.args.self.now in
+    let k : IsStored s =
+    subst IsStored c.self.view_is
+    (record { stems = c.self.invariant.0; shown = refl; legal = c.self.invariant.5 }) in
+    let same : c.as_slice-stems.result.now ≡ s.stems =
+    c.as_slice-stems.ensures.value ∙ ap (λ (z : Storage). z.stems) c.self.view_is in
+    let w = rw c.in-Some.is at c.loop-next.invariant.within in
+    let stem = c.index-stems-place.result in
+    let there =
+    stem_there s.stems c.in-Some.place stem w
+    (subst (λ xs. stem ≡ get_or xs c.in-Some.place.stem stem) same c.index-stems-place.is) in
+    let rest = line_to (edits_in s.list) (rev_at s.stems c.after-next.result) in
+    record {
+      within = c.after-next.ensures.within;
+      whole =
+          ap (λ z. z ++ rest)
+          (rw (c.from.ensures, c.run-run.ensures) at c.in_ok-append_from.ensures
+          ∙ ap (λ z. c.loop-next.line.items ++ z) (sym (own_is s k c.in-Some.place w stem there)))
+          ∙ append_assoc c.loop-next.line.items (own_from s.stems c.in-Some.place) rest
+          ∙ ap (λ z. c.loop-next.line.items ++ z)
+          (sym (line_step s k c.loop-next.next c.after-next.result c.in-Some.place c.in-Some.is w
+          c.after-next.ensures.behind))
+          ∙ c.loop-next.invariant.whole;
+    }

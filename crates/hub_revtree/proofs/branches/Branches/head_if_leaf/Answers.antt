@@ -1,5 +1,5 @@
 use Rattle.std.proofs.Common.{◌∙◌, sym, ap, arith}
-use Rattle.hub_revtree.specs.Branch.{Storage}
+use Rattle.hub_revtree.specs.Stem.{Storage}
 use Rattle.hub_revtree.proofs.MarkLemmas.{inner_at, inner_head}
 use Rattle.hub_revtree.proofs.StemLooks.{low_stem, read_stem}
 use Rattle.hub_revtree.proofs.branches.Branches.head_if_leaf.Goals as goal

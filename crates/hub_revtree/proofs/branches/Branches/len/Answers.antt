@@ -1,5 +1,5 @@
 use Rattle.std.proofs.Common.{◌∙◌, ap, sym, length}
-use Rattle.hub_revtree.specs.Branch.{Storage}
+use Rattle.hub_revtree.specs.Stem.{Storage}
 use Rattle.hub_revtree.proofs.StemLemmas.{as_many}
 use Rattle.hub_revtree.proofs.branches.Branches.len.Goals as goal
 

@@ -2,11 +2,12 @@ use Rattle.std.proofs.Common.{◌≡◌, ◌++◌, ◌∷◌, [], ◌∙◌, ref
 use Rattle.hub_model.proofs.Legal.{legal_more}
 use Rattle.hub_revtree.specs.Branch.{edits_in}
 use Rattle.hub_revtree.specs.Index.{IsNewestLine}
+use Rattle.hub_revtree.specs.Lookup.{IsMeeting}
 use Rattle.hub_revtree.specs.Stem.{Stem, branches_of}
 use Rattle.hub_revtree.specs.Tree.{nameless}
 use Rattle.hub_revtree.proofs.BranchLemmas.{within_generation}
-use Rattle.hub_revtree.proofs.BringLemmas.{Brings, Meets, brought_edit, brought_line, brought_stems}
-use Rattle.hub_revtree.proofs.BringLemmas.{met_brings, reach_low, some_kept, stands_low, take_falls}
+use Rattle.hub_revtree.proofs.BringLemmas.{Brings, brought_edit, brought_line, brought_stems}
+use Rattle.hub_revtree.proofs.BringLemmas.{met_brings, none_behind, reach_low, some_kept, stands_low, take_falls}
 use Rattle.hub_revtree.proofs.CandidateLemmas.{candidates_more}
 use Rattle.hub_revtree.proofs.HighestLemmas.{up_to_more}
 use Rattle.hub_revtree.proofs.MarkLemmas.{branches_same, indexed_front, line_same, marked_more}
@@ -14,6 +15,9 @@ use Rattle.hub_revtree.proofs.MarkLemmas.{plain_more, stems_same, up_to_same, wi
 use Rattle.hub_revtree.proofs.RunLemmas.{newest_of}
 use Rattle.hub_revtree.proofs.branches.Branches.push.Goals as goal
 use Rattle.hub_revtree.proofs.branches.Branches.push.Goals.{Joined-drop, then-whole, else-whole}
+
+pub behind_last-requires : goal.behind_last-requires
+behind_last-requires c = c.requires.acceptable.history.falls
 
 pub standing_of-standing-requires-clause-short : goal.standing_of-standing-requires-clause-short
 standing_of-standing-requires-clause-short c =
@@ -25,18 +29,9 @@ standing_of-standing-requires-clause-reach c =
     let xs = c.self.inside.stems.items in
     let legal = c.self.invariant.5 in
     let ok = rw (sym c.self.view_is) at c.requires.acceptable in
-    let met = rw c.as_slice-stems.ensures.value at c.met_by-met.ensures in
-    let is : Meets xs c.args.path c.met_by-met.result.at c.met_by-met.result.place c.met_by-met.result.behind
-    c.met_by-met.result.joins =
-    record {
-      kept = met.kept;
-      within = met.within;
-      same = met.same;
-      long = met.behind;
-      rest = met.rest;
-      none = met.none;
-      fresh = met.fresh;
-    } in
+    let is : IsMeeting xs c.args.path c.met_by-met.result.at c.met_by-met.result.place
+    c.met_by-met.result.behind c.met_by-met.result.joins =
+    rw (sym c.self.view_is) at c.met_by-met.ensures in
     let head = newest_of c.args.path c.generation-newest.result c.generation-newest.ensures in
     let low =
     reach_low xs c.self.invariant.0 legal c.args.path c.args.deleted c.args.body
@@ -48,18 +43,9 @@ kept-run-requires-clause-some c =
     let xs = c.self.inside.stems.items in
     let legal = c.self.invariant.5 in
     let ok = rw (sym c.self.view_is) at c.requires.acceptable in
-    let met = rw c.as_slice-stems.ensures.value at c.met_by-met.ensures in
-    let is : Meets xs c.args.path c.met_by-met.result.at c.met_by-met.result.place c.met_by-met.result.behind
-    c.met_by-met.result.joins =
-    record {
-      kept = met.kept;
-      within = met.within;
-      same = met.same;
-      long = met.behind;
-      rest = met.rest;
-      none = met.none;
-      fresh = met.fresh;
-    } in
+    let is : IsMeeting xs c.args.path c.met_by-met.result.at c.met_by-met.result.place
+    c.met_by-met.result.behind c.met_by-met.result.joins =
+    rw (sym c.self.view_is) at c.met_by-met.ensures in
     some_kept xs c.self.invariant.0 legal c.args.path c.args.deleted c.args.body ok _ _ _ _ is
 
 pub new-requires-clause-path : goal.new-requires-clause-path
@@ -67,18 +53,9 @@ new-requires-clause-path c =
     let xs = c.self.inside.stems.items in
     let legal = c.self.invariant.5 in
     let ok = rw (sym c.self.view_is) at c.requires.acceptable in
-    let met = rw c.as_slice-stems.ensures.value at c.met_by-met.ensures in
-    let is : Meets xs c.args.path c.met_by-met.result.at c.met_by-met.result.place c.met_by-met.result.behind
-    c.met_by-met.result.joins =
-    record {
-      kept = met.kept;
-      within = met.within;
-      same = met.same;
-      long = met.behind;
-      rest = met.rest;
-      none = met.none;
-      fresh = met.fresh;
-    } in
+    let is : IsMeeting xs c.args.path c.met_by-met.result.at c.met_by-met.result.place
+    c.met_by-met.result.behind c.met_by-met.result.joins =
+    rw (sym c.self.view_is) at c.met_by-met.ensures in
     let some = some_kept xs c.self.invariant.0 legal c.args.path c.args.deleted c.args.body ok _ _ _ _ is in
     rw c.kept-run.ensures.run
     (take_falls c.met_by-met.result.at c.args.path
@@ -89,18 +66,9 @@ new-requires-clause-stands c =
     let xs = c.self.inside.stems.items in
     let legal = c.self.invariant.5 in
     let ok = rw (sym c.self.view_is) at c.requires.acceptable in
-    let met = rw c.as_slice-stems.ensures.value at c.met_by-met.ensures in
-    let is : Meets xs c.args.path c.met_by-met.result.at c.met_by-met.result.place c.met_by-met.result.behind
-    c.met_by-met.result.joins =
-    record {
-      kept = met.kept;
-      within = met.within;
-      same = met.same;
-      long = met.behind;
-      rest = met.rest;
-      none = met.none;
-      fresh = met.fresh;
-    } in
+    let is : IsMeeting xs c.args.path c.met_by-met.result.at c.met_by-met.result.place
+    c.met_by-met.result.behind c.met_by-met.result.joins =
+    rw (sym c.self.view_is) at c.met_by-met.ensures in
     stands_low xs c.self.invariant.0 legal c.args.path c.args.deleted c.args.body ok _ _ _
     _ is c.standing_of-standing.result.parent c.kept-run.result.0 c.standing_of-standing.result.reach
     c.standing_of-standing.ensures.parent c.kept-run.ensures.run c.standing_of-standing.ensures.reach
@@ -123,18 +91,9 @@ brings c =
     let xs = c.self.inside.stems.items in
     let legal = c.self.invariant.5 in
     let ok = rw (sym c.self.view_is) at c.requires.acceptable in
-    let met = rw c.as_slice-stems.ensures.value at c.met_by-met.ensures in
-    let is : Meets xs c.args.path c.met_by-met.result.at c.met_by-met.result.place c.met_by-met.result.behind
-    c.met_by-met.result.joins =
-    record {
-      kept = met.kept;
-      within = met.within;
-      same = met.same;
-      long = met.behind;
-      rest = met.rest;
-      none = met.none;
-      fresh = met.fresh;
-    } in
+    let is : IsMeeting xs c.args.path c.met_by-met.result.at c.met_by-met.result.place
+    c.met_by-met.result.behind c.met_by-met.result.joins =
+    rw (sym c.self.view_is) at c.met_by-met.ensures in
     met_brings xs c.self.invariant.0 legal c.args.path c.args.deleted c.args.body ok _ _ _ _ is
     (stem_of c) c.kept-run.ensures.run c.standing_of-standing.ensures.parent
     (c.standing_of-standing.ensures.count ∙ c.len.ensures) c.standing_of-standing.ensures.reach
@@ -146,12 +105,15 @@ line_of c =
     let xs = c.self.inside.stems.items in
     let legal = c.self.invariant.5 in
     let ok = rw (sym c.self.view_is) at c.requires.acceptable in
-    let ends = rw c.as_slice-stems.ensures.value at c.ends-whole.ensures in
+    let behind = rw (sym c.self.view_is) at c.behind_last.ensures in
     elim c.if-whole.branch [
       | then-whole w ↦
           rw w.line2-is
           (brought_line xs c.self.invariant.0 legal c.args.path c.args.deleted c.args.body ok (stem_of c)
-          (brings c) refl refl c.kept-run.result.1 c.kept-run.ensures.line (ends w.if-whole.true))
+          (brings c) refl refl c.kept-run.result.1 c.kept-run.ensures.line
+          (λ x r last.
+          none_behind xs c.behind_last.result c.is_none-whole.result x x c.is_none-whole.ensures
+          w.if-whole.true refl (behind x last).none r))
       | else-whole w ↦ rw w.line2-is tt
     ]
 
@@ -160,31 +122,22 @@ note_inner-requires c =
     let xs = c.self.inside.stems.items in
     let legal = c.self.invariant.5 in
     let ok = rw (sym c.self.view_is) at c.requires.acceptable in
-    let met = rw c.as_slice-stems.ensures.value at c.met_by-met.ensures in
-    let is : Meets xs c.args.path c.met_by-met.result.at c.met_by-met.result.place c.met_by-met.result.behind
-    c.met_by-met.result.joins =
-    record {
-      kept = met.kept;
-      within = met.within;
-      same = met.same;
-      long = met.behind;
-      rest = met.rest;
-      none = met.none;
-      fresh = met.fresh;
-    } in
+    let is : IsMeeting xs c.args.path c.met_by-met.result.at c.met_by-met.result.place
+    c.met_by-met.result.behind c.met_by-met.result.joins =
+    rw (sym c.self.view_is) at c.met_by-met.ensures in
     let some = some_kept xs c.self.invariant.0 legal c.args.path c.args.deleted c.args.body ok _ _ _ _ is in
     record {
       stems = c.self.invariant.0;
       index =
-          rw c.lent-3.ensures
+          rw c.lent.ensures
           (c.without_line-index.ensures.index xs (rw c.take.ensures.value c.self.invariant.2));
       path =
           rw c.kept-run.ensures.run
           (take_falls c.met_by-met.result.at c.args.path
           (λ z. omega (arith, z, some)) c.requires.acceptable.history.falls);
-      within = rw c.standing_of-standing.ensures.parent met.within;
+      within = rw c.standing_of-standing.ensures.parent is.within;
       fresh =
-          λ j. rw c.kept-run.ensures.run (met.fresh (sym c.standing_of-standing.ensures.joins ∙ j));
+          λ j. rw c.kept-run.ensures.run (is.fresh (sym c.standing_of-standing.ensures.joins ∙ j));
     }
 
 pub renewed-requires-clause-stems : goal.renewed-requires-clause-stems
@@ -193,18 +146,9 @@ renewed-requires-clause-stems c =
     let ys = c.note_inner.new.stems.items in
     let legal = c.self.invariant.5 in
     let ok = rw (sym c.self.view_is) at c.requires.acceptable in
-    let met = rw c.as_slice-stems.ensures.value at c.met_by-met.ensures in
-    let is : Meets xs c.args.path c.met_by-met.result.at c.met_by-met.result.place c.met_by-met.result.behind
-    c.met_by-met.result.joins =
-    record {
-      kept = met.kept;
-      within = met.within;
-      same = met.same;
-      long = met.behind;
-      rest = met.rest;
-      none = met.none;
-      fresh = met.fresh;
-    } in
+    let is : IsMeeting xs c.args.path c.met_by-met.result.at c.met_by-met.result.place
+    c.met_by-met.result.behind c.met_by-met.result.joins =
+    rw (sym c.self.view_is) at c.met_by-met.ensures in
     let stem : Stem = record {
       revisions = c.kept-run.result.0;
       parent = c.standing_of-standing.result.parent;

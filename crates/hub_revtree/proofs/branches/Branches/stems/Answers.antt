@@ -1,6 +1,7 @@
 use Rattle.std.proofs.Common.{◌≡◌, ap, subst}
 use Rattle.hub_model.specs.Journal.{IsLegal}
-use Rattle.hub_revtree.specs.Branch.{Storage, edits_in}
+use Rattle.hub_revtree.specs.Branch.{edits_in}
+use Rattle.hub_revtree.specs.Stem.{Storage}
 use Rattle.hub_revtree.specs.Stem.{branches_of}
 use Rattle.hub_revtree.proofs.branches.Branches.stems.Goals as goal
 

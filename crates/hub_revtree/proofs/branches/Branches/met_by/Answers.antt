@@ -1,0 +1,26 @@
+use Rattle.std.proofs.Common.{◌≡◌, suc, ap, length, refl, subst, arith}
+use Rattle.std.specs.Prelude.{Some}
+use Rattle.std.proofs.lemmas.Option.{slice_get_within}
+use Rattle.hub_revtree.specs.Stem.{chain_from, chains_of, has_revision}
+use Rattle.hub_revtree.proofs.StemLemmas.{first_from, none_more}
+use Rattle.hub_revtree.proofs.WalkLemmas.{IsStored}
+use Rattle.hub_revtree.proofs.branches.Branches.met_by.Goals as goal
+
+pub loop-at-smaller-in-Some : goal.loop-at-smaller-in-Some
+loop-at-smaller-in-Some c =
+    let s = c.args.self.now in
+    let k : IsStored s =
+    subst IsStored c.self.view_is
+    (record { stems = c.self.invariant.0; shown = refl; legal = c.self.invariant.5 }) in
+    let f = first_from s.stems c.in-Some.place c.at.result k.stems c.in-Some.ensures.found in
+    let long : length (chain_from (chains_of s.stems) (Some c.in-Some.place)) ≡ suc (length f.0) =
+    ap length f.1 in
+    omega (arith, long, c.reach_from-behind.ensures)
+
+pub loop-at-preserved : goal.loop-at-preserved
+loop-at-preserved c = record {
+  kept =
+      let low = slice_get_within c.args.path.now c.loop-at.at c.at.result c.at.ensures in omega (arith, low);
+  fresh = λ j. none_more (has_revision c.args.self.now.stems) c.args.path.now c.loop-at.at c.at.result
+      c.at.ensures (c.loop-at.invariant.fresh j) c.in-None.ensures.none;
+}
