@@ -1,13 +1,13 @@
 -- What is looked for among stems is found among their branches.
 use Rattle.std.proofs.Common.{◌≡◌, ℕ, zero, suc, ◌+◌, ◌<◌, ◌≤◌, List, [], ◌∷◌, ◌++◌, length, get_or, drop}
 use Rattle.std.proofs.Common.{take, Bool, true, false, inl, inr, refl, sym, ap, ◌∙◌, subst, ◌||◌, arith}
-use Rattle.std.specs.Prelude.{Option, Some, None, IfSome, slice_get, find, option_map, option_and_then}
+use Rattle.std.specs.Prelude.{Option, Some, None, slice_get, find, option_map, option_and_then}
 use Rattle.std.specs.List.{list_any}
 use Rattle.std.specs.Option.{option_or}
 use Rattle.std.proofs.lemmas.Bool.{cases_Bool, both_ways}
 use Rattle.std.proofs.lemmas.List.{drop-append-le, length-drop, length-take-le}
 use Rattle.std.proofs.lemmas.List.Folds.{list_any-append, find-append}
-use Rattle.std.proofs.lemmas.Option.{get_or_from_slice_get, same_Some, slice_get_past}
+use Rattle.std.proofs.lemmas.Option.{same_Some, slice_get_past}
 use Rattle.std.proofs.lemmas.Option.{slice_get_read, slice_get_within}
 use Rattle.hub_model.specs.Revision.{Revision, is_same}
 use Rattle.hub_model.specs.Path.{IsPath, names, is_first}
@@ -25,7 +25,7 @@ use Rattle.hub_revtree.proofs.RunLemmas.{get_some}
 use Rattle.hub_revtree.proofs.StemLemmas.{any_at, any_place, as_many, as_many_chains, chained_at}
 use Rattle.hub_revtree.proofs.StemLemmas.{from_end, front, get_last, names_drop, names_front}
 use Rattle.hub_revtree.proofs.StemLemmas.{names_take, one_chain_more, one_stem_more, own_front}
-use Rattle.hub_revtree.proofs.StemLemmas.{rest_at, same_truth, shown_at, steps_left, within_stem}
+use Rattle.hub_revtree.proofs.StemLemmas.{rest_at, same_truth, shown_at, within_stem}
 
 -- the first of some revisions
 first_append : (others revisions : List Revision) (revision : Revision) → 0 < length others

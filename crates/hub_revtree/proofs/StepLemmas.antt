@@ -1,9 +1,8 @@
 -- What a step along the stems finds.
-use Rattle.std.proofs.Common.{◌≡◌, ℕ, zero, suc, ◌+◌, ◌-◌, ◌<◌, ◌≤◌, List, [], ◌∷◌, ◌++◌, length, true}
+use Rattle.std.proofs.Common.{◌≡◌, ℕ, zero, suc, ◌+◌, ◌<◌, ◌≤◌, List, [], ◌∷◌, ◌++◌, length, true}
 use Rattle.std.proofs.Common.{false, inl, inr, refl, sym, ap, ap₂, ◌∙◌, subst, append-nil, arith}
 use Rattle.std.specs.Prelude.{Option, Some, None, IfSome, IfNone, slice_get, Contains}
 use Rattle.std.proofs.lemmas.Bool.{both_ways}
-use Rattle.std.proofs.lemmas.List.{length-append}
 use Rattle.std.proofs.lemmas.Option.{same_Some, slice_get_within}
 use Rattle.hub_model.specs.Revision.{Revision}
 use Rattle.hub_model.specs.Path.{Falls, IsNext, IsPath, names}
@@ -12,11 +11,10 @@ use Rattle.hub_model.proofs.Lists.{contains_none, contains_there, contains_cases
 use Rattle.hub_model.proofs.Tests.{is_named}
 use Rattle.hub_revtree.specs.declared.stem.Place.{Place}
 use Rattle.hub_revtree.specs.Common.{last_in}
-use Rattle.hub_revtree.specs.Stem.{Stem, AreStems, IsBrought, IsWithin, chain_from, chains_of}
-use Rattle.hub_revtree.specs.Stem.{one_of, own_path, rev_at, revisions_at, whole_in}
-use Rattle.hub_revtree.proofs.JoinLemmas.{last_append, last_left}
-use Rattle.hub_revtree.proofs.StemLemmas.{chained_at, first_from, get_front}
-use Rattle.hub_revtree.proofs.StemLemmas.{get_last, within_rev, within_stem}
+use Rattle.hub_revtree.specs.Stem.{Stem, AreStems, IsBrought, IsWithin}
+use Rattle.hub_revtree.specs.Stem.{one_of, own_path, rev_at, revisions_at}
+use Rattle.hub_revtree.proofs.StemLemmas.{get_front}
+use Rattle.hub_revtree.proofs.StemLemmas.{get_last}
 
 -- ---- steps of a stem's own path
 

@@ -3,9 +3,7 @@ use Rattle.std.proofs.lemmas.Grind.{common_steps}
 use Rattle.std.proofs.lemmas.Option.{same_Some}
 use Rattle.hub_model.specs.Path.{names}
 use Rattle.hub_revtree.specs.Stem.{Stem}
-use Rattle.hub_revtree.proofs.BranchLemmas.{within_generation}
 use Rattle.hub_revtree.proofs.LinkLemmas.{ends_parent, goes_absent, goes_inner, goes_parent}
-use Rattle.hub_revtree.proofs.RunLemmas.{newest_of}
 use Rattle.hub_revtree.proofs.StemLooks.{read_stem}
 use Rattle.hub_revtree.proofs.StepLemmas.{inner_brought, none_own, none_parent, parent_brought}
 use Rattle.hub_revtree.proofs.stems.behind_in.Goals as goal

@@ -1,9 +1,6 @@
-use Rattle.std.proofs.Common.{◌≡◌, ◌<◌, ◌-◌, ◌∙◌, ap, get_or, length, refl, subst, sym, arith}
-use Rattle.std.specs.Prelude.{Some, slice_get}
+use Rattle.std.proofs.Common.{◌≡◌, ◌<◌, ◌-◌, ◌∙◌, ap, get_or, length, refl, subst, arith}
 use Rattle.std.proofs.lemmas.List.{length-drop}
-use Rattle.hub_revtree.specs.Branch.{edits_in}
-use Rattle.hub_revtree.specs.Extend.{line_to}
-use Rattle.hub_revtree.specs.Stem.{Storage, own_from, rev_at, revisions_in}
+use Rattle.hub_revtree.specs.Stem.{Storage, own_from, revisions_in}
 use Rattle.hub_revtree.proofs.StemLooks.{stem_there}
 use Rattle.hub_revtree.proofs.WalkLemmas.{IsStored, begins_within, few_in, line_begins, line_less, line_long}
 use Rattle.hub_revtree.proofs.WalkLemmas.{own_is, whole_long}
