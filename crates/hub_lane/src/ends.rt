@@ -35,17 +35,12 @@ pub struct Full<I>(
 
 /// The end that sends. There is one of a lane. Contracts see which lane it is of, its label, all that
 /// was sent, and how many items the lane holds at most.
+#[derive(Drop)]
 pub struct Sender<L: Kept<I>, I> {
     // The receiver has the other handle on it.
     pub(crate) lane: Arc<Lane<L, I>, Global>,
     // What this end sent. It has no bytes, and stays with the end.
     pub(crate) pass: Pass<I, View<L, I>>,
-}
-
-impl<L: Kept<I> + Drop, I: Drop> Drop for Sender<L, I> {
-    fn drop(self) {
-        let Self { lane, pass } = self;
-    }
 }
 
 impl<L: Kept<I>, I> Model for Sender<L, I> {
@@ -70,17 +65,12 @@ impl<L: Kept<I>, I> Model for Sender<L, I> {
 
 /// The end that takes. There is one of a lane. Contracts see which lane it is of, its label, and all
 /// that was taken.
+#[derive(Drop)]
 pub struct Receiver<L: Kept<I>, I> {
     // The sender has the other handle on it.
     pub(crate) lane: Arc<Lane<L, I>, Global>,
     // What this end took. It has no bytes, and stays with the end.
     pub(crate) pass: Pass<I, View<L, I>>,
-}
-
-impl<L: Kept<I> + Drop, I: Drop> Drop for Receiver<L, I> {
-    fn drop(self) {
-        let Self { lane, pass } = self;
-    }
 }
 
 impl<L: Kept<I>, I> Model for Receiver<L, I> {
@@ -135,14 +125,11 @@ impl<L: Kept<I> + Drop, I: Drop> Lane<L, I> {
     {
         let receiver_pass = queue.another::<TwoEnds<N>>(&mut pass);
         let lane = Arc::new(alloc, Lane { queue, label })?;
-        let receiver_lane = Arc::try_clone(&lane)?;
-        Ok((
-            Sender { lane, pass },
-            Receiver {
-                lane: receiver_lane,
-                pass: receiver_pass,
-            },
-        ))
+        let receiver = Receiver {
+            lane: Arc::try_clone(&lane)?,
+            pass: receiver_pass,
+        };
+        Ok((Sender { lane, pass }, receiver))
     }
 }
 

@@ -4,10 +4,8 @@
 
 mod asks;
 mod ends;
-mod laws;
 mod rule;
 
 pub use asks::Asks;
 pub use ends::{Full, Lane, Receiver, Sender};
-pub use laws::ends_agree;
-pub use rule::Kept;
+pub use rule::{Kept, ends_agree};

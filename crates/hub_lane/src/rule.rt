@@ -1,4 +1,7 @@
 //! The rule of a lane's queue: what was sent is what was taken and then what the queue holds.
+
+ghost use Rattle.hub_lane.specs.Rule.{EndsAgree};
+
 use crossbeam_queue::protocol::{Lesson, Outcome, Protocol, Split};
 use std::collections::LinkedList;
 use std::marker::{Brand, PhantomData};
@@ -95,3 +98,9 @@ impl<L: Kept<I>, I> Lesson<I, View<L, I>> for Take<L> {
 
     ghost fact = { λ v items. IsAllowedWith L.allows v items };
 }
+
+/// At every moment of a lane its ends have one label, what was sent is what was taken and then what
+/// the queue holds, and the label allows what was sent.
+pub fn ends_agree<L: Kept<I>, I>()
+    ensures { EndsAgree L.allows }
+{}

@@ -34,6 +34,7 @@ pub type Feed<C> = HostFeed<DbState, C>;
 /// A feed of what threads share, as the connection has it that shows it. It is finished by `finish`: one
 /// that is let go otherwise stays among the feeds of its host. Contracts see its number, its lane, its
 /// label, and all that was taken.
+#[derive(Drop)]
 pub struct HostFeed<S: HostView, C: Count = Plain> {
     pub(crate) host: Host<S, C>,
     pub(crate) id: FeedId,
@@ -45,20 +46,6 @@ pub struct HostFeed<S: HostView, C: Count = Plain> {
     pub(crate) idle_since: Option<u64>,
     /// The clock's reading at which a feed that waits is to be polled.
     pub(crate) due: u64,
-}
-
-impl<S: HostView + Drop, C: Count> Drop for HostFeed<S, C> {
-    fn drop(self) {
-        let Self {
-            host,
-            id,
-            end,
-            signals,
-            is_behind,
-            idle_since,
-            due,
-        } = self;
-    }
 }
 
 impl<S: HostView, C: Count> Model for HostFeed<S, C> {

@@ -34,16 +34,11 @@ use std::sync::Wait;
 
 /// A handle on a database: each thread has its own. It counts the edits that were accepted through it
 /// and through those joined to it, and each of its calls finds a legal journal of at least so many.
+#[derive(Drop)]
 pub struct Handle<C: Count> {
     db: Db<C>,
     share: C::Share,
     count: u64,
-}
-
-impl<C: Count> Drop for Handle<C> {
-    fn drop(self) {
-        let Self { db, share, count } = self;
-    }
 }
 
 impl<C: Count> Model for Handle<C> {

@@ -12,6 +12,7 @@ const MINUTE: u64 = 60_000;
 
 /// What keeps feeds and is shared by threads, behind its lock. Each copy keeps it; it goes with the last of
 /// them.
+#[derive(Drop)]
 pub struct Host<S: HostView, C: Count = Plain> {
     /// The only lock, and the news. The lock guards what keeps the feeds, and their subscribers. It is held
     /// for one call; nothing is waited for while it is held, and no other lock is taken under it. The news
@@ -19,12 +20,6 @@ pub struct Host<S: HostView, C: Count = Plain> {
     /// Pumps that have nothing to hand wait for the news.
     pub(crate) shared: Arc<(Mutex<Locked<S, C>>, Condvar), Global>,
     pub(crate) alloc: Global,
-}
-
-impl<S: HostView + Drop, C: Count> Drop for Host<S, C> {
-    fn drop(self) {
-        let Self { shared, alloc } = self;
-    }
 }
 
 impl<S: HostView, C: Count> Host<S, C> {

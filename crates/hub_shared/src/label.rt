@@ -11,22 +11,12 @@ use std::marker::{Model, PhantomData};
 
 /// What a feed of a host `S` was asked for, where it began, and in which life. It says which lists of items
 /// may be sent for the feed: those that the host calls right for such a feed.
+#[derive(Drop)]
 pub struct FeedLabel<S> {
     params: FeedParams,
     since: u64,
     life: u64,
     host: PhantomData<S>,
-}
-
-impl<S> Drop for FeedLabel<S> {
-    fn drop(self) {
-        let Self {
-            params,
-            since,
-            life,
-            host,
-        } = self;
-    }
 }
 
 impl<S> Model for FeedLabel<S> {

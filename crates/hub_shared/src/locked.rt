@@ -18,8 +18,9 @@ use crate::count::{Count, Plain};
 use crate::label::FeedLabel;
 use crate::outbox::{Outbox, Receives, Shelf, TwoEnded};
 use crate::outboxes::{outbox_of, remove};
+use crate::pumping::Turn;
 use crate::signals::Signals;
-use crate::subscriber::Subscriber;
+use crate::subscriber::{Directly, Subscriber};
 use crate::watch::Watch;
 use hub_feed::{FeedHost, FeedId, Handed, HostView, OpenFault, Pushes};
 use hub_lane::Asks;
@@ -42,6 +43,7 @@ pub struct OpenedFeed<T> {
 /// Whenever it is got from a lock, what each outbox was sent fits its feed as the host is then (`state`),
 /// and where there is a count, the book's total is how many edits the host has. Contracts see the host, the
 /// outboxes and how many items of a feed may wait.
+#[derive(Drop)]
 pub struct Locked<S: HostView, C: Count = Plain, K: Outbox<S> = Subscriber<S>> {
     pub(crate) state: S,
     /// The outboxes of the feeds that are not finished, by the numbers of the feeds, which rise.
@@ -58,21 +60,6 @@ pub struct Locked<S: HostView, C: Count = Plain, K: Outbox<S> = Subscriber<S>> {
     pub(crate) alloc: Global,
 }
 
-impl<S: HostView + Drop, C: Count, K: Outbox<S>> Drop for Locked<S, C, K> {
-    fn drop(self) {
-        let Self {
-            state,
-            subscribers,
-            near,
-            lane,
-            hold,
-            news,
-            book,
-            alloc,
-        } = self;
-    }
-}
-
 impl<S: HostView, C: Count, K: Outbox<S>> Model for Locked<S, C, K> {
     ghost use Rattle.std.specs.Prelude.{◌<◌};
     ghost use Rattle.hub_shared.specs.Locked.{LockedState, AreSendersOf, IsBookOf};
@@ -86,24 +73,15 @@ impl<S: HostView, C: Count, K: Outbox<S>> Model for Locked<S, C, K> {
         × IsBookOf C.counts (C.total a.book) (S.hosted a.state).length };
 }
 
-/// How many rows that bring their documents a feed is handed in one holding at most. The C library keeps
-/// seven pieces of a size at hand for a thread, so the copies of documents take the memory of those that were
-/// sent.
-const MOST_DOCUMENTS: u64 = 7;
-
 /// What only a subscriber has.
 impl<S: HostView, C: Count> Locked<S, C> {
-    /// How many items a feed is handed in one holding at most: fewer where its rows bring their documents. It
-    /// costs a search as `make_room`.
-    pub(crate) fn most(&self, feed: FeedId) -> u64 {
+    // How many items a feed is handed in one holding at most, by `Subscriber::most`. It costs a search as
+    // `make_room`.
+    fn most(&self, feed: FeedId) -> u64 {
         let Some(at) = place_near(self.subscribers.as_slice(), self.near, feed.number) else {
             return self.hold;
         };
-        if self.subscribers[at].1.brings_documents() {
-            self.hold.min(MOST_DOCUMENTS)
-        } else {
-            self.hold
-        }
+        self.subscribers[at].1.most(self.hold)
     }
 
     /// The signals of a feed, if there is one of this number. A binary search.
@@ -167,6 +145,32 @@ impl<S: HostView, C: Count> Locked<S, C> {
         };
         let entry = &mut self.subscribers[at];
         entry.1.hand_over(rt, self.alloc)
+    }
+}
+
+/// How a subscriber's items are handed.
+impl<S: FeedHost, C: Count> Locked<S, C> {
+    /// The steps of one holding: the last answer, and how many items were sent. A turn that hands goes on
+    /// until an answer is not a row, or as many items were sent as one holding may. It costs what these steps
+    /// do.
+    pub(crate) fn step(&mut self, feed: FeedId, turn: Turn) -> Result<(Handed, u64), AllocError> {
+        if turn == Turn::Expire {
+            self.expire(feed);
+            return Ok((Handed::Nothing, 0));
+        }
+        self.make_room(feed)?;
+        if turn == Turn::Beat {
+            return Ok((self.beat(&Directly, feed), 0));
+        }
+        let most = self.most(feed);
+        for sent in 0..most {
+            match self.hand(&Directly, feed)? {
+                Handed::Row => {}
+                Handed::End => return Ok((Handed::End, sent + 1)),
+                last => return Ok((last, sent)),
+            }
+        }
+        Ok((Handed::Row, most))
     }
 }
 

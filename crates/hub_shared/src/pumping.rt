@@ -5,9 +5,7 @@ use crate::count::Count;
 use crate::gate::{Clock, Gate, Point};
 use crate::host::Host;
 use crate::label::FeedLabel;
-use crate::locked::Locked;
 use crate::signals::Signals;
-use crate::subscriber::Directly;
 use crate::times::Due;
 use hub_feed::{FeedHost, FeedId, Handed};
 use hub_lane::Asks;
@@ -37,69 +35,10 @@ pub(crate) struct Holding {
     news: u64,
 }
 
-// Hands until an answer is not a row, or so many items were sent: the last answer, and how many items
-// were sent.
-fn hand_on<S: FeedHost, C: Count>(
-    locked: &mut Locked<S, C>,
-    feed: FeedId,
-    most: u64,
-) -> Result<(Handed, u64), AllocError> {
-    for sent in 0..most {
-        match locked.hand(&Directly, feed)? {
-            Handed::Row => {}
-            Handed::End => return Ok((Handed::End, sent + 1)),
-            last => return Ok((last, sent)),
-        }
-    }
-    Ok((Handed::Row, most))
-}
-
-// The steps of one holding, between the items that wait before them and those that wait behind them: the last
-// answer, and how many items were sent.
-fn steps_of<S: FeedHost, C: Count>(
-    locked: &mut Locked<S, C>,
-    feed: FeedId,
-    turn: Turn,
-) -> Result<(Handed, u64), AllocError> {
-    if turn == Turn::Expire {
-        locked.expire(feed);
-        return Ok((Handed::Nothing, 0));
-    }
-    locked.make_room(feed)?;
-    if turn == Turn::Beat {
-        return Ok((locked.beat(&Directly, feed), 0));
-    }
-    let most = locked.most(feed);
-    hand_on(locked, feed, most)
-}
-
-// One holding: the items that wait go into the lane as one block, then come the steps, and the items that the
-// steps sent go into the lane as another, also where the steps found no memory. Items that wait behind a turn
-// that hands are told as `Full`: once there is room the feed is to be held again.
-fn holding_of<S, C, R>(
-    locked: &mut Locked<S, C>,
-    rt: &R,
-    feed: FeedId,
-    turn: Turn,
-) -> Result<(Handed, bool), AllocError>
-where
-    S: FeedHost,
-    C: Count,
-    R: Asks<FeedLabel<S>, Block<S::Row>>,
-{
-    let before = locked.hand_over(rt, feed);
-    let done = steps_of(locked, feed, turn);
-    let behind = locked.hand_over(rt, feed);
-    let (last, sent) = done?;
-    let has_sent = sent > 0 || before.unwrap_or(0) > 0 || behind.unwrap_or(0) > 0;
-    if turn == Turn::Hand && behind.is_none() {
-        return Ok((Handed::Full, has_sent));
-    }
-    Ok((last, has_sent))
-}
-
 impl<S: FeedHost, C: Count> Host<S, C> {
-    /// One holding of the lock.
+    /// One holding of the lock: the items that wait go into the lane as one block, then come the steps, and
+    /// the items that the steps sent go into the lane as another, also where the steps found no memory. Items
+    /// that wait behind a turn that hands are told as `Full`: once there is room the feed is to be held again.
     pub(crate) fn hold_once<R, G>(
         &self,
         rt: &R,
@@ -113,10 +52,14 @@ impl<S: FeedHost, C: Count> Host<S, C> {
     {
         let mut locked = self.locked().lock(rt);
         gate.pass(Point::PumpHolding);
-        let (last, has_sent) = holding_of(&mut *locked, rt, feed, turn)?;
+        let before = locked.hand_over(rt, feed);
+        let done = locked.step(feed, turn);
+        let behind = locked.hand_over(rt, feed);
+        let (last, sent) = done?;
+        let is_held_up = turn == Turn::Hand && behind.is_none();
         Ok(Holding {
-            last,
-            has_sent,
+            last: if is_held_up { Handed::Full } else { last },
+            has_sent: sent > 0 || before.unwrap_or(0) > 0 || behind.unwrap_or(0) > 0,
             news: locked.news(),
         })
     }

@@ -5,6 +5,7 @@ ghost use Rattle.std.specs.Prelude.{◌≡◌, [], length, IfOk, IfSome, IfNone,
 ghost use Rattle.hub_lane.specs.Ends.{new_receiver};
 ghost use Rattle.hub_params.specs.FeedModel.{params_in};
 ghost use Rattle.hub_shared.specs.Blocks.{IsHeldUp, handed_over, new_subscriber, with_room};
+ghost use Rattle.hub_shared.specs.Holdings.{most_items};
 
 use crate::block::Block;
 use crate::feed_end::FeedEnd;
@@ -25,6 +26,7 @@ use std::sync::Arc;
 /// the feed. An item that is sent waits here; what waits goes into the lane as one block. Contracts see the
 /// lane, its label, all items that were sent, those of them that wait, and for how many that wait memory is
 /// reserved.
+#[derive(Drop)]
 pub struct Subscriber<S: HostView> {
     sender: Sender<FeedLabel<S>, Block<S::Row>>,
     /// The items that were sent, and that the lane has not got yet.
@@ -35,18 +37,6 @@ pub struct Subscriber<S: HostView> {
     signals: Arc<Signals, Global>,
     /// What has news where one sends the feed who waits for none.
     watch: Option<Arc<Watch, Global>>,
-}
-
-impl<S: HostView> Drop for Subscriber<S> {
-    fn drop(self) {
-        let Self {
-            sender,
-            waiting,
-            room,
-            signals,
-            watch,
-        } = self;
-    }
 }
 
 impl<S: HostView> Model for Subscriber<S> {
@@ -160,15 +150,27 @@ impl<S: HostView> Receives<S> for Subscriber<S> {
     ghost permits = { λ s list is. is };
 }
 
+/// How many rows that bring their documents a feed is handed in one holding at most. The C library keeps
+/// seven pieces of a size at hand for a thread, so the copies of documents take the memory of those that were
+/// sent.
+const MOST_DOCUMENTS: u64 = 7;
+
 impl<S: HostView> Subscriber<S> {
     /// Its signals once more. Constant time.
     pub(crate) fn signals(&self) -> Result<Arc<Signals, Global>, AllocError> {
         Arc::try_clone(&self.signals)
     }
 
-    /// Whether the rows of its feed bring their documents. Constant time.
-    pub(crate) fn brings_documents(&self) -> bool {
-        self.sender.label().params().include_docs
+    /// How many items its feed is handed in one holding at most, where no feed is handed more than `hold`:
+    /// fewer where its rows bring their documents. Constant time.
+    pub(crate) fn most(&self, hold: u64) -> u64
+        ensures { result ≡ most_items self.now.label.asked hold }
+    {
+        if self.sender.label().params().include_docs {
+            hold.min(MOST_DOCUMENTS)
+        } else {
+            hold
+        }
     }
 
     /// From here on this watch has the feed's news.
