@@ -2,7 +2,7 @@ use Rattle.std.proofs.Common.{◌∙◌, rules, sym}
 use Rattle.std.proofs.lemmas.Bool.{eqb-true}
 use Rattle.std.proofs.lemmas.List.{nil_from_length}
 use Rattle.hub_http.specs.Boxes.{came_to, is_over}
-use Rattle.hub_session.specs.Runs.{offered_to, seen}
+use Rattle.hub_session.specs.Runs.{seen}
 use Rattle.hub_session.proofs.RunLemmas.{came_as, ended_as, on_ok, over_as, run_behind}
 use Rattle.hub_session.proofs.machine.Session.offer.Goals as goal
 

@@ -2,8 +2,8 @@ use Rattle.hub_session.specs.Runs.{run_offered, seen, with_offered}
 use Rattle.hub_workers.proofs.DrivenLemmas.{driven_as, driven_on}
 use Rattle.hub_workers.proofs.driven.Driven.take_in.Goals as goal
 
-pub invariant_of-self-in-Ok : goal.invariant_of-self-in-Ok
-invariant_of-self-in-Ok g c =
+pub invariant_of-self : goal.invariant_of-self
+invariant_of-self g c =
     let old = seen c.args.self.now.session in record {
       has_run = driven_on g.S.Service.rules old (seen c.offer.new.self)
           (run_offered old.over c.args.bytes.now) c.in-Ok.ensures.run c.args.self.now.has_run;
