@@ -22,6 +22,11 @@ pending_in outbox = outbox.texts ++ outbox.moved
 abbrev pub faults_in : Outbox → ℕ
 faults_in outbox = outbox.faults
 
+-- These bytes are to go then, and no further fault came. Where abcd were to go and ab went, cd are left.
+pub record HasLeft (bytes : List ℕ) (old new : Outbox) : Type 0 where
+  pub pending : pending_in new ≡ bytes
+  pub faults : faults_in new ≡ faults_in old
+
 -- the bytes that a writer took of these, which were to go
 abbrev pub handed_of : Handed → List ℕ → List ℕ
 handed_of (Took n) old = take n old

@@ -66,11 +66,8 @@ impl Block {
                     self.len = n;
                     return Ok(());
                 }
-                Err(e) => {
-                    if !is_interrupted(&e) {
-                        return Err(HttpFault::IoFault);
-                    }
-                }
+                Err(e) if is_interrupted(&e) => {}
+                Err(_) => break,
             }
         }
         Err(HttpFault::IoFault)

@@ -1,11 +1,9 @@
 //! Chunks to a writer.
 
-ghost use Rattle.std.specs.Prelude.{◌≡◌, ◌-◌, ◌<◌, ◌≤◌, [], ◌∷◌, ◌++◌, drop};
-ghost use Rattle.std.specs.Prelude.{false, length, IfOk, IsErrOf, OnOk};
+ghost use Rattle.std.specs.Prelude.{◌≡◌, ◌<◌, ◌≤◌, [], ◌∷◌, ◌++◌, drop};
+ghost use Rattle.std.specs.Prelude.{false, length, IfOk, IsErrOf};
 ghost use Rattle.std.specs.Fmt.{digit_glyph, digits};
-ghost use Rattle.hub_http.specs.Counts.{CallCounts};
-ghost use Rattle.hub_http.specs.Chunks.{Writes, head_room, text_chunks};
-ghost use Rattle.hub_http.specs.Texts.{chunk_text};
+ghost use Rattle.hub_http.specs.Chunks.{WritesTo, text_chunks};
 
 use crate::output::{Output, write_all};
 use crate::text::Text;
@@ -56,19 +54,6 @@ fn put_head(bytes: &mut [u8], size: usize) -> usize
     at
 }
 
-// Writes what stands round a text in its chunk, and answers where the chunk begins.
-fn close_chunk(buffer: &mut Vec<u8>) -> Result<usize, AllocError>
-    requires { head_room < length buffer.old.items }
-    ensures made { IfOk result
-        (λ start. drop start buffer.new.items ≡ text_chunks (drop head_room buffer.old.items)) }
-    ensures start { IfOk result (λ start. start < length buffer.new.items) }
-{
-    let size = buffer.len() - ROOM;
-    buffer.extend_from_slice(b"\r\n")?;
-    let start = put_head(buffer.as_mut_slice(), size);
-    Ok(start)
-}
-
 /// Writes texts as chunks (RFC 9112, section 7.1), each by one call of the writer where that takes
 /// all of it. A text is made where its chunk is written from, and is not copied.
 #[derive(Debug, Drop)]
@@ -90,38 +75,41 @@ impl ChunkWriter {
         self.buffer.capacity() > 0
     }
 
-    /// Makes a text behind the room for the head of its chunk.
-    fn put<T: Text>(&mut self, text: &T) -> Result<(), AllocError>
-        ensures room { OnOk result (head_room ≤ length self.new.buffer.items) }
-        ensures made { OnOk result (drop head_room self.new.buffer.items ≡ T.bytes text.now) }
+    /// Makes the chunk of a text behind the room for its head, and answers where it begins: at the end
+    /// where the text is empty. An append of two bytes costs more than two pushes.
+    fn put<T: Text>(&mut self, text: &T) -> Result<usize, AllocError>
+        ensures { IfOk result (λ start. (start ≤ length self.new.buffer.items)
+            × (drop start self.new.buffer.items ≡ text_chunks (T.bytes text.now))) }
     {
         self.buffer.resize(ROOM, b'0')?;
         text.append(&mut self.buffer)?;
-        Ok(())
+        let size = self.buffer.len() - ROOM;
+        if size == 0 {
+            return Ok(ROOM);
+        }
+        self.buffer.push(b'\r')?;
+        self.buffer.push(b'\n')?;
+        Ok(put_head(self.buffer.as_mut_slice(), size))
     }
 
     /// Writes a text as one chunk, and an empty one not at all: then the writer is not called. Nothing
     /// is flushed. It costs the text's length, and memory for the first chunk and where one is longer
     /// than each before. Where no memory is found the writer is not called either.
     pub fn write<T: Text, W: Output>(&mut self, writer: &mut W, text: &T) -> Result<(), ChunkFault>
-        ensures bytes { Writes (text_chunks (T.bytes text.now)) result (W.written writer.old)
-            (W.written writer.new) }
+        ensures sent { WritesTo W.written W.fault_count W.failure_count result writer.old writer.new
+            (text_chunks (T.bytes text.now)) }
         ensures memory { IsErrOf result ChunkFault.NoMemory → writer.new ≡ writer.old }
         ensures empty { T.bytes text.now ≡ []
             → (writer.new ≡ writer.old) × ¬ (IsErrOf result ChunkFault.IoFault) }
-        ensures counts { CallCounts (IsErrOf result ChunkFault.IoFault) W.fault_count
-            W.failure_count writer.old writer.new }
     {
-        let Ok(()) = self.put(text) else {
+        let Ok(start) = self.put(text) else {
             return Err(ChunkFault::NoMemory);
         };
-        if self.buffer.len() <= ROOM {
+        let chunk = &self.buffer.as_slice()[start..];
+        if chunk.is_empty() {
             return Ok(());
         }
-        let Ok(start) = close_chunk(&mut self.buffer) else {
-            return Err(ChunkFault::NoMemory);
-        };
-        match write_all(writer, &self.buffer.as_slice()[start..]) {
+        match write_all(writer, chunk) {
             Ok(()) => Ok(()),
             Err(_) => Err(ChunkFault::IoFault),
         }

@@ -36,18 +36,11 @@ impl Head {
           body = body;
         } }
     {
-        let Head {
-            method,
-            target,
-            length,
-            close,
-            len: _,
-        } = self;
         Request {
-            method,
-            target,
-            has_length: length.is_some(),
-            close,
+            method: self.method,
+            target: self.target,
+            has_length: self.length.is_some(),
+            close: self.close,
             body,
         }
     }
@@ -120,19 +113,10 @@ fn look_within(
                 headers: &headers[..spans.headers],
             };
             let target = spans.path.of(buf);
-            let length = match asked(spans.version, target, &fields) {
-                Ok(length) => length,
-                Err(e) => return Err(e),
-            };
-            let Ok(method) = MethodName::new(alloc, spans.method.of(buf)) else {
-                return Err(HttpFault::NoMemory);
-            };
-            let Ok(target) = Vec::from_slice(alloc, target) else {
-                return Err(HttpFault::NoMemory);
-            };
+            let length = asked(spans.version, target, &fields)?;
             Ok(Some(Head {
-                method,
-                target,
+                method: MethodName::new(alloc, spans.method.of(buf))?,
+                target: Vec::from_slice(alloc, target)?,
                 length,
                 close: has_close(&fields),
                 len: spans.len,

@@ -38,14 +38,10 @@ fn take_request(
         if is_over {
             return Err(HttpFault::Ended);
         }
-        return match pending.make_room(wanted) {
-            Ok(_) => Ok(Next::NotYet),
-            Err(_) => Err(HttpFault::NoMemory),
-        };
+        pending.make_room(wanted)?;
+        return Ok(Next::NotYet);
     }
-    let Ok(body) = pending.take_body(alloc, head.len, body_len) else {
-        return Err(HttpFault::NoMemory);
-    };
+    let body = pending.take_body(alloc, head.len, body_len)?;
     pending.release(alloc, 0);
     Ok(Next::Whole(head.with_body(body)))
 }
@@ -107,19 +103,15 @@ impl Inbox {
                 Ok(Next::NotYet)
             };
         }
-        match look(self.alloc, self.pending.as_slice()) {
-            Ok(Some(head)) => take_request(self.alloc, &mut self.pending, head, self.is_over),
-            Ok(None) => {
-                if self.pending.len() >= HEAD_LIMIT {
-                    return Err(HttpFault::HeadTooLong);
-                }
-                if self.is_over {
-                    Err(HttpFault::Ended)
-                } else {
-                    Ok(Next::NotYet)
-                }
-            }
-            Err(e) => Err(e),
+        if let Some(head) = look(self.alloc, self.pending.as_slice())? {
+            return take_request(self.alloc, &mut self.pending, head, self.is_over);
+        }
+        if self.pending.len() >= HEAD_LIMIT {
+            Err(HttpFault::HeadTooLong)
+        } else if self.is_over {
+            Err(HttpFault::Ended)
+        } else {
+            Ok(Next::NotYet)
         }
     }
 }

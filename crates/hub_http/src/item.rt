@@ -2,7 +2,7 @@
 
 ghost use Rattle.std.specs.Prelude.{◌≡◌};
 ghost use Rattle.hub_document.specs.Appends.{Appends};
-ghost use Rattle.hub_http.specs.Items.{separator, before_row, after_row, before_end, item_text, feed_head};
+ghost use Rattle.hub_http.specs.Items.{separator, before_row, after_row, before_end, item_text};
 
 use crate::row_text::RowText;
 use hub_model::{Item, Mode, by_mode};
@@ -84,16 +84,4 @@ pub fn item_text<R: RowText>(
             Ok(())
         }
     }
-}
-
-/// The text at the head of a feed, before its first item. It costs nothing.
-pub fn feed_head(mode: Mode) -> &'static str
-    ensures { result.now ≡ feed_head mode }
-{
-    by_mode!(
-        mode,
-        normal: "{\"results\":[\n",
-        longpoll: "{\"results\":[\n",
-        continuous: "",
-    )
 }

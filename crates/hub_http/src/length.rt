@@ -37,10 +37,7 @@ fn one_value<'b>(fields: &Fields<'b>) -> Result<Option<&'b [u8]>, HttpFault>
         if !same_word(header.name.of(fields.buf), b"content-length") {
             continue;
         }
-        match and_value(seen, header.value.of(fields.buf)) {
-            Ok(both) => seen = both,
-            Err(e) => return Err(e),
-        }
+        seen = and_value(seen, header.value.of(fields.buf))?;
     }
     Ok(seen)
 }
@@ -72,9 +69,6 @@ pub(crate) fn length_of(fields: &Fields) -> Result<Option<u64>, HttpFault>
 {
     match one_value(fields)? {
         None => Ok(None),
-        Some(value) => match length_in(value) {
-            Ok(n) => Ok(Some(n)),
-            Err(e) => Err(e),
-        },
+        Some(value) => Ok(Some(length_in(value)?)),
     }
 }

@@ -2,7 +2,7 @@
 ghost use Rattle.std.specs.Prelude.{◌≡◌, ◌<◌, ◌≤◌, ◌++◌, ℕ, List, [], length, drop};
 ghost use Rattle.std.specs.Prelude.{Some, IfOk, IsTrue, IsFalse};
 ghost use Rattle.hub_document.specs.Appends.{AppendsWhole};
-ghost use Rattle.hub_http.specs.Boxes.{Hands, pending_in, faults_in};
+ghost use Rattle.hub_http.specs.Boxes.{Hands, HasLeft, pending_in, faults_in};
 
 use crate::output::Output;
 use crate::pending::Pending;
@@ -35,8 +35,8 @@ pub struct Outbox {
     texts: Pending,
     /// A vector that was moved here, and what came behind it.
     moved: Pending,
+    /// How many writes found no memory.
     faults: u64,
-    failures: u64,
 }
 
 impl Outbox {
@@ -50,7 +50,6 @@ impl Outbox {
             texts: Pending::new(Vec::with_capacity(alloc, ROOM)?),
             moved: Pending::new(Vec::new(alloc)),
             faults: 0,
-            failures: 0,
         })
     }
 
@@ -86,8 +85,7 @@ impl Outbox {
     /// So many bytes went, from the front.
     pub fn sent(&mut self, count: usize)
         requires { count ≤ length (pending_in self.old) }
-        ensures rest { pending_in self.new ≡ drop count (pending_in self.old) }
-        ensures faults { faults_in self.new ≡ faults_in self.old }
+        ensures { HasLeft (drop count (pending_in self.old)) self.old self.new }
     {
         let texts = self.texts.len();
         if count <= texts {
@@ -101,8 +99,7 @@ impl Outbox {
     /// Gives back the room that is not needed, where nothing is to go. A sender of many texts calls it behind
     /// the last of them. Constant time.
     pub fn release(&mut self)
-        ensures same { pending_in self.new ≡ pending_in self.old }
-        ensures faults { faults_in self.new ≡ faults_in self.old }
+        ensures { HasLeft (pending_in self.old) self.old self.new }
     {
         self.texts.release(self.alloc, ROOM);
         if self.moved.is_empty() {
@@ -137,7 +134,6 @@ impl Outbox {
     fn put(&mut self, bytes: &[u8]) -> Result<(), AllocError>
         ensures put { AppendsWhole bytes.now result (pending_in self.old) (pending_in self.new) }
         ensures faults { self.new.faults ≡ self.old.faults }
-        ensures failures { self.new.failures ≡ self.old.failures }
     {
         if self.moved.is_empty() {
             self.texts.put(bytes)
@@ -152,14 +148,13 @@ impl Output for Outbox {
 
     ghost fault_count = { λ o. o.faults };
 
-    ghost failure_count = { λ o. o.failures };
+    ghost failure_count = { λ o. o.faults };
 
     fn write(&mut self, buf: &[u8]) -> io::Result<usize> {
         match self.put(buf) {
             Ok(()) => Ok(buf.len()),
             Err(_) => {
                 self.faults = bump(self.faults);
-                self.failures = bump(self.failures);
                 Err(io::Error::from(ErrorKind::OutOfMemory))
             }
         }

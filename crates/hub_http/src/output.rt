@@ -1,6 +1,6 @@
 //! Where replies go.
-ghost use Rattle.std.specs.Prelude.{◌≡◌, ◌<◌, ◌≤◌, ℕ, List, Option, is_err, length};
-ghost use Rattle.std.specs.Prelude.{IfOk, IfNone, IfSome, OnOk, OnErr, take, IsErr};
+ghost use Rattle.std.specs.Prelude.{◌≡◌, ℕ, List, [], Option, is_err};
+ghost use Rattle.std.specs.Prelude.{IfNone, IfSome, OnOk, IsErr};
 ghost use Rattle.std.specs.Io.{WritesAtMost};
 ghost use Rattle.std.specs.IoError.{error_kind};
 ghost use Rattle.std.specs.Io.KnownBytes.{Keeps, Appends, WriteAppends};
@@ -72,41 +72,15 @@ pub(crate) fn is_interrupted(error: &io::Error) -> bool
     }
 }
 
-/// Writes a part of the bytes, again where a write is interrupted.
-fn write_some<W: Output>(writer: &mut W, bytes: &[u8]) -> Result<usize, IoFault>
-    requires { 0 < length bytes.now }
-    ensures bound { IfOk result (λ n. (0 < n) × (n ≤ length bytes.now)) }
-    ensures ok { IfOk result (λ n. Appends (W.written writer.old) (W.written writer.new) (take n bytes.now)) }
-    ensures err { OnErr result (Keeps (W.written writer.old) (W.written writer.new)) }
-    ensures counts { CallCounts (IsErr result) W.fault_count W.failure_count writer.old writer.new }
-{
-    for _ in 0..TRIES {
-        match writer.write(bytes) {
-            Ok(0) => return Err(IoFault),
-            Ok(n) => return Ok(n),
-            Err(e) => {
-                if !is_interrupted(&e) {
-                    return Err(IoFault);
-                }
-            }
-        }
-    }
-    Err(IoFault)
-}
-
 /// Flushes, again where a flush is interrupted.
 fn flush<W: Output>(writer: &mut W) -> Result<(), IoFault>
-    ensures bytes { Keeps (W.written writer.old) (W.written writer.new) }
-    ensures counts { CallCounts (IsErr result) W.fault_count W.failure_count writer.old writer.new }
+    ensures { SendsTo W.written W.fault_count W.failure_count result writer.old writer.new [] }
 {
     for _ in 0..TRIES {
         match writer.flush() {
             Ok(()) => return Ok(()),
-            Err(e) => {
-                if !is_interrupted(&e) {
-                    return Err(IoFault);
-                }
-            }
+            Err(e) if is_interrupted(&e) => {}
+            Err(_) => break,
         }
     }
     Err(IoFault)
@@ -120,21 +94,18 @@ pub fn write_all<W: Output>(writer: &mut W, bytes: &[u8]) -> Result<(), IoFault>
     ensures counts { CallCounts (IsErr result) W.fault_count W.failure_count writer.old writer.new }
 {
     let mut rest = bytes;
+    let mut tries = TRIES;
     while !rest.is_empty() {
-        let n = write_some(writer, rest)?;
-        rest = &rest[n..];
+        match writer.write(rest) {
+            Ok(n) if n > 0 => {
+                rest = &rest[n..];
+                tries = TRIES;
+            }
+            Err(e) if is_interrupted(&e) && tries > 1 => tries -= 1,
+            _ => return Err(IoFault),
+        }
     }
     Ok(())
-}
-
-/// Writes all of a vector, whose memory the writer may keep, and does not flush, as `write_all` does.
-pub fn write_vec<W: Output>(writer: &mut W, bytes: Vec<u8>) -> Result<(), IoFault>
-    ensures { SendsTo W.written W.fault_count W.failure_count result writer.old writer.new bytes.items }
-{
-    match writer.keep(bytes) {
-        None => Ok(()),
-        Some(bytes) => write_all(writer, bytes.as_slice()),
-    }
 }
 
 /// Writes all the bytes, mostly by one write, and flushes. After a fault a front of them was
@@ -144,4 +115,14 @@ pub fn send<W: Output>(writer: &mut W, bytes: &[u8]) -> Result<(), IoFault>
 {
     write_all(writer, bytes)?;
     flush(writer)
+}
+
+/// Sends all of a vector, as `send` does. The writer may keep its memory.
+pub fn send_vec<W: Output>(writer: &mut W, bytes: Vec<u8>) -> Result<(), IoFault>
+    ensures { SendsTo W.written W.fault_count W.failure_count result writer.old writer.new bytes.items }
+{
+    match writer.keep(bytes) {
+        None => flush(writer),
+        Some(bytes) => send(writer, bytes.as_slice()),
+    }
 }

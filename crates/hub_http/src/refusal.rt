@@ -92,21 +92,18 @@ impl Refusal {
         ensures { result ≡ status_of self }
     {
         match self {
-            Refusal::NoMemory => StatusCode::SERVICE_UNAVAILABLE,
+            Refusal::NoMemory | Refusal::TooManyFeeds | Refusal::SequenceFull | Refusal::TooMany =>
+                { StatusCode::SERVICE_UNAVAILABLE }
+            Refusal::Deleted | Refusal::Absent | Refusal::Missing | Refusal::DocDeleted => {
+                StatusCode::NOT_FOUND
+            }
             Refusal::Conflict => StatusCode::CONFLICT,
-            Refusal::TooManyFeeds => StatusCode::SERVICE_UNAVAILABLE,
-            Refusal::SequenceFull => StatusCode::SERVICE_UNAVAILABLE,
-            Refusal::Deleted => StatusCode::NOT_FOUND,
             Refusal::Exists => StatusCode::PRECONDITION_FAILED,
-            Refusal::Absent => StatusCode::NOT_FOUND,
-            Refusal::TooMany => StatusCode::SERVICE_UNAVAILABLE,
             Refusal::HeadTooLong => StatusCode::REQUEST_HEADER_FIELDS_TOO_LARGE,
             Refusal::BodyTooLong => StatusCode::PAYLOAD_TOO_LARGE,
             Refusal::Version => StatusCode::HTTP_VERSION_NOT_SUPPORTED,
             Refusal::Coding => StatusCode::NOT_IMPLEMENTED,
             Refusal::LengthMissing => StatusCode::LENGTH_REQUIRED,
-            Refusal::Missing => StatusCode::NOT_FOUND,
-            Refusal::DocDeleted => StatusCode::NOT_FOUND,
             Refusal::MethodNotAllowed => StatusCode::METHOD_NOT_ALLOWED,
             _ => StatusCode::BAD_REQUEST,
         }
@@ -121,18 +118,17 @@ impl Refusal {
             Refusal::Conflict => "conflict",
             Refusal::TooManyFeeds => "too_many_feeds",
             Refusal::SequenceFull => "sequence_full",
-            Refusal::Deleted => "not_found",
+            Refusal::Deleted | Refusal::Absent | Refusal::Missing | Refusal::DocDeleted => {
+                "not_found"
+            }
             Refusal::BadName => "illegal_database_name",
             Refusal::Exists => "file_exists",
-            Refusal::Absent => "not_found",
             Refusal::TooMany => "too_many_databases",
             Refusal::HeadTooLong => "head_too_long",
             Refusal::BodyTooLong => "too_large",
             Refusal::Version => "http_version",
             Refusal::Coding => "not_implemented",
             Refusal::LengthMissing => "length_required",
-            Refusal::Missing => "not_found",
-            Refusal::DocDeleted => "not_found",
             Refusal::MethodNotAllowed => "method_not_allowed",
             _ => "bad_request",
         }
@@ -166,10 +162,9 @@ impl Refusal {
             Refusal::BadFlag => "bad flag",
             Refusal::TooManyFeeds => "too many feeds",
             Refusal::SequenceFull => "sequence full",
-            Refusal::Deleted => "Database does not exist.",
+            Refusal::Deleted | Refusal::Absent => "Database does not exist.",
             Refusal::BadName => "bad name",
             Refusal::Exists => "The database could not be created, the file already exists.",
-            Refusal::Absent => "Database does not exist.",
             Refusal::TooMany => "too many databases",
             Refusal::BadHead => "bad head",
             Refusal::HeadTooLong => "head too long",

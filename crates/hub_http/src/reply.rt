@@ -62,9 +62,9 @@ fn put_front(out: &mut Vec<u8>, status: StatusCode) -> Result<(), AllocError>
     Ok(())
 }
 
-/// What stands in a head behind the length of the body.
+/// What stands in a head behind the length of the body. It costs nothing.
 #[tactic(auto, unfolding(crate::specs::Texts::close_line))]
-fn head_end(close: bool) -> &'static str
+pub fn head_end(close: bool) -> &'static str
     ensures { result.now ≡ head_end close }
 {
     if close {

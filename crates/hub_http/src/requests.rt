@@ -105,21 +105,15 @@ impl<R: Input> Requests<R> {
     fn read_request(&mut self) -> Result<Option<Request>, HttpFault>
         ensures { RequestReading R.left R.fault_count R.failure_count result self.old self.new }
     {
-        let head = match self.find_head() {
-            Ok(Some(head)) => head,
-            Ok(None) => return Ok(None),
-            Err(e) => return Err(e),
+        let Some(head) = self.find_head()? else {
+            return Ok(None);
         };
         let body_len = head.length.unwrap_or(0) as usize;
-        match self.fill(head.len + body_len) {
-            Ok(true) => {}
-            Ok(false) => return Err(HttpFault::Ended),
-            Err(e) => return Err(e),
+        if !self.fill(head.len + body_len)? {
+            return Err(HttpFault::Ended);
         }
-        match self.held.take_body(self.alloc, head.len, body_len) {
-            Ok(body) => Ok(Some(head.with_body(body))),
-            Err(_) => Err(HttpFault::NoMemory),
-        }
+        let body = self.held.take_body(self.alloc, head.len, body_len)?;
+        Ok(Some(head.with_body(body)))
     }
 
     /// Reads until a whole head is there, `None` at an end before it.
@@ -127,24 +121,19 @@ impl<R: Input> Requests<R> {
         ensures { HeadReading R.left R.fault_count R.failure_count result self.old self.new }
     {
         loop {
-            match look(self.alloc, self.held.as_slice()) {
-                Ok(Some(head)) => return Ok(Some(head)),
-                Ok(None) => {}
-                Err(e) => return Err(e),
+            if let Some(head) = look(self.alloc, self.held.as_slice())? {
+                return Ok(Some(head));
             }
             if self.held.len() >= HEAD_LIMIT {
                 return Err(HttpFault::HeadTooLong);
             }
-            match self.read_more(HEAD_LIMIT) {
-                Ok(true) => {}
-                Ok(false) => {
-                    if self.held.is_empty() {
-                        return Ok(None);
-                    }
-                    return Err(HttpFault::Ended);
-                }
-                Err(e) => return Err(e),
+            if self.read_more(HEAD_LIMIT)? {
+                continue;
             }
+            if self.held.is_empty() {
+                return Ok(None);
+            }
+            return Err(HttpFault::Ended);
         }
     }
 
@@ -156,15 +145,10 @@ impl<R: Input> Requests<R> {
         let mut room = 0;
         while self.held.len() < wanted {
             if self.held.len() >= room {
-                match self.held.make_room(wanted) {
-                    Ok(more) => room = more,
-                    Err(_) => return Err(HttpFault::NoMemory),
-                }
+                room = self.held.make_room(wanted)?;
             }
-            match self.read_more(room) {
-                Ok(true) => {}
-                Ok(false) => return Ok(false),
-                Err(e) => return Err(e),
+            if !self.read_more(room)? {
+                return Ok(false);
             }
         }
         Ok(true)
@@ -190,14 +174,9 @@ impl<R: Input> Requests<R> {
             self.old.reader self.new.reader }
     {
         let most = most - self.held.len();
-        match self.block.refill(&mut self.reader, most) {
-            Ok(()) => {}
-            Err(e) => return Err(e),
-        }
-        match self.block.give(&mut self.held, most) {
-            Ok(n) => Ok(n > 0),
-            Err(_) => Err(HttpFault::NoMemory),
-        }
+        self.block.refill(&mut self.reader, most)?;
+        let n = self.block.give(&mut self.held, most)?;
+        Ok(n > 0)
     }
 }
 

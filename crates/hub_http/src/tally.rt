@@ -38,13 +38,7 @@ impl<T> Tally<T> {
     pub fn into_inner(self) -> T
         ensures { result ≡ inner_of self }
     {
-        let Tally {
-            inner,
-            faults: _,
-            failures: _,
-            reads: _,
-        } = self;
-        inner
+        self.inner
     }
 }
 

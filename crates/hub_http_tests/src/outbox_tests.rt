@@ -1,5 +1,5 @@
 use crate::made_again::{again, same, same_bytes};
-use hub_http::{Handed, Outbox, Output, write_vec};
+use hub_http::{Handed, Outbox, Output, send_vec};
 use std::alloc::{AllocError, Global};
 use std::io;
 use std::io::{ErrorKind, Write};
@@ -42,7 +42,7 @@ fn three_texts(alloc: Global) -> Result<Outbox, Fail> {
     let vector = again!(Vec::from_slice(alloc, b"defgh"))?;
     let mut outbox = again!(Outbox::new(alloc))?;
     outbox.write(b"abc")?;
-    write_vec(&mut outbox, vector)?;
+    send_vec(&mut outbox, vector)?;
     if outbox.write(b"ij").is_err() {
         outbox.write(b"ij")?;
     }

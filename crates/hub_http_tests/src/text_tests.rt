@@ -1,8 +1,8 @@
 use crate::made_again::{again, same, same_bytes};
 use hub_document::{ChangeRow, Changes, Doc, DocFault, RevId, Revisions};
 use hub_http::{
-    ChunkFault, ChunkWriter, Refusal, Reply, StatusCode, Tally, feed_head, item_text,
-    no_memory_text, reply_bytes, stream_head_text,
+    ChunkFault, ChunkWriter, Refusal, Reply, StatusCode, Tally, item_text, reply_bytes,
+    stream_head_text,
 };
 use hub_model::{Fault, Item, Mode};
 use std::alloc::{AllocError, Global};
@@ -306,12 +306,14 @@ fn a_refusal_before_the_end(rt: HostRuntime) -> Result<(), Fail> {
 
 #[test]
 fn refusals_for_want_of_memory(rt: HostRuntime) -> Result<(), Fail> {
+    let expected = concat!(
+        "HTTP/1.1 503 Service Unavailable\r\nContent-Type: application/json\r\n",
+        "Content-Length: 51\r\n\r\n",
+        r#"{"error":"out_of_memory","reason":"out of memory"}"#,
+        "\n"
+    );
     let refusal = Reply::Refused(Refusal::NoMemory);
-    for form in &[(false, false), (false, true), (true, false), (true, true)] {
-        let expected = no_memory_text(form.0, form.1);
-        is_sent(&rt, rt.alloc(), &refusal, *form, expected)?;
-    }
-    Ok(())
+    is_sent(&rt, rt.alloc(), &refusal, (false, false), expected)
 }
 
 #[test]
@@ -430,7 +432,7 @@ fn four_chunks(
 
 // A feed of two rows in chunks, and an empty text between.
 fn two_rows_in_chunks(alloc: Global) -> Result<Vec<u8>, Fail> {
-    let head = feed_head(Mode::Normal).as_bytes();
+    let head = b"{\"results\":[\n";
     let first = row_text(alloc, 1, r#"{"_id":"a","_rev":"1-a"}"#)?;
     let second = row_text(alloc, 2, r#"{"_id":"b","_rev":"1-b"}"#)?;
     let end = Item::End {
@@ -555,12 +557,6 @@ fn heartbeats_by_mode(rt: HostRuntime) -> Result<(), Fail> {
         is_shown(&rt, rt.alloc(), *mode, 1, &Item::Beat, "\n")?;
     }
     Ok(())
-}
-
-#[test]
-fn heads_by_mode(rt: HostRuntime) {
-    let found = (feed_head(Mode::Longpoll), feed_head(Mode::Continuous));
-    same(&rt, &found, &(concat!(r#"{"results":["#, "\n"), ""));
 }
 
 // The row of a document that it brings is this text in a normal feed, and a line of it in a continuous one.

@@ -1,5 +1,5 @@
 -- The items of a stream, sent one after the other, and how it ends behind them.
-use Rattle.std.proofs.Common.{◌≡◌, ◌≤◌, ◌⊎◌, ℕ, ◌+◌, List, [], ◌∷◌, ◌++◌, Bool, true}
+use Rattle.std.proofs.Common.{◌≡◌, ◌≤◌, ◌⊎◌, ℕ, zero, suc, ◌+◌, List, [], ◌∷◌, ◌++◌, Bool, true}
 use Rattle.std.proofs.Common.{false, MatchBool, Option, Some, Ok, Err, refl, sym, ap}
 use Rattle.std.proofs.Common.{subst, ◌∙◌, inl, inr, append_assoc, append-nil, arith}
 use Rattle.std.proofs.lemmas.Bool.{cases_Bool}
@@ -20,6 +20,12 @@ use Rattle.hub_session.specs.Feeds.{GivesBack, HasStreamed, Streams, IsFed, IsSt
 use Rattle.hub_session.specs.Feeds.{sent_text, items_text, feed_text, is_broken, rows_behind}
 use Rattle.hub_session.specs.Items.{is_end, is_row, rows_after}
 use Rattle.hub_session.specs.Rules.{Rules, Moment, moment}
+
+-- nothing was sent, or it broke
+pub none_sent : (broken : Bool) (old new : Option (List ℕ)) → Sends broken old new [] → Appends old new []
+none_sent false old new sent = sent
+none_sent true old new (zero, sent) = sent
+none_sent true old new (suc n, sent) = sent
 
 -- the texts of items, and then of others
 pub items_text-append : (mode : Mode) (life rows : ℕ) (others items : List StreamItem)

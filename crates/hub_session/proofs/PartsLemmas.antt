@@ -9,7 +9,7 @@ use Rattle.std.specs.Io.KnownBytes.{Appends}
 use Rattle.hub_http.specs.Counts.{AppendsFront, Sends}
 use Rattle.hub_http.specs.Refusals.{error_of, reason_of}
 use Rattle.hub_http.specs.Statuses.{reason_phrase}
-use Rattle.hub_http.specs.Texts.{close_line, head_text, length_line}
+use Rattle.hub_http.specs.Texts.{close_line, head_end, head_text, length_line}
 use Rattle.hub_http.specs.Texts.{refusal_body, reply_text, status_line, type_line}
 use Rattle.hub_http.specs.declared.refusal.Refusal.{Refusal}
 use Rattle.hub_http.specs.declared.reply.Reply.{Reply}
@@ -73,8 +73,8 @@ refusal_length refusal =
       length-append (reason_of refusal) (codes "\"}\n"),
     )
 
--- the parts of a head
-pub head_parts : (status len : ℕ) (close : Bool) (number phrase size line : List ℕ) → number ≡ decimal status
+-- the lines of a head
+head_lines : (status len : ℕ) (close : Bool) (number phrase size line : List ℕ) → number ≡ decimal status
     → phrase ≡ reason_phrase status
     → size ≡ decimal len → line ≡ close_line close
     → codes "HTTP/1.1 "
@@ -82,7 +82,7 @@ pub head_parts : (status len : ℕ) (close : Bool) (number phrase size line : Li
     ++ (codes "Content-Length: " ++ (size ++ (codes "\r\n" ++ (line ++ codes "\r\n")))))))))
     ≡ head_text status (length_line len) close
 unfolding head_text status_line length_line type_line
-head_parts status len close number phrase size line n p s l =
+head_lines status len close number phrase size line n p s l =
     let ending = line ++ codes "\r\n" in
     let framing = codes "Content-Length: " ++ (size ++ codes "\r\n") in
     let behind = codes "Content-Type: application/json\r\n" ++ (framing ++ ending) in
@@ -104,6 +104,20 @@ head_parts status len close number phrase size line n p s l =
     ++ (type_line ++ ((codes "Content-Length: " ++ (x ++ codes "\r\n")) ++ ending))) s
     ∙ ap (λ x. status_line status (reason_phrase status)
     ++ (type_line ++ (length_line len ++ (x ++ codes "\r\n")))) l
+
+-- the parts of a head
+pub head_parts : (status len : ℕ) (close : Bool) (number phrase size end : List ℕ) → number ≡ decimal status
+    → phrase ≡ reason_phrase status
+    → size ≡ decimal len → end ≡ head_end close
+    → codes "HTTP/1.1 "
+    ++ (number ++ (codes " " ++ (phrase ++ (codes "\r\nContent-Type: application/json\r\nContent-Length: "
+    ++ (size ++ (end ++ []))))))
+    ≡ head_text status (length_line len) close
+head_parts status len close number phrase size end n p s e =
+    ap (λ x. codes "HTTP/1.1 "
+    ++ (number ++ (codes " " ++ (phrase ++ (codes "\r\nContent-Type: application/json\r\nContent-Length: "
+    ++ (size ++ x)))))) (append-nil end ∙ e)
+    ∙ head_lines status len close number phrase size (close_line close) n p s refl
 
 -- a head and a body are the answer
 pub whole_reply : (reply : Reply) (head_only : Bool) (close : Bool)
@@ -137,17 +151,9 @@ module _ (reply : Reply) (head_only close : Bool) (a b : Option (List ℕ)) (sta
         (if head_only then [] else body_in reply) (subst (Appends a b) same_head h)
         (subst (λ t. Sends broken b c (if t then [] else body_in reply)) (sym alone) sent))
 
-    pub broken_body : head_only ≡ false → AppendsFront b c (body_in reply)
-        → AppendsFront a c (reply_text reply head_only close)
-    broken_body whole sent = subst (AppendsFront a c) (whole_reply reply head_only close)
-        (front_after a b c _ (if head_only then [] else body_in reply) (subst (Appends a b) same_head h)
-        (subst (λ t. AppendsFront b c (if t then [] else body_in reply)) (sym whole) sent))
-
-    pub sent_whole : (d : Option (List ℕ)) (broken : Bool) → head_only ≡ false → Appends b c (body_in reply)
-        → Sends broken c d [] → Sends broken a d (reply_text reply head_only close)
-    sent_whole d broken whole body flushed = subst (Sends broken a d) (whole_reply reply head_only close)
-        (sends_after broken a b d _
+    pub sent_whole : (broken : Bool) → head_only ≡ false → Sends broken b c (body_in reply)
+        → Sends broken a c (reply_text reply head_only close)
+    sent_whole broken whole sent = subst (Sends broken a c) (whole_reply reply head_only close)
+        (sends_after broken a b c _
         (if head_only then [] else body_in reply) (subst (Appends a b) same_head h)
-        (subst (λ t. Sends broken b d (if t then [] else body_in reply)) (sym whole)
-        (subst (Sends broken b d) (append-nil (body_in reply))
-        (sends_after broken b c d (body_in reply) [] body flushed))))
+        (subst (λ t. Sends broken b c (if t then [] else body_in reply)) (sym whole) sent))

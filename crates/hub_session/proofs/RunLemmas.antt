@@ -1,5 +1,5 @@
 -- What the steps of a session did together.
-use Rattle.std.proofs.Common.{◌≡◌, ◌≤◌, ℕ, ◌+◌, List, [], ◌∷◌, ◌++◌, Bool, true, false}
+use Rattle.std.proofs.Common.{◌≡◌, ◌<◌, ◌≤◌, ℕ, ◌+◌, length, List, [], ◌∷◌, ◌++◌, Bool, true, false}
 use Rattle.std.proofs.Common.{Option, Some, None, Result, Ok, Err, take, refl, sym, ap}
 use Rattle.std.proofs.Common.{subst, ◌∙◌, append_assoc, append-nil, inl, inr, arith}
 use Rattle.std.proofs.lemmas.Grind.{common_steps}
@@ -34,7 +34,8 @@ use Rattle.hub_session.specs.Feeds.{sent_text, is_broken as stream_breaks, rows_
 use Rattle.hub_session.specs.Items.{rows_after}
 use Rattle.hub_session.specs.Replies.{fault_text}
 use Rattle.hub_session.specs.Rules.{Rules, moment}
-use Rattle.hub_session.specs.Runs.{Run, new_run, with_offered, Seen, Steps, IsOfEnd}
+use Rattle.hub_session.specs.Runs.{Run, new_run, offered_to, run_offered, with_offered, Seen, Steps}
+use Rattle.hub_session.specs.Runs.{IsOfEnd}
 use Rattle.hub_session.specs.Runs.{GivesUpAt, IsStepped, place_behind, IsBetween, IsWithin, HasDone, HasRun}
 use Rattle.hub_session.specs.Sessions.{Answers, Closes, Ending, Exchange, Goes, HasServed, IsServed}
 use Rattle.hub_session.specs.Sessions.{Session, Standing, after_answer, after_stream, breaks}
@@ -43,6 +44,37 @@ use Rattle.hub_session.proofs.AnswerLemmas.{breaks-after_stream}
 use Rattle.hub_session.proofs.FeedLemmas.{items_text-append, rows_behind-push}
 use Rattle.hub_session.proofs.FeedLemmas.{rows_within, streamed_more, streamed_streams}
 use Rattle.hub_session.proofs.SessionLemmas.{one_more, served_more, served_session}
+
+-- ---- what is offered
+
+-- no more bytes came
+pub over_as : {S : Type 0} (over : Bool) (bytes : List ℕ) (x : Seen S) → over ≡ true
+    → x ≡ offered_to over bytes x
+over_as true bytes x is = refl
+over_as false bytes x is = cc
+
+-- none says so
+pub ended_as : {S : Type 0} (over : Bool) (bytes : List ℕ) (x y : Seen S) → over ≡ false → bytes ≡ []
+    → y ≡ record x { over = true } → y ≡ offered_to over bytes x
+ended_as true bytes x y is none e = cc
+ended_as false [] x y is none e = e
+ended_as false (b ∷ bs) x y is none e = cc
+
+came_at : {S : Type 0} (over : Bool) (behind : List ℕ) (x y : Seen S) → over ≡ false → 0 < length behind
+    → y ≡ record x { bytes = x.bytes ++ behind } → y ≡ offered_to over behind x
+came_at true behind x y is some e = cc
+came_at false [] x y is some e = absurd (omega (arith, some))
+came_at false (b ∷ bs) x y is some e = e
+
+-- some came
+pub came_as : {S : Type 0} (x : Seen S) (bytes : List ℕ) (over : Bool) (behind : List ℕ)
+    → x.over ≡ false → 0 < length behind → over ≡ false → bytes ≡ x.bytes ++ behind
+    → record x { bytes = bytes; over = over } ≡ offered_to x.over behind x
+came_as x bytes over behind awaited some now e =
+    let kept : over ≡ x.over = now ∙ sym awaited in
+    came_at x.over behind x (record x { bytes = bytes; over = over }) awaited some
+    (λ i.
+    record { place = x.place; bytes = e i; over = kept i; service = x.service; pending = x.pending })
 
 -- ---- more bytes behind those that came
 
@@ -486,16 +518,31 @@ module _ {S : Type 0} (rules : Rules S) (run : Run S) where
       (done_offered rules run.start run.offered old.bytes old.over old.service
       (run.gone ++ old.pending) behind old.place awaited d)
 
-  -- more bytes were offered, and more may come
-  pub offered_so : (old : Seen S) (bytes : List ℕ) (over : Bool) (behind : List ℕ)
-      → bytes ≡ old.bytes ++ behind → over ≡ false → old.over ≡ false → HasRun rules run old
-      → HasRun rules (with_offered run behind) (record old { bytes = bytes; over = over })
-  offered_so old bytes over behind e now before d =
-      let kept : over ≡ old.over = now ∙ sym before in
-      offered_run old (record old { bytes = bytes; over = over }) behind before
-      (λ i.
-      record { place = old.place; bytes = e i; over = kept i; service = old.service; pending = old.pending })
-      d
+  -- no more bytes come
+  ended_run : (old new : Seen S) → new ≡ record old { over = true } → HasRun rules run old
+      → HasRun rules run new
+  ended_run old new is d = subst (HasRun rules run) (sym is) (ended_at old.place d)
+    where
+      ended_at : (place : Place)
+          → HasDone rules run.start run.offered old.bytes old.over old.service (run.gone ++ old.pending) place
+          → HasDone rules run.start run.offered old.bytes true old.service (run.gone ++ old.pending) place
+      ended_at Between d = d
+      ended_at (Within sending close) d = d
+      ended_at (Closed closing) d = (d.0, λ end. refl)
+
+  offered_at : (over : Bool) (bytes : List ℕ) (old new : Seen S) → old.over ≡ over
+      → new ≡ offered_to over bytes old → HasRun rules run old → HasRun rules (run_offered over bytes run) new
+  offered_at true bytes old new at is d = same_run old new is d
+  offered_at false [] old new at is d =
+      subst (λ all.
+      HasDone rules run.start all new.bytes new.over new.service (run.gone ++ new.pending) new.place)
+      (sym (append-nil run.offered)) (ended_run old new is d)
+  offered_at false (b ∷ bs) old new at is d = offered_run old new (b ∷ bs) at is d
+
+  -- bytes were offered
+  pub run_behind : (bytes : List ℕ) (old new : Seen S) → new ≡ offered_to old.over bytes old
+      → HasRun rules run old → HasRun rules (run_offered old.over bytes run) new
+  run_behind bytes old new is d = offered_at old.over bytes old new refl is d
 
   -- the other side is gone
   pub given_up_between : (old : Seen S) → old.place ≡ Between → HasRun rules run old

@@ -1,5 +1,5 @@
 -- own: sessions that are stepped: what one shows, what one step does, and what all of its steps did.
-use Rattle.std.specs.Prelude.{◌≡◌, ⊤, ◌<◌, ◌≤◌, ◌⊎◌, ℕ, List, [], ◌++◌}
+use Rattle.std.specs.Prelude.{◌≡◌, ⊤, ◌<◌, ◌≤◌, ◌⊎◌, ℕ, List, [], ◌∷◌, ◌++◌}
 use Rattle.std.specs.Prelude.{Bool, true, false, length, take, IsSome, Option, Some}
 use Rattle.std.specs.Prelude.{None, Ok, Err}
 use Rattle.std.specs.List.{flat_map}
@@ -150,11 +150,6 @@ GivesUpAt (Within sending close) rules old new =
     × (new ≡ record old { place = Closed Broken; service = new.service })
 GivesUpAt (Closed closing) rules old new = new ≡ old
 
--- A session was given up: what it shows before and behind that, and that it is closed then.
-pub record IsGivenUp {S : Type 0} (rules : Rules S) (old new : Seen S) : Type 0 where
-  pub given_up : GivesUpAt old.place rules old new
-  pub closed : IsSome (closing_at new.place)
-
 -- ---- all steps
 
 -- a session as its surroundings see it: its service as it began, the bytes that were offered, in order, and
@@ -230,3 +225,23 @@ HasRun rules run x =
 -- with these 3 offered.
 abbrev pub RunsOn : {S : Type 0} → Rules S → (Run S → Run S) → Seen S → Seen S → Type 0
 RunsOn rules next old new = (run : Run _) → HasRun rules run old → HasRun rules (next run) new
+
+-- What a session shows once these bytes were offered, where its input was over or not. They came behind the
+-- others; none says that no more come, and behind that nothing is taken. Where ab came and cd are offered,
+-- abcd came.
+abbrev pub offered_to : {S : Type 0} → (over : Bool) → List ℕ → Seen S → Seen S
+offered_to true bytes x = x
+offered_to false [] x = record x { over = true }
+offered_to false (b ∷ bs) x = record x { bytes = x.bytes ++ b ∷ bs }
+
+-- its run then
+abbrev pub run_offered : {S : Type 0} → (over : Bool) → List ℕ → Run S → Run S
+run_offered true bytes run = run
+run_offered false bytes run = with_offered run bytes
+
+-- A session was given up: what it shows before and behind that, that it is closed then, and that it goes on
+-- to have the run that it had.
+pub record IsGivenUp {S : Type 0} (rules : Rules S) (old new : Seen S) : Type 0 where
+  pub given_up : GivesUpAt old.place rules old new
+  pub closed : IsSome (closing_at new.place)
+  pub run : RunsOn rules (λ run. run) old new

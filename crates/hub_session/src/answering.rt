@@ -9,10 +9,10 @@ ghost use Rattle.hub_session.specs.Sessions.{after_stream, after_whole, is_head,
 use crate::closing::{Closing, StreamEnd};
 use crate::feed::begin_items;
 use crate::parts::send_in_parts;
-use crate::reply::{fault_text, send_vec};
+use crate::reply::fault_text;
 use crate::service::{Answer, Service};
 use hub_http::{
-    HttpFault, IoFault, Output, Request, reply_bytes, send, stream_head_text, write_all,
+    HttpFault, IoFault, Output, Request, reply_bytes, send, send_vec, stream_head_text, write_all,
 };
 use hub_model::Mode;
 use std::alloc::Global;
@@ -29,11 +29,7 @@ pub(crate) enum Begun {
 fn after_answer(close: bool) -> Option<Closing>
     ensures { result ≡ after_answer close }
 {
-    if close {
-        Some(Closing::Requested)
-    } else {
-        None
-    }
+    close.then_some(Closing::Requested)
 }
 
 pub(crate) fn after_stream(close: bool, end: StreamEnd) -> Option<Closing>

@@ -1,9 +1,8 @@
 //! Streams to a writer.
 ghost use Rattle.std.specs.Prelude.{◌≡◌, ◌<◌, ◌≤◌, ◌+◌, ◌^◌, ℕ, IfOk, IsErrOf};
-ghost use Rattle.std.specs.Io.KnownBytes.{Keeps};
 ghost use Rattle.hub_http.specs.Counts.{CallCounts, SendsTo};
 ghost use Rattle.hub_http.specs.Items.{feed_head};
-ghost use Rattle.hub_http.specs.Chunks.{Writes, text_chunks};
+ghost use Rattle.hub_http.specs.Chunks.{WritesTo, text_chunks};
 ghost use Rattle.hub_session.specs.Items.{rows_after};
 ghost use Rattle.hub_session.specs.Feeds.{feed_text, items_text, sent_text, behind_item};
 ghost use Rattle.hub_session.specs.Feeds.{GivesBack, IsFed, IsFedTo, IsStreamed};
@@ -52,15 +51,10 @@ fn send_item<W: Output, S: Service>(
     service: &S,
     text: &ItemText<'_>,
 ) -> Result<(), ChunkFault>
-    ensures bytes { Writes (sent_text text.now.mode text.now.life text.now.rows
-        (lent_in text.now.item)) result (W.written writer.old) (W.written writer.new) }
-    ensures counts { CallCounts (IsErrOf result ChunkFault.IoFault) W.fault_count
-        W.failure_count writer.old writer.new }
+    ensures { WritesTo W.written W.fault_count W.failure_count result writer.old writer.new
+        (sent_text text.now.sending.mode text.now.sending.life text.now.sending.rows (lent_in text.now.item)) }
 {
-    match chunks.write(writer, text) {
-        Ok(()) => {}
-        Err(e) => return Err(e),
-    }
+    chunks.write(writer, text)?;
     if !text.item.is_end() && service.is_ready() {
         return Ok(());
     }
@@ -68,15 +62,6 @@ fn send_item<W: Output, S: Service>(
         Ok(()) => Ok(()),
         Err(_) => Err(ChunkFault::IoFault),
     }
-}
-
-/// Flushes what was written of a stream that is cut. A fault of that is not told: the stream is cut
-/// all the same.
-fn flush_cut<W: Output>(writer: &mut W)
-    ensures kept { Keeps (W.written writer.old) (W.written writer.new) }
-    ensures counts { CallCounts ⊥ W.fault_count W.failure_count writer.old writer.new }
-{
-    let _ = send(writer, b"");
 }
 
 /// Gives back what a stream holds of which this item was not sent. Behind an End it holds nothing.
@@ -99,7 +84,8 @@ pub(crate) struct Sending {
 }
 
 /// Sends what the service gave of its stream, and answers how many rows are sent then, or how the stream
-/// ended. What was written of a stream that is cut is flushed, and what it holds is given back.
+/// ended. What was written of a stream that is cut is flushed, and what it holds is given back. A fault of
+/// that flush is not told: the stream is cut all the same.
 pub(crate) fn send_given<W: Output, S: Service>(
     chunks: &mut ChunkWriter,
     writer: &mut W,
@@ -116,20 +102,15 @@ pub(crate) fn send_given<W: Output, S: Service>(
         W.failure_count writer.old writer.new }
 {
     let Some(item) = given.lent() else {
-        flush_cut(writer);
+        let _ = send(writer, b"");
         service.drop_stream();
         return Err(StreamEnd::Stopped);
     };
-    let text = ItemText {
-        item,
-        mode: sending.mode,
-        life: sending.life,
-        rows: sending.rows,
-    };
+    let text = ItemText { item, sending };
     match send_item(chunks, writer, service, &text) {
         Ok(()) => {}
         Err(ChunkFault::NoMemory) => {
-            flush_cut(writer);
+            let _ = send(writer, b"");
             give_back(service, item);
             return Err(StreamEnd::NoMemory);
         }

@@ -3,9 +3,10 @@ ghost use Rattle.std.specs.Prelude.{◌≡◌, None, option_map};
 ghost use Rattle.hub_session.specs.Items.{is_end, is_row, stream_item_text};
 ghost use Rattle.hub_session.specs.Lent.{lent_in};
 
+use crate::feed::Sending;
 use hub_document::{ChangeRow, UpdateRow};
 use hub_http::{Text, item_text};
-use hub_model::{Item, Mode};
+use hub_model::Item;
 use std::alloc::AllocError;
 use std::marker::Model;
 
@@ -82,23 +83,21 @@ impl NextItem {
     }
 }
 
-/// An item as a stream of this mode sends it, of the life of this number, before which the stream
-/// wrote so many rows.
+/// An item as a stream sends it that is being sent.
 #[derive(Clone, Copy)]
 pub(crate) struct ItemText<'a> {
     pub(crate) item: LentItem<'a>,
-    pub(crate) mode: Mode,
-    pub(crate) life: u64,
-    pub(crate) rows: u64,
+    pub(crate) sending: Sending,
 }
 
 impl Text for ItemText<'_> {
-    ghost bytes = { λ t. stream_item_text t.mode t.life t.rows (lent_in t.item) };
+    ghost bytes = { λ t. stream_item_text t.sending.mode t.sending.life t.sending.rows (lent_in t.item) };
 
     fn append(&self, buffer: &mut Vec<u8>) -> Result<(), AllocError> {
+        let Sending { mode, life, rows } = self.sending;
         match self.item {
-            LentItem::Change(item) => item_text(buffer, self.mode, self.rows, self.life, item),
-            LentItem::Update(item) => item_text(buffer, self.mode, self.rows, self.life, item),
+            LentItem::Change(item) => item_text(buffer, mode, rows, life, item),
+            LentItem::Update(item) => item_text(buffer, mode, rows, life, item),
         }
     }
 }

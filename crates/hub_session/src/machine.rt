@@ -1,10 +1,10 @@
 //! Sessions that are stepped.
-ghost use Rattle.std.specs.Prelude.{◌≡◌, ◌<◌, ◌⊎◌, ◌++◌, [], false, true, length, IsSome, OnOk, OnErr};
-ghost use Rattle.hub_http.specs.Boxes.{Hands, faults_in, handed_of, pending_in};
+ghost use Rattle.std.specs.Prelude.{◌≡◌, ◌<◌, ◌⊎◌, [], false, length, IsSome, OnOk, OnErr};
+ghost use Rattle.hub_http.specs.Boxes.{Hands, came_to, faults_in, handed_of, is_over, pending_in};
 ghost use Rattle.hub_http.specs.Counts.{Rose};
 ghost use Rattle.hub_session.specs.Runs.{HasRun, IsGivenUp, IsStepFrom, IsStepped};
-ghost use Rattle.hub_session.specs.Runs.{RunsOn, TellsNoMemory, closing_at, new_run, place_behind, seen};
-ghost use Rattle.hub_session.specs.Runs.{step_behind, with_gone, with_offered};
+ghost use Rattle.hub_session.specs.Runs.{RunsOn, TellsNoMemory, closing_at, new_run, offered_to};
+ghost use Rattle.hub_session.specs.Runs.{place_behind, run_offered, seen, step_behind, with_gone, with_offered};
 
 use crate::answering::{Begun, after_stream, answer_fault, begin_answer};
 use crate::closing::{Closing, StreamEnd};
@@ -173,23 +173,23 @@ impl<S: Service> Session<S> {
         }
     }
 
-    /// Whether no more bytes come.
-    pub fn is_over(&self) -> bool
-        ensures { result ≡ (seen self.now).over }
-    {
-        self.inbox.is_over()
-    }
-
-    /// Offers bytes that came, behind those that were offered before. An error changes nothing: they may
-    /// be offered again.
+    /// Offers bytes that came, behind those that were offered before: none says that no more come. Behind
+    /// that nothing is taken: such bytes would be no part of the session. An error changes nothing: the
+    /// bytes may be offered again.
     pub fn offer(&mut self, bytes: &[u8]) -> Result<(), AllocError>
-        requires { (seen self.old).over ≡ false }
         ensures ok { OnOk result (seen self.new
-            ≡ record (seen self.old) { bytes = (seen self.old).bytes ++ bytes.now }) }
-        ensures run { OnOk result (RunsOn S.rules (λ run. with_offered run bytes.now)
+            ≡ offered_to (seen self.old).over bytes.now (seen self.old)) }
+        ensures run { OnOk result (RunsOn S.rules (run_offered (seen self.old).over bytes.now)
             (seen self.old) (seen self.new)) }
-        ensures err { OnErr result (seen self.new ≡ seen self.old) }
+        ensures err { OnErr result ((seen self.new ≡ seen self.old) × ((seen self.new).over ≡ false)) }
     {
+        if self.inbox.is_over() {
+            return Ok(());
+        }
+        if bytes.is_empty() {
+            self.inbox.end();
+            return Ok(());
+        }
         self.inbox.offer(bytes)
     }
 
@@ -220,14 +220,6 @@ impl<S: Service> Session<S> {
         }
     }
 
-    /// Says that no more bytes come.
-    pub fn end(&mut self)
-        ensures shown { seen self.new ≡ record (seen self.old) { over = true } }
-        ensures run { RunsOn S.rules (λ run. run) (seen self.old) (seen self.new) }
-    {
-        self.inbox.end();
-    }
-
     /// Hands a front of what is to go to a writer, by one write, and keeps what it did not take.
     pub fn send_to<W: Write>(&mut self, writer: &mut W) -> Handed
         ensures handed { Hands result (seen self.old).pending (seen self.new).pending
@@ -248,8 +240,7 @@ impl<S: Service> Session<S> {
     /// The other side is gone: a session that did not close does so as `Broken`, and its service gets back
     /// what a stream holds.
     pub fn give_up(&mut self)
-        ensures told { IsGivenUp S.rules (seen self.old) (seen self.new) }
-        ensures run { RunsOn S.rules (λ run. run) (seen self.old) (seen self.new) }
+        ensures { IsGivenUp S.rules (seen self.old) (seen self.new) }
     {
         match self.place {
             Place::Between => self.place = Place::Closed(Closing::Broken),
@@ -269,6 +260,14 @@ impl<S: Service> Session<S> {
             Place::Between | Place::Within(..) => None,
             Place::Closed(closing) => Some(closing),
         }
+    }
+
+    /// What came of its input, and that no request took.
+    pub fn inbox(&self) -> &Inbox
+        ensures bytes { came_to result.now ≡ (seen self.now).bytes }
+        ensures over { is_over result.now ≡ (seen self.now).over }
+    {
+        &self.inbox
     }
 
     /// What answers its requests.

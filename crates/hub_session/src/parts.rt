@@ -1,18 +1,12 @@
 //! Whole answers to a writer in parts, which take no memory.
 ghost use Rattle.std.specs.Prelude.{◌≡◌, length};
 ghost use Rattle.hub_http.specs.Counts.{SendsTo};
-ghost use Rattle.hub_http.specs.Texts.{close_line, head_text, length_line};
+ghost use Rattle.hub_http.specs.Texts.{head_text, length_line};
 ghost use Rattle.hub_http.specs.Texts.{refusal_body, reply_text};
 ghost use Rattle.hub_session.specs.Replies.{body_in, parts_text, status_in};
 
-use hub_http::{IoFault, Output, Refusal, Reply, StatusCode, send, write_all, write_vec};
+use hub_http::{IoFault, Output, Refusal, Reply, StatusCode, head_end, send, send_vec, write_all};
 use itoa::Buffer;
-
-fn close_line(close: bool) -> &'static str
-    ensures { result.now ≡ close_line close }
-{
-    if close { "Connection: close\r\n" } else { "" }
-}
 
 /// Writes parts, one behind the other, each mostly by one write, and does not flush.
 fn write_parts<W: Output>(writer: &mut W, parts: &[&[u8]]) -> Result<(), IoFault>
@@ -44,19 +38,15 @@ fn write_head<W: Output>(
             number.format(status.as_u16()).as_bytes(),
             b" ",
             status.reason_phrase().as_bytes(),
-            b"\r\n",
-            b"Content-Type: application/json\r\n",
-            b"Content-Length: ",
+            b"\r\nContent-Type: application/json\r\nContent-Length: ",
             length.format(len).as_bytes(),
-            b"\r\n",
-            close_line(close).as_bytes(),
-            b"\r\n",
+            head_end(close).as_bytes(),
         ],
     )
 }
 
-/// Writes the body of a refusal.
-fn write_refusal<W: Output>(writer: &mut W, refusal: Refusal) -> Result<(), IoFault>
+/// Sends the body of a refusal.
+fn send_refusal<W: Output>(writer: &mut W, refusal: Refusal) -> Result<(), IoFault>
     ensures { SendsTo W.written W.fault_count W.failure_count result writer.old writer.new
         (refusal_body refusal) }
 {
@@ -69,7 +59,8 @@ fn write_refusal<W: Output>(writer: &mut W, refusal: Refusal) -> Result<(), IoFa
             refusal.reason().as_bytes(),
             b"\"}\n",
         ],
-    )
+    )?;
+    send(writer, b"")
 }
 
 /// How long the body of a refusal is.
@@ -90,14 +81,14 @@ fn framing(reply: &Reply) -> (StatusCode, usize)
     }
 }
 
-/// Writes the body of an answer, which the writer may keep.
-fn write_body<W: Output>(writer: &mut W, reply: Reply) -> Result<(), IoFault>
+/// Sends the body of an answer, which the writer may keep.
+fn send_body<W: Output>(writer: &mut W, reply: Reply) -> Result<(), IoFault>
     ensures { SendsTo W.written W.fault_count W.failure_count result writer.old writer.new
         (body_in reply) }
 {
     match reply {
-        Reply::Done { body, .. } => write_vec(writer, body),
-        Reply::Refused(refusal) => write_refusal(writer, refusal),
+        Reply::Done { body, .. } => send_vec(writer, body),
+        Reply::Refused(refusal) => send_refusal(writer, refusal),
     }
 }
 
@@ -114,8 +105,8 @@ pub(crate) fn send_in_parts<W: Output>(
 {
     let (status, len) = framing(&reply);
     write_head(writer, status, len, close)?;
-    if !head_only {
-        write_body(writer, reply)?;
+    if head_only {
+        return send(writer, b"");
     }
-    send(writer, b"")
+    send_body(writer, reply)
 }

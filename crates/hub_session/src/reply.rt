@@ -1,16 +1,19 @@
-//! Whole answers to a writer.
+//! Replies to what is no request.
 ghost use Rattle.std.specs.Prelude.{◌≡◌};
-ghost use Rattle.hub_http.specs.Counts.{SendsTo};
 ghost use Rattle.hub_session.specs.Replies.{fault_text};
 
-use hub_http::{HttpFault, IoFault, Output, no_memory_text, send, write_vec};
+use hub_http::HttpFault;
 
 /// The reply to a fault of reading a request, empty where it has none. It needs no memory.
 pub(crate) fn fault_text(fault: HttpFault) -> &'static str
     ensures { result.now ≡ fault_text fault }
 {
     match fault {
-        HttpFault::NoMemory => no_memory_text(false, true),
+        HttpFault::NoMemory => {
+            "HTTP/1.1 503 Service Unavailable\r\nContent-Type: application/json\r\n\
+            Content-Length: 51\r\nConnection: close\r\n\r\n\
+            {\"error\":\"out_of_memory\",\"reason\":\"out of memory\"}\n"
+        }
         HttpFault::BadHead => {
             "HTTP/1.1 400 Bad Request\r\nContent-Type: application/json\r\n\
             Content-Length: 44\r\nConnection: close\r\n\r\n\
@@ -38,12 +41,4 @@ pub(crate) fn fault_text(fault: HttpFault) -> &'static str
         }
         HttpFault::Ended | HttpFault::IoFault => "",
     }
-}
-
-/// Writes a vector's bytes, which the writer may keep, and flushes them: by one write, mostly.
-pub(crate) fn send_vec<W: Output>(writer: &mut W, bytes: Vec<u8>) -> Result<(), IoFault>
-    ensures { SendsTo W.written W.fault_count W.failure_count result writer.old writer.new bytes.items }
-{
-    write_vec(writer, bytes)?;
-    send(writer, b"")
 }

@@ -80,13 +80,11 @@ fn serve_want<S: Service>(
             }
         }
         Step::WantsInput => {
-            if session.is_over() {
+            if session.inbox().is_over() {
                 return None;
             }
             let (front, behind) = rest.split_at(rest.len().min(size));
-            if front.is_empty() {
-                session.end();
-            } else if session.offer(front).is_ok() {
+            if session.offer(front).is_ok() {
                 *rest = behind;
             }
         }
@@ -257,7 +255,7 @@ fn refused(alloc: Global, input: &[u8]) -> Option<Told> {
         return None;
     };
     let mut session = Session::new(alloc, outbox, two_rows(alloc));
-    if session.offer(input).is_err() {
+    if !input.is_empty() && session.offer(input).is_err() {
         return None;
     }
     let mut writer = CutWriter::new(alloc, usize::MAX, usize::MAX);
@@ -269,7 +267,7 @@ fn refused(alloc: Global, input: &[u8]) -> Option<Told> {
         }
     }
     drain(&mut session, &mut writer);
-    if !session.is_over() {
+    if !session.inbox().is_over() {
         session.close_out_of_memory(b"mal HTTP/1.1\r\n\r\n");
     }
     drain(&mut session, &mut writer);

@@ -34,16 +34,8 @@ impl<S: Service> Driven<S> {
     }
 
     /// Takes bytes that came: none says that no more come. Where there is no memory for them the session
-    /// answers so, and closes. A socket that said its end gives none behind it: such bytes would be no part
-    /// of the session.
+    /// answers so, and closes.
     pub(crate) fn take_in(&mut self, bytes: &[u8]) {
-        if self.session.is_over() {
-            return;
-        }
-        if bytes.is_empty() {
-            self.session.end();
-            return;
-        }
         match self.session.offer(bytes) {
             Ok(()) => {}
             Err(AllocError) => self.session.close_out_of_memory(bytes),

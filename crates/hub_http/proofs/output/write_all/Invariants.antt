@@ -1,5 +1,6 @@
-use Rattle.std.proofs.Common.{◌≡◌, ◌≤◌, ℕ, ◌++◌, List, length}
+use Rattle.std.proofs.Common.{◌≡◌, ◌≤◌, ◌<◌, ◌+◌, ◌-◌, ◌*◌, ℕ, ◌++◌, List, length}
 use Rattle.std.specs.Io.KnownBytes.{Appends}
+use Rattle.hub_http.specs.Counts.{RoseBy, most_tries}
 use Rattle.hub_http.proofs.output.write_all.Given as goal
 
 abbrev pub invariant-loop-rest : goal.invariant-loop-rest
@@ -10,6 +11,8 @@ invariant-loop-rest g l =
     ((done : List ℕ) × (l.bytes ≡ done ++ l.rest) × Appends (written l.fn.writer) (written l.writer) done)
     × (faults l.fn.writer ≤ faults l.writer)
     × (failures l.fn.writer ≤ failures l.writer)
+    × (0 < l.tries) × (l.tries ≤ most_tries)
+    × RoseBy (most_tries - l.tries) (faults l.fn.writer) (faults l.writer)
 
 abbrev pub decreases-loop-rest : goal.decreases-loop-rest
-decreases-loop-rest g l = length l.rest
+decreases-loop-rest g l = length l.rest * 1000001 + l.tries

@@ -12,6 +12,6 @@ returns g c = record {
       (c.as_bytes.ensures.value ∙ c.format.ensures.text ∙ ap decimal c.as_u16.ensures)
       (c.as_bytes-2.ensures.value ∙ c.reason_phrase.ensures)
       (c.as_bytes-3.ensures.value ∙ c.format-2.ensures.text)
-      (c.as_bytes-4.ensures.value ∙ c.close_line.ensures))
+      (c.as_bytes-4.ensures.value ∙ c.head_end.ensures))
       c.write_parts.ensures.sent;
 }

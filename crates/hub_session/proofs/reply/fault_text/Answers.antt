@@ -3,6 +3,10 @@ use Rattle.std.specs.Fmt.{digits}
 use Rattle.hub_http.specs.Texts.{head_text, status_line, length_line, close_line, type_line, refusal_body}
 use Rattle.hub_session.proofs.reply.fault_text.Goals as goal
 
+pub returns-in-NoMemory : goal.returns-in-NoMemory
+unfolding head_text status_line length_line close_line type_line refusal_body digits
+returns-in-NoMemory c = rw c.in-NoMemory.is refl
+
 pub returns-in-BadHead : goal.returns-in-BadHead
 unfolding head_text status_line length_line close_line type_line refusal_body digits
 returns-in-BadHead c = rw c.in-BadHead.is refl

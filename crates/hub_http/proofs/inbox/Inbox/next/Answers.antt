@@ -8,5 +8,5 @@ returns-then-len-ge-HEAD_LIMIT-clause-told c =
     let bytes = came_to c.args.self.now in
     let long : 16384 ≤ length bytes = omega (arith, c.len.ensures, c.if-len-ge-HEAD_LIMIT.true) in (
       refl,
-      goes_on_too_long bytes long (rw (c.in-Ok-None.field-0-is, c.as_slice.ensures) at c.in-Ok-None.ensures),
+      goes_on_too_long bytes long (rw (c.in_default.is, c.as_slice.ensures) at c.in_ok-head.ensures),
     )

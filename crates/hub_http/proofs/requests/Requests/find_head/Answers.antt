@@ -10,7 +10,7 @@ returns-then-len-ge-HEAD_LIMIT g c =
     record {
       kept = c.loop-head.invariant.0;
       found = goes_on_too_long held long
-          (rw (c.in-Ok-None.field-0-is, c.as_slice.ensures) at c.in-Ok-None.ensures);
+          (rw (c.in_default.is, c.as_slice.ensures) at c.in_ok-head.ensures);
       ended = c.loop-head.invariant.1;
       counts = counts_only c.loop-head.invariant.2 c.loop-head.invariant.3 (λ e. cc);
     }

@@ -8,7 +8,7 @@ use Rattle.hub_session.proofs.machine.Session.close_out_of_memory.Goals as goal
 pub returns-then-is_empty-clause-run : goal.returns-then-is_empty-clause-run
 returns-then-is_empty-clause-run g c = λ run d.
     given_up_behind g.S.Service.rules run c.args.self.now.place (seen c.args.self.now)
-    (seen c.give_up.new.self) c.args.bytes.now refl c.requires c.give_up.ensures.told.given_up d
+    (seen c.give_up.new.self) c.args.bytes.now refl c.requires c.give_up.ensures.given_up d
 
 pub returns-in-Between-clause-told : goal.returns-in-Between-clause-told
 returns-in-Between-clause-told g c = λ place some.
@@ -27,4 +27,4 @@ pub returns-in-Within-clause-run : goal.returns-in-Within-clause-run
 returns-in-Within-clause-run g c = λ run d.
     given_up_behind g.S.Service.rules run c.args.self.now.place (seen c.args.self.now)
     (seen c.give_up-in-Within.new.self) c.args.bytes.now refl c.requires
-    c.give_up-in-Within.ensures.told.given_up d
+    c.give_up-in-Within.ensures.given_up d
