@@ -45,24 +45,13 @@ pub enum FollowEvent {
 }
 
 /// Two databases, the replication log at each, and a follower that copies one into the other.
-#[derive(Debug)]
+#[derive(Debug, Drop)]
 pub struct FollowWorld {
     alloc: Global,
     pair: Pair,
     /// The sessions that have begun, the latest first.
     sessions: Vec<String>,
     core: FollowCore,
-}
-
-impl Drop for FollowWorld {
-    fn drop(self) {
-        let Self {
-            alloc,
-            pair,
-            sessions,
-            core,
-        } = self;
-    }
 }
 
 impl Model for FollowWorld {
