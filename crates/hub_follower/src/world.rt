@@ -177,18 +177,6 @@ impl FollowWorld {
         self.take(answer)
     }
 
-    // The next call has its effect, and its answer is lost.
-    fn lose_answer(&mut self) -> Result<(), AllocError>
-        requires { HasPlace self.old }
-        ensures { OnOk result (world.Step self.old world.LossAfter self.new) }
-    {
-        if let Some(answer) = self.answered()? {
-            drop(answer);
-            self.core.fail();
-        }
-        Ok(())
-    }
-
     /// An event happens. Out of memory, it may leave its effect or a part of it.
     pub fn step(&mut self, event: FollowEvent) -> Result<(), AllocError>
         requires { HasPlace self.old }
@@ -211,7 +199,13 @@ impl FollowWorld {
                 self.core.fail();
                 Ok(())
             }
-            FollowEvent::LostAfter => self.lose_answer(),
+            FollowEvent::LostAfter => {
+                if let Some(answer) = self.answered()? {
+                    drop(answer);
+                    self.core.fail();
+                }
+                Ok(())
+            }
             FollowEvent::Restart => {
                 self.core = FollowCore::new();
                 Ok(())
