@@ -11,12 +11,13 @@ use crate::copies::{copy_asked, copy_docs};
 use crate::fetched::FetchedRevs;
 use crate::log::Log;
 use crate::peer::{CallFault, Changes, Peer};
+use crate::serving::listing_after;
 use hub_database::{Diff, Replies};
 use hub_document::{Asked, ChangeRow, Doc, DocFault, LocalDoc, OpenRevs};
 use hub_feed::OpenFault;
 use hub_filter::Filter;
 use hub_follow_model::Seq;
-use hub_model::{Item, Mode, Since, Style};
+use hub_model::{Item, Since};
 use hub_params::FeedParams;
 use hub_shared::{Feed, Gate, Handle, Plain, Point, Turn};
 use std::alloc::{AllocError, Global};
@@ -33,26 +34,18 @@ impl Gate for Open {
     fn pass(&self, _point: Point) {}
 }
 
-// Where a feed begins that shows the changes above a sequence.
-fn since_of(since: Seq) -> Since {
-    match since.life {
+// What a follower asks of a feed: the first 100 changes above a sequence, rising, with every leaf.
+fn params_after(since: Seq) -> FeedParams {
+    let since = match since.life {
         None => Since::Plain(since.n),
         Some(life) => Since::Tagged(since.n, life),
-    }
-}
-
-// What a follower asks of a feed: every leaf of the documents above a sequence.
-fn params_after(since: Seq) -> FeedParams {
+    };
     FeedParams {
-        mode: Mode::Normal,
-        since: since_of(since),
+        since,
         limit: Some(ROWS),
         descending: false,
-        style: Style::AllDocs,
-        include_docs: false,
         filter: Filter::All,
-        heartbeat: None,
-        timeout: 0,
+        ..listing_after(0)
     }
 }
 
@@ -198,22 +191,12 @@ fn keep_log<R: Wait>(
 /// A database that threads share, as a follower's peer, by a handle of its own. A call that the database
 /// refuses as a whole, because it was deleted, a local document was written too often or there are too
 /// many feeds, is a fault of the peer, and counted.
+#[derive(Drop)]
 pub struct DbPeer<'a, R: Wait> {
     rt: &'a R,
     alloc: Global,
     handle: Handle<Plain>,
     faults: u64,
-}
-
-impl<R: Wait> Drop for DbPeer<'_, R> {
-    fn drop(self) {
-        let Self {
-            rt,
-            alloc,
-            handle,
-            faults,
-        } = self;
-    }
 }
 
 impl<'a, R: Wait> DbPeer<'a, R> {

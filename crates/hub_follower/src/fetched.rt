@@ -5,7 +5,7 @@ ghost use Rattle.hub_follower.specs.Fetched.{HasPath, FoundHasPath};
 
 use hub_database::OpenRev;
 use hub_document::Doc;
-use std::alloc::{AllocError, Global};
+use std::alloc::AllocError;
 use std::marker::Model;
 
 /// The answer of a peer that is asked for revisions of a document, in the order asked (CouchDB API
@@ -64,15 +64,6 @@ impl Model for FetchedDocs {
 }
 
 impl FetchedDocs {
-    /// No document. It takes no memory.
-    pub(crate) fn new(alloc: Global) -> FetchedDocs
-        ensures { result ≡ [] }
-    {
-        FetchedDocs {
-            list: Vec::new(alloc),
-        }
-    }
-
     /// One document more, behind the others. Out of memory, it is dropped, and the others stay.
     pub(crate) fn push(&mut self, doc: Doc) -> Result<(), AllocError>
         requires { HasPath doc }

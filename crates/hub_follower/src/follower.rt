@@ -26,7 +26,7 @@ pub enum Round {
 }
 
 /// A follower that copies one peer into another, and has a session.
-#[derive(Debug)]
+#[derive(Debug, Drop)]
 pub struct Follower<S, T> {
     alloc: Global,
     source: S,
@@ -35,18 +35,6 @@ pub struct Follower<S, T> {
     log_id: LocalId,
     core: FollowCore,
     ghost rests: { world.is_free core ≡ true },
-}
-
-impl<S: Drop, T: Drop> Drop for Follower<S, T> {
-    fn drop(self) {
-        let Self {
-            alloc,
-            source,
-            target,
-            log_id,
-            core,
-        } = self;
-    }
 }
 
 /// A session that did not begin, with the two peers.
@@ -232,13 +220,6 @@ impl<S: Peer + Drop, T: Peer + Drop> Follower<S, T> {
     pub fn into_peers(self) -> (S, T)
         ensures { (result.0 ≡ self.source) × (result.1 ≡ self.target) }
     {
-        let Self {
-            alloc: _,
-            source,
-            target,
-            log_id: _,
-            core: _,
-        } = self;
-        (source, target)
+        (self.source, self.target)
     }
 }

@@ -7,7 +7,7 @@ ghost use Rattle.hub_model.specs.RightlyHanded.{rows_of};
 ghost use Rattle.hub_model.specs.Row.{ChangeRow as Row};
 ghost use Rattle.hub_follow_model.specs.ChangesFeed.{IsChangesAnswer};
 ghost use Rattle.hub_follower.specs.Handed.{are_listed, are_rising, end_of, has_sequence, HasDecided};
-ghost use Rattle.hub_follower.specs.Handed.{is_after, is_shown, numbered_end, IsNumbered};
+ghost use Rattle.hub_follower.specs.Handed.{is_shown, numbered_end, IsNumbered};
 ghost use Rattle.hub_follower.specs.Rebuilt.{IsJudged, IsRebuilt};
 ghost use Rattle.hub_follower.specs.Worlds.{IsAnswerOf};
 
@@ -43,14 +43,6 @@ fn end_of(items: &[Item<ChangeRow>]) -> Option<u64>
     None
 }
 
-// Whether a row may stand behind one of this sequence and this update sequence, and reaches no further than
-// `last`.
-fn is_after(row: &ChangeRow, seq: u64, seen: u64, last: u64) -> bool
-    ensures { result ≡ is_after last seq seen row.now }
-{
-    seq < row.seq && row.seq <= last && seen <= row.seen
-}
-
 // Whether the rows rise from `since` to `last`, each made no earlier than those before it.
 fn are_rising(items: &[Item<ChangeRow>], since: u64, last: u64) -> bool
     ensures { result ≡ are_rising last since 0 (rows_of items.now) }
@@ -61,7 +53,7 @@ fn are_rising(items: &[Item<ChangeRow>], since: u64, last: u64) -> bool
         let Item::Row(row) = item else {
             continue;
         };
-        if !is_after(row, seq, seen, last) {
+        if seq >= row.seq || row.seq > last || seen > row.seen {
             return false;
         }
         seq = row.seq;

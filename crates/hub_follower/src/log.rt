@@ -35,20 +35,6 @@ impl Model for HistoryEntry {
 }
 
 impl HistoryEntry {
-    /// The sequence that the session recorded. Constant time.
-    pub fn recorded_seq(&self) -> Seq
-        ensures { result ≡ self.now.recorded_seq }
-    {
-        self.recorded_seq
-    }
-
-    /// The session. Constant time.
-    pub fn session_id(&self) -> &str
-        ensures { result.now ≡ self.now.session_id }
-    {
-        self.session_id.as_str()
-    }
-
     /// A copy. It costs the length of the session's id.
     pub fn copy(&self, alloc: Global) -> Result<HistoryEntry, AllocError>
         ensures { IfOk result (λ entry. entry ≡ self.now) }
@@ -110,8 +96,8 @@ fn recorded_seq_of(session: &str, history: &[HistoryEntry]) -> Option<Seq>
     ensures { result ≡ model.recorded_seq_of session.now history.now }
 {
     for entry in history {
-        if session.as_bytes() == entry.session_id().as_bytes() {
-            return Some(entry.recorded_seq());
+        if session.as_bytes() == entry.session_id.as_bytes() {
+            return Some(entry.recorded_seq);
         }
     }
     None
@@ -123,8 +109,8 @@ fn common_session_sequence(source: &[HistoryEntry], target: &[HistoryEntry]) -> 
     ensures { result ≡ model.common_session_sequence source.now target.now }
 {
     for entry in target {
-        if let Some(recorded) = recorded_seq_of(entry.session_id(), source) {
-            return recorded.lesser(entry.recorded_seq());
+        if let Some(recorded) = recorded_seq_of(entry.session_id.as_str(), source) {
+            return recorded.lesser(entry.recorded_seq);
         }
     }
     Seq::beginning()

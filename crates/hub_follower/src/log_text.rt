@@ -43,16 +43,12 @@ fn seq_at(value: &Value, name: &str) -> Option<Seq>
 fn entry_of(alloc: Global, value: &Value) -> Result<Option<HistoryEntry>, AllocError>
     ensures { IfOk result (λ o. o ≡ entry_in (view value.now)) }
 {
-    let Some(session) = value.get("session_id").and_then(Value::as_str) else {
-        return Ok(None);
-    };
-    let Some(start_last_seq) = seq_at(value, "start_last_seq") else {
-        return Ok(None);
-    };
-    let Some(end_last_seq) = seq_at(value, "end_last_seq") else {
-        return Ok(None);
-    };
-    let Some(recorded_seq) = seq_at(value, "recorded_seq") else {
+    let (Some(session), Some(start_last_seq), Some(end_last_seq), Some(recorded_seq)) = (
+        value.get("session_id").and_then(Value::as_str),
+        seq_at(value, "start_last_seq"),
+        seq_at(value, "end_last_seq"),
+        seq_at(value, "recorded_seq"),
+    ) else {
         return Ok(None);
     };
     let session_id = String::from_str(alloc, session)?;
@@ -130,41 +126,27 @@ fn put_number(out: &mut Vec<u8>, number: u64) -> Result<(), AllocError>
     out.extend_from_slice(digits.format(number).as_bytes())
 }
 
-// Appends what stands in front of a member's number, and the number.
-fn put_member(out: &mut Vec<u8>, key: &[u8], number: u64) -> Result<(), AllocError>
-    ensures { OnOk result (out.new.items ≡ out.old.items ++ (key.now ++ decimal number)) }
+// Appends what stands in front of a sequence, and its text: a JSON string, or a number alone where its life
+// is not known.
+fn put_seq(out: &mut Vec<u8>, front: &[u8], seq: Seq) -> Result<(), AllocError>
+    ensures { OnOk result (out.new.items ≡ out.old.items ++ (front.now ++ seq_text seq)) }
 {
-    out.extend_from_slice(key)?;
-    put_number(out, number)
-}
-
-// Appends the text of a sequence: a JSON string, or a number alone where its life is not known.
-fn put_seq(out: &mut Vec<u8>, seq: Seq) -> Result<(), AllocError>
-    ensures { OnOk result (out.new.items ≡ out.old.items ++ seq_text seq) }
-{
+    out.extend_from_slice(front)?;
     match seq.life {
         None => put_number(out, seq.n),
         Some(life) => put_sequence(out, seq.n, life),
     }
 }
 
-// Appends what stands in front of a member's sequence, and the sequence.
-fn put_seq_member(out: &mut Vec<u8>, key: &[u8], seq: Seq) -> Result<(), AllocError>
-    ensures { OnOk result (out.new.items ≡ out.old.items ++ (key.now ++ seq_text seq)) }
-{
-    out.extend_from_slice(key)?;
-    put_seq(out, seq)
-}
-
 // Appends the text of an entry.
 fn put_entry(out: &mut Vec<u8>, entry: &HistoryEntry) -> Result<(), AllocError>
     ensures { OnOk result (out.new.items ≡ out.old.items ++ entry_text entry.now) }
 {
-    put_seq_member(out, b"{\"end_last_seq\":", entry.end_last_seq)?;
-    put_seq_member(out, b",\"recorded_seq\":", entry.recorded_seq)?;
+    put_seq(out, b"{\"end_last_seq\":", entry.end_last_seq)?;
+    put_seq(out, b",\"recorded_seq\":", entry.recorded_seq)?;
     out.extend_from_slice(b",\"session_id\":")?;
     put_quoted(out, entry.session_id.as_str())?;
-    put_seq_member(out, b",\"start_last_seq\":", entry.start_last_seq)?;
+    put_seq(out, b",\"start_last_seq\":", entry.start_last_seq)?;
     out.extend_from_slice(b"}")?;
     Ok(())
 }
@@ -198,10 +180,11 @@ fn put_log(out: &mut Vec<u8>, log: &Log) -> Result<(), AllocError>
 {
     out.extend_from_slice(b"{\"history\":[")?;
     put_entries(out, log.history.as_slice())?;
-    put_member(out, b"],\"replication_id_version\":", VERSION)?;
+    out.extend_from_slice(b"],\"replication_id_version\":")?;
+    put_number(out, VERSION)?;
     out.extend_from_slice(b",\"session_id\":")?;
     put_quoted(out, log.session_id.as_str())?;
-    put_seq_member(out, b",\"source_last_seq\":", log.source_last_seq)?;
+    put_seq(out, b",\"source_last_seq\":", log.source_last_seq)?;
     out.extend_from_slice(b"}")?;
     Ok(())
 }

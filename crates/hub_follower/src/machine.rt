@@ -33,15 +33,9 @@ pub(crate) enum State {
 }
 
 /// A follower as a machine: it says which call it owes, and takes the answer.
-#[derive(Debug)]
+#[derive(Debug, Drop)]
 pub struct FollowCore {
     state: State,
-}
-
-impl Drop for FollowCore {
-    fn drop(self) {
-        let Self { state } = self;
-    }
 }
 
 impl Model for FollowCore {

@@ -89,19 +89,8 @@ fn missing_revisions(alloc: Global, diffs: Vec<Diff>) -> Result<VecDeque<Asked>,
     Ok(asked)
 }
 
-// Behind the last document that was fetched: all are stored, or the round is over where there are none.
-fn storage_or_ready(got: FetchedDocs, last: Seq) -> Next
-    ensures value { (s : follow.Session)
-        → follower_behind s result ≡ follow.storage_or_ready s (map edit_of got) last }
-{
-    if got.list.is_empty() {
-        return Next::ReadyAt(last);
-    }
-    Next::Busy(Phase::Storage(got, last))
-}
-
-/// The next document that the target misses is fetched, or all are stored where there is none. It takes no
-/// memory.
+/// The next document that the target misses is fetched. Where there is none, all that were fetched are stored,
+/// or the round is over. It takes no memory.
 pub(crate) fn retrieval_or_storage(later: VecDeque<Asked>, got: FetchedDocs, last: Seq) -> Next
     ensures value { (s : follow.Session)
         → follower_behind s result ≡ follow.retrieval_or_storage s later.items (map edit_of got) last }
@@ -109,7 +98,8 @@ pub(crate) fn retrieval_or_storage(later: VecDeque<Asked>, got: FetchedDocs, las
     let mut later = later;
     match later.pop_front() {
         Some(next) => Next::Busy(Phase::Retrieval(next, later, got, last)),
-        None => storage_or_ready(got, last),
+        None if got.list.is_empty() => Next::ReadyAt(last),
+        None => Next::Busy(Phase::Storage(got, last)),
     }
 }
 
@@ -123,7 +113,8 @@ pub(crate) fn first_retrieval(
         ≡ follow.retrieval_or_storage s (map follow.missing_revisions diffs.items) [] last) }
 {
     let later = missing_revisions(alloc, diffs)?;
-    Ok(retrieval_or_storage(later, FetchedDocs::new(alloc), last))
+    let list = Vec::new(alloc);
+    Ok(retrieval_or_storage(later, FetchedDocs { list }, last))
 }
 
 /// The documents that an answer of `open_revs` brings, behind those that were fetched before.

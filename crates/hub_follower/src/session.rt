@@ -94,13 +94,7 @@ impl Session {
     pub(crate) fn at(self, place: Seq) -> Session
         ensures { result ≡ record self { place = place } }
     {
-        Session {
-            session_id: self.session_id,
-            start: self.start,
-            place,
-            source_history: self.source_history,
-            target_history: self.target_history,
-        }
+        Session { place, ..self }
     }
 
     // The log that records the place before these older entries.

@@ -45,24 +45,13 @@ pub enum FollowEvent {
 }
 
 /// Two databases, the replication log at each, and a follower that copies one into the other.
-#[derive(Debug)]
+#[derive(Debug, Drop)]
 pub struct FollowWorld {
     alloc: Global,
     pair: Pair,
     /// The sessions that have begun, the latest first.
     sessions: Vec<String>,
     core: FollowCore,
-}
-
-impl Drop for FollowWorld {
-    fn drop(self) {
-        let Self {
-            alloc,
-            pair,
-            sessions,
-            core,
-        } = self;
-    }
 }
 
 impl Model for FollowWorld {
@@ -188,18 +177,6 @@ impl FollowWorld {
         self.take(answer)
     }
 
-    // The next call has its effect, and its answer is lost.
-    fn lose_answer(&mut self) -> Result<(), AllocError>
-        requires { HasPlace self.old }
-        ensures { OnOk result (world.Step self.old world.LossAfter self.new) }
-    {
-        if let Some(answer) = self.answered()? {
-            drop(answer);
-            self.core.fail();
-        }
-        Ok(())
-    }
-
     /// An event happens. Out of memory, it may leave its effect or a part of it.
     pub fn step(&mut self, event: FollowEvent) -> Result<(), AllocError>
         requires { HasPlace self.old }
@@ -222,7 +199,13 @@ impl FollowWorld {
                 self.core.fail();
                 Ok(())
             }
-            FollowEvent::LostAfter => self.lose_answer(),
+            FollowEvent::LostAfter => {
+                if let Some(answer) = self.answered()? {
+                    drop(answer);
+                    self.core.fail();
+                }
+                Ok(())
+            }
             FollowEvent::Restart => {
                 self.core = FollowCore::new();
                 Ok(())

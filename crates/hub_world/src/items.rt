@@ -38,7 +38,7 @@ impl ToldItem {
 /// Items that were handed, the front first. Contracts see their list.
 #[derive(Debug, Drop)]
 pub struct Items {
-    items: VecDeque<Item<ChangeRow>>,
+    pub(crate) items: VecDeque<Item<ChangeRow>>,
 }
 
 impl Model for Items {
@@ -51,13 +51,6 @@ impl Model for Items {
 }
 
 impl Items {
-    /// The items that the queue holds.
-    pub(crate) fn new(items: VecDeque<Item<ChangeRow>>) -> Items
-        ensures { result ≡ items.items }
-    {
-        Items { items }
-    }
-
     /// The items. Constant time.
     pub fn as_deque(&self) -> &VecDeque<Item<ChangeRow>>
         ensures { result.now.items ≡ self.now }

@@ -1,7 +1,7 @@
 //! A plain list as a feed's outbox: what the feed handed lies in it until it is taken.
 
 ghost use Rattle.std.specs.Prelude.{◌≡◌, ◌≤◌, length, Some, None, IfOk, IfSome, IfNone, ⊤};
-ghost use Rattle.hub_world.specs.PlainList.{last, new_list};
+ghost use Rattle.hub_world.specs.PlainList.{held_of, last, new_list};
 
 use hub_database::DbState;
 use hub_document::ChangeRow;
@@ -147,18 +147,15 @@ impl PlainList {
     {
         self.held.back()
     }
+}
 
-    /// The items that it holds, the front first. Constant time.
-    pub(crate) fn into_items(self) -> VecDeque<Item<ChangeRow>>
-        ensures { result.items ≡ self.held }
-    {
-        let PlainList {
-            label: _,
-            held,
-            sent: _,
-            capacity: _,
-        } = self;
-        held
+/// What a list holds, the front first; nothing where there is no list. Constant time.
+pub(crate) fn items_left(alloc: Global, list: Option<PlainList>) -> VecDeque<Item<ChangeRow>>
+    ensures { result.items ≡ held_of list }
+{
+    match list {
+        Some(list) => list.held,
+        None => VecDeque::new(alloc),
     }
 }
 

@@ -7,37 +7,29 @@ ghost use Rattle.hub_world.specs.Core.{Shows, limits_of};
 ghost use Rattle.hub_world.specs.Growth.{MayFail};
 ghost use Rattle.hub_world.specs.Headline.{AreFaithful, AreRight};
 ghost use Rattle.hub_world.specs.Lane.{back, held};
-ghost use Rattle.hub_world.specs.PlainList.{held_of};
 ghost use Rattle.hub_world.specs.Step.{Run};
 ghost use Rattle.hub_world.specs.World.{World as Shown, empty};
 
 use crate::docs::Docs;
 use crate::event::Event;
 use crate::items::{Items, ToldItem};
-use crate::plain_list::{Directly, PlainList};
+use crate::plain_list::{Directly, PlainList, items_left};
 use crate::reply::Reply;
 use hub_database::DbState;
-use hub_document::{ChangeRow, Limits};
+use hub_document::Limits;
 use hub_feed::{FeedHost, FeedId, OpenFault};
-use hub_model::Item;
 use hub_params::FeedParams;
 use hub_shared::{Handed, Locked, NoCount, Plain};
 use std::alloc::{AllocError, Global};
-use std::collections::VecDeque;
 use std::marker::Model;
 
 /// A database with its feeds and their lanes: the very `Locked` of the program, over lanes that are plain
 /// lists. Every event is one call of it, so that a list of events is an interleaving of whatever makes
 /// them.
+#[derive(Drop)]
 pub struct World {
     locked: Locked<DbState, Plain, PlainList>,
     alloc: Global,
-}
-
-impl Drop for World {
-    fn drop(self) {
-        let Self { locked, alloc } = self;
-    }
 }
 
 impl Model for World {
@@ -48,16 +40,6 @@ impl Model for World {
     ghost view = { λ a. core_of a.locked };
 
     ghost invariant = { λ a. IsWorld a.locked };
-}
-
-// What a list holds, if there is one.
-fn items_left(alloc: Global, list: Option<PlainList>) -> VecDeque<Item<ChangeRow>>
-    ensures { result.items ≡ held_of list }
-{
-    match list {
-        Some(list) => list.into_items(),
-        None => VecDeque::new(alloc),
-    }
 }
 
 impl World {
@@ -155,7 +137,9 @@ impl World {
         ensures { Applies self.old (Event.Finish feed) result self.new }
     {
         let list = self.locked.finish(feed);
-        Reply::Left(Items::new(items_left(self.alloc, list)))
+        Reply::Left(Items {
+            items: items_left(self.alloc, list),
+        })
     }
 
     // The database is deleted, unless it was.

@@ -150,7 +150,7 @@ fn is_entry(log: &Log, at: usize, (start, end, recorded): (Seq, Seq, Seq)) -> bo
             entry.start_last_seq == start
                 && entry.end_last_seq == end
                 && entry.recorded_seq == recorded
-                && entry.recorded_seq() == recorded
+                && entry.recorded_seq == recorded
         }
         None => false,
     }

@@ -66,8 +66,8 @@ fn is_first(log: &Log, session_id: &str) -> bool {
     };
     log.session_id.as_str() == session_id
         && log.source_last_seq == Seq::beginning()
-        && entry.session_id() == session_id
-        && entry.recorded_seq() == Seq::beginning()
+        && entry.session_id.as_str() == session_id
+        && entry.recorded_seq == Seq::beginning()
 }
 
 // Whether a session that copied nothing keeps such logs at both ends.
