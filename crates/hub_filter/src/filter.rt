@@ -4,7 +4,7 @@ ghost use Rattle.std.specs.Prelude.{◌≡◌, IfOk, OnErr};
 ghost use Rattle.hub_model.specs.Filter.{passes};
 ghost use Rattle.hub_filter.specs.Shown.{filter_of, HasIds};
 
-use crate::{DocIds, by_filter};
+use crate::DocIds;
 use std::alloc::{AllocError, Global};
 
 /// Which documents a feed shows.
@@ -24,12 +24,11 @@ impl Filter {
     pub fn passes(&self, id: &str) -> bool
         ensures { result ≡ passes (filter_of self.now) id.now }
     {
-        by_filter!(
-            self,
-            all: true,
-            doc_ids(ids): ids.contains(id),
-            design: id.as_bytes().starts_with(b"_design/"),
-        )
+        match self {
+            Filter::All => true,
+            Filter::DocIds(ids) => ids.contains(id),
+            Filter::Design => id.as_bytes().starts_with(b"_design/"),
+        }
     }
 
     /// A copy. It costs the length of the listed ids, and takes no memory where there are none.
@@ -37,11 +36,10 @@ impl Filter {
         ensures ok { IfOk result (λ filter. filter_of filter ≡ filter_of self.now) }
         ensures err { OnErr result (HasIds (filter_of self.now)) }
     {
-        by_filter!(
-            self,
-            all: Ok(Filter::All),
-            doc_ids(ids): Ok(Filter::DocIds(ids.copy(alloc)?)),
-            design: Ok(Filter::Design),
-        )
+        match self {
+            Filter::All => Ok(Filter::All),
+            Filter::DocIds(ids) => Ok(Filter::DocIds(ids.copy(alloc)?)),
+            Filter::Design => Ok(Filter::Design),
+        }
     }
 }

@@ -2,7 +2,6 @@
 //! `filter`).
 #![tactic(auto)]
 
-mod arms;
 mod doc_ids;
 mod filter;
 #[cfg(test)]

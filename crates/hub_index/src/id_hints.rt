@@ -87,13 +87,10 @@ impl IdHints {
     // Puts a number plus one into the first empty slot of a hash, else in place of the first.
     fn put(&mut self, hash: u32, next: u32) {
         let first = (hash & self.mask & PLACE_BITS) as usize;
-        let mut free = first;
-        for at in first..first + PLACES {
-            if self.slots.get(at) == Some(&0) {
-                free = at;
-                break;
-            }
-        }
+        let mut places = first..first + PLACES;
+        let free = places
+            .find(|at| self.slots.get(*at) == Some(&0))
+            .unwrap_or(first);
         if let Some(slot) = self.slots.get_mut(free) {
             *slot = (hash & !self.mask) | (next & self.mask);
         }

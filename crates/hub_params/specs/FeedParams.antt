@@ -1,11 +1,10 @@
 -- The parameters of a changes feed, or the first fault in them (CouchDB API reference, _changes; the order of
 -- the faults is own).
-use Rattle.std.specs.Prelude.{ℕ, List, codes, Bool, true, false, ◌&&◌, not, Option, Some, None, Result, Ok}
-use Rattle.std.specs.Prelude.{Err}
+use Rattle.std.specs.Prelude.{ℕ, List, codes, Bool, ◌&&◌, not, Option, Some, None, Result, Ok, Err}
 use Rattle.hub_filter.specs.Listed.{in_order}
+use Rattle.hub_model.specs.Feed.{waits}
 use Rattle.hub_model.specs.Filter.{Filter, Everything, DocIds, Design}
 use Rattle.hub_model.specs.declared.feeds.Mode.{Mode}
-use Rattle.hub_model.specs.declared.feeds.Mode.TheVariants.{Normal, Longpoll, Continuous}
 use Rattle.hub_model.specs.declared.feeds.Style.{Style}
 use Rattle.hub_model.specs.declared.feeds.Since.{Since}
 use Rattle.hub_document.specs.Read.{if_holds}
@@ -78,17 +77,10 @@ waits_in heartbeat timeout =
     or_fault (timeout_in timeout) BadHeartbeat (λ timeout.
     Ok (record { heartbeat = heartbeat; timeout = timeout })))
 
--- whether the feed ends at once
-abbrev pub is_normal : Mode → Bool
-is_normal Normal = true
-is_normal Longpoll = false
-is_normal Continuous = false
-
--- `descending`, `include_docs`: only a feed that ends at once goes downwards
+-- `descending`, `include_docs`: only a feed that ends at once, and waits for nothing, goes downwards
 abbrev pub flags_in : Mode → Option (List ℕ) → Option (List ℕ) → Result Flags ParamFault
 flags_in mode descending include_docs =
-    or_fault (if_holds (not (is_value (codes "true") descending
-    && not (is_normal mode)))) DescendingMode (λ _.
+    or_fault (if_holds (not (is_value (codes "true") descending && waits mode))) DescendingMode (λ _.
     or_fault (flag_in descending) BadFlag (λ descending.
     or_fault (flag_in include_docs) BadFlag (λ include_docs.
     Ok (record { descending = descending; include_docs = include_docs }))))

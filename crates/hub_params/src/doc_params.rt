@@ -93,8 +93,5 @@ fn text(alloc: Global, value: Option<&[u8]>) -> Result<Option<String>, AllocErro
 fn is_text(value: &Option<CowStr<'_>>, wanted: &str) -> bool
     ensures { result ≡ is_value wanted.now (option_map cow_str_bytes value.now) }
 {
-    match value {
-        None => false,
-        Some(found) => found.as_str() == wanted,
-    }
+    matches!(value, Some(found) if found.as_str() == wanted)
 }

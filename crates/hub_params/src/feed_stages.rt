@@ -1,12 +1,11 @@
 //! The parameters of a feed in the order of their faults.
 
-ghost use Rattle.std.specs.Prelude.{◌≡◌, ◌⊎◌, IfOk, IfErr, Ok, Err, codes, option_map};
+ghost use Rattle.std.specs.Prelude.{◌≡◌, ◌⊎◌, IfOk, IfErr, Ok, Err, option_map};
 ghost use Rattle.std.specs.Cow.{cow_str_bytes};
 ghost use Rattle.std.specs.Option.{option_copied};
 ghost use Rattle.hub_filter.specs.Shown.{filter_of};
 ghost use Rattle.hub_params.specs.Encoded.{text_in};
-ghost use Rattle.hub_params.specs.DocParams.{is_value};
-ghost use Rattle.hub_params.specs.FeedParams.{rows_in, kind_in, filter_in, waits_in, is_normal, flags_in};
+ghost use Rattle.hub_params.specs.FeedParams.{rows_in, kind_in, filter_in, waits_in, flags_in};
 ghost use Rattle.hub_params.specs.Room.{RowsNeedRoom, KindNeedsRoom, IdsNeedRoom};
 ghost use Rattle.hub_params.specs.Room.{WaitsNeedRoom, FlagsNeedRoom};
 
@@ -75,17 +74,11 @@ pub(crate) fn rows_of(
         → RowsNeedRoom (option_copied since.entry) (option_copied limit.entry) (option_copied style.entry)) }
 {
     let since_text = decoded(alloc, since)?;
-    let Some(since) = since_of(lent(&since_text)) else {
-        return Err(ParamFault::BadSince);
-    };
+    let since = since_of(lent(&since_text)).ok_or(ParamFault::BadSince)?;
     let limit_text = decoded(alloc, limit)?;
-    let Some(limit) = limit_of(lent(&limit_text)) else {
-        return Err(ParamFault::BadLimit);
-    };
+    let limit = limit_of(lent(&limit_text)).ok_or(ParamFault::BadLimit)?;
     let style_text = decoded(alloc, style)?;
-    let Some(style) = style_of(lent(&style_text)) else {
-        return Err(ParamFault::BadStyle);
-    };
+    let style = style_of(lent(&style_text)).ok_or(ParamFault::BadStyle)?;
     Ok(Rows {
         since,
         limit,
@@ -106,13 +99,9 @@ pub(crate) fn kind_of(
         → KindNeedsRoom (option_copied feed.entry) (option_copied filter.entry)) }
 {
     let feed_text = decoded(alloc, feed)?;
-    let Some(mode) = mode_of(lent(&feed_text)) else {
-        return Err(ParamFault::BadFeed);
-    };
+    let mode = mode_of(lent(&feed_text)).ok_or(ParamFault::BadFeed)?;
     let filter_text = decoded(alloc, filter)?;
-    let Some(shown) = shown_of(lent(&filter_text)) else {
-        return Err(ParamFault::BadFilter);
-    };
+    let shown = shown_of(lent(&filter_text)).ok_or(ParamFault::BadFilter)?;
     Ok(Kind { mode, shown })
 }
 
@@ -153,35 +142,10 @@ pub(crate) fn waits_of(
         → WaitsNeedRoom (option_copied heartbeat.entry) (option_copied timeout.entry)) }
 {
     let heartbeat_text = decoded(alloc, heartbeat)?;
-    let Some(heartbeat) = heartbeat_of(lent(&heartbeat_text)) else {
-        return Err(ParamFault::BadHeartbeat);
-    };
+    let heartbeat = heartbeat_of(lent(&heartbeat_text)).ok_or(ParamFault::BadHeartbeat)?;
     let timeout_text = decoded(alloc, timeout)?;
-    let Some(timeout) = timeout_of(lent(&timeout_text)) else {
-        return Err(ParamFault::BadHeartbeat);
-    };
+    let timeout = timeout_of(lent(&timeout_text)).ok_or(ParamFault::BadHeartbeat)?;
     Ok(Waits { heartbeat, timeout })
-}
-
-// Whether there is a value, and it is `true`.
-fn is_true(value: Option<&str>) -> bool
-    ensures { result ≡ is_value (codes "true") (option_map (λ s. s.now) value.entry) }
-{
-    match value {
-        Some(text) => text == "true",
-        None => false,
-    }
-}
-
-// Whether the feed ends at once.
-fn ends_at_once(mode: Mode) -> bool
-    ensures { result ≡ is_normal mode }
-{
-    match mode {
-        Mode::Normal => true,
-        Mode::Longpoll => false,
-        Mode::Continuous => false,
-    }
 }
 
 /// `descending` and `include_docs`.
@@ -199,17 +163,13 @@ pub(crate) fn flags_of(
         → FlagsNeedRoom mode (option_copied descending.entry) (option_copied include_docs.entry)) }
 {
     let descending_text = decoded(alloc, descending)?;
-    let descending_value = lent(&descending_text);
-    if is_true(descending_value) && !ends_at_once(mode) {
+    let descending = flag_of(lent(&descending_text));
+    if descending == Some(true) && mode.waits() {
         return Err(ParamFault::DescendingMode);
     }
-    let Some(descending) = flag_of(descending_value) else {
-        return Err(ParamFault::BadFlag);
-    };
+    let descending = descending.ok_or(ParamFault::BadFlag)?;
     let docs_text = decoded(alloc, include_docs)?;
-    let Some(include_docs) = flag_of(lent(&docs_text)) else {
-        return Err(ParamFault::BadFlag);
-    };
+    let include_docs = flag_of(lent(&docs_text)).ok_or(ParamFault::BadFlag)?;
     Ok(Flags {
         descending,
         include_docs,

@@ -22,16 +22,10 @@ pub(crate) enum Shown {
     Designs,
 }
 
-fn is_digit(b: u8) -> bool
-    ensures { result ≡ is_digit_byte b }
-{
-    b >= b'0' && b <= b'9'
-}
-
 fn are_digits(bytes: &[u8]) -> bool
     ensures { result ≡ list_all is_digit_byte bytes.now }
 {
-    bytes.iter().all(|b| is_digit(*b))
+    bytes.iter().all(|b| *b >= b'0' && *b <= b'9')
 }
 
 fn is_numeral(text: &str) -> bool
@@ -71,14 +65,8 @@ fn unquoted(text: &str) -> &str
 pub fn read_tagged(text: &str) -> Option<(u64, u64)>
     ensures { result ≡ tagged_in text.now }
 {
-    let Some((seq, life)) = text.split_once('-') else {
-        return None;
-    };
-    match (number(seq), number(life)) {
-        (Some(seq), Some(life)) => Some((seq, life)),
-        (Some(_seq), None) => None,
-        (None, _life) => None,
-    }
+    let (seq, life) = text.split_once('-')?;
+    Some((number(seq)?, number(life)?))
 }
 
 /// Where a feed begins (`since`).
@@ -95,22 +83,17 @@ pub(crate) fn since_of(value: Option<&str>) -> Option<Since>
     if let Some(seq) = number(text) {
         return Some(Since::Plain(seq));
     }
-    match read_tagged(text) {
-        Some((seq, life)) => Some(Since::Tagged(seq, life)),
-        None => None,
-    }
+    let (seq, life) = read_tagged(text)?;
+    Some(Since::Tagged(seq, life))
 }
 
 /// How many rows at most (`limit`), at least one.
 pub(crate) fn limit_of(value: Option<&str>) -> Option<Option<u64>>
     ensures { result ≡ limit_in (option_map (λ s. s.now) value.entry) }
 {
-    let Some(text) = value else {
-        return Some(None);
-    };
-    match number(text) {
-        Some(n) => Some(Some(n.max(1))),
-        None => None,
+    match value {
+        None => Some(None),
+        Some(text) => Some(Some(number(text)?.max(1))),
     }
 }
 
@@ -118,69 +101,51 @@ pub(crate) fn limit_of(value: Option<&str>) -> Option<Option<u64>>
 pub(crate) fn style_of(value: Option<&str>) -> Option<Style>
     ensures { result ≡ style_in (option_map (λ s. s.now) value.entry) }
 {
-    let Some(text) = value else {
-        return Some(Style::MainOnly);
-    };
-    if text == "main_only" {
-        return Some(Style::MainOnly);
+    match value {
+        None => Some(Style::MainOnly),
+        Some(text) if text == "main_only" => Some(Style::MainOnly),
+        Some(text) if text == "all_docs" => Some(Style::AllDocs),
+        Some(_) => None,
     }
-    if text == "all_docs" {
-        return Some(Style::AllDocs);
-    }
-    None
 }
 
 /// How long a feed lasts (`feed`).
 pub(crate) fn mode_of(value: Option<&str>) -> Option<Mode>
     ensures { result ≡ mode_in (option_map (λ s. s.now) value.entry) }
 {
-    let Some(text) = value else {
-        return Some(Mode::Normal);
-    };
-    if text == "normal" {
-        return Some(Mode::Normal);
+    match value {
+        None => Some(Mode::Normal),
+        Some(text) if text == "normal" => Some(Mode::Normal),
+        Some(text) if text == "longpoll" => Some(Mode::Longpoll),
+        Some(text) if text == "continuous" => Some(Mode::Continuous),
+        Some(_) => None,
     }
-    if text == "longpoll" {
-        return Some(Mode::Longpoll);
-    }
-    if text == "continuous" {
-        return Some(Mode::Continuous);
-    }
-    None
 }
 
 /// Which documents a feed shows (`filter`).
 pub(crate) fn shown_of(value: Option<&str>) -> Option<Shown>
     ensures { result ≡ shown_in (option_map (λ s. s.now) value.entry) }
 {
-    let Some(text) = value else {
-        return Some(Shown::All);
-    };
-    if text == "_doc_ids" {
-        return Some(Shown::Listed);
+    match value {
+        None => Some(Shown::All),
+        Some(text) if text == "_doc_ids" => Some(Shown::Listed),
+        Some(text) if text == "_design" => Some(Shown::Designs),
+        Some(_) => None,
     }
-    if text == "_design" {
-        return Some(Shown::Designs);
-    }
-    None
 }
 
 /// The milliseconds between heartbeats (`heartbeat`), if there are any.
 pub(crate) fn heartbeat_of(value: Option<&str>) -> Option<Option<u64>>
     ensures { result ≡ heartbeat_in (option_map (λ s. s.now) value.entry) }
 {
-    let Some(text) = value else {
-        return Some(None);
-    };
-    if text == "true" {
-        return Some(Some(MINUTE));
-    }
-    if text == "false" {
-        return Some(None);
-    }
-    match number(text) {
-        Some(n) if n > 0 => Some(Some(n)),
-        _ => None,
+    match value {
+        None => Some(None),
+        Some(text) if text == "true" => Some(Some(MINUTE)),
+        Some(text) if text == "false" => Some(None),
+        Some(text) => match number(text)? {
+            0 => None,
+            n => Some(Some(n)),
+        },
     }
 }
 
@@ -188,12 +153,9 @@ pub(crate) fn heartbeat_of(value: Option<&str>) -> Option<Option<u64>>
 pub(crate) fn timeout_of(value: Option<&str>) -> Option<u64>
     ensures { result ≡ timeout_in (option_map (λ s. s.now) value.entry) }
 {
-    let Some(text) = value else {
-        return Some(MINUTE);
-    };
-    match number(text) {
-        Some(n) => Some(n.min(MINUTE)),
-        None => None,
+    match value {
+        None => Some(MINUTE),
+        Some(text) => Some(number(text)?.min(MINUTE)),
     }
 }
 
@@ -201,14 +163,10 @@ pub(crate) fn timeout_of(value: Option<&str>) -> Option<u64>
 pub(crate) fn flag_of(value: Option<&str>) -> Option<bool>
     ensures { result ≡ flag_in (option_map (λ s. s.now) value.entry) }
 {
-    let Some(text) = value else {
-        return Some(false);
-    };
-    if text == "true" {
-        return Some(true);
+    match value {
+        None => Some(false),
+        Some(text) if text == "true" => Some(true),
+        Some(text) if text == "false" => Some(false),
+        Some(_) => None,
     }
-    if text == "false" {
-        return Some(false);
-    }
-    None
 }

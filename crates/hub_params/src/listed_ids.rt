@@ -34,13 +34,8 @@ fn listed_texts(alloc: Global, value: &Value) -> Result<Vec<String>, ParamFault>
     ensures err { IfErr result (λ e. (e ≡ ParamFault.NoMemory)
         ⊎ ((e ≡ ParamFault.BadDocIds) × (texts_in (view value.now) ≡ None))) }
 {
-    let Some(values) = value.as_array() else {
-        return Err(ParamFault::BadDocIds);
-    };
-    match texts_of(alloc, values)? {
-        Some(texts) => Ok(texts),
-        None => Err(ParamFault::BadDocIds),
-    }
+    let values = value.as_array().ok_or(ParamFault::BadDocIds)?;
+    texts_of(alloc, values)?.ok_or(ParamFault::BadDocIds)
 }
 
 // The JSON value that a text is.
@@ -66,9 +61,7 @@ fn ids_of_query(alloc: Global, value: Option<&str>) -> Result<Vec<String>, Param
     ensures memory { IfErr result
         (λ e. e ≡ ParamFault.NoMemory → HasBytes (option_map (λ s. s.now) value.entry)) }
 {
-    let Some(text) = value else {
-        return Err(ParamFault::BadDocIds);
-    };
+    let text = value.ok_or(ParamFault::BadDocIds)?;
     let list = json(alloc, text.as_bytes())?;
     listed_texts(alloc, &list)
 }

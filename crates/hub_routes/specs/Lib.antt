@@ -3,3 +3,4 @@ pub mod Paths
 pub mod Methods
 pub mod Routes
 pub mod RouteRefusals
+pub mod WorkedPaths

@@ -58,14 +58,8 @@ pub fn text_of<'p>(bytes: CowSlice<'p, u8>) -> Option<CowStr<'p>>
     ensures none { IfNone result (¬ IsUtf8 (cow_slice_items bytes.entry)) }
 {
     match bytes {
-        CowSlice::Borrowed(bytes) => match str::from_utf8(bytes) {
-            Ok(text) => Some(CowStr::Borrowed(text)),
-            Err(_) => None,
-        },
-        CowSlice::Owned(bytes) => match String::from_utf8(bytes) {
-            Ok(text) => Some(CowStr::Owned(text)),
-            Err(_) => None,
-        },
+        CowSlice::Borrowed(bytes) => Some(CowStr::Borrowed(str::from_utf8(bytes).ok()?)),
+        CowSlice::Owned(bytes) => Some(CowStr::Owned(String::from_utf8(bytes).ok()?)),
     }
 }
 
@@ -75,7 +69,7 @@ pub fn is_id(id: &[u8]) -> bool
 {
     match id {
         [] => false,
-        [b'_', name @ ..] => name.starts_with(b"design/") && name.len() > 7,
+        [b'_', ..] => id.starts_with(b"_design/") && id.len() > 8,
         _ => true,
     }
 }
@@ -84,8 +78,5 @@ pub fn is_id(id: &[u8]) -> bool
 pub fn is_local(id: &[u8]) -> bool
     ensures { result ≡ is_local id.now }
 {
-    match id {
-        [b'_', name @ ..] => name.starts_with(b"local/") && name.len() > 6,
-        _ => false,
-    }
+    id.starts_with(b"_local/") && id.len() > 7
 }

@@ -84,10 +84,8 @@ impl Routes {
     fn kind_at(&self, path: &str) -> Option<Kind>
         ensures { result ≡ kind_at path.now }
     {
-        match self.router.at(path) {
-            Ok(found) => Some(*found.value),
-            Err(_) => None,
-        }
+        let found = self.router.at(path).ok()?;
+        Some(*found.value)
     }
 
     // What a path names, which has this part for an id. That is read only where it may be a local document's.
@@ -140,10 +138,7 @@ impl Routes {
         if takes_body(kind) && !request.has_length {
             return Err(RouteFault::LengthMissing);
         }
-        let id = match document_id(alloc, kind, part, read) {
-            Ok(id) => id,
-            Err(e) => return Err(e),
-        };
+        let id = document_id(alloc, kind, part, read)?;
         Ok(Route {
             call,
             db,

@@ -1,5 +1,4 @@
 use Rattle.std.proofs.Common.{◌≡◌, Err, map, option_map, string_bytes, Some, rules}
-use Rattle.std.specs.Option.{option_copied}
 use Rattle.hub_params.specs.Encoded.{text_in}
 use Rattle.hub_params.specs.ListedIds.{ids_in}
 use Rattle.hub_params.proofs.FeedLemmas.{listed_gives}

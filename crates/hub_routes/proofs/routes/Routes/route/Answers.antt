@@ -25,10 +25,11 @@ returns-in_default-text_of c =
     let bad : ¬ IsUtf8 (database_of (asked_by c.args.request.now)) = search rules in
     (c.in-Some.kind, asked, bad)
 
-pub returns-in-Err : goal.returns-in-Err
-returns-in-Err c =
+pub returns-in_err-id : goal.returns-in_err-id
+returns-in_err-id c =
     let asked : IsServed (asked_by c.args.request.now) c.in-Some.field-0.kind = search rules in
-    id_refuses (asked_by c.args.request.now) c.in-Some.field-0.kind c.in-Err.e asked
+    let same : c.from_residual-in_err-id.result ≡ Err c.in_err-id.field-0.0 = search rules in
+    rw same (id_refuses (asked_by c.args.request.now) c.in-Some.field-0.kind c.in_err-id.field-0.0 asked
     (rw (c.in_ok-decoded.ensures.value, c.parts.ensures.name, c.target_of.ensures.path)
     at c.in-Some-text_of.ensures.text)
-    (rw (c.parts.ensures.id, c.target_of.ensures.path) at c.in-Err.ensures.none)
+    (rw (c.parts.ensures.id, c.target_of.ensures.path) at c.in_err-id.ensures.none))
