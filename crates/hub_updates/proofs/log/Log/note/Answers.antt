@@ -1,5 +1,5 @@
 use Rattle.std.proofs.Common.{◌≡◌, ◌∙◌, ◌+◌, ◌<◌, List, Some, None, length, slice_set, string_bytes, sym, ap, arith}
-use Rattle.std.proofs.lemmas.List.{length-map}
+use Rattle.std.proofs.lemmas.List.{length-map, set-get_or}
 use Rattle.std.specs.BTreeMap.{get_by_text}
 use Rattle.hub_model.specs.Updates.{Note, id_of}
 use Rattle.hub_updates.specs.Kept.{ids_of, pair_of}
@@ -148,3 +148,19 @@ returns-in_ok-number-in-None c =
     c.add.new.index c.in_ok-number-in-None.ensures.numbers c.in_ok-number-in-None.ensures.pairs
     (rw c.try_reserve.ensures.items at c.push_reserved-in-None.ensures.items)
     c.in_ok-number-in-None.ensures.index).1)
+
+pub invariant_of-self-in_err-move_to-in-Some : goal.invariant_of-self-in_err-move_to-in-Some
+invariant_of-self-in_err-move_to-in-Some c =
+    let pairs = c.self.inside.pairs.items in
+    let k = c.in-Some.number in
+    let same : slice_set pairs k c.index_mut-pair.result.now ≡ pairs =
+    ap (slice_set pairs k) c.index_mut-pair.ensures.value ∙ set-get_or pairs k c.index_mut-pair.result.now in
+    rw (same, c.try_reserve.ensures.items, c.in_err-move_to-in-Some.ensures.err) c.self.invariant
+
+pub returns-in_err-move_to-in-Some : goal.returns-in_err-move_to-in-Some
+returns-in_err-move_to-in-Some c =
+    let pairs = c.self.inside.pairs.items in
+    let k = c.in-Some.number in
+    let same : slice_set pairs k c.index_mut-pair.result.now ≡ pairs =
+    ap (slice_set pairs k) c.index_mut-pair.ensures.value ∙ set-get_or pairs k c.index_mut-pair.result.now in
+    rw (c.from_residual-in_err-move_to-in-Some.ensures, same, c.try_reserve.ensures.items) c.self.view_is
