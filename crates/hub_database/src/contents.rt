@@ -43,7 +43,7 @@ pub struct Contents {
     pub(crate) index: PageIndex,
     /// How many documents have a deleted winner.
     deleted: u64,
-    limits: Limits,
+    pub(crate) limits: Limits,
     pub(crate) alloc: Global,
     /// The local documents by their ids.
     pub(crate) locals: BTreeMap<String, Local>,
@@ -146,18 +146,6 @@ impl Contents {
         }
     }
 
-    /// Where they are kept.
-    pub(crate) fn alloc(&self) -> Global {
-        self.alloc
-    }
-
-    /// The limits of the database.
-    pub(crate) fn limits(&self) -> Limits
-        ensures { result ≡ self.now.limits }
-    {
-        self.limits
-    }
-
     /// How many documents there are, and how many edits. Constant time: the counts are kept.
     pub fn info(&self) -> Info
         ensures { result ≡ info_of self.now.journal self.now.life }
@@ -241,23 +229,15 @@ impl Contents {
             deleted,
             body,
         } = doc;
-        if new_edits {
-            return self.store(
-                id,
-                Incoming {
-                    origin: Origin::Here(rev),
-                    deleted,
-                    body,
-                },
-            );
-        }
-        let Some(path) = path else {
-            return Ok(Outcome::Refused(Fault::Contradicts));
+        let origin = match (new_edits, path) {
+            (true, _) => Origin::Here(rev),
+            (false, Some(path)) => Origin::Elsewhere(path),
+            (false, None) => return Ok(Outcome::Refused(Fault::Contradicts)),
         };
         self.store(
             id,
             Incoming {
-                origin: Origin::Elsewhere(path),
+                origin,
                 deleted,
                 body,
             },

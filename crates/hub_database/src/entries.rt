@@ -60,7 +60,7 @@ impl DbState {
         ensures doc { IfOk result (λ doc. doc ≡ entry_doc_of self.now.journal seq) }
         ensures memory { OnErr result (IsSome (entry_at self.now.journal seq)) }
     {
-        let alloc = self.contents.alloc();
+        let alloc = self.contents.alloc;
         let Some((document, edit)) = self.contents.edit(seq) else {
             return Ok(None);
         };

@@ -36,24 +36,6 @@ impl Local {
     }
 }
 
-// The local document of this id.
-fn local_in<'a>(locals: &'a BTreeMap<String, Local>, id: &str) -> Option<&'a Local>
-    ensures { option_map (λ l. local_named id.now l.now) result ≡ local_of (kept locals.now) id.now }
-{
-    locals.get(id)
-}
-
-// How often the local document of this id will have been written, with one more; None past 2^64 - 1.
-fn count_after(locals: &BTreeMap<String, Local>, id: &str) -> Option<u64>
-    ensures some { IfSome result (λ count. count ≡ next_count (local_of (kept locals.now) id.now)) }
-    ensures none { IfNone result (2 ^ 64 ≤ next_count (local_of (kept locals.now) id.now)) }
-{
-    match local_in(locals, id) {
-        Some(local) => local.count.checked_add(1),
-        None => Some(1),
-    }
-}
-
 // Puts a local document in the place of the one of its id, if there is one.
 fn put(locals: &mut BTreeMap<String, Local>, id: LocalId, local: Local) -> Result<(), AllocError>
     ensures ok { OnOk result (kept locals.new ≡ put_local (local_named id local) (kept locals.old)) }
@@ -68,7 +50,18 @@ impl Contents {
     pub fn local_get(&self, id: &str) -> Option<&Local>
         ensures { option_map (λ l. local_named id.now l.now) result ≡ local_of self.now.locals id.now }
     {
-        local_in(&self.locals, id)
+        self.locals.get(id)
+    }
+
+    // How often the local document of this id will have been written, with one more; None past 2^64 - 1.
+    fn count_after(&self, id: &str) -> Option<u64>
+        ensures some { IfSome result (λ count. count ≡ next_count (local_of self.now.locals id.now)) }
+        ensures none { IfNone result (2 ^ 64 ≤ next_count (local_of self.now.locals id.now)) }
+    {
+        match self.local_get(id) {
+            Some(local) => local.count.checked_add(1),
+            None => Some(1),
+        }
     }
 
     /// Stores a local document, as `DbState::local_put` says.
@@ -83,7 +76,7 @@ impl Contents {
         ensures memory { result ≡ Err DbFault.NoMemory → (written self.old.locals doc).count < 2 ^ 64 }
     {
         let LocalDoc { id, body } = doc;
-        let Some(count) = count_after(&self.locals, id.as_str()) else {
+        let Some(count) = self.count_after(id.as_str()) else {
             return Err(DbFault::Refused(Fault::SequenceFull));
         };
         put(&mut self.locals, id, Local { count, body })?;

@@ -65,7 +65,7 @@ impl DbState {
             IsRead self.now result (λ found. option_map (local_named id.now) found ≡ local) (IsSome local) }
     {
         match self.local_get(id)? {
-            Some(local) => Ok(Some(local.copy(self.contents.alloc())?)),
+            Some(local) => Ok(Some(local.copy(self.contents.alloc)?)),
             None => Ok(None),
         }
     }

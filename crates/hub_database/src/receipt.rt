@@ -1,9 +1,7 @@
 //! Receipts of accepted edits.
 
-ghost use Rattle.std.specs.Prelude.{◌≡◌, ◌<◌, ◌≤◌, ◌+◌, ◌++◌, ◌^◌, [], length, vec_capacity, vec_len};
-ghost use Rattle.std.specs.Prelude.{IfOk, OnErr};
-ghost use Rattle.hub_database.specs.Receipts.{IsAudit, behind_reply, has_edit, ids_of, receipt_if};
-ghost use Rattle.hub_database.specs.Receipts.{receipts_from};
+ghost use Rattle.std.specs.Prelude.{◌≡◌, ◌<◌, ◌^◌, length, IfOk, OnErr};
+ghost use Rattle.hub_database.specs.Receipts.{IsAudit, has_edit, ids_of, receipts_from};
 
 use crate::database::DbState;
 use hub_document::{Doc, DocId, RevId};
@@ -69,30 +67,13 @@ impl ReceiptRoom {
             if at >= replies.len() {
                 break;
             }
-            next = add(&mut receipts, next, id, replies[at]);
+            if let Outcome::Stored(rev) = replies[at] {
+                next += 1;
+                receipts.push_reserved(Receipt { seq: next, id, rev });
+            }
             at += 1;
         }
         receipts
-    }
-}
-
-// One receipt more, where the document was stored behind so many edits; and how many edits there are
-// then.
-fn add(receipts: &mut Vec<Receipt>, before: u64, id: DocId, reply: Outcome<RevId>) -> u64
-    requires fits { before + 1 < 2 ^ 64 }
-    requires room { vec_len receipts.old < vec_capacity receipts.old }
-    ensures edits { result ≡ behind_reply before reply }
-    ensures receipts { receipts.new.items ≡ receipts.old.items ++ receipt_if before id reply }
-    ensures capacity { vec_capacity receipts.new ≡ vec_capacity receipts.old }
-{
-    match reply {
-        Outcome::Stored(rev) => {
-            let seq = before + 1;
-            receipts.push_reserved(Receipt { seq, id, rev });
-            seq
-        }
-        Outcome::Known => before,
-        Outcome::Refused(_) => before,
     }
 }
 

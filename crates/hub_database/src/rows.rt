@@ -17,9 +17,7 @@ impl Contents {
         ensures { option_map (λ p. record { seq = p.0; id = p.1.now }) result
             ≡ find (λ (c : Current). nat_lt c.seq place) (reverse (current self.now.journal)) }
     {
-        let Some((seq, number)) = self.index.last_before(place) else {
-            return None;
-        };
+        let (seq, number) = self.index.last_before(place)?;
         let document = &self.documents[number as usize];
         Some((seq, document.id.as_str()))
     }
@@ -63,9 +61,7 @@ impl Source for Contents {
 
     /// It costs what `SeqIndex::next_after` does.
     fn next_after(&self, place: u64, bound: Option<u64>) -> Option<(u64, &str)> {
-        let Some((seq, number)) = self.index.next_after(place, bound) else {
-            return None;
-        };
+        let (seq, number) = self.index.next_after(place, bound)?;
         let document = &self.documents[number as usize];
         Some((seq, document.id.as_str()))
     }
@@ -75,9 +71,7 @@ impl Source for Contents {
         let ids = Ids {
             documents: self.documents.as_slice(),
         };
-        let Some(number) = ids.number_of(&self.numbers, &self.hints, id) else {
-            return None;
-        };
+        let number = ids.number_of(&self.numbers, &self.hints, id)?;
         let document = &self.documents[number as usize];
         let seq = document.latest as u64;
         if is_ahead(place, bound, seq) {

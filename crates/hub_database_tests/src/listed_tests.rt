@@ -3,7 +3,7 @@
 use crate::feed_tests::FeedStep::{Finish, Hands, Open};
 use crate::feed_tests::Handed::{End, Gone, Nothing, Row};
 use crate::feed_tests::{FIRST, SECOND};
-use crate::tests::Step::{Batch, Delete, Feed, Many};
+use crate::tests::Step::{Batch, Delete, Hosted, Many};
 use crate::tests::{Step, assert_steps};
 use hub_model::Outcome::Stored;
 
@@ -25,8 +25,8 @@ const OTHER: &str = r#"filter=_doc_ids&doc_ids=["300","200","100","200"]"#;
 // A listed document that is edited goes behind the others, and one that comes goes behind that.
 const WRITTEN: &[Step] = &[
     Many(300),
-    Feed(Open(WAITS, Ok(FIRST))),
-    Feed(Hands(FIRST, &[Row(15), Row(30), Row(45)])),
+    Hosted(Open(WAITS, Ok(FIRST))),
+    Hosted(Hands(FIRST, &[Row(15), Row(30), Row(45)])),
     Batch(
         &[
             r#"{"_id":"90","_rev":"1-b"}"#,
@@ -34,7 +34,7 @@ const WRITTEN: &[Step] = &[
         ],
         &[Stored("1-b"), Stored("1-b")],
     ),
-    Feed(Hands(
+    Hosted(Hands(
         FIRST,
         &[
             Row(60),
@@ -68,15 +68,15 @@ fn a_feed_of_listed_documents_follows_writes(rt: HostRuntime) {
 // Feeds by turns, of which one keeps its rows, then the other.
 const TURNS: &[Step] = &[
     Many(300),
-    Feed(Open(ENDS, Ok(FIRST))),
-    Feed(Open(OTHER, Ok(SECOND))),
-    Feed(Hands(FIRST, &[Row(15)])),
-    Feed(Hands(SECOND, &[Row(100)])),
-    Feed(Hands(FIRST, &[Row(30), Row(45)])),
-    Feed(Hands(SECOND, &[Row(200)])),
-    Feed(Hands(FIRST, &[Row(60)])),
-    Feed(Hands(SECOND, &[Row(300), End(300, 0), Gone])),
-    Feed(Hands(FIRST, &[Row(75)])),
+    Hosted(Open(ENDS, Ok(FIRST))),
+    Hosted(Open(OTHER, Ok(SECOND))),
+    Hosted(Hands(FIRST, &[Row(15)])),
+    Hosted(Hands(SECOND, &[Row(100)])),
+    Hosted(Hands(FIRST, &[Row(30), Row(45)])),
+    Hosted(Hands(SECOND, &[Row(200)])),
+    Hosted(Hands(FIRST, &[Row(60)])),
+    Hosted(Hands(SECOND, &[Row(300), End(300, 0), Gone])),
+    Hosted(Hands(FIRST, &[Row(75)])),
 ];
 
 #[test]
@@ -87,14 +87,14 @@ fn feeds_of_listed_documents_take_turns(rt: HostRuntime) {
 // A feed whose rows are kept is finished, and one goes on in a database that is deleted.
 const LEFT: &[Step] = &[
     Many(300),
-    Feed(Open(WAITS, Ok(FIRST))),
-    Feed(Hands(FIRST, &[Row(15), Row(30), Row(45)])),
-    Feed(Finish(FIRST)),
-    Feed(Hands(FIRST, &[Gone])),
-    Feed(Open(OTHER, Ok(SECOND))),
-    Feed(Hands(SECOND, &[Row(100), Row(200)])),
+    Hosted(Open(WAITS, Ok(FIRST))),
+    Hosted(Hands(FIRST, &[Row(15), Row(30), Row(45)])),
+    Hosted(Finish(FIRST)),
+    Hosted(Hands(FIRST, &[Gone])),
+    Hosted(Open(OTHER, Ok(SECOND))),
+    Hosted(Hands(SECOND, &[Row(100), Row(200)])),
     Delete(Ok(())),
-    Feed(Hands(SECOND, &[End(200, 100), Gone])),
+    Hosted(Hands(SECOND, &[End(200, 100), Gone])),
 ];
 
 #[test]

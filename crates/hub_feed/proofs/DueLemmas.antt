@@ -1,13 +1,16 @@
 -- What follows where a row or an end is due.
-use Rattle.std.proofs.Common.{◌≡◌, ℕ, ◌<◌, ◌≤◌, List, true, refl, subst}
+use Rattle.std.proofs.Common.{◌≡◌, ◌∙◌, ℕ, ◌<◌, ◌≤◌, List, true, ap, refl, subst, sym}
 use Rattle.std.proofs.Common.{IfSome, Contains}
-use Rattle.hub_model.specs.Current.{Current}
+use Rattle.hub_model.specs.Current.{Current, pending}
 use Rattle.hub_model.specs.Feed.{Feed, Due, DueRow, DueEnd}
 use Rattle.hub_model.specs.Feed.{DueNothing, DueGone, due, is_in_reach}
 use Rattle.hub_model.proofs.Due.{due_row, reach_parts, within_bound}
 use Rattle.hub_model.proofs.Shown.{find_is}
 use Rattle.hub_feed.specs.Due.{due_sequence}
-use Rattle.hub_feed.specs.declared.due.DueSequence.TheVariants.{Row, End}
+use Rattle.hub_model.specs.declared.feeds.Item.TheVariants as item
+use Rattle.hub_feed.specs.Next.{next_of}
+use Rattle.hub_feed.specs.declared.next.Next.TheVariants.{Give}
+use Rattle.hub_feed.specs.declared.feed.DueSequence.TheVariants.{Row, End}
 
 -- where a row is due by its sequence
 row_due : (due : Due) (seq : ℕ) → Row seq ≡ due_sequence due
@@ -43,3 +46,18 @@ end_due (DueRow row) last_seq e = absurd (cc)
 end_due (DueEnd n) last_seq e = cc
 end_due DueNothing last_seq e = absurd (cc)
 end_due DueGone last_seq e = absurd (cc)
+
+-- what a feed gives to which a row is due by its sequence, of which this is made
+pub row_given : {R : Type 0} (show : Current → R) (rows : List Current) (feed : Feed) (seq : ℕ) (made : R)
+    → Row seq ≡ due_sequence (due rows feed)
+    → ((row : Current) → Contains rows row → row.seq ≡ seq → made ≡ show row)
+    → next_of show rows (due rows feed) ≡ Give (item.Row made)
+row_given show rows feed seq made e shows =
+    let (row, is, here, same, reached) = row_here rows feed seq e in
+    ap (next_of show rows) is ∙ ap (λ r. Give (item.Row r)) (sym (shows row here same))
+
+-- and to which an end is due
+pub end_given : {R : Type 0} (show : Current → R) (rows : List Current) (feed : Feed) (last_seq : ℕ)
+    → End last_seq ≡ due_sequence (due rows feed)
+    → next_of show rows (due rows feed) ≡ Give (item.End last_seq (pending rows last_seq))
+end_given show rows feed last_seq e = ap (next_of show rows) (end_due (due rows feed) last_seq e)

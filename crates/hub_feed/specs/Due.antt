@@ -1,8 +1,8 @@
 -- What is due to a feed, by its sequence (own).
 use Rattle.std.specs.Prelude.{ℕ}
 use Rattle.hub_model.specs.Feed.{Feed, Due, DueRow, DueEnd, DueNothing, DueGone, after_row, after_end}
-use Rattle.hub_feed.specs.declared.due.DueSequence.{DueSequence}
-use Rattle.hub_feed.specs.declared.due.DueSequence.TheVariants.{Row, End, Nothing, Gone}
+use Rattle.hub_feed.specs.declared.feed.DueSequence.{DueSequence}
+use Rattle.hub_feed.specs.declared.feed.DueSequence.TheVariants.{Row, End, Nothing, Gone}
 
 -- what is due, by its sequence. Where the row of a document at 7 is due it is Row 7, and where an End at 9 is
 -- due it is End 9.

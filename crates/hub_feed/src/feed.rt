@@ -16,7 +16,6 @@ ghost use Rattle.hub_feed.specs.Reach.{IsReady, first_listed, lesser, listed_in}
 ghost use Rattle.hub_feed.specs.Shown.{status_of};
 ghost use Rattle.hub_feed.specs.declared.next.Next.TheVariants.{Give};
 
-use crate::due::DueSequence;
 use crate::handed::Handed;
 use crate::next::Next;
 use crate::sink::{Pushes, Sink};
@@ -36,6 +35,19 @@ pub(crate) enum Status {
     Ending,
     /// Its end was handed.
     Ended,
+}
+
+/// What is due to a feed, by its sequence: what a feed needs to know of an item to go on behind it.
+#[derive(Clone, Copy, Debug)]
+pub(crate) enum DueSequence {
+    /// The row of this sequence.
+    Row(u64),
+    /// An end at this sequence.
+    End(u64),
+    /// Nothing now.
+    Nothing,
+    /// Nothing any more.
+    Gone,
 }
 
 /// A feed that was opened, over whatever it follows (CouchDB API reference, `_changes`).
@@ -192,12 +204,16 @@ impl FeedState {
         None
     }
 
-    // The sequence of the first row in reach. One step of the source for each row that does not
-    // pass, and one more; of a feed of listed ids so many steps at most as ids are listed, and then
-    // a look for each of them.
-    fn first_in_reach<S: Source>(&self, source: &S) -> Option<u64>
-        ensures { result ≡ option_map (λ c. c.seq) (find (is_in_reach self.now) (S.current source.now)) }
+    /// The sequence of the first row in reach of a feed that is open. It costs a step of the source for
+    /// each row that does not pass, and one more. With listed ids there are so many steps at most as
+    /// ids, and then a `Source::next_of` for each.
+    pub fn first_of_open<S: Source>(&self, source: &S) -> Option<u64>
+        ensures { self.now.status ≡ Open
+            → result ≡ option_map (λ c. c.seq) (find (is_in_reach self.now) (S.current source.now)) }
     {
+        if self.status != Status::Open {
+            return None;
+        }
         let length = source.length();
         let Filter::DocIds(ids) = &self.params.filter else {
             return self.first_until(source, length);
@@ -210,19 +226,6 @@ impl FeedState {
         match self.first_until(source, few) {
             Some(seq) => Some(seq),
             None => first_of(source, ids, self.place, self.bound),
-        }
-    }
-
-    /// The sequence of the first row in reach of a feed that is open. It costs a step of the source for
-    /// each row that does not pass, and one more. With listed ids there are so many steps at most as
-    /// ids, and then a `Source::next_of` for each.
-    pub fn first_of_open<S: Source>(&self, source: &S) -> Option<u64>
-        ensures { self.now.status ≡ Open
-            → result ≡ option_map (λ c. c.seq) (find (is_in_reach self.now) (S.current source.now)) }
-    {
-        match self.status {
-            Status::Open => self.first_in_reach(source),
-            Status::Ending | Status::Ended => None,
         }
     }
 
@@ -258,24 +261,6 @@ impl FeedState {
         ensures err { OnErr result ((self.new ≡ self.old) × IsRowDue (due (S.current source.now) self.old)) }
     {
         let first = self.first_of_open(source);
-        self.next_item_at(source, first)
-    }
-
-    /// What `next_item` says, where the first row in reach of an open feed is known: it has this
-    /// sequence, if there is one. It costs what the row does, or the count of the rows above an end.
-    pub fn next_item_at<S: Source>(
-        &mut self,
-        source: &S,
-        first: Option<u64>,
-    ) -> Result<Next<S::Row>, AllocError>
-        requires { IsReady (S.length source.now) (S.current source.now) self.old first }
-        ensures ok { IfOk result (λ next.
-            next ≡ next_of (S.shown source.now self.old.params.style self.old.params.include_docs)
-            (S.current source.now) (due (S.current source.now) self.old)) }
-        ensures new { IfOk result (λ next.
-            self.new ≡ after_next self.old (due (S.current source.now) self.old) (S.length source.now)) }
-        ensures err { OnErr result ((self.new ≡ self.old) × IsRowDue (due (S.current source.now) self.old)) }
-    {
         match self.due(first) {
             DueSequence::Row(seq) => {
                 let row = source.row(seq, self.params.style, self.params.include_docs)?;
@@ -334,38 +319,11 @@ impl FeedState {
         self.accept_due(source, sequence);
     }
 
-    // Gives the sink the item that is due, and goes on behind it. Where the sink gives it back nothing
-    // changes. It costs a push.
-    #[inline(always)]
-    fn give<S: Source, K: Sink<Item<S::Row>>, H: Pushes<K, Item<S::Row>>>(
-        &mut self,
-        source: &S,
-        given: DueSequence,
-        item: Item<S::Row>,
-        handle: &H,
-        sink: &mut K,
-    ) -> Handed
-        requires due { given ≡ due_sequence (due (S.current source.now) self.old) }
-        requires item { next_of (S.shown source.now self.old.params.style self.old.params.include_docs)
-            (S.current source.now) (due (S.current source.now) self.old) ≡ Give item }
-        requires may { MayTake K.allows K.sent sink.old item }
-        ensures { HandsTo K.behind (H.refuses handle.now) self.old
-            (after_due self.old (due (S.current source.now) self.old) (S.length source.now))
-            (after_nothing self.old (S.length source.now)) sink.old (Give item) result self.new sink.new }
-    {
-        let handed = Handed::of(&item);
-        if let Err(_back) = handle.push(sink, item) {
-            return Handed::Full;
-        }
-        self.accept_due(source, given);
-        handed
-    }
-
     /// Hands what is due, where the first row in reach of an open feed is known: it has this sequence,
     /// if there is one. The item is made, then `sink` takes it, and only then the feed goes on. Where
     /// `sink` gives it back nothing changes, and the next hand makes it again. A feed that has nothing
     /// to hand goes to the source's length. Only a row takes memory, and without it nothing changes. It
-    /// costs what `next_item_at` does, and a push.
+    /// costs what the row does, or the count of the rows above an end, and a push.
     pub fn hand<S: Source, K: Sink<Item<S::Row>>, H: Pushes<K, Item<S::Row>>>(
         &mut self,
         source: &S,
@@ -388,20 +346,23 @@ impl FeedState {
             × IsRowDue (due (S.current source.now) self.old)) }
     {
         let due = self.due(first);
-        match due {
+        let item = match due {
             DueSequence::Row(seq) => {
-                let row = source.row(seq, self.params.style, self.params.include_docs)?;
-                Ok(self.give(source, due, Item::Row(row), handle, sink))
+                Item::Row(source.row(seq, self.params.style, self.params.include_docs)?)
             }
-            DueSequence::End(last_seq) => {
-                Ok(self.give(source, due, end_at(source, last_seq), handle, sink))
-            }
+            DueSequence::End(last_seq) => end_at(source, last_seq),
             DueSequence::Nothing => {
                 self.place = source.length();
-                Ok(Handed::Nothing)
+                return Ok(Handed::Nothing);
             }
-            DueSequence::Gone => Ok(Handed::Gone),
+            DueSequence::Gone => return Ok(Handed::Gone),
+        };
+        let handed = Handed::of(&item);
+        if let Err(_back) = handle.push(sink, item) {
+            return Ok(Handed::Full);
         }
+        self.accept_due(source, due);
+        Ok(handed)
     }
 
     /// Whether it may hand rows. Constant time.

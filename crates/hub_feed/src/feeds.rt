@@ -119,29 +119,27 @@ impl Feeds {
         &state.1
     }
 
-    /// What the feed that stands here has to hand now, of the source that they all follow, where the
-    /// first row in reach of the feed, if it is open, has this sequence. An item is made and nothing
-    /// changes: `accept_item` goes on. A feed that has nothing to hand goes to the source's length.
-    /// Only a row takes memory. It costs what `FeedState::next_item_at` does.
+    /// What the feed that stands here has to hand now, of the source that they all follow. An item is
+    /// made and nothing changes: `accept_at` goes on. A feed that has nothing to hand goes to the
+    /// source's length. Only a row takes memory. It costs what `FeedState::next_item` does.
     pub fn next_at<S: Source>(
         &mut self,
         source: &S,
         feed: FeedId,
         at: usize,
-        first: Option<u64>,
     ) -> Result<Next<S::Row>, AllocError>
-        requires { IsReadyAt (S.length source.now) (S.current source.now) self.old.feeds feed.number at
-            first }
-        ensures ok { IfOk result (λ next. next ≡ answered
-            (over (S.length source.now) (S.current source.now) (S.shown source.now) self.old) feed.number) }
-        ensures new { IfOk result (λ next. self.new ≡ feeds_of (behind_answer (over (S.length source.now)
-            (S.current source.now) (S.shown source.now) self.old) feed.number next)) }
+        requires behind { AreBehind (S.length source.now) self.old.feeds }
+        requires placed { Some at ≡ position (is_of feed.number) self.old.feeds }
+        ensures ok { IfOk result (λ next. (next ≡ answered
+            (over (S.length source.now) (S.current source.now) (S.shown source.now) self.old) feed.number)
+            × (self.new ≡ feeds_of (behind_answer (over (S.length source.now) (S.current source.now)
+            (S.shown source.now) self.old) feed.number next))) }
         ensures err { OnErr result ((self.new ≡ self.old) × IsRowDue (due_to
             (over (S.length source.now) (S.current source.now) (S.shown source.now) self.old) feed.number)) }
         ensures behind { AreBehind (S.length source.now) self.new.feeds }
     {
         let state = &mut self.list[at];
-        state.1.next_item_at(source, first)
+        state.1.next_item(source)
     }
 
     /// Hands what is due to the feed that stands here, whose first row in reach, if it is open, has

@@ -2,7 +2,6 @@
 //! `_changes` and `_db_updates`).
 #![tactic(auto)]
 
-mod due;
 mod feed;
 mod feeds;
 mod handed;

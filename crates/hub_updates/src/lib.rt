@@ -2,7 +2,6 @@
 //! reference, `_db_updates`).
 #![tactic(auto)]
 
-mod asked;
 mod host;
 mod log;
 mod notice;

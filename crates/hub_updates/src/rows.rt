@@ -46,18 +46,14 @@ impl Source for Log {
 
     /// It costs what `SeqIndex::next_after` does.
     fn next_after(&self, place: u64, bound: Option<u64>) -> Option<(u64, &str)> {
-        let Some((seq, number)) = self.index.next_after(place, bound) else {
-            return None;
-        };
+        let (seq, number) = self.index.next_after(place, bound)?;
         let pair = &self.pairs[number as usize];
         Some((seq, pair.id.as_str()))
     }
 
     /// It costs a look in the map of ids.
     fn next_of(&self, id: &str, place: u64, bound: Option<u64>) -> Option<u64> {
-        let Some(number) = number_of(&self.numbers, id) else {
-            return None;
-        };
+        let number = number_of(&self.numbers, id)?;
         let pair = &self.pairs[number as usize];
         if is_ahead(place, bound, pair.latest) {
             return Some(pair.latest);

@@ -1,12 +1,16 @@
 //! The log of updates with its feeds.
 
 ghost use Rattle.std.specs.Prelude.{◌≡◌, ◌⊎◌, ◌≤◌, ◌<◌, ◌++◌, ◌∷◌, [], length, OnOk, IfErr};
-ghost use Rattle.hub_model.specs.Updates.{edits_of_log};
+ghost use Rattle.hub_params.specs.FeedShown.{params_asked};
+ghost use Rattle.hub_updates.specs.Asked.{updates_asked};
 
 use crate::log::Log;
 use crate::notice::Notice;
 use hub_document::Limits;
 use hub_feed::{Feeds, Source};
+use hub_filter::Filter;
+use hub_model::Style;
+use hub_params::FeedParams;
 use std::alloc::Global;
 use std::marker::Model;
 
@@ -61,6 +65,21 @@ impl UpdatesState {
             log: Log::new(alloc, life),
             feeds: Feeds::new(alloc),
             limits,
+        }
+    }
+
+    /// The parameters as a feed of a log heeds them. A note is no document, so `filter`, `style`,
+    /// `include_docs` and `descending` have no effect: every row is shown, upwards (CouchDB API
+    /// reference, `_db_updates`). It takes no memory.
+    pub fn effective(params: FeedParams) -> FeedParams
+        ensures { params_asked result ≡ updates_asked (params_asked params) }
+    {
+        FeedParams {
+            descending: false,
+            style: Style::MainOnly,
+            include_docs: false,
+            filter: Filter::All,
+            ..params
         }
     }
 

@@ -6,19 +6,19 @@ use Rattle.hub_database.specs.Inside.{edits_inside}
 use Rattle.hub_database.proofs.RowLemmas.{last_low, last_shown}
 use Rattle.hub_database.proofs.contents.Contents.last_before.Goals as goal
 
-pub returns-in_default : goal.returns-in_default
-returns-in_default c =
-    rw (sym c.self.view_is)
+pub returns-in_err-seq : goal.returns-in_err-seq
+returns-in_err-seq c =
+    rw (sym c.self.view_is, c.from_residual.ensures)
     (last_nothing (latest_at (files c.self.inside.documents.items))
     (edits_inside c.self.inside) c.self.inside.index c.self.invariant.rows c.args.place
-    (sym c.in_default.is ∙ c.last_before.ensures.last))
+    c.in_err-seq.ensures.last)
 
 pub index-document-requires : goal.index-document-requires
 index-document-requires c = omega (
   arith,
   last_low c.self.inside.documents.items
       c.self.inside.journal.items c.self.inside.index c.self.invariant.rows c.args.place
-      (c.in-Some.seq, c.in-Some.number) c.in-Some.ensures.last,
+      (c.in_ok-seq.seq, c.in_ok-seq.number) c.in_ok-seq.ensures.last,
   c.self.inside.documents.ok.0,
 )
 
@@ -26,5 +26,5 @@ pub returns : goal.returns
 returns c =
     rw (sym c.self.view_is, c.as_str.ensures.value)
     (last_shown c.self.inside.documents.items c.self.inside.journal.items
-    c.self.inside.index c.self.invariant.rows c.args.place (c.in-Some.seq, c.in-Some.number)
-    c.in-Some.ensures.last c.index-document.result.now c.index-document.ensures)
+    c.self.inside.index c.self.invariant.rows c.args.place (c.in_ok-seq.seq, c.in_ok-seq.number)
+    c.in_ok-seq.ensures.last c.index-document.result.now c.index-document.ensures)

@@ -10,13 +10,13 @@ number_of-requires-clause-order c = rw c.as_slice.ensures.value c.self.invariant
 pub number_of-requires-clause-own : goal.number_of-requires-clause-own
 number_of-requires-clause-own c = rw c.as_slice.ensures.value c.self.invariant.documents.filed.own
 
-pub returns-in_default : goal.returns-in_default
-returns-in_default c =
+pub returns-in_err-number : goal.returns-in_err-number
+returns-in_err-number c =
     let s = c.self.inside in
-    rw (sym c.self.view_is)
+    rw (sym c.self.view_is, c.from_residual.ensures)
     (next_unedited (edits_inside s) c.args.id.now c.args.place c.args.bound
     (c.self.invariant.documents.filed.others c.args.id.now
-    (sym (rw c.as_slice.ensures.value at c.number_of.ensures) ∙ c.in_default.is)))
+    (sym (rw c.as_slice.ensures.value at c.number_of.ensures) ∙ c.in_err-number.was)))
 
 pub index-document-requires : goal.index-document-requires
 index-document-requires c =
@@ -25,7 +25,7 @@ index-document-requires c =
       arith,
       (numbered s.limits.journal (number_by s) s.documents.items s.journal.items
           c.self.invariant.documents.filed
-          c.args.id.now c.in-Some.number (sym (rw c.as_slice.ensures.value at c.in-Some.ensures))).0,
+          c.args.id.now c.in_ok-number.number (sym (rw c.as_slice.ensures.value at c.number_of.ensures) ∙ c.in_ok-number.was)).0,
       s.documents.ok.0,
     )
 
@@ -35,9 +35,9 @@ returns-then-is_ahead c =
     let d = c.index-document.result.now in
     let n =
     numbered s.limits.journal (number_by s) s.documents.items s.journal.items c.self.invariant.documents.filed
-    c.args.id.now c.in-Some.number (sym (rw c.as_slice.ensures.value at c.in-Some.ensures)) in
+    c.args.id.now c.in_ok-number.number (sym (rw c.as_slice.ensures.value at c.number_of.ensures) ∙ c.in_ok-number.was) in
     let here =
-    document_row s.documents.items s.journal.items s.index c.self.invariant.rows c.in-Some.number d n.0
+    document_row s.documents.items s.journal.items s.index c.self.invariant.rows c.in_ok-number.number d n.0
     c.index-document.ensures in
     rw (sym c.self.view_is, sym (n.1 d c.index-document.ensures))
     (next_ahead (edits_inside s) d.id d.latest c.args.place c.args.bound here (sym c.if-is_ahead.ensures))
@@ -48,9 +48,9 @@ returns c =
     let d = c.index-document.result.now in
     let n =
     numbered s.limits.journal (number_by s) s.documents.items s.journal.items c.self.invariant.documents.filed
-    c.args.id.now c.in-Some.number (sym (rw c.as_slice.ensures.value at c.in-Some.ensures)) in
+    c.args.id.now c.in_ok-number.number (sym (rw c.as_slice.ensures.value at c.number_of.ensures) ∙ c.in_ok-number.was) in
     let here =
-    document_row s.documents.items s.journal.items s.index c.self.invariant.rows c.in-Some.number d n.0
+    document_row s.documents.items s.journal.items s.index c.self.invariant.rows c.in_ok-number.number d n.0
     c.index-document.ensures in
     rw (sym c.self.view_is, sym (n.1 d c.index-document.ensures))
     (next_apart (edits_inside s) d.id d.latest c.args.place c.args.bound here (sym c.if-is_ahead.ensures))

@@ -6,28 +6,9 @@ use Rattle.hub_model.proofs.Entries.{changed_here, entry_here, stays_here}
 use Rattle.hub_feed.specs.Feeds.{AreBehind, AreNumbered, FeedList, feeds_of, over}
 use Rattle.hub_feed.specs.Host.{answered, behind_answer, due_of, due_to}
 use Rattle.hub_feed.specs.Next.{IsRowDue, after_next}
-use Rattle.hub_feed.specs.Reach.{IsFirst}
 use Rattle.hub_feed.proofs.FeedsLemmas.{behind_changed, behind_here, both_ok, err_then}
 use Rattle.hub_feed.proofs.FeedsLemmas.{looks_behind, numbered_changed, ok_or_err}
 use Rattle.hub_feed.proofs.feeds.Feeds.next_at.Goals as goal
-
-pub next_item_at-requires : goal.next_item_at-requires
-next_item_at-requires g c =
-    let id = c.args.feed.number in
-    let feeds = c.self.inside.list.items in
-    let rows = g.S.Source.current c.args.source.now in
-    let placed = subst (λ (list : FeedList). Some c.args.at ≡ position (is_of id) list.feeds)
-    (sym c.self.view_is)
-    c.requires.placed in
-    let asked = subst (λ (list : FeedList). IsFirst c.args.first rows (entry_in id list.feeds))
-    (sym c.self.view_is) c.requires.first in
-    record {
-      reached = search rules;
-      first =
-          subst (IsFirst c.args.first rows)
-          (entry_here id feeds c.args.at placed c.index_mut-state.result.now c.index_mut-state.ensures.value)
-          asked;
-    }
 
 pub invariant_of-self : goal.invariant_of-self
 invariant_of-self g c =
@@ -42,14 +23,14 @@ invariant_of-self g c =
     let is = c.index_mut-state.ensures.value in
     let change : Feed → Feed = λ f. after_next f (due rows f) len in
     ok_or_err {P = AreNumbered c.self.inside.next
-    (slice_set feeds c.args.at (p.0, c.next_item_at.new.self))} c.next_item_at.result
+    (slice_set feeds c.args.at (p.0, c.next_item.new.self))} c.next_item.result
     (λ next new. subst (AreNumbered c.self.inside.next)
-    (sym (changed_here id feeds c.args.at placed p is change c.next_item_at.new.self
+    (sym (changed_here id feeds c.args.at placed p is change c.next_item.new.self
     c.self.invariant.rising new))
     (numbered_changed id change c.self.inside.next feeds c.self.invariant))
     (λ w. subst (AreNumbered c.self.inside.next)
-    (sym (stays_here id feeds c.args.at placed p is c.next_item_at.new.self w.0)) c.self.invariant)
-    c.next_item_at.ensures.new c.next_item_at.ensures.err
+    (sym (stays_here id feeds c.args.at placed p is c.next_item.new.self w.0)) c.self.invariant)
+    c.next_item.ensures.new c.next_item.ensures.err
 
 pub returns-clause-ok : goal.returns-clause-ok
 returns-clause-ok g c =
@@ -57,40 +38,28 @@ returns-clause-ok g c =
     let feeds = c.self.inside.list.items in
     let len = g.S.Source.length c.args.source.now in
     let rows = g.S.Source.current c.args.source.now in
+    let seen = over len rows (g.S.Source.shown c.args.source.now) in
     let placed = subst (λ (list : FeedList). Some c.args.at ≡ position (is_of id) list.feeds)
     (sym c.self.view_is)
     c.requires.placed in
     let p = c.index_mut-state.result.now in
     let is = c.index_mut-state.ensures.value in
-    both_ok c.next_item_at.result
-    (λ next same _.
-    subst (λ (list : FeedList). next ≡ answered (over len rows (g.S.Source.shown c.args.source.now) list) id)
-    c.self.view_is (rw (entry_here id feeds c.args.at placed p is) same))
-    c.next_item_at.ensures.ok c.next_item_at.ensures.ok
-
-pub returns-clause-new : goal.returns-clause-new
-returns-clause-new g c =
-    let id = c.args.feed.number in
-    let feeds = c.self.inside.list.items in
-    let len = g.S.Source.length c.args.source.now in
-    let rows = g.S.Source.current c.args.source.now in
-    let placed = subst (λ (list : FeedList). Some c.args.at ≡ position (is_of id) list.feeds)
-    (sym c.self.view_is)
-    c.requires.placed in
-    let p = c.index_mut-state.result.now in
-    let is = c.index_mut-state.ensures.value in
-    both_ok c.next_item_at.result
-    (λ next same new. subst (λ (list : FeedList). ◌≡◌ {A = FeedList}
-    (record {
-      feeds = slice_set feeds c.args.at (p.0, c.next_item_at.new.self);
-      next = c.self.inside.next;
-    })
-    (feeds_of (behind_answer (over len rows (g.S.Source.shown c.args.source.now) list) id next)))
-    c.self.view_is
-    (ap (λ (fs : List (ℕ × Feed)). record { feeds = fs; next = c.self.inside.next })
-    (behind_here id feeds c.args.at placed p is _ rows len c.next_item_at.new.self c.self.invariant.rising
-    (due rows p.1) next same new)))
-    c.next_item_at.ensures.ok c.next_item_at.ensures.new
+    both_ok c.next_item.result
+    (λ next same new. (
+      subst (λ (list : FeedList). next ≡ answered (seen list) id) c.self.view_is
+          (rw (entry_here id feeds c.args.at placed p is) same),
+      subst (λ (list : FeedList). ◌≡◌ {A = FeedList}
+          (record {
+            feeds = slice_set feeds c.args.at (p.0, c.next_item.new.self);
+            next = c.self.inside.next;
+          })
+          (feeds_of (behind_answer (seen list) id next)))
+          c.self.view_is
+          (ap (λ (fs : List (ℕ × Feed)). record { feeds = fs; next = c.self.inside.next })
+          (behind_here id feeds c.args.at placed p is _ rows len c.next_item.new.self
+          c.self.invariant.rising (due rows p.1) next same new)),
+    ))
+    c.next_item.ensures.ok c.next_item.ensures.new
 
 pub returns-clause-err : goal.returns-clause-err
 returns-clause-err g c =
@@ -103,20 +72,20 @@ returns-clause-err g c =
     c.requires.placed in
     let p = c.index_mut-state.result.now in
     let is = c.index_mut-state.ensures.value in
-    err_then c.next_item_at.result
+    err_then c.next_item.result
     (λ w. (
       subst (λ (list : FeedList). ◌≡◌ {A = FeedList}
           (record {
-            feeds = slice_set feeds c.args.at (p.0, c.next_item_at.new.self);
+            feeds = slice_set feeds c.args.at (p.0, c.next_item.new.self);
             next = c.self.inside.next;
           }) list) c.self.view_is
           (ap (λ (fs : List (ℕ × Feed)). record { feeds = fs; next = c.self.inside.next })
-          (stays_here id feeds c.args.at placed p is c.next_item_at.new.self w.0)),
+          (stays_here id feeds c.args.at placed p is c.next_item.new.self w.0)),
       subst (λ (list : FeedList).
           IsRowDue (due_to (over len rows (g.S.Source.shown c.args.source.now) list) id))
           c.self.view_is
           (subst IsRowDue (sym (ap (due_of rows) (entry_here id feeds c.args.at placed p is))) w.1),
-    )) c.next_item_at.ensures.err
+    )) c.next_item.ensures.err
 
 pub returns-clause-behind : goal.returns-clause-behind
 returns-clause-behind g c =
@@ -132,12 +101,12 @@ returns-clause-behind g c =
     let change : Feed → Feed = λ f. after_next f (due rows f) len in
     let behind : AreBehind len feeds =
     subst (λ (list : FeedList). AreBehind len list.feeds) (sym c.self.view_is) c.requires.behind in
-    ok_or_err {P = AreBehind len (slice_set feeds c.args.at (p.0, c.next_item_at.new.self))}
-    c.next_item_at.result
+    ok_or_err {P = AreBehind len (slice_set feeds c.args.at (p.0, c.next_item.new.self))}
+    c.next_item.result
     (λ next new. subst (AreBehind len)
-    (sym (changed_here id feeds c.args.at placed p is change c.next_item_at.new.self
+    (sym (changed_here id feeds c.args.at placed p is change c.next_item.new.self
     c.self.invariant.rising new))
     (behind_changed id change len feeds (λ f. looks_behind len (due rows f) f) behind))
     (λ w. subst (AreBehind len)
-    (sym (stays_here id feeds c.args.at placed p is c.next_item_at.new.self w.0)) behind)
-    c.next_item_at.ensures.new c.next_item_at.ensures.err
+    (sym (stays_here id feeds c.args.at placed p is c.next_item.new.self w.0)) behind)
+    c.next_item.ensures.new c.next_item.ensures.err

@@ -6,14 +6,14 @@ use Rattle.hub_feed.proofs.CurrentLemmas.{next_ahead, next_apart, next_unknown}
 use Rattle.hub_updates.proofs.RowLemmas.{numbered, pair_row, unnumbered}
 use Rattle.hub_updates.proofs.rows.LogSource.next_of.Goals as goal
 
-pub returns-in_default : goal.returns-in_default
-returns-in_default c =
+pub returns-in_err-number : goal.returns-in_err-number
+returns-in_err-number c =
     let s = c.self.inside in
-    rw (sym c.self.view_is)
+    rw (sym c.self.view_is, c.from_residual.ensures)
     (next_unknown (edits_of_log (notes_of (ids_of s.pairs.items) s.notes.items))
     c.args.id.now c.args.place c.args.bound
     (unnumbered (get_by_text s.numbers) s.pairs.items s.notes.items s.index c.self.invariant c.args.id.now
-    (sym c.number_of.ensures ∙ c.in_default.is)))
+    (sym c.number_of.ensures ∙ c.in_err-number.was)))
 
 pub index-pair-requires : goal.index-pair-requires
 index-pair-requires c =
@@ -21,7 +21,7 @@ index-pair-requires c =
     omega (
       arith,
       (numbered (get_by_text s.numbers) s.pairs.items s.notes.items s.index c.self.invariant c.args.id.now
-          c.in-Some.number (sym c.in-Some.ensures)).0,
+          c.in_ok-number.number (sym c.number_of.ensures ∙ c.in_ok-number.was)).0,
       s.pairs.ok.0,
     )
 
@@ -31,9 +31,9 @@ returns-then-is_ahead c =
     let p = c.index-pair.result.now in
     let n =
     numbered (get_by_text s.numbers) s.pairs.items s.notes.items s.index c.self.invariant c.args.id.now
-    c.in-Some.number (sym c.in-Some.ensures) in
+    c.in_ok-number.number (sym c.number_of.ensures ∙ c.in_ok-number.was) in
     let here =
-    pair_row (get_by_text s.numbers) s.pairs.items s.notes.items s.index c.self.invariant c.in-Some.number
+    pair_row (get_by_text s.numbers) s.pairs.items s.notes.items s.index c.self.invariant c.in_ok-number.number
     p n.0 c.index-pair.ensures in
     rw (sym c.self.view_is, sym (n.1 p c.index-pair.ensures))
     (next_ahead (edits_of_log (notes_of (ids_of s.pairs.items) s.notes.items))
@@ -45,9 +45,9 @@ returns c =
     let p = c.index-pair.result.now in
     let n =
     numbered (get_by_text s.numbers) s.pairs.items s.notes.items s.index c.self.invariant c.args.id.now
-    c.in-Some.number (sym c.in-Some.ensures) in
+    c.in_ok-number.number (sym c.number_of.ensures ∙ c.in_ok-number.was) in
     let here =
-    pair_row (get_by_text s.numbers) s.pairs.items s.notes.items s.index c.self.invariant c.in-Some.number
+    pair_row (get_by_text s.numbers) s.pairs.items s.notes.items s.index c.self.invariant c.in_ok-number.number
     p n.0 c.index-pair.ensures in
     rw (sym c.self.view_is, sym (n.1 p c.index-pair.ensures))
     (next_apart (edits_of_log (notes_of (ids_of s.pairs.items) s.notes.items))
