@@ -11,7 +11,7 @@ use Rattle.hub_model.specs.Draft.{generation_of, parent_of}
 use Rattle.hub_document.specs.declared.doc.Doc.{Doc}
 use Rattle.hub_document.specs.DocText.{member_text, rev_member, deleted_member, history_member}
 use Rattle.hub_document.specs.DocText.{history_text, inside, if_some, doc_text, local_text}
-use Rattle.hub_document.specs.Joined.{after_commas, head_text, ids_text, start_text, count_text, rest_text}
+use Rattle.hub_document.specs.Joined.{after_commas, head_text, ids_text, count_text, rest_text}
 use Rattle.hub_document.specs.SpecialText.{special_text}
 use Rattle.hub_document.specs.Braced.{IsBraced}
 use Rattle.hub_document.proofs.WriteLemmas.{quoted_count}
@@ -67,7 +67,7 @@ pub deleted_is : after_commas (deleted_member true) ≡ codes ",\"_deleted\":tru
 deleted_is =
     one_after (member_text (codes "_deleted") (codes "true")) ∙ ap (λ l. 44 ∷ l) (deleted_name (codes "true"))
 
-pub history_is : (path : List Revision)
+history_is : (path : List Revision)
     → after_commas (history_member (Some path)) ≡ codes ",\"_revisions\":" ++ history_text path
 history_is path =
     one_after (member_text (codes "_revisions") (history_text path))
@@ -152,15 +152,13 @@ hashes_written held mid new revision revisions all i e first later end =
     ∙ append_assoc held (quoted revision.hash) (flat_map (λ s. 44 ∷ quoted s.hash) revisions)
     ∙ ap (λ l. held ++ l) (sym (ap ids_text e ∙ all_hashes revision revisions))
 
-pub history_parts : (path : List Revision)
-    → history_text path ≡ start_text (generation_of (parent_of path)) ++ (ids_text path ++ codes "]}")
+-- the member of a history
+pub history_written : (path : List Revision)
+    → after_commas (history_member (Some path))
+    ≡ codes ",\"_revisions\":{\"start\":"
+    ++ (decimal (generation_of (parent_of path)) ++ (codes ",\"ids\":[" ++ (ids_text path ++ codes "]}")))
 unfolding history_text ids_text
-history_parts path =
-    sym (append_assoc (codes "{\"start\":") (decimal (generation_of (parent_of path)) ++ codes ",\"ids\":[")
-    (ids_text path ++ codes "]}")
-    ∙ ap (λ l. codes "{\"start\":" ++ l)
-    (append_assoc (decimal (generation_of (parent_of path))) (codes ",\"ids\":[")
-    (ids_text path ++ codes "]}")))
+history_written path = history_is path
 
 -- ---- the whole texts
 

@@ -13,10 +13,6 @@ after_commas ms = flat_map (λ m. 44 ∷ m) ms
 unfoldable pub head_text : List ℕ → List ℕ
 head_text id = codes "{" ++ member_text (codes "_id") (quoted id)
 
--- a history as far as its hashes
-abbrev pub start_text : ℕ → List ℕ
-start_text generation = codes "{\"start\":" ++ (decimal generation ++ codes ",\"ids\":[")
-
 -- the hashes of a history
 unfoldable pub ids_text : List Revision → List ℕ
 ids_text path = join_with_byte 44 (map (λ r. quoted r.hash) path)

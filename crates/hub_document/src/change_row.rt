@@ -46,15 +46,6 @@ impl Model for ChangeRow {
     } };
 }
 
-fn copied_body(alloc: Global, body: &Option<Body>) -> Result<Option<Body>, AllocError>
-    ensures { IfOk result (λ b. b ≡ body.now) }
-{
-    match body {
-        Some(body) => Ok(Some(body.copy(alloc)?)),
-        None => Ok(None),
-    }
-}
-
 // The revision of the document, which is the first that the row lists, if it lists one.
 fn put_winner(out: &mut Vec<u8>, changes: &Changes) -> Result<(), AllocError>
     ensures { Appends
@@ -94,7 +85,10 @@ impl ChangeRow {
     {
         let id = self.id.copy()?;
         let changes = self.changes.copy(alloc)?;
-        let doc = copied_body(alloc, &self.doc)?;
+        let doc = match &self.doc {
+            Some(body) => Some(body.copy(alloc)?),
+            None => None,
+        };
         Ok(ChangeRow {
             seq: self.seq,
             id,

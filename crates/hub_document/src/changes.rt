@@ -52,10 +52,7 @@ impl Model for Changes {
 fn list_of_one(alloc: Global, rev: RevId) -> Result<Revisions, AllocError>
     ensures { IfOk result (λ revs. revs ≡ rev ∷ []) }
 {
-    let mut list = Vec::new(alloc);
-    list.try_reserve_exact(1)?;
-    list.push(rev)?;
-    Ok(Revisions::new(list))
+    Ok(Revisions::new(Vec::from_slice(alloc, &[rev])?))
 }
 
 impl Changes {

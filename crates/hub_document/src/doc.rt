@@ -36,13 +36,11 @@ impl Doc {
         ensures { AppendsWhole (doc_text self.now) result out.old.items out.new.items }
     {
         let held = out.len();
-        match put_doc(out, self) {
-            Ok(()) => Ok(()),
-            Err(refused) => {
-                out.truncate(held);
-                Err(refused)
-            }
+        let done = put_doc(out, self);
+        if done.is_err() {
+            out.truncate(held);
         }
+        done
     }
 
     /// A copy. It costs the lengths of the path and the body.
@@ -50,7 +48,10 @@ impl Doc {
         ensures { IfOk result (λ d. d ≡ self.now) }
     {
         let id = self.id.copy()?;
-        let path = copied_path(alloc, &self.path)?;
+        let path = match &self.path {
+            Some(path) => Some(path.copy(alloc)?),
+            None => None,
+        };
         let body = self.body.copy(alloc)?;
         Ok(Doc {
             id,
@@ -71,15 +72,6 @@ fn put_doc(out: &mut Vec<u8>, doc: &Doc) -> Result<(), AllocError>
     put_path(out, &doc.path)?;
     doc.body.put_rest(out)?;
     Ok(())
-}
-
-fn copied_path(alloc: Global, path: &Option<Path>) -> Result<Option<Path>, AllocError>
-    ensures { IfOk result (λ p. p ≡ path.now) }
-{
-    match path {
-        Some(path) => Ok(Some(path.copy(alloc)?)),
-        None => Ok(None),
-    }
 }
 
 /// Why a text or a JSON value is no document: the first of these, in this order. `NoMemory` may

@@ -133,12 +133,9 @@ pub(crate) fn is_id(text: &str) -> bool
 pub(crate) fn is_named_so(id: &str, value: &Value) -> bool
     ensures { result ≡ is_named_as id.now (get (codes "_id") (view value.now)) }
 {
-    let Some(named) = value.get("_id") else {
-        return true;
-    };
-    match named.as_str() {
-        Some(text) => id == text,
-        None => false,
+    match value.get("_id") {
+        Some(named) => named.as_str().is_some_and(|text| id == text),
+        None => true,
     }
 }
 

@@ -112,9 +112,7 @@ fn alone(alloc: Global, rev: Option<RevId>) -> Result<Option<Path>, AllocError>
     let Some(r) = rev else {
         return Ok(None);
     };
-    let mut revisions = Vec::with_capacity(alloc, 1)?;
-    revisions.push(r)?;
-    Ok(Some(Path::new(revisions)))
+    Ok(Some(Path::new(Vec::from_slice(alloc, &[r])?)))
 }
 
 // Whether a history of these hashes begins with the revision, where one is named.

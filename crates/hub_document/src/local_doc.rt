@@ -131,11 +131,9 @@ pub fn write_local(out: &mut Vec<u8>, id: &str, count: u64, body: &Body) -> Resu
     ensures { AppendsWhole (local_text id.now count body.now) result out.old.items out.new.items }
 {
     let held = out.len();
-    match put_local(out, id, count, body) {
-        Ok(()) => Ok(()),
-        Err(refused) => {
-            out.truncate(held);
-            Err(refused)
-        }
+    let done = put_local(out, id, count, body);
+    if done.is_err() {
+        out.truncate(held);
     }
+    done
 }

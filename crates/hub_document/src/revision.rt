@@ -96,16 +96,12 @@ fn read_number(bytes: &[u8]) -> Option<(u16, &[u8])>
     None
 }
 
-fn is_hash_byte(b: u8) -> bool
-    ensures { result ≡ is_letter b }
-{
-    (b >= b'0' && b <= b'9') || (b >= b'A' && b <= b'Z') || (b >= b'a' && b <= b'z')
-}
-
 fn are_letters(bytes: &[u8]) -> bool
     ensures { result ≡ list_all is_letter bytes.now }
 {
-    bytes.iter().all(|b| is_hash_byte(*b))
+    bytes
+        .iter()
+        .all(|b| matches!(*b, b'0'..=b'9' | b'A'..=b'Z' | b'a'..=b'z'))
 }
 
 fn is_hash(bytes: &[u8]) -> bool

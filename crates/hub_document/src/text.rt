@@ -3,10 +3,8 @@
 ghost use Rattle.std.specs.Prelude.{◌≡◌, Some};
 ghost use Rattle.json.specs.Print.{quoted};
 ghost use Rattle.hub_document.specs.Appends.{Appends};
-ghost use Rattle.hub_document.specs.DocText.{rev_member, deleted_member};
-ghost use Rattle.hub_document.specs.DocText.{history_member, history_text};
-ghost use Rattle.hub_document.specs.Joined.{after_commas, head_text, ids_text};
-ghost use Rattle.hub_document.specs.Joined.{start_text, count_text};
+ghost use Rattle.hub_document.specs.DocText.{rev_member, deleted_member, history_member};
+ghost use Rattle.hub_document.specs.Joined.{after_commas, head_text, ids_text, count_text};
 
 use crate::path::Path;
 use crate::plain::is_plain;
@@ -88,33 +86,18 @@ fn put_hashes(out: &mut Vec<u8>, revisions: &[RevId]) -> Result<(), AllocError>
     Ok(())
 }
 
-fn put_start(out: &mut Vec<u8>, generation: u16) -> Result<(), AllocError>
-    ensures { Appends (start_text generation) result out.old.items out.new.items }
-{
-    let mut number = Buffer::new();
-    out.extend_from_slice(b"{\"start\":")?;
-    out.extend_from_slice(number.format(generation).as_bytes())?;
-    out.extend_from_slice(b",\"ids\":[")?;
-    Ok(())
-}
-
-fn put_history(out: &mut Vec<u8>, path: &Path) -> Result<(), AllocError>
-    ensures { Appends (history_text path.now) result out.old.items out.new.items }
-{
-    put_start(out, path.head().generation())?;
-    put_hashes(out, path.revisions())?;
-    out.extend_from_slice(b"]}")?;
-    Ok(())
-}
-
 pub(crate) fn put_path(out: &mut Vec<u8>, path: &Option<Path>) -> Result<(), AllocError>
     ensures { Appends (after_commas (history_member path.now)) result out.old.items out.new.items }
 {
     let Some(path) = path else {
         return Ok(());
     };
-    out.extend_from_slice(b",\"_revisions\":")?;
-    put_history(out, path)?;
+    let mut number = Buffer::new();
+    out.extend_from_slice(b",\"_revisions\":{\"start\":")?;
+    out.extend_from_slice(number.format(path.head().generation()).as_bytes())?;
+    out.extend_from_slice(b",\"ids\":[")?;
+    put_hashes(out, path.revisions())?;
+    out.extend_from_slice(b"]}")?;
     Ok(())
 }
 

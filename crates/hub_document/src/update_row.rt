@@ -1,6 +1,6 @@
 //! Rows of the log of updates.
 
-ghost use Rattle.std.specs.Prelude.{◌≡◌, ◌<◌, length, string_bytes, IfOk, OnErr};
+ghost use Rattle.std.specs.Prelude.{◌≡◌, ◌<◌, length, IfOk, OnErr};
 
 use hub_model::UpdateKind;
 use std::alloc::{AllocError, Global};
@@ -33,24 +33,17 @@ impl Model for UpdateRow {
     } };
 }
 
-// A copy of a database's name. An empty one takes no memory.
-fn copied_name(alloc: Global, name: &str) -> Result<String, AllocError>
-    ensures ok { IfOk result (λ copy. string_bytes copy ≡ name.now) }
-    ensures memory { OnErr result (0 < length name.now) }
-{
-    if name.is_empty() {
-        return Ok(String::new(alloc));
-    }
-    String::from_str(alloc, name)
-}
-
 impl UpdateRow {
     /// A copy. It costs the length of the name, and of an empty name takes no memory.
     pub fn copy(&self, alloc: Global) -> Result<UpdateRow, AllocError>
         ensures ok { IfOk result (λ row. row ≡ self.now) }
         ensures memory { OnErr result (0 < length self.now.db_name) }
     {
-        let db_name = copied_name(alloc, self.db_name.as_str())?;
+        let db_name = if self.db_name.is_empty() {
+            String::new(alloc)
+        } else {
+            String::from_str(alloc, self.db_name.as_str())?
+        };
         Ok(UpdateRow {
             db_name,
             kind: self.kind,
