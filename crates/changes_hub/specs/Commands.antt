@@ -1,6 +1,6 @@
 -- What the words of a command line ask for (own).
 use Rattle.std.specs.Prelude.{ℕ, ◌^◌, List, [], ◌∷◌, Bool, ◌&&◌, nat_le, nat_lt, length, codes, bytes_eq}
-use Rattle.std.specs.Prelude.{if◌then◌else◌, Option, Some, None, option_map, option_and_then, string_bytes}
+use Rattle.std.specs.Prelude.{if◌then◌else◌, Option, Some, None, option_map, string_bytes}
 use Rattle.std.specs.List.{list_all}
 use Rattle.std.specs.Str.Parse.{digits_value}
 use Rattle.changes_hub.specs.declared.command.Command.{Command}
@@ -24,19 +24,11 @@ is_digit b = nat_le 48 b && nat_le b 57
 abbrev pub is_numeral : List ℕ → Bool
 is_numeral text = nat_lt 0 (length text) && list_all is_digit text
 
--- the number below 2^64 that a text of decimal digits writes
-abbrev pub number_in : List ℕ → Option ℕ
-number_in text =
-    if is_numeral text && nat_lt (digits_value 10 text) (2 ^ 64) then Some (digits_value 10 text) else None
-
--- a number of connections is at most this, 2^32 - 1
-abbrev pub at_most : ℕ → Option ℕ
-at_most n = if nat_le n 4294967295 then Some n else None
-
 -- The COUNT that a word writes: decimal digits, with any zeros in front, up to 4,294,967,295. `3` and `003`
 -- are 3. `+3`, `3x`, `4294967296` and the empty word are none.
 abbrev pub count_in : List ℕ → Option ℕ
-count_in text = option_and_then at_most (number_in text)
+count_in text =
+    if is_numeral text && nat_lt (digits_value 10 text) (2 ^ 32) then Some (digits_value 10 text) else None
 
 -- nothing stands behind `stdin`
 abbrev pub stdin_with : List (List ℕ) → Option Asked

@@ -27,19 +27,11 @@ pub struct Edited {
     pub lapsed: Option<NoteFault>,
 }
 
-// Whether a document was stored that was answered so.
-fn is_stored(reply: &Outcome<RevId>) -> bool
-    ensures { result ≡ is_stored reply.now }
-{
-    match reply {
-        Outcome::Stored(_) => true,
-        Outcome::Known | Outcome::Refused(_) => false,
-    }
-}
-
 /// Whether one of the documents was stored. A step for each reply.
 pub(crate) fn has_stored(replies: &[Outcome<RevId>]) -> bool
     ensures { result ≡ list_any is_stored replies.now }
 {
-    replies.iter().any(|reply| is_stored(reply))
+    replies
+        .iter()
+        .any(|reply| matches!(reply, Outcome::Stored(_)))
 }
