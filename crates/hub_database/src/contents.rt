@@ -146,6 +146,11 @@ impl Contents {
         }
     }
 
+    /// Where they are kept.
+    pub(crate) fn alloc(&self) -> Global {
+        self.alloc
+    }
+
     /// How many documents there are, and how many edits. Constant time: the counts are kept.
     pub fn info(&self) -> Info
         ensures { result ≡ info_of self.now.journal self.now.life }

@@ -237,15 +237,14 @@ impl DbState {
         ensures err { IfErr result (λ e. (e ≡ DbFault.NoMemory) × (self.new ≡ self.old)) }
         ensures memory { OnErr result (0 < length docs.items) }
     {
-        let alloc = self.contents.alloc;
         if docs.is_empty() {
             return Ok(Batch {
-                replies: Replies::new(Vec::new(alloc)),
+                replies: Replies::new(Vec::new(self.contents.alloc())),
                 stopped: false,
             });
         }
         if self.deleted {
-            return refuse_all(alloc, docs.len());
+            return refuse_all(self.contents.alloc(), docs.len());
         }
         self.listing.forget();
         self.contents.write_edits(docs, new_edits)

@@ -29,19 +29,15 @@ get_pushed [] v w (suc i) e = absurd (none-some w e)
 get_pushed (x ∷ xs) v w zero e = inl e
 get_pushed (x ∷ xs) v w (suc i) e = get_pushed xs v w i e
 
--- a pair that stands here, by its id and its latest sequence
-pub pair_there : (pairs : List Pair) (k : ℕ) (pair : Pair) → k < length pairs → pair ≡ get_or pairs k pair
-    → slice_get (ids_of pairs) k ≡ Some (pair_of pair)
-pair_there pairs k pair low is =
-    slice_get-map pair_of pairs k ∙ ap (option_map pair_of) (at_place pairs k pair low is)
-
 -- the pairs, once the latest sequence of one is written over
 pub pair_raised : (pairs : List Pair) (k seq : ℕ) (pair : Pair) → k < length pairs
     → pair ≡ get_or pairs k pair
     → ids_of (slice_set pairs k (record pair { latest = seq })) ≡ raised k seq (ids_of pairs)
 pair_raised pairs k seq pair low is =
+    let there : slice_get (ids_of pairs) k ≡ Some (string_bytes pair.id, pair.latest) =
+    slice_get-map pair_of pairs k ∙ ap (option_map pair_of) (at_place pairs k pair low is) in
     map-set pair_of pairs k (record pair { latest = seq })
-    ∙ ap (λ o. slice_set (ids_of pairs) k (id_in o, seq)) (sym (pair_there pairs k pair low is))
+    ∙ ap (λ o. slice_set (ids_of pairs) k (id_in o, seq)) (sym there)
 
 kind_back : (kind : UpdateKind) → kind_of (letter_of kind) ≡ kind
 kind_back Created = refl

@@ -1,12 +1,13 @@
 //! What was noted, and the row of each pair of a kind and a name.
 
 ghost use Rattle.std.specs.Prelude.{ℕ, List, ◌≡◌, ◌+◌, ◌-◌, ◌^◌, ◌<◌, ◌++◌, ◌∷◌, [], Some, None};
-ghost use Rattle.std.specs.Prelude.{length, string_bytes, IfOk, OnOk, OnErr, MatchResult};
+ghost use Rattle.std.specs.Prelude.{length, option_map, slice_get, string_bytes, IfOk, OnOk, OnErr};
+ghost use Rattle.std.specs.Prelude.{MatchResult};
 ghost use Rattle.std.specs.BTreeMap.{get_by_text};
 ghost use Rattle.std.specs.Map.{update};
 ghost use Rattle.std.specs.Str.{bytes_eq};
 ghost use Rattle.hub_index.specs.Rows.{seq_of, moved};
-ghost use Rattle.hub_updates.specs.Kept.{IsNext, ids_of};
+ghost use Rattle.hub_updates.specs.Kept.{IsNext, ids_of, raised};
 
 use crate::notice::Notice;
 use hub_index::{PageIndex, SeqIndex};
@@ -56,6 +57,28 @@ pub(crate) fn number_of(numbers: &BTreeMap<String, u32>, id: &str) -> Option<u32
     ensures { result ≡ get_by_text numbers.now id.now }
 {
     numbers.get(id).copied()
+}
+
+// Moves the row of a pair that is there to a new sequence. An error leaves all as it was.
+fn raise(
+    pairs: &mut Vec<Pair>,
+    index: &mut PageIndex,
+    number: u32,
+    seq: u64,
+) -> Result<(), AllocError>
+    requires there { number < length pairs.old.items }
+    requires own { seq_of number index.old
+        ≡ option_map (λ p. p.1) (slice_get (ids_of pairs.old.items) number) }
+    requires next { IsNext index.old seq }
+    ensures pairs { OnOk result (ids_of pairs.new.items ≡ raised number seq (ids_of pairs.old.items)) }
+    ensures index { OnOk result (index.new ≡ moved index.old number seq) }
+    ensures err { OnErr result ((ids_of pairs.new.items ≡ ids_of pairs.old.items)
+        × (index.new ≡ index.old)) }
+{
+    let pair = &mut pairs[number as usize];
+    index.move_to(number, Some(pair.latest), seq)?;
+    pair.latest = seq;
+    Ok(())
 }
 
 // Takes in a new pair, and answers its number. What grows last is the map, and then the index. An
@@ -122,9 +145,7 @@ impl Log {
         let seq = self.notes.len() as u64 + 1;
         match number_of(&self.numbers, notice.id()) {
             Some(number) => {
-                let pair = &mut self.pairs[number as usize];
-                self.index.move_to(number, Some(pair.latest), seq)?;
-                pair.latest = seq;
+                raise(&mut self.pairs, &mut self.index, number, seq)?;
                 self.notes.push_reserved(number);
                 Ok(())
             }

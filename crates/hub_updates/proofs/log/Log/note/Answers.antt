@@ -1,14 +1,13 @@
-use Rattle.std.proofs.Common.{◌≡◌, ◌∙◌, ◌+◌, ◌<◌, List, Some, None, length, slice_set, string_bytes, sym, ap, arith}
-use Rattle.std.proofs.lemmas.List.{length-map, set-get_or}
+use Rattle.std.proofs.Common.{◌≡◌, ◌∙◌, ◌+◌, List, Some, None, length, string_bytes, sym, ap, arith}
+use Rattle.std.proofs.lemmas.List.{length-map}
 use Rattle.std.specs.BTreeMap.{get_by_text}
 use Rattle.hub_model.specs.Updates.{Note, id_of}
 use Rattle.hub_updates.specs.Kept.{ids_of, pair_of}
-use Rattle.hub_updates.proofs.KeptLemmas.{added_so, kept_past, kept_rows, kept_there, pair_raised}
-use Rattle.hub_updates.proofs.KeptLemmas.{pair_there, raised_so}
+use Rattle.hub_updates.proofs.KeptLemmas.{added_so, kept_past, kept_rows, kept_there, raised_so}
 use Rattle.hub_updates.proofs.log.Log.note.Goals as goal
 
-pub index_mut-pair-requires : goal.index_mut-pair-requires
-index_mut-pair-requires c =
+pub raise-requires-clause-there : goal.raise-requires-clause-there
+raise-requires-clause-there c =
     let s = c.self.inside in
     let known : get_by_text s.numbers (id_of c.args.notice.now) ≡ Some c.in-Some.number =
     sym (rw c.id.ensures at c.in-Some.ensures) in
@@ -17,30 +16,16 @@ index_mut-pair-requires c =
       kept_there (get_by_text s.numbers) (ids_of s.pairs.items) s.notes.items s.index c.self.invariant
           (id_of c.args.notice.now) c.in-Some.number known,
       length-map s.pairs.items pair_of,
-      s.pairs.ok.0,
     )
 
-pub move_to-requires : goal.move_to-requires
-move_to-requires c =
+pub raise-requires-clause-next : goal.raise-requires-clause-next
+raise-requires-clause-next c =
     let s = c.self.inside in
-    let k = c.in-Some.number in
-    let pair = c.index_mut-pair.result.now in
-    let known : get_by_text s.numbers (id_of c.args.notice.now) ≡ Some k =
-    sym (rw c.id.ensures at c.in-Some.ensures) in
-    let low : k < length s.pairs.items = omega (
-      arith,
-      kept_there (get_by_text s.numbers) (ids_of s.pairs.items) s.notes.items s.index c.self.invariant
-          (id_of c.args.notice.now) k known,
-      length-map s.pairs.items pair_of,
-    ) in
     record {
-      own =
-          c.self.invariant.rows.key k (pair_of pair)
-          (pair_there s.pairs.items k pair low c.index_mut-pair.ensures.value);
       positive = omega arith;
-      above = λ n d l. omega (
+      above = λ k d l. omega (
         arith,
-        kept_rows (get_by_text s.numbers) (ids_of s.pairs.items) s.notes.items s.index c.self.invariant n d l,
+        kept_rows (get_by_text s.numbers) (ids_of s.pairs.items) s.notes.items s.index c.self.invariant k d l,
         c.len.ensures,
         c.in_ok-try_reserve.ensures.len,
         s.notes.ok.0,
@@ -72,21 +57,12 @@ invariant_of-self-in-Some c =
     let s = c.self.inside in
     let known : get_by_text s.numbers (id_of c.args.notice.now) ≡ Some c.in-Some.number =
     sym (rw c.id.ensures at c.in-Some.ensures) in
-    let k = c.in-Some.number in
-    let pair = c.index_mut-pair.result.now in
-    let low : k < length s.pairs.items = omega (
-      arith,
-      kept_there (get_by_text s.numbers) (ids_of s.pairs.items) s.notes.items s.index c.self.invariant
-          (id_of c.args.notice.now) k known,
-      length-map s.pairs.items pair_of,
-    ) in
-    let raised_pairs = slice_set s.pairs.items k (record pair { latest = c.len.result + 1 }) in
     let last : c.len.result + 1 ≡ length s.notes.items + 1 =
     omega (arith, c.len.ensures, c.in_ok-try_reserve.ensures.len, s.notes.ok.0) in
     (raised_so (get_by_text s.numbers) (ids_of s.pairs.items) s.notes.items s.index c.self.invariant
-    c.args.notice.now c.in-Some.number (c.len.result + 1) last known (ids_of raised_pairs)
-    c.push_reserved.new.self.items c.move_to.new.self (pair_raised s.pairs.items k (c.len.result + 1) pair low c.index_mut-pair.ensures.value)
-    (rw c.try_reserve.ensures.items at c.push_reserved.ensures.items) c.in_ok-move_to-in-Some.ensures.moved).0
+    c.args.notice.now c.in-Some.number (c.len.result + 1) last known (ids_of c.raise.new.pairs.items)
+    c.push_reserved.new.self.items c.raise.new.index c.in_ok-raise-in-Some.ensures.pairs
+    (rw c.try_reserve.ensures.items at c.push_reserved.ensures.items) c.in_ok-raise-in-Some.ensures.index).0
 
 pub invariant_of-self-in-None : goal.invariant_of-self-in-None
 invariant_of-self-in-None c =
@@ -106,28 +82,19 @@ invariant_of-self-in-None c =
     (rw c.try_reserve.ensures.items at c.push_reserved-in-None.ensures.items)
     c.in_ok-number-in-None.ensures.index).0
 
-pub returns-in_ok-move_to-in-Some : goal.returns-in_ok-move_to-in-Some
-returns-in_ok-move_to-in-Some c =
+pub returns-in_ok-raise-in-Some : goal.returns-in_ok-raise-in-Some
+returns-in_ok-raise-in-Some c =
     let s = c.self.inside in
     let known : get_by_text s.numbers (id_of c.args.notice.now) ≡ Some c.in-Some.number =
     sym (rw c.id.ensures at c.in-Some.ensures) in
-    let k = c.in-Some.number in
-    let pair = c.index_mut-pair.result.now in
-    let low : k < length s.pairs.items = omega (
-      arith,
-      kept_there (get_by_text s.numbers) (ids_of s.pairs.items) s.notes.items s.index c.self.invariant
-          (id_of c.args.notice.now) k known,
-      length-map s.pairs.items pair_of,
-    ) in
-    let raised_pairs = slice_set s.pairs.items k (record pair { latest = c.len.result + 1 }) in
     let last : c.len.result + 1 ≡ length s.notes.items + 1 =
     omega (arith, c.len.ensures, c.in_ok-try_reserve.ensures.len, s.notes.ok.0) in
     rw (sym c.self.view_is)
     (ap (λ (notes : List Note). record { notes = notes; life = s.life })
     (raised_so (get_by_text s.numbers) (ids_of s.pairs.items) s.notes.items s.index c.self.invariant
-    c.args.notice.now c.in-Some.number (c.len.result + 1) last known (ids_of raised_pairs)
-    c.push_reserved.new.self.items c.move_to.new.self (pair_raised s.pairs.items k (c.len.result + 1) pair low c.index_mut-pair.ensures.value)
-    (rw c.try_reserve.ensures.items at c.push_reserved.ensures.items) c.in_ok-move_to-in-Some.ensures.moved).1)
+    c.args.notice.now c.in-Some.number (c.len.result + 1) last known (ids_of c.raise.new.pairs.items)
+    c.push_reserved.new.self.items c.raise.new.index c.in_ok-raise-in-Some.ensures.pairs
+    (rw c.try_reserve.ensures.items at c.push_reserved.ensures.items) c.in_ok-raise-in-Some.ensures.index).1)
 
 pub returns-in_ok-number-in-None : goal.returns-in_ok-number-in-None
 returns-in_ok-number-in-None c =
@@ -148,19 +115,3 @@ returns-in_ok-number-in-None c =
     c.add.new.index c.in_ok-number-in-None.ensures.numbers c.in_ok-number-in-None.ensures.pairs
     (rw c.try_reserve.ensures.items at c.push_reserved-in-None.ensures.items)
     c.in_ok-number-in-None.ensures.index).1)
-
-pub invariant_of-self-in_err-move_to-in-Some : goal.invariant_of-self-in_err-move_to-in-Some
-invariant_of-self-in_err-move_to-in-Some c =
-    let pairs = c.self.inside.pairs.items in
-    let k = c.in-Some.number in
-    let same : slice_set pairs k c.index_mut-pair.result.now ≡ pairs =
-    ap (slice_set pairs k) c.index_mut-pair.ensures.value ∙ set-get_or pairs k c.index_mut-pair.result.now in
-    rw (same, c.try_reserve.ensures.items, c.in_err-move_to-in-Some.ensures.err) c.self.invariant
-
-pub returns-in_err-move_to-in-Some : goal.returns-in_err-move_to-in-Some
-returns-in_err-move_to-in-Some c =
-    let pairs = c.self.inside.pairs.items in
-    let k = c.in-Some.number in
-    let same : slice_set pairs k c.index_mut-pair.result.now ≡ pairs =
-    ap (slice_set pairs k) c.index_mut-pair.ensures.value ∙ set-get_or pairs k c.index_mut-pair.result.now in
-    rw (c.from_residual-in_err-move_to-in-Some.ensures, same, c.try_reserve.ensures.items) c.self.view_is
