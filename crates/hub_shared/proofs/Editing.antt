@@ -1,5 +1,5 @@
 -- What one edit does, and a batch without receipts.
-use Rattle.std.proofs.Common.{◌≡◌, ◌⊎◌, ◌+◌, ◌<◌, ◌≤◌, ◌^◌, ℕ, List, [], ◌∷◌, ◌++◌, length, Bool}
+use Rattle.std.proofs.Common.{◌≡◌, ◌⊎◌, ◌+◌, ◌-◌, ◌<◌, ◌≤◌, ◌^◌, ℕ, List, [], ◌∷◌, ◌++◌, length, Bool}
 use Rattle.std.proofs.Common.{true, false, ap, refl, sym, ◌∙◌, subst, inl, inr, length-append, arith}
 use Rattle.std.specs.Prelude.{cond, Result, Ok, Err, IfOk, IfErr, OnOk}
 use Rattle.std.proofs.lemmas.List.{length-map}
@@ -136,6 +136,24 @@ pub longer_by : (count : ℕ) (old new : Database) → Adds count old new
 longer_by count old new adds =
     ap length adds.behind
     ∙ (length-append old.journal adds.edits ∙ ap (λ n. length old.journal + n) adds.many)
+
+-- so that is how many they are more
+pub edits_more : (count before after : ℕ) (old new : Database) → Adds count old new
+    → before ≡ length old.journal → after ≡ length new.journal → after - before ≡ count
+edits_more count before after old new adds from to = omega (arith, from, to, longer_by count old new adds)
+
+-- what a batch did to a database
+pub batch_stored : (new_edits : Bool) (docs : List Doc) (old new : Database) (batch : Batch)
+    → IsBatch new_edits old.deleted old.limits.journal old.journal new.journal docs batch
+    → IsLegal new.journal → length new.journal < 2 ^ 32 → new ≡ record old { journal = new.journal }
+    → StoresBatch new_edits docs old batch new
+batch_stored new_edits docs old new batch is legal within rest = record {
+  replies = is.ok;
+  whole = is.whole;
+  stopped = is.stopped;
+  stops = is.stops;
+  adds = batch_added new_edits docs old new batch is legal within rest;
+}
 
 -- what a database that was found did is what became of the batch
 abbrev pub stored_by : {counts : Bool} {all_parts : ℕ} {h : HandleState} (new_edits : Bool) (docs : List Doc)

@@ -18,6 +18,7 @@ use Rattle.hub_shared.specs.declared.write.Accepted.{Accepted}
 use Rattle.hub_database.specs.Answers.{IsAnswer}
 use Rattle.hub_database.specs.declared.question.Answer.{Answer}
 use Rattle.hub_database.specs.declared.question.Question.{Question}
+use Rattle.hub_shared.specs.Stored.{batch_of}
 
 -- what is seen of a handle
 pub record HandleState : Type 0 where
@@ -74,7 +75,7 @@ module _ (counts : Bool) (all_parts : ℕ) (state : HandleState) where
 
   -- what became of a write: of its documents, and the receipts of those that were stored
   pub record IsWrittenBy (new_edits : Bool) (docs : List Doc) (accepted : Accepted) : Type 0 where
-    pub stored : IsStoredBy new_edits docs (record { replies = accepted.replies; stopped = accepted.stopped })
+    pub stored : IsStoredBy new_edits docs (batch_of accepted)
     pub receipts : accepted.receipts.items ≡ receipts_from (length stored.db.journal)
         (ids_of docs) accepted.replies
 

@@ -12,6 +12,7 @@ use Rattle.hub_database.specs.Edits.{StopsAt, writes}
 use Rattle.hub_database.specs.declared.batch.Batch.{Batch}
 use Rattle.hub_database.specs.declared.batch.DbFault.{DbFault}
 use Rattle.hub_database.specs.declared.batch.DbFault.TheVariants.{NoMemory}
+use Rattle.hub_shared.specs.declared.write.Accepted.{Accepted}
 
 -- whether a document was stored that was answered so
 abbrev pub is_stored : Outcome Revision → Bool
@@ -30,6 +31,10 @@ HasStored replies = (rev : Revision) × Contains replies (Stored rev)
 -- a write of these documents found no memory: of none it is never told
 abbrev pub IsOutOfMemoryFor : List Doc → DbFault → Type 0
 IsOutOfMemoryFor docs fault = (fault ≡ NoMemory) × (0 < length docs)
+
+-- what became of the documents of a write, without its receipts
+abbrev pub batch_of : Accepted → Batch
+batch_of accepted = record { replies = accepted.replies; stopped = accepted.stopped }
 
 -- so many edits were added to the journal, which is legal and has less than 2^32, and nothing else changed
 pub record Adds (count : ℕ) (old new : Database) : Type 0 where

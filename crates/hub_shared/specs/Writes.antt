@@ -3,7 +3,7 @@ use Rattle.std.specs.Prelude.{◌≡◌, ◌+◌, List, All, length, Bool}
 use Rattle.hub_document.specs.declared.doc.Doc.{Doc}
 use Rattle.hub_database.specs.Database.{Database}
 use Rattle.hub_database.specs.Receipts.{AreAdded, AreRising, HasEdit, ids_of, receipts_from}
-use Rattle.hub_shared.specs.Stored.{StoresBatch}
+use Rattle.hub_shared.specs.Stored.{StoresBatch, batch_of}
 use Rattle.hub_shared.specs.declared.write.Accepted.{Accepted}
 
 -- Of the documents that were given, those before the stop were stored one after the other, and nothing else
@@ -12,8 +12,7 @@ use Rattle.hub_shared.specs.declared.write.Accepted.{Accepted}
 pub record Stores (new_edits : Bool) (docs : List Doc) (old : Database) (accepted : Accepted)
     (new : Database) : Type 0 where
   -- the documents were stored, as a batch without receipts
-  pub batch : StoresBatch new_edits docs old
-      (record { replies = accepted.replies; stopped = accepted.stopped }) new
+  pub batch : StoresBatch new_edits docs old (batch_of accepted) new
   -- each document that was stored has its receipt, in order
   pub receipts : accepted.receipts.items
       ≡ receipts_from (length old.journal) (ids_of docs) accepted.replies

@@ -20,10 +20,11 @@ use hub_database::{DbFault, DbState};
 use hub_document::LocalDoc;
 
 impl<C: Count, K: Outbox<DbState>> Locked<DbState, C, K> {
-    /// Whenever a database is got from a lock, its journal is legal, and what was sent for each feed
-    /// that is not finished is rightly handed for that journal, under the feed's own parameters and
-    /// since.
-    pub fn feeds_are_right(&self)
+    /// How many edits there are. Whenever a database is got from a lock, its journal is legal, and what was
+    /// sent for each feed that is not finished is rightly handed for that journal, under the feed's own
+    /// parameters and since. Constant time.
+    pub fn feeds_are_right(&self) -> u64
+        ensures edits { (result ≡ length self.now.state.journal) × (result < 2 ^ 32) }
         ensures legal { IsLegal self.now.state.journal }
         ensures asks { (number : ℕ) (f : Feed) (s : K)
             → entry_in number self.now.state.feeds ≡ Some f → entry_in number self.now.senders ≡ Some s
@@ -34,8 +35,7 @@ impl<C: Count, K: Outbox<DbState>> Locked<DbState, C, K> {
         ensures served { (number : ℕ) (f : Feed) → entry_in number self.now.state.feeds ≡ Some f
             → (s : K) × (entry_in number self.now.senders ≡ Some s) }
     {
-        // Only the proof needs this call: it says that the journal is legal.
-        let _legal = self.state.update_seq();
+        self.state.update_seq()
     }
 
     /// How many edits there are, and how a share stands to them. Nothing changes.
@@ -47,7 +47,7 @@ impl<C: Count, K: Outbox<DbState>> Locked<DbState, C, K> {
             × (C.parts share.new ≡ C.parts share.old) }
     {
         C::audit(&mut self.book, share);
-        self.state.update_seq()
+        self.feeds_are_right()
     }
 
     /// Stores a local document, as `DbState::local_put`: feeds do not show it.

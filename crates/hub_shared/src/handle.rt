@@ -95,14 +95,13 @@ impl<C: Count> Handle<C> {
         ensures err { IfErr result (λ e. IsOutOfMemoryFor docs.items e × (self.new ≡ self.old)) }
     {
         let room = ReceiptRoom::of(self.db.alloc, docs.as_slice())?;
-        let (accepted, rise) = self
-            .db
-            .locked()
-            .lock(rt)
-            .write_counted(&mut self.share, room, docs, new_edits)?;
+        let mut locked = self.db.locked().lock(rt);
+        let edits = locked.audit_share(&mut self.share);
+        let (batch, rise) = locked.store(&mut self.share, docs, new_edits)?;
+        drop(locked);
         self.db.tell();
         self.count += rise;
-        Ok(accepted)
+        Ok(Accepted::new(batch, edits, room))
     }
 
     /// Asks the database, as it is at one moment: `ask` is called once, under the lock, and is to wait for

@@ -20,7 +20,6 @@ mod outboxes;
 mod poll;
 mod pumping;
 mod signals;
-mod store;
 mod subscriber;
 mod times;
 mod updates;

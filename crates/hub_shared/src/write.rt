@@ -1,18 +1,17 @@
 //! Writes to a database that lies under a lock.
 
-ghost use Rattle.std.specs.Prelude.{◌≡◌, ◌<◌, ◌^◌, true, length, IfOk, IfErr};
+ghost use Rattle.std.specs.Prelude.{◌≡◌, ◌+◌, ◌<◌, ◌^◌, true, Ok, Err, IfOk, IfErr, OnErr, OnOk};
 ghost use Rattle.hub_model.specs.Journal.{IsLegal};
-ghost use Rattle.hub_shared.specs.Handles.{HasRisen, IsWrittenBy, handle_of};
-ghost use Rattle.hub_database.specs.Receipts.{ids_of};
-ghost use Rattle.hub_shared.specs.Stored.{IsOutOfMemoryFor};
+ghost use Rattle.hub_database.specs.Receipts.{receipts_from};
+ghost use Rattle.hub_shared.specs.Handles.{HasRisen, IsEditedBy, IsStoredBy, handle_of};
+ghost use Rattle.hub_shared.specs.Stored.{Adds, IsOutOfMemoryFor, StoresBatch, batch_of, stored_count};
 ghost use Rattle.hub_shared.specs.Writes.{Stores};
 
-use crate::count::Count;
+use crate::count::{Count, NoCount};
 use crate::locked::Locked;
 use crate::outbox::Outbox;
-use crate::store::store_batch;
-use hub_database::{DbFault, DbState, Receipt, ReceiptRoom, Replies};
-use hub_document::Doc;
+use hub_database::{Batch, DbFault, DbState, Receipt, ReceiptRoom, Replies};
+use hub_document::{Doc, RevId};
 
 /// What a write did.
 #[derive(Debug, Drop)]
@@ -25,69 +24,95 @@ pub struct Accepted {
     pub receipts: Vec<Receipt>,
 }
 
-// Stores documents in a database of so many edits, and fills the room that was made for their receipts.
-fn store(
-    state: &mut DbState,
-    edits: u64,
-    room: ReceiptRoom,
-    docs: Vec<Doc>,
-    new_edits: bool,
-) -> Result<Accepted, DbFault>
-    requires edits { (edits ≡ length state.old.journal) × (edits < 2 ^ 32) }
-    requires room { room ≡ ids_of docs.items }
-    ensures ok { IfOk result (λ a. Stores new_edits docs.items state.old a state.new) }
-    ensures err { IfErr result (λ e. IsOutOfMemoryFor docs.items e × (state.new ≡ state.old)) }
-{
-    let (batch, _count) = store_batch(state, docs, new_edits)?;
-    let receipts = room.fill(edits, batch.replies.as_slice());
-    Ok(Accepted {
-        replies: batch.replies,
-        stopped: batch.stopped,
-        receipts,
-    })
+impl Accepted {
+    /// A batch that was stored behind so many edits, with its receipts, for which there is room. It takes no
+    /// memory, and costs a step for each document.
+    pub(crate) fn new(batch: Batch, edits: u64, room: ReceiptRoom) -> Accepted
+        requires edits { edits < 2 ^ 32 }
+        ensures batch { batch_of result ≡ batch }
+        ensures receipts { result.receipts.items ≡ receipts_from edits room batch.replies }
+    {
+        let receipts = room.fill(edits, batch.replies.as_slice());
+        Accepted {
+            replies: batch.replies,
+            stopped: batch.stopped,
+            receipts,
+        }
+    }
 }
 
 impl Locked<DbState> {
-    /// Stores documents one after the other, as `DbState::write_edits`, and gives a receipt of each
-    /// that was stored. The memory for the receipts is taken before any edit: the call fails only
-    /// where it, or the list of replies, finds none, and then nothing changes. It costs what
-    /// `write_edits` does, and copies of the documents' ids.
+    /// Stores documents one after the other, as `store`, and gives a receipt of each that was stored. The
+    /// memory for the receipts is taken before any edit: the call fails only where it, or the list of
+    /// replies, finds none, and then nothing changes. It costs what `store` does, and copies of the
+    /// documents' ids.
     pub fn write(&mut self, docs: Vec<Doc>, new_edits: bool) -> Result<Accepted, DbFault>
         ensures ok { IfOk result (λ a. Stores new_edits docs.items self.old.state a self.new.state) }
         ensures legal { IsLegal self.new.state.journal }
         ensures rest { self.new ≡ record self.old { state = self.new.state } }
         ensures err { IfErr result (λ e. IsOutOfMemoryFor docs.items e × (self.new ≡ self.old)) }
     {
-        // Without memory for the receipts only the proof needs this call, for `legal`.
-        let edits = self.state.update_seq();
+        let edits = self.feeds_are_right();
         let room = ReceiptRoom::of(self.alloc, docs.as_slice())?;
-        store(&mut self.state, edits, room, docs, new_edits)
+        let (batch, _) = self.store(&mut NoCount, docs, new_edits)?;
+        Ok(Accepted::new(batch, edits, room))
     }
 }
 
 impl<C: Count, K: Outbox<DbState>> Locked<DbState, C, K> {
-    /// Writes into the room that was made for the receipts, counts what was accepted, and gives news of it.
-    /// Beside what became of it stands by how much the share rose.
-    pub(crate) fn write_counted(
+    /// Stores one edit whose revision is made here, counts it, and gives news of it. Beside the revision
+    /// stands by how much the share rose. It takes no memory but what `DbState::write_one` does.
+    pub(crate) fn write_one(
         &mut self,
         share: &mut C::Share,
-        room: ReceiptRoom,
+        doc: Doc,
+    ) -> Result<(RevId, u64), DbFault>
+        requires part { C.counts ≡ true → 0 < C.parts share.old }
+        ensures edited { IfOk result (λ w. IsEditedBy C.counts C.all_parts
+            (handle_of C.parts C.amount share.old) doc (Ok w.0)) }
+        ensures refused { IfErr result (λ e. IsEditedBy C.counts C.all_parts
+            (handle_of C.parts C.amount share.old) doc (Err e)) }
+        ensures adds { OnOk result (Adds 1 self.old.state self.new.state
+            × (self.new ≡ record self.old { state = self.new.state })) }
+        ensures risen { IfOk result (λ w. HasRisen C.counts 1 w.1
+            (handle_of C.parts C.amount share.old) (handle_of C.parts C.amount share.new)) }
+        ensures err { OnErr result ((self.new ≡ self.old) × (C.amount share.new ≡ C.amount share.old)
+            × (C.parts share.new ≡ C.parts share.old)) }
+    {
+        let before = self.audit_share(share);
+        let rev = self.state.write_one(doc)?;
+        let edits = self.state.update_seq() - before;
+        let rise = C::add(&mut self.book, share, edits);
+        self.tell();
+        Ok((rev, rise))
+    }
+
+    /// Stores documents, as `DbState::write_edits`, counts those that were stored, and gives news of it.
+    /// Beside what became of them stands by how much the share rose. It costs what `write_edits` does, and a
+    /// look at each feed.
+    pub fn store(
+        &mut self,
+        share: &mut C::Share,
         docs: Vec<Doc>,
         new_edits: bool,
-    ) -> Result<(Accepted, u64), DbFault>
+    ) -> Result<(Batch, u64), DbFault>
         requires part { C.counts ≡ true → 0 < C.parts share.old }
-        requires room { room ≡ ids_of docs.items }
-        ensures written { IfOk result (λ w. IsWrittenBy C.counts C.all_parts
+        ensures batch { IfOk result (λ w.
+            StoresBatch new_edits docs.items self.old.state w.0 self.new.state) }
+        ensures stored { IfOk result (λ w. IsStoredBy C.counts C.all_parts
             (handle_of C.parts C.amount share.old) new_edits docs.items w.0) }
-        ensures risen { IfOk result (λ w. HasRisen C.counts (length w.0.receipts.items) w.1
+        ensures adds { IfOk result (λ w. Adds (stored_count w.0.replies) self.old.state self.new.state
+            × (self.new ≡ record self.old { state = self.new.state })) }
+        ensures risen { IfOk result (λ w. HasRisen C.counts (stored_count w.0.replies) w.1
             (handle_of C.parts C.amount share.old) (handle_of C.parts C.amount share.new)) }
         ensures err { IfErr result (λ e. IsOutOfMemoryFor docs.items e × (self.new ≡ self.old)
             × (C.amount share.new ≡ C.amount share.old) × (C.parts share.new ≡ C.parts share.old)) }
     {
-        let edits = self.audit_share(share);
-        let accepted = store(&mut self.state, edits, room, docs, new_edits)?;
-        let rise = C::add(&mut self.book, share, accepted.receipts.len() as u64);
+        let before = self.audit_share(share);
+        let batch = self.state.write_edits(docs, new_edits)?;
+        let edits = self.state.update_seq() - before;
+        let rise = C::add(&mut self.book, share, edits);
         self.tell();
-        Ok((accepted, rise))
+        Ok((batch, rise))
     }
 }

@@ -1,23 +1,15 @@
-use Rattle.std.proofs.Common.{length}
-use Rattle.hub_database.specs.Database.{Database}
-use Rattle.hub_shared.proofs.Booking.{counts_nothing}
-use Rattle.hub_shared.proofs.Writing.{still_served, still_legal}
+use Rattle.std.proofs.Common.{◌≡◌, rules}
+use Rattle.hub_database.specs.Receipts.{ids_of}
+use Rattle.hub_shared.proofs.Writing.{stores_with}
 use Rattle.hub_shared.proofs.write.Locked+DbState.write.Goals as goal
 
-pub invariant_of-self : goal.invariant_of-self
-invariant_of-self c =
-    let old : Database = c.self.inside.state in
-    let new : Database = c.store.new.state in (
-      c.self.invariant.0,
-      still_served (λ s. s.label) (λ s. s.sent) c.args.new_edits c.args.docs.items old new
-          c.self.inside.subscribers.items c.store.result
-          c.store.ensures.ok c.store.ensures.err c.self.invariant.1,
-      counts_nothing (length new.journal),
-    )
+pub returns-clause-ok : goal.returns-clause-ok
+returns-clause-ok c =
+    let docs = c.args.docs.items in
+    let room : c.in_ok-room.room ≡ ids_of docs = search rules in
+    stores_with c.args.new_edits docs c.args.self.now.state c.store.new.self.state c.in_ok-batch.batch
+    c.new.result c.feeds_are_right-edits.result c.in_ok-room.room c.in_ok-batch.ensures.batch c.new.ensures.batch
+    c.new.ensures.receipts c.feeds_are_right-edits.ensures.edits.0 room
 
 pub returns-clause-legal : goal.returns-clause-legal
-returns-clause-legal c =
-    let old : Database = c.self.inside.state in
-    let new : Database = c.store.new.state in
-    still_legal c.args.new_edits c.args.docs.items old new c.store.result c.store.ensures.ok
-    c.store.ensures.err c.update_seq-edits.ensures.legal
+returns-clause-legal c = c.in_ok-batch.ensures.adds.0.legal
