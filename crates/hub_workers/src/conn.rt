@@ -86,7 +86,7 @@ impl<S: Service + Watchable + Drop> Conn<S> {
 
     /// The client is gone, or nobody waits for it any longer.
     pub(crate) fn give_up(&mut self) -> Awaits {
-        self.driven.give_up();
+        self.driven.session.give_up();
         Awaits::Nothing
     }
 }

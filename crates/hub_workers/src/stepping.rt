@@ -58,7 +58,7 @@ impl<S: Service + Watchable + Drop> Conn<S> {
         if self.unread.is_some() {
             return self.see_off(room, budget);
         }
-        let step = self.driven.step();
+        let step = self.driven.session.step();
         if step == Step::Served {
             self.note_stream();
             return None;
