@@ -41,12 +41,12 @@ where
 /// takes no byte of an answer within ten minutes, is closed too. An error says that there was no memory, no
 /// thread or no descriptor to begin with, or that no connection could be accepted while none was open.
 /// Where none can be accepted beside those that are open, the next one waits until one of them has ended.
-pub fn serve_all<R, S, K, M>(
-    rt: &R,
+pub fn serve_all<'e, R, S, K, M>(
+    rt: &'e R,
     alloc: Global,
     listener: &TcpListener,
     count: u64,
-    clock: &K,
+    clock: &'e K,
     services: &M,
 ) -> io::Result<()>
 where

@@ -132,10 +132,11 @@ impl<S: Service + Watchable + Drop> Slot<S> {
     pub(crate) fn tell_time(&mut self, now: u64) -> u64 {
         if self.due <= now {
             self.due = NEVER;
-            self.tell(match self.awaits {
+            let told = match self.awaits {
                 Awaits::News => Told::News,
                 _ => Told::Late,
-            });
+            };
+            self.tell(told);
         }
         self.due
     }
