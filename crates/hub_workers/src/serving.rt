@@ -30,6 +30,25 @@ where
         }
         Ok(scope.spawn(move || self.accept(accepted))?)
     }
+
+    // Serves these connections. This thread looks for workers that are held meanwhile.
+    fn serve<M: MakeService<S> + Sync>(&'e self, accepted: &'e Accepted<'e, M>) -> io::Result<()>
+    where
+        R: Threads,
+    {
+        thread::scope(thread::scope_env(), self.rt, |scope| {
+            match self.start(scope, accepted) {
+                Ok(accepting) => {
+                    self.watch_over(scope);
+                    accepting.join(self.rt)
+                }
+                Err(error) => {
+                    self.close();
+                    Err(io::Error::from(error))
+                }
+            }
+        })
+    }
 }
 
 /// Serves so many connections, by as many workers as there are processors, and comes back once all have
@@ -41,12 +60,12 @@ where
 /// takes no byte of an answer within ten minutes, is closed too. An error says that there was no memory, no
 /// thread or no descriptor to begin with, or that no connection could be accepted while none was open.
 /// Where none can be accepted beside those that are open, the next one waits until one of them has ended.
-pub fn serve_all<'e, R, S, K, M>(
-    rt: &'e R,
+pub fn serve_all<R, S, K, M>(
+    rt: &R,
     alloc: Global,
     listener: &TcpListener,
     count: u64,
-    clock: &'e K,
+    clock: &K,
     services: &M,
 ) -> io::Result<()>
 where
@@ -61,17 +80,5 @@ where
         count,
         services,
     };
-    // This thread looks for workers that are held while the others serve.
-    thread::scope(thread::scope_env(), rt, |scope| {
-        match team.start(scope, &accepted) {
-            Ok(accepting) => {
-                team.watch_over(scope);
-                accepting.join(rt)
-            }
-            Err(error) => {
-                team.close();
-                Err(io::Error::from(error))
-            }
-        }
-    })
+    team.serve(&accepted)
 }
