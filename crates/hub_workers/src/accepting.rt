@@ -44,48 +44,36 @@ fn accept_next<R: Wait>(rt: &R, alive: &Alive, listener: &TcpListener) -> io::Re
     Err(io::Error::from(ErrorKind::Other))
 }
 
-/// Has the socket send at once, and never wait.
-fn prepare(stream: TcpStream) -> io::Result<mio::net::TcpStream> {
-    stream.set_nodelay(true)?;
-    stream.set_nonblocking(true)?;
-    Ok(mio::net::TcpStream::from_std(stream))
-}
-
-/// The connection of a socket.
+/// The connection of a socket, which sends at once, and never waits.
 fn open<S: Service + Watchable + Drop>(
     alloc: Global,
     stream: TcpStream,
     service: S,
 ) -> io::Result<Box<Conn<S>>> {
-    let conn = Conn::new(alloc, prepare(stream)?, service)?;
+    stream.set_nodelay(true)?;
+    stream.set_nonblocking(true)?;
+    let conn = Conn::new(alloc, mio::net::TcpStream::from_std(stream), service)?;
     Ok(Box::new(alloc, conn)?)
 }
 
-/// What accepts the connections of a server.
+/// The connections that a server accepts.
 #[derive(Drop)]
-pub(crate) struct Acceptor<'a, M> {
-    pub(crate) alloc: Global,
+pub(crate) struct Accepted<'a, M> {
     pub(crate) listener: &'a TcpListener,
-    /// How many it accepts.
+    /// How many there are.
     pub(crate) count: u64,
     /// What makes their services.
     pub(crate) services: &'a M,
 }
 
-impl<'a, M> Acceptor<'a, M> {
+impl<R: Wait, S: Service + Watchable + Drop, K: Clock> Team<'_, R, S, K> {
     // Accepts all connections and gives them to workers.
-    fn accept_all<R, S, K>(&self, rt: &R, team: &Team<'_, S, K>) -> io::Result<()>
-    where
-        R: Wait,
-        S: Service + Watchable + Drop,
-        K: Clock,
-        M: MakeService<S>,
-    {
-        for before in 0..self.count {
-            let stream = accept_next(rt, &team.alive, self.listener)?;
+    fn give_all<M: MakeService<S>>(&self, accepted: &Accepted<'_, M>) -> io::Result<()> {
+        for before in 0..accepted.count {
+            let stream = accept_next(self.rt, &self.alive, accepted.listener)?;
             let number = before + 1;
-            if let Ok(conn) = open(self.alloc, stream, self.services.make(number)) {
-                team.give(rt, number, conn);
+            if let Ok(conn) = open(self.alloc, stream, accepted.services.make(number)) {
+                self.give(number, conn);
             }
         }
         Ok(())
@@ -94,16 +82,10 @@ impl<'a, M> Acceptor<'a, M> {
     /// Accepts all connections and gives them to workers, waits until none is served, and closes the team. A
     /// connection for which there is no memory is closed unanswered. An error says that none could be
     /// accepted while none was open.
-    pub(crate) fn run<R, S, K>(&self, rt: &R, team: &Team<'_, S, K>) -> io::Result<()>
-    where
-        R: Wait,
-        S: Service + Watchable + Drop,
-        K: Clock,
-        M: MakeService<S>,
-    {
-        let accepted = self.accept_all(rt, team);
-        team.alive.wait(rt);
-        team.close();
-        accepted
+    pub(crate) fn accept<M: MakeService<S>>(&self, accepted: &Accepted<'_, M>) -> io::Result<()> {
+        let given = self.give_all(accepted);
+        self.alive.wait(self.rt);
+        self.close();
+        given
     }
 }

@@ -22,7 +22,9 @@ pub(crate) struct Conn<S: Service> {
     /// A watch that is to be set for its stream.
     watch: Option<Arc<Watch, Global>>,
     /// Whether a watch is set for its stream.
-    is_watched: bool,
+    pub(crate) is_watched: bool,
+    /// The life of the watch that its worker keeps for it, until that is forgotten.
+    pub(crate) life: Option<u64>,
     /// Whether its time begins anew: since this was asked some byte went, or came behind the end of its
     /// session.
     pub(crate) is_renewed: bool,
@@ -39,6 +41,7 @@ impl<S: Service + Watchable + Drop> Conn<S> {
             readiness: Readiness::NONE,
             watch: None,
             is_watched: false,
+            life: None,
             is_renewed: false,
             unread: None,
         })
@@ -50,13 +53,9 @@ impl<S: Service + Watchable + Drop> Conn<S> {
         registry.register(&mut self.stream, Token(token), both)
     }
 
-    /// Whether a watch is set for its stream. Constant time.
-    pub(crate) fn is_watched(&self) -> bool {
-        self.is_watched
-    }
-
-    /// Takes a watch, which its next turn sets.
-    pub(crate) fn take_watch(&mut self, watch: Arc<Watch, Global>) {
+    /// Takes a watch of this life, which its next turn sets.
+    pub(crate) fn take_watch(&mut self, life: u64, watch: Arc<Watch, Global>) {
+        self.life = Some(life);
         self.watch = Some(watch);
     }
 
@@ -75,9 +74,11 @@ impl<S: Service + Watchable + Drop> Conn<S> {
         }
     }
 
-    /// What a connection waits for whose stream has no item: a watch, if there is none yet.
-    pub(crate) fn awaited_news(&self) -> Awaits {
+    /// What a connection waits for whose stream has no item: a watch, if there is none yet. A client that can
+    /// be reached no more is given up.
+    pub(crate) fn await_news(&mut self) -> Awaits {
         match self.driven.session.service().life() {
+            _ if self.readiness.hang_up => self.give_up(),
             Some(life) if !self.is_watched => Awaits::Watch(life),
             _ => Awaits::News,
         }
@@ -85,7 +86,7 @@ impl<S: Service + Watchable + Drop> Conn<S> {
 
     /// The client is gone, or nobody waits for it any longer.
     pub(crate) fn give_up(&mut self) -> Awaits {
-        self.driven.give_up();
+        self.driven.session.give_up();
         Awaits::Nothing
     }
 }

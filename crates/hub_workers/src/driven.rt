@@ -3,7 +3,7 @@
 ghost use Rattle.hub_session.specs.Runs.{HasRun, Run, seen};
 
 use hub_http::{Handed, Outbox};
-use hub_session::{Service, Session, Step};
+use hub_session::{Service, Session};
 use mio::net::TcpStream;
 use std::alloc::{AllocError, Global};
 
@@ -28,11 +28,6 @@ impl<S: Service> Driven<S> {
         })
     }
 
-    /// Goes on by one exchange, by the head of a stream, or by one item of it.
-    pub(crate) fn step(&mut self) -> Step {
-        self.session.step()
-    }
-
     /// Takes bytes that came: none says that no more come. Where there is no memory for them the session
     /// answers so, and closes.
     pub(crate) fn take_in(&mut self, bytes: &[u8]) {
@@ -49,10 +44,5 @@ impl<S: Service> Driven<S> {
             Handed::Again => self.session.send_to(stream),
             handed => handed,
         }
-    }
-
-    /// The client is gone: the service gives back what its stream holds.
-    pub(crate) fn give_up(&mut self) {
-        self.session.give_up();
     }
 }

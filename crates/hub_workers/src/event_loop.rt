@@ -4,6 +4,7 @@ use crate::awaits::Awaits;
 use crate::conn::Conn;
 use crate::port::{Given, Port};
 use crate::readiness::Readiness;
+use crate::slot::Told;
 use crate::table::Table;
 use crate::turn::Turn;
 use crate::watches::Watches;
@@ -56,24 +57,19 @@ impl<S: Service + Watchable + Drop> EventLoop<S> {
         true
     }
 
-    // Forgets the watch of a connection's stream.
-    fn forget(&mut self, token: usize) {
-        if let Some(life) = self.table.life(token) {
-            self.watches.remove(life, token);
-            self.table.set_life(token, None);
-        }
-    }
-
-    // Gives a connection a watch, which its next turn sets for its stream. Without memory for it the
-    // connection is given up: its stream could not go on.
-    fn put_unwatched(&mut self, token: usize, mut conn: Box<Conn<S>>, life: u64, now: u64) {
+    // Gives a connection a watch, which its next turn sets for its stream; what it waits for from here on.
+    // Without memory for it the connection is given up: its stream could not go on.
+    fn give_watch(&mut self, token: usize, conn: &mut Conn<S>, life: u64) -> Awaits {
         match self.watches.add(life, token) {
             Ok(watch) => {
-                self.table.set_life(token, Some(life));
-                conn.take_watch(watch);
-                self.table.put_watched(token, conn, now);
+                conn.take_watch(life, watch);
+                self.table.tell(token, Told::News);
+                Awaits::News
             }
-            Err(_) => self.table.put_late(token, conn, now),
+            Err(_) => {
+                self.table.tell(token, Told::Late);
+                Awaits::Room
+            }
         }
     }
 
@@ -82,23 +78,26 @@ impl<S: Service + Watchable + Drop> EventLoop<S> {
     pub(crate) fn put_back(&mut self, turn: Turn<S>, now: u64) -> bool {
         let Turn {
             token,
-            conn,
+            mut conn,
             awaits,
             ..
         } = turn;
-        if awaits == Awaits::Nothing || !conn.is_watched() {
-            self.forget(token);
+        let has_ended = awaits == Awaits::Nothing;
+        if (has_ended || !conn.is_watched)
+            && let Some(life) = conn.life.take()
+        {
+            self.watches.remove(life, token);
         }
-        match awaits {
-            Awaits::Nothing => {
-                drop(conn);
-                self.table.give_free(token);
-                return false;
-            }
-            Awaits::Turn => self.table.put_later(token, conn, now),
-            Awaits::Watch(life) => self.put_unwatched(token, conn, life, now),
-            _ => self.table.put(token, conn, awaits, now),
+        if has_ended {
+            drop(conn);
+            self.table.give_free(token);
+            return false;
         }
+        let awaits = match awaits {
+            Awaits::Watch(life) => self.give_watch(token, &mut *conn, life),
+            _ => awaits,
+        };
+        self.table.put(token, conn, awaits, now);
         true
     }
 
@@ -116,7 +115,7 @@ impl<S: Service + Watchable + Drop> EventLoop<S> {
         let _asked = self.poll.poll(&mut self.events, most);
         for event in &self.events {
             let Token(token) = event.token();
-            self.table.tell(token, Readiness::of(event));
+            self.table.tell(token, Told::Ready(Readiness::of(event)));
         }
     }
 

@@ -9,7 +9,6 @@ mod budget;
 mod conn;
 mod driven;
 mod event_loop;
-mod monitor;
 mod port;
 mod readiness;
 mod relief;

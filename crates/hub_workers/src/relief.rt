@@ -1,83 +1,144 @@
 //! The relief of runners that are held: at a gate, behind a lock, or by a long request.
 
-use crate::monitor::Looks;
+ghost use Rattle.std.specs.Prelude.{◌≡◌, ◌-◌, ◌↔◌, IsTrue, if◌then◌else◌};
+
 use crate::seat::Seat;
 use crate::team::Team;
 use hub_session::Service;
 use hub_shared::{Clock, Watchable};
 use std::sync::Wait;
-use std::thread::Scope;
+use std::sync::atomic::{AtomicBool, Ordering};
+use std::thread::{Parker, Scope};
+use std::time::Duration;
 
-// Starts a thread that relieves a worker's runner, where that was held since the last look. Without memory or
-// a thread for it, the next look tries again.
-fn relieve_held<'s, 'e, R, S, K>(
-    scope: &'s Scope<'s, &'e ()>,
-    rt: &'e R,
-    team: &'e Team<'e, S, K>,
-    seat: &'e Seat<S>,
-)
-where
-    R: Wait + Sync,
-    S: Service + Watchable + Send + Drop,
-    K: Clock + Sync,
-{
-    let Some(number) = seat.held() else {
-        return;
-    };
-    if let Ok(room) = team.make_room() {
-        let _started = scope.spawn(move || team.relieve(rt, seat, number, room));
-    }
+/// How long a runner may be held before it is relieved, in milliseconds: so often the workers are looked at.
+const PERIOD: u64 = 4;
+
+/// How many looks in a row that find no worker busy come before a sleep.
+const LOOKS: u32 = 25;
+
+/// When the thread that looks for runners that are held does so: every few milliseconds while a worker is
+/// busy, and shortly behind that. Then it sleeps until a worker begins a turn.
+#[derive(Drop)]
+pub(crate) struct Monitor {
+    parker: Parker,
+    /// Whether it sleeps, or is about to: then who begins a turn wakes it.
+    is_asleep: AtomicBool,
+    /// Whether there will be no more connections.
+    is_over: AtomicBool,
 }
 
-// Looks at each worker; whether one is busy.
-fn look<'s, 'e, R, S, K>(scope: &'s Scope<'s, &'e ()>, rt: &'e R, team: &'e Team<'e, S, K>) -> bool
-where
-    R: Wait + Sync,
-    S: Service + Watchable + Send + Drop,
-    K: Clock + Sync,
-{
-    for seat in team.seats() {
-        relieve_held(scope, rt, team, seat);
-    }
-    team.is_busy()
+/// The looks for runners that are held.
+#[derive(Clone, Copy, Debug)]
+struct Looks {
+    /// How many are left before a sleep.
+    left: u32,
 }
 
-// Sleeps while no worker is busy, until one is.
-fn sleep<R, S, K>(rt: &R, team: &Team<'_, S, K>)
-where
-    R: Wait,
-    S: Service + Watchable + Drop,
-    K: Clock,
-{
-    team.monitor.begin_sleep();
-    if !team.is_busy() && !team.monitor.is_over() {
-        team.monitor.sleep(rt);
+impl Looks {
+    // None yet.
+    fn new() -> Looks {
+        Looks { left: LOOKS }
     }
-    team.monitor.end_sleep();
-}
 
-/// Looks for runners that are held, and has each relieved, until there will be no more connections.
-pub(crate) fn watch_over<'s, 'e, R, S, K>(
-    scope: &'s Scope<'s, &'e ()>,
-    rt: &'e R,
-    team: &'e Team<'e, S, K>,
-)
-where
-    R: Wait + Sync,
-    S: Service + Watchable + Send + Drop,
-    K: Clock + Sync,
-{
-    let mut looks = Looks::new();
-    for _ in rt.forever() {
-        if team.monitor.is_over() {
-            break;
-        }
-        if looks.are_over() {
-            sleep(rt, team);
-            looks = Looks::new();
+    // One more, which found a worker busy, or none.
+    fn note(&mut self, is_busy: bool)
+        ensures { self.new.left ≡ (if is_busy then LOOKS else self.old.left - 1) }
+    {
+        self.left = if is_busy {
+            LOOKS
         } else {
-            team.monitor.rest(rt);
+            self.left.saturating_sub(1)
+        };
+    }
+
+    // Whether none was found busy for so long that it is time to sleep.
+    fn are_over(self) -> bool
+        ensures { IsTrue result ↔ (self.left ≡ 0) }
+    {
+        self.left == 0
+    }
+}
+
+impl Monitor {
+    /// One that is awake.
+    pub(crate) fn new() -> Monitor {
+        Monitor {
+            parker: Parker::new(),
+            is_asleep: AtomicBool::new(false),
+            is_over: AtomicBool::new(false),
         }
-        looks.note(look(scope, rt, team));
+    }
+
+    /// Somebody begins a turn: wakes it, if it sleeps. Constant time.
+    pub(crate) fn wake(&self) {
+        if self.is_asleep.load(Ordering::SeqCst) && self.is_asleep.swap(false, Ordering::SeqCst) {
+            self.parker.unpark();
+        }
+    }
+
+    /// There will be no more connections.
+    pub(crate) fn end(&self) {
+        self.is_over.store(true, Ordering::SeqCst);
+        self.parker.unpark();
+    }
+
+    // Whether there will be no more connections.
+    fn is_over(&self) -> bool {
+        self.is_over.load(Ordering::SeqCst)
+    }
+}
+
+impl<'e, R, S, K> Team<'e, R, S, K>
+where
+    R: Wait + Sync,
+    S: Service + Watchable + Send + Drop,
+    K: Clock + Sync,
+{
+    // Starts a thread that relieves a worker's runner, where that was held since the last look. Without memory
+    // or a thread for it, the next look tries again.
+    fn relieve_held<'s>(&'e self, scope: &'s Scope<'s, &'e ()>, seat: &'e Seat<S>) {
+        let Some(number) = seat.held() else {
+            return;
+        };
+        if let Ok(room) = self.make_room() {
+            let _started = scope.spawn(move || self.relieve(seat, number, room));
+        }
+    }
+
+    // Looks at each worker; whether one is busy.
+    fn look<'s>(&'e self, scope: &'s Scope<'s, &'e ()>) -> bool {
+        for seat in &self.seats {
+            self.relieve_held(scope, seat);
+        }
+        self.is_busy()
+    }
+
+    // Sleeps while no worker is busy, until one is. It may come back for no reason.
+    fn sleep(&self) {
+        self.monitor.is_asleep.store(true, Ordering::SeqCst);
+        if !self.is_busy() && !self.monitor.is_over() {
+            self.monitor.parker.park(self.rt);
+        }
+        self.monitor.is_asleep.store(false, Ordering::SeqCst);
+    }
+
+    /// Looks for runners that are held, and has each relieved, until there will be no more connections.
+    pub(crate) fn watch_over<'s>(&'e self, scope: &'s Scope<'s, &'e ()>) {
+        let mut looks = Looks::new();
+        for _ in self.rt.forever() {
+            if self.monitor.is_over() {
+                break;
+            }
+            if looks.are_over() {
+                self.sleep();
+                looks = Looks::new();
+            } else {
+                self.monitor
+                    .parker
+                    .park_timeout(self.rt, Duration::from_millis(PERIOD));
+            }
+            looks.note(self.look(scope));
+        }
     }
 }

@@ -1,11 +1,10 @@
 //! Workers, and the threads that run them.
 
-use crate::alive::Alive;
 use crate::event_loop::EventLoop;
 use crate::port::{Given, Port};
 use crate::turn::Turn;
 use hub_session::Service;
-use hub_shared::{Bell, Clock, Watchable};
+use hub_shared::{Bell, Watchable};
 use mio::Poll;
 use std::alloc::{AllocFailed, Global};
 use std::net::Net;
@@ -18,8 +17,9 @@ use std::{io, thread};
 /// the seat's runner from then on, and the first gives its connection back.
 #[derive(Drop)]
 pub(crate) struct Seat<S: Service> {
-    port: Port<S>,
-    events: Mutex<EventLoop<S>>,
+    /// What others have of it.
+    pub(crate) port: Port<S>,
+    pub(crate) events: Mutex<EventLoop<S>>,
     /// How many turns began, and how many ended: odd while one goes on, of which it is the number.
     turns: AtomicU64,
     /// What `turns` was at the last look for a runner that is held.
@@ -41,11 +41,6 @@ impl<S: Service + Watchable + Drop> Seat<S> {
         })
     }
 
-    /// What others have of it.
-    pub(crate) fn port(&self) -> &Port<S> {
-        &self.port
-    }
-
     /// Whether a connection has a turn.
     pub(crate) fn is_busy(&self) -> bool {
         self.turns.load(Ordering::SeqCst) & 1 == 1
@@ -58,60 +53,17 @@ impl<S: Service + Watchable + Drop> Seat<S> {
         (now & 1 == 1 && now == before).then_some(now)
     }
 
+    /// Begins a turn, and gives its number.
+    pub(crate) fn begin_turn(&self) -> u64 {
+        self.turns.fetch_add(1, Ordering::SeqCst).wrapping_add(1)
+    }
+
     /// Ends the turn of this number: whether nobody did before. Who ends it is the seat's runner.
     pub(crate) fn end_turn(&self, number: u64) -> bool {
         let next = number.wrapping_add(1);
         self.turns
             .compare_exchange(number, next, Ordering::SeqCst, Ordering::SeqCst)
             .is_ok()
-    }
-
-    // Takes in what was given. One that is closed is no longer served.
-    fn take_given<R: Wait>(&self, rt: &R, events: &mut EventLoop<S>, alive: &Alive, now: u64) {
-        for _ in 0..u64::MAX {
-            let Some(given) = self.port.take(rt) else {
-                break;
-            };
-            if !events.take_given(given, now) {
-                alive.end(rt);
-            }
-        }
-    }
-
-    /// Begins a turn of the connection that is next, and sleeps while there is none. None once there will
-    /// be no more connections.
-    pub(crate) fn begin_turn<R, K>(&self, rt: &R, clock: &K, alive: &Alive) -> Option<Turn<S>>
-    where
-        R: Wait,
-        K: Clock,
-    {
-        let mut guard = self.events.lock(rt);
-        let events = &mut *guard;
-        for _ in rt.forever() {
-            if let Some(mut turn) = events.table.take_ready() {
-                turn.number = self.turns.fetch_add(1, Ordering::SeqCst).wrapping_add(1);
-                return Some(turn);
-            }
-            if self.port.is_closed() {
-                break;
-            }
-            let now = clock.now_ms();
-            self.take_given(rt, events, alive, now);
-            events.look(rt, &self.port, now);
-        }
-        None
-    }
-
-    /// Puts back a connection behind a turn, for the runner who ended it.
-    pub(crate) fn put_back<R, K>(&self, rt: &R, clock: &K, alive: &Alive, turn: Turn<S>)
-    where
-        R: Wait,
-        K: Clock,
-    {
-        let is_open = self.events.lock(rt).put_back(turn, clock.now_ms());
-        if !is_open {
-            alive.end(rt);
-        }
     }
 
     /// Gives a connection back behind a turn that somebody else ended, for the seat's runner to put it

@@ -1,7 +1,6 @@
 //! Servers of connections.
 
-use crate::accepting::Acceptor;
-use crate::relief::watch_over;
+use crate::accepting::Accepted;
 use crate::services::MakeService;
 use crate::team::Team;
 use hub_session::Service;
@@ -12,51 +11,44 @@ use std::net::{Net, TcpListener};
 use std::sync::Wait;
 use std::thread::{self, JoinHandle, Scope, Threads};
 
-// Starts a thread for each worker, and one that accepts. An error says that there was no memory, or that one
-// of them could not be made.
-fn start<'s, 'e, R, S, K, M>(
-    scope: &'s Scope<'s, &'e ()>,
-    rt: &'e R,
-    team: &'e Team<'e, S, K>,
-    acceptor: &'e Acceptor<'e, M>,
-) -> Result<JoinHandle<io::Result<()>>, AllocError>
+impl<'e, R, S, K> Team<'e, R, S, K>
 where
     R: Wait + Sync,
     S: Service + Watchable + Send + Drop,
     K: Clock + Sync,
-    M: MakeService<S> + Sync,
 {
-    for seat in team.seats() {
-        let room = team.make_room()?;
-        scope.spawn(move || team.run(rt, seat, room))?;
-    }
-    Ok(scope.spawn(move || acceptor.run(rt, team))?)
-}
-
-// Serves the connections of an acceptor by a team. This thread looks for workers that are held meanwhile.
-fn serve<'e, R, S, K, M>(
-    rt: &'e R,
-    team: &'e Team<'e, S, K>,
-    acceptor: &'e Acceptor<'e, M>,
-) -> io::Result<()>
-where
-    R: Threads + Wait + Sync,
-    S: Service + Watchable + Send + Drop,
-    K: Clock + Sync,
-    M: MakeService<S> + Sync,
-{
-    thread::scope(thread::scope_env(), rt, |scope| {
-        match start(scope, rt, team, acceptor) {
-            Ok(accepting) => {
-                watch_over(scope, rt, team);
-                accepting.join(rt)
-            }
-            Err(error) => {
-                team.close();
-                Err(io::Error::from(error))
-            }
+    // Starts a thread for each worker, and one that accepts. An error says that there was no memory, or that
+    // one of them could not be made.
+    fn start<'s, M: MakeService<S> + Sync>(
+        &'e self,
+        scope: &'s Scope<'s, &'e ()>,
+        accepted: &'e Accepted<'e, M>,
+    ) -> Result<JoinHandle<io::Result<()>>, AllocError> {
+        for seat in &self.seats {
+            let room = self.make_room()?;
+            scope.spawn(move || self.run(seat, room))?;
         }
-    })
+        Ok(scope.spawn(move || self.accept(accepted))?)
+    }
+
+    // Serves these connections. This thread looks for workers that are held meanwhile.
+    fn serve<M: MakeService<S> + Sync>(&'e self, accepted: &'e Accepted<'e, M>) -> io::Result<()>
+    where
+        R: Threads,
+    {
+        thread::scope(thread::scope_env(), self.rt, |scope| {
+            match self.start(scope, accepted) {
+                Ok(accepting) => {
+                    self.watch_over(scope);
+                    accepting.join(self.rt)
+                }
+                Err(error) => {
+                    self.close();
+                    Err(io::Error::from(error))
+                }
+            }
+        })
+    }
 }
 
 /// Serves so many connections, by as many workers as there are processors, and comes back once all have
@@ -83,11 +75,10 @@ where
     M: MakeService<S> + Sync,
 {
     let team = Team::new(rt, alloc, clock)?;
-    let acceptor = Acceptor {
-        alloc,
+    let accepted = Accepted {
         listener,
         count,
         services,
     };
-    serve(rt, &team, &acceptor)
+    team.serve(&accepted)
 }

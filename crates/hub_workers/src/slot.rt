@@ -38,8 +38,17 @@ pub(crate) struct Slot<S: Service> {
     since: u64,
     /// When it will have waited long enough, in milliseconds of the clock; never during a turn.
     due: u64,
-    /// The life that its stream is of, where that is watched.
-    pub(crate) life: Option<u64>,
+}
+
+/// What is told of a connection.
+#[derive(Drop)]
+pub(crate) enum Told {
+    /// Its socket is ready for this.
+    Ready(Readiness),
+    /// Its stream may go on.
+    News,
+    /// It is to be given up.
+    Late,
 }
 
 impl<S: Service + Watchable + Drop> Slot<S> {
@@ -55,7 +64,6 @@ impl<S: Service + Watchable + Drop> Slot<S> {
             is_queued: false,
             since: 0,
             due: NEVER,
-            life: None,
         }
     }
 
@@ -71,9 +79,10 @@ impl<S: Service + Watchable + Drop> Slot<S> {
 
     /// Puts a connection here that waits for this, at this reading of the clock, and tells when it will have
     /// waited long enough. It waits for its client since its time was renewed, or since it began to wait for
-    /// this.
+    /// this. One that waits for its next turn is to have it.
     pub(crate) fn put(&mut self, mut conn: Box<Conn<S>>, awaits: Awaits, now: u64) -> u64 {
-        if awaits != Awaits::Turn {
+        self.is_queued = awaits == Awaits::Turn;
+        if !self.is_queued {
             if conn.is_renewed || self.timed != awaits {
                 self.since = now;
             }
@@ -110,29 +119,24 @@ impl<S: Service + Watchable + Drop> Slot<S> {
         Some(turn)
     }
 
-    /// The poll told this of its socket.
-    pub(crate) fn tell(&mut self, readiness: Readiness) {
-        self.readiness = self.readiness.or(readiness);
-    }
-
-    /// Its stream may go on.
-    pub(crate) fn tell_news(&mut self) {
-        self.has_news = true;
-    }
-
-    /// It is to be given up.
-    pub(crate) fn tell_late(&mut self) {
-        self.is_late = true;
+    /// This is told of its connection, which may have a turn meanwhile.
+    pub(crate) fn tell(&mut self, told: Told) {
+        match told {
+            Told::Ready(readiness) => self.readiness = self.readiness.or(readiness),
+            Told::News => self.has_news = true,
+            Told::Late => self.is_late = true,
+        }
     }
 
     /// The clock reads so: when it will have waited long enough, unless it did.
     pub(crate) fn tell_time(&mut self, now: u64) -> u64 {
         if self.due <= now {
             self.due = NEVER;
-            match self.awaits {
-                Awaits::News => self.has_news = true,
-                _ => self.is_late = true,
-            }
+            let told = match self.awaits {
+                Awaits::News => Told::News,
+                _ => Told::Late,
+            };
+            self.tell(told);
         }
         self.due
     }
@@ -146,10 +150,5 @@ impl<S: Service + Watchable + Drop> Slot<S> {
             self.is_queued = true;
         }
         is_new
-    }
-
-    /// Its connection is to have a turn.
-    pub(crate) fn set_queued(&mut self) {
-        self.is_queued = true;
     }
 }

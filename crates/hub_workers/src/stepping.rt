@@ -9,7 +9,7 @@ use crate::conn::Conn;
 use hub_http::Handed;
 use hub_session::{Closing, Service, Step};
 use hub_shared::Watchable;
-use std::io::{self, ErrorKind, Read};
+use std::io::{ErrorKind, Read};
 use std::net::Shutdown;
 
 /// How many bytes are read of a client to whom all is said: a longest body, twice.
@@ -27,10 +27,8 @@ fn is_left_open(closing: Closing) -> bool
 
 /// What a read of a socket gave.
 enum Got {
-    /// So many bytes.
+    /// So many bytes: none says that none will come.
     Bytes(usize),
-    /// None, and none will come.
-    End,
     /// None yet.
     Nothing,
     /// The client is gone.
@@ -54,20 +52,25 @@ impl<S: Service + Watchable + Drop> Conn<S> {
         Awaits::Turn
     }
 
-    // Goes on by one step; what it waits for, None where it may go on at once.
+    // Goes on by one step; what it waits for, None where it may go on at once. Whatever else than one more
+    // step the session wants, all that is to go is sent before.
     fn step(&mut self, room: &mut [u8], budget: &mut Budget) -> Option<Awaits> {
         if self.unread.is_some() {
             return self.see_off(room, budget);
         }
-        match self.driven.step() {
-            Step::Served => {
-                self.note_stream();
-                None
-            }
-            Step::WantsRoom => self.send(budget),
-            Step::WantsInput => self.send_and_read(room, budget),
-            Step::WantsNews => self.send_and_wait(budget),
-            Step::Ended(closing) => self.send_and_close(closing, budget),
+        let step = self.driven.session.step();
+        if step == Step::Served {
+            self.note_stream();
+            return None;
+        }
+        if let Some(awaits) = self.send(budget) {
+            return Some(awaits);
+        }
+        match step {
+            Step::Served | Step::WantsRoom => None,
+            Step::WantsInput => self.take_in(room, budget),
+            Step::WantsNews => Some(self.await_news()),
+            Step::Ended(closing) => self.close(closing),
         }
     }
 
@@ -94,46 +97,34 @@ impl<S: Service + Watchable + Drop> Conn<S> {
     }
 
     // Reads once. A read that gives less than it could shows that there is nothing more, unless an end lies
-    // behind it.
+    // behind it. One that was interrupted leaves the socket ready.
     fn read(&mut self, room: &mut [u8], budget: &mut Budget) -> Got {
         if !self.readiness.read {
             return Got::Nothing;
         }
         match self.stream.read(room) {
-            Ok(0) => Got::End,
+            Ok(0) => Got::Bytes(0),
             Ok(count) => {
                 self.readiness.read = count == room.len() || self.readiness.read_end;
                 budget.spend(count);
                 Got::Bytes(count)
             }
-            Err(error) => self.read_fault(&error),
+            Err(error) => match error.kind() {
+                ErrorKind::WouldBlock => {
+                    self.readiness.read = false;
+                    Got::Nothing
+                }
+                ErrorKind::Interrupted => Got::Nothing,
+                _ => Got::Gone,
+            },
         }
     }
 
-    // What a read gave that failed so. One that was interrupted leaves the socket ready.
-    fn read_fault(&mut self, error: &io::Error) -> Got {
-        match error.kind() {
-            ErrorKind::WouldBlock => {
-                self.readiness.read = false;
-                Got::Nothing
-            }
-            ErrorKind::Interrupted => Got::Nothing,
-            _ => Got::Gone,
-        }
-    }
-
-    // Sends all, and reads then.
-    fn send_and_read(&mut self, room: &mut [u8], budget: &mut Budget) -> Option<Awaits> {
-        if let Some(awaits) = self.send(budget) {
-            return Some(awaits);
-        }
+    // Reads for the next request.
+    fn take_in(&mut self, room: &mut [u8], budget: &mut Budget) -> Option<Awaits> {
         match self.read(room, budget) {
             Got::Nothing => Some(Awaits::Input),
             Got::Gone => Some(self.give_up()),
-            Got::End => {
-                self.driven.take_in(&[]);
-                None
-            }
             Got::Bytes(count) => {
                 // A read gives no more bytes than there is room for.
                 self.driven.take_in(room.get(..count)?);
@@ -142,23 +133,9 @@ impl<S: Service + Watchable + Drop> Conn<S> {
         }
     }
 
-    // Sends all, and waits then for news. A client that can be reached no more is given up.
-    fn send_and_wait(&mut self, budget: &mut Budget) -> Option<Awaits> {
-        if let Some(awaits) = self.send(budget) {
-            return Some(awaits);
-        }
-        if self.readiness.hang_up {
-            return Some(self.give_up());
-        }
-        Some(self.awaited_news())
-    }
-
-    // Sends all, and ends then what is sent where the client may still send: bytes that nobody reads would
-    // make the system take back an answer that the client has not read.
-    fn send_and_close(&mut self, closing: Closing, budget: &mut Budget) -> Option<Awaits> {
-        if let Some(awaits) = self.send(budget) {
-            return Some(awaits);
-        }
+    // Ends what is sent where the client may still send: bytes that nobody reads would make the system take
+    // back an answer that the client has not read.
+    fn close(&mut self, closing: Closing) -> Option<Awaits> {
         if !is_left_open(closing) || self.stream.shutdown(Shutdown::Write).is_err() {
             return Some(Awaits::Nothing);
         }
@@ -171,7 +148,7 @@ impl<S: Service + Watchable + Drop> Conn<S> {
         let before = self.unread.unwrap_or(0);
         match self.read(room, budget) {
             Got::Nothing => Some(Awaits::Farewell),
-            Got::End | Got::Gone => Some(Awaits::Nothing),
+            Got::Bytes(0) | Got::Gone => Some(Awaits::Nothing),
             Got::Bytes(_) if before >= FAREWELL => Some(Awaits::Nothing),
             Got::Bytes(count) => {
                 self.is_renewed = true;

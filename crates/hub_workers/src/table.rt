@@ -2,8 +2,7 @@
 
 use crate::awaits::Awaits;
 use crate::conn::Conn;
-use crate::readiness::Readiness;
-use crate::slot::{NEVER, Slot};
+use crate::slot::{NEVER, Slot, Told};
 use crate::turn::Turn;
 use hub_session::Service;
 use hub_shared::Watchable;
@@ -45,8 +44,12 @@ impl<S: Service + Watchable + Drop> Table<S> {
         }
     }
 
-    // Makes a place, and room for its token.
-    fn make_place(&mut self) -> Result<usize, AllocError> {
+    /// Takes the token of a place of no connection: a place is made, with room for its token, where there is
+    /// none. An error says that there was no memory for one.
+    pub(crate) fn take_free(&mut self) -> Result<usize, AllocError> {
+        if let Some(token) = self.free.pop() {
+            return Ok(token);
+        }
         let token = self.slots.len();
         let room = token.saturating_add(1);
         self.ready.reserve(room)?;
@@ -56,14 +59,6 @@ impl<S: Service + Watchable + Drop> Table<S> {
         Ok(token)
     }
 
-    /// Takes the token of a place of no connection. An error says that there was no memory for one.
-    pub(crate) fn take_free(&mut self) -> Result<usize, AllocError> {
-        match self.free.pop() {
-            Some(token) => Ok(token),
-            None => self.make_place(),
-        }
-    }
-
     /// A token that was taken has no connection.
     pub(crate) fn give_free(&mut self, token: usize) {
         if let Some(slot) = self.slots.get_mut(token) {
@@ -71,18 +66,6 @@ impl<S: Service + Watchable + Drop> Table<S> {
         }
         // There is room for each token.
         let _kept = self.free.push(token);
-    }
-
-    /// The life that the stream of a token is of, where that is watched.
-    pub(crate) fn life(&self, token: usize) -> Option<u64> {
-        self.slots.get(token)?.life
-    }
-
-    /// The stream of a token is of this life, and watched, or it is not watched.
-    pub(crate) fn set_life(&mut self, token: usize, life: Option<u64>) {
-        if let Some(slot) = self.slots.get_mut(token) {
-            slot.life = life;
-        }
     }
 
     // A connection is to have a turn, if it is not to have one already.
@@ -96,39 +79,19 @@ impl<S: Service + Watchable + Drop> Table<S> {
     }
 
     /// Puts a connection at its token, which waits for this, at this reading of the clock. It has a turn once
-    /// that has come.
+    /// that has come. One that used up a turn has the next one behind the others.
     pub(crate) fn put(&mut self, token: usize, conn: Box<Conn<S>>, awaits: Awaits, now: u64) {
-        if let Some(slot) = self.slots.get_mut(token) {
-            let due = slot.put(conn, awaits, now);
-            self.next_look = self.next_look.min(step_of(due));
-            self.queue(token);
-        }
-    }
-
-    /// Puts a connection at its token that has a turn again, behind the others.
-    pub(crate) fn put_later(&mut self, token: usize, conn: Box<Conn<S>>, now: u64) {
-        if let Some(slot) = self.slots.get_mut(token) {
-            slot.put(conn, Awaits::Turn, now);
-            slot.set_queued();
+        let Some(slot) = self.slots.get_mut(token) else {
+            return;
+        };
+        let due = slot.put(conn, awaits, now);
+        self.next_look = self.next_look.min(step_of(due));
+        if awaits == Awaits::Turn {
             // There is room for each token.
             let _kept = self.later.push_back(token);
+        } else {
+            self.queue(token);
         }
-    }
-
-    /// Puts a connection at its token, whose next turn sets the watch of its stream.
-    pub(crate) fn put_watched(&mut self, token: usize, conn: Box<Conn<S>>, now: u64) {
-        if let Some(slot) = self.slots.get_mut(token) {
-            slot.tell_news();
-        }
-        self.put(token, conn, Awaits::News, now);
-    }
-
-    /// Puts a connection at its token that is to be given up.
-    pub(crate) fn put_late(&mut self, token: usize, conn: Box<Conn<S>>, now: u64) {
-        if let Some(slot) = self.slots.get_mut(token) {
-            slot.tell_late();
-        }
-        self.put(token, conn, Awaits::Room, now);
     }
 
     /// Whether a connection is to have a turn.
@@ -143,15 +106,8 @@ impl<S: Service + Watchable + Drop> Table<S> {
 
     /// Takes out the connection whose turn is next. The turn has no number yet.
     pub(crate) fn take_ready(&mut self) -> Option<Turn<S>> {
-        for _ in 0..u64::MAX {
-            let token = self.ready.pop_front()?;
-            if let Some(slot) = self.slots.get_mut(token)
-                && let Some(turn) = slot.take(token)
-            {
-                return Some(turn);
-            }
-        }
-        None
+        let token = self.ready.pop_front()?;
+        self.slots.get_mut(token)?.take(token)
     }
 
     /// Those that used up a turn have the next one behind those that are to have one.
@@ -165,10 +121,10 @@ impl<S: Service + Watchable + Drop> Table<S> {
         }
     }
 
-    /// The poll told this of the socket of a token.
-    pub(crate) fn tell(&mut self, token: usize, readiness: Readiness) {
+    /// This is told of the connection of a token, if it has one.
+    pub(crate) fn tell(&mut self, token: usize, told: Told) {
         if let Some(slot) = self.slots.get_mut(token) {
-            slot.tell(readiness);
+            slot.tell(told);
             self.queue(token);
         }
     }
@@ -176,10 +132,7 @@ impl<S: Service + Watchable + Drop> Table<S> {
     /// There is news of the streams of these tokens.
     pub(crate) fn tell_news(&mut self, tokens: &[usize]) {
         for token in tokens {
-            if let Some(slot) = self.slots.get_mut(*token) {
-                slot.tell_news();
-                self.queue(*token);
-            }
+            self.tell(*token, Told::News);
         }
     }
 

@@ -2,9 +2,11 @@
 
 use crate::alive::Alive;
 use crate::conn::Conn;
-use crate::monitor::Monitor;
+use crate::event_loop::EventLoop;
 use crate::port::Given;
+use crate::relief::Monitor;
 use crate::seat::Seat;
+use crate::turn::Turn;
 use hub_session::Service;
 use hub_shared::{Clock, Watchable};
 use std::alloc::{AllocError, Global};
@@ -21,10 +23,12 @@ const FEWEST: usize = 2;
 
 /// What the threads of a server share.
 #[derive(Drop)]
-pub(crate) struct Team<'e, S: Service, K> {
-    alloc: Global,
+pub(crate) struct Team<'e, R, S: Service, K> {
+    pub(crate) rt: &'e R,
+    pub(crate) alloc: Global,
     clock: &'e K,
-    seats: Vec<Seat<S>>,
+    /// The workers.
+    pub(crate) seats: Vec<Seat<S>>,
     /// How many connections are served.
     pub(crate) alive: Alive,
     /// When the workers are looked at.
@@ -40,30 +44,25 @@ fn worker_count(rt: &impl Threads) -> usize {
     }
 }
 
-impl<'e, S: Service + Watchable + Drop, K: Clock> Team<'e, S, K> {
+impl<'e, R, S: Service + Watchable + Drop, K> Team<'e, R, S, K> {
     /// Workers without connections, whom nobody runs yet. An error says that there was no memory, or that the
     /// system has no descriptor left.
-    pub(crate) fn new<R: Threads + Net>(
-        rt: &R,
-        alloc: Global,
-        clock: &'e K,
-    ) -> io::Result<Team<'e, S, K>> {
+    pub(crate) fn new(rt: &'e R, alloc: Global, clock: &'e K) -> io::Result<Team<'e, R, S, K>>
+    where
+        R: Threads + Net,
+    {
         let mut seats = Vec::new(alloc);
         for _ in 0..worker_count(rt) {
             seats.push(Seat::new(rt, alloc)?)?;
         }
         Ok(Team {
+            rt,
             alloc,
             clock,
             seats,
             alive: Alive::new(),
             monitor: Monitor::new(),
         })
-    }
-
-    /// The workers.
-    pub(crate) fn seats(&self) -> &[Seat<S>] {
-        self.seats.as_slice()
     }
 
     /// Whether a worker goes on with a connection.
@@ -74,28 +73,14 @@ impl<'e, S: Service + Watchable + Drop, K: Clock> Team<'e, S, K> {
     // Wakes each worker that sleeps while a stream of it has news.
     fn ring(&self) {
         for seat in &self.seats {
-            seat.port().ring();
-        }
-    }
-
-    /// Gives a connection to a worker, to each one in turn. One for which there is no memory is closed.
-    pub(crate) fn give<R: Wait>(&self, rt: &R, number: u64, conn: Box<Conn<S>>) {
-        let count = self.seats.len().max(1);
-        let place = usize::try_from(number).unwrap_or(0) % count;
-        self.alive.begin(rt);
-        let is_given = match self.seats.get(place) {
-            Some(seat) => seat.port().give(rt, Given::New(conn)).is_ok(),
-            None => false,
-        };
-        if !is_given {
-            self.alive.end(rt);
+            seat.port.ring();
         }
     }
 
     /// There will be no more connections: the threads end.
     pub(crate) fn close(&self) {
         for seat in &self.seats {
-            seat.port().close();
+            seat.port.close();
         }
         self.monitor.end();
     }
@@ -104,32 +89,91 @@ impl<'e, S: Service + Watchable + Drop, K: Clock> Team<'e, S, K> {
     pub(crate) fn make_room(&self) -> Result<Vec<u8>, AllocError> {
         vec![in self.alloc; 0u8; ROOM]
     }
+}
+
+impl<R: Wait, S: Service + Watchable + Drop, K: Clock> Team<'_, R, S, K> {
+    /// Gives a connection to a worker, to each one in turn. One for which there is no memory is closed.
+    pub(crate) fn give(&self, number: u64, conn: Box<Conn<S>>) {
+        let count = self.seats.len().max(1);
+        let place = usize::try_from(number).unwrap_or(0) % count;
+        self.alive.begin(self.rt);
+        let is_given = match self.seats.get(place) {
+            Some(seat) => seat.port.give(self.rt, Given::New(conn)).is_ok(),
+            None => false,
+        };
+        if !is_given {
+            self.alive.end(self.rt);
+        }
+    }
+
+    // Takes in what a worker was given. One that is closed is no longer served.
+    fn take_given(&self, seat: &Seat<S>, events: &mut EventLoop<S>, now: u64) {
+        for _ in 0..u64::MAX {
+            let Some(given) = seat.port.take(self.rt) else {
+                break;
+            };
+            if !events.take_given(given, now) {
+                self.alive.end(self.rt);
+            }
+        }
+    }
+
+    // Begins a turn of a worker's connection that is next, and sleeps while there is none. None once there
+    // will be no more connections.
+    fn begin_turn(&self, seat: &Seat<S>) -> Option<Turn<S>> {
+        let mut guard = seat.events.lock(self.rt);
+        let events = &mut *guard;
+        for _ in self.rt.forever() {
+            if let Some(mut turn) = events.table.take_ready() {
+                turn.number = seat.begin_turn();
+                return Some(turn);
+            }
+            if seat.port.is_closed() {
+                break;
+            }
+            let now = self.clock.now_ms();
+            self.take_given(seat, events, now);
+            events.look(self.rt, &seat.port, now);
+        }
+        None
+    }
+
+    // Puts back a connection behind a turn, for the runner who ended it.
+    fn put_back(&self, seat: &Seat<S>, turn: Turn<S>) {
+        let is_open = seat
+            .events
+            .lock(self.rt)
+            .put_back(turn, self.clock.now_ms());
+        if !is_open {
+            self.alive.end(self.rt);
+        }
+    }
 
     /// Runs a worker, until there will be no more connections or another thread relieves this one. Each read
     /// of a connection fills this room.
-    pub(crate) fn run<R: Wait>(&self, rt: &R, seat: &Seat<S>, mut room: Vec<u8>) {
-        for _ in rt.forever() {
-            let Some(mut turn) = seat.begin_turn(rt, self.clock, &self.alive) else {
+    pub(crate) fn run(&self, seat: &Seat<S>, mut room: Vec<u8>) {
+        for _ in self.rt.forever() {
+            let Some(mut turn) = self.begin_turn(seat) else {
                 break;
             };
             self.monitor.wake();
             turn.run(room.as_mut_slice());
             self.ring();
             if !seat.end_turn(turn.number) {
-                seat.give_back(rt, turn);
+                seat.give_back(self.rt, turn);
                 break;
             }
-            seat.put_back(rt, self.clock, &self.alive, turn);
+            self.put_back(seat, turn);
         }
     }
 
     /// Runs a worker in place of a thread that is held in the turn of this number, unless that turn has
     /// ended.
-    pub(crate) fn relieve<R: Wait>(&self, rt: &R, seat: &Seat<S>, number: u64, room: Vec<u8>) {
+    pub(crate) fn relieve(&self, seat: &Seat<S>, number: u64, room: Vec<u8>) {
         if seat.end_turn(number) {
             // What was written in that turn may be news.
             self.ring();
-            self.run(rt, seat, room);
+            self.run(seat, room);
         }
     }
 }

@@ -34,14 +34,9 @@ impl Watches {
         }
     }
 
-    // The place of a life.
-    fn place(&self, life: u64) -> Option<usize> {
-        self.watched.iter().position(|watched| watched.life == life)
-    }
-
     // The place of a life, which is made where there is none.
     fn place_of(&mut self, life: u64) -> Result<usize, AllocError> {
-        if let Some(place) = self.place(life) {
+        if let Some(place) = self.watched.iter().position(|watched| watched.life == life) {
             return Ok(place);
         }
         let place = self.watched.len();
@@ -73,16 +68,12 @@ impl Watches {
     /// Forgets a connection whose stream was of this life. It costs a look at each life, and at each
     /// connection of this one.
     pub(crate) fn remove(&mut self, life: u64, token: usize) {
-        let Some(place) = self.place(life) else {
-            return;
-        };
-        let Some(watched) = self.watched.get_mut(place) else {
-            return;
-        };
-        watched.tokens.retain(|other| *other != token);
-        if watched.tokens.is_empty() {
-            self.watched.swap_remove(place);
+        for watched in &mut self.watched {
+            if watched.life == life {
+                watched.tokens.retain(|other| *other != token);
+            }
         }
+        self.watched.retain(|watched| !watched.tokens.is_empty());
     }
 
     /// Whether a watch may have news. From here on it has none, and whoever calls this looks at the watches.
