@@ -12,10 +12,10 @@ ghost use Rattle.hub_service.specs.Said.{IsSaid};
 
 use crate::context::Context;
 use crate::refusal::{unnoted, with_refusal};
-use crate::response::{Response, created};
+use crate::response::{Response, answer};
 use hub_databases::{HubDb, Written};
 use hub_document::{Doc, DocFault, RevId, read_doc};
-use hub_http::Refusal;
+use hub_http::{Refusal, StatusCode};
 use hub_model::Outcome;
 use hub_replies::{BatchReply, batch_body};
 use serde_json::Value;
@@ -84,13 +84,7 @@ fn reply_to(new_edits: bool, outcome: &Outcome<RevId>) -> Option<BatchReply>
     ensures { result ≡ reply_to new_edits outcome.now }
 {
     match outcome {
-        Outcome::Stored(rev) => {
-            if new_edits {
-                Some(BatchReply::Stored(*rev))
-            } else {
-                None
-            }
-        }
+        Outcome::Stored(rev) => new_edits.then_some(BatchReply::Stored(*rev)),
         Outcome::Known => None,
         Outcome::Refused(fault) => Some(BatchReply::Refused(Refusal::from(*fault))),
     }
@@ -122,21 +116,6 @@ fn replies_of(
     Ok(list)
 }
 
-// The text of the answer to a batch.
-fn answer_text(
-    alloc: Global,
-    elements: &[Value],
-    new_edits: bool,
-    faults: &[Option<DocFault>],
-    outcomes: &[Outcome<RevId>],
-) -> Result<Vec<u8>, AllocError>
-    ensures { IfOk result (λ t. t.items
-        ≡ batch_body (items_view elements.now) (replies_of new_edits faults.now outcomes.now)) }
-{
-    let replies = replies_of(alloc, new_edits, faults, outcomes)?;
-    batch_body(alloc, elements, replies.as_slice())
-}
-
 // The answer to a batch of these elements, with these faults, that was written so.
 fn say_batch(
     alloc: Global,
@@ -155,8 +134,11 @@ fn say_batch(
     if written.batch.stopped {
         return Err(Refusal::NoMemory);
     }
-    let outcomes = written.batch.replies.as_slice();
-    created(answer_text(alloc, elements, new_edits, faults, outcomes))
+    let replies = replies_of(alloc, new_edits, faults, written.batch.replies.as_slice())?;
+    answer(
+        StatusCode::CREATED,
+        batch_body(alloc, elements, replies.as_slice()),
+    )
 }
 
 // Stores the batch of these elements.
@@ -180,20 +162,6 @@ fn store_elements<N: Wait>(
     )
 }
 
-// Stores the batch that a value is.
-fn store_batch<N: Wait>(
-    context: &Context<'_, N>,
-    db: &HubDb,
-    request: &Value,
-) -> Result<Response, Refusal>
-    ensures { IsWritten (λ db. stores db (batch_of (view request.now))) result }
-{
-    match batch_of(request) {
-        Ok((docs, new_edits)) => store_elements(context, db, docs.as_slice(), new_edits),
-        Err(refusal) => Err(refusal),
-    }
-}
-
 /// Stores the batch of documents that a body is. It costs the body's length, and what `Hub::write`
 /// does. Where memory is missing documents from its front may stand.
 pub(crate) fn store<N: Wait>(
@@ -203,8 +171,7 @@ pub(crate) fn store<N: Wait>(
 ) -> Result<Response, Refusal>
     ensures { IsWritten (λ db. stores db (batch_in body.now)) result }
 {
-    match context.rooms.read(context.rt, body) {
-        Ok(request) => store_batch(context, db, &request),
-        Err(fault) => Err(Refusal::from(fault)),
-    }
+    let request = context.rooms.read(context.rt, body)?;
+    let (docs, new_edits) = batch_of(&request)?;
+    store_elements(context, db, docs.as_slice(), new_edits)
 }

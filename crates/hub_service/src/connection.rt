@@ -1,27 +1,23 @@
 //! Connections: what a client is answered, request by request.
 
-ghost use Rattle.std.specs.Prelude.{◌≡◌, IfErr, IfOk, None, Ok, Result, Some, true};
+ghost use Rattle.std.specs.Prelude.{◌≡◌, IfErr, IfOk, None, true};
 ghost use Rattle.hub_databases.specs.Names.{is_name as is_database_name};
-ghost use Rattle.hub_http.specs.Stream.{asked_by};
-ghost use Rattle.hub_routes.specs.Routes.{GoesTo};
-ghost use Rattle.hub_routes.specs.declared.route.Route.{Route};
-ghost use Rattle.hub_routes.specs.declared.route.RouteFault.{RouteFault};
 ghost use Rattle.hub_service.specs.Laws.{connection_rules};
 ghost use Rattle.hub_service.specs.Requests.{AnswersCall, AtName, IsNoDatabase, IsListed, IsMade};
-ghost use Rattle.hub_service.specs.Requests.{IsRemoved, IsSent, Responds};
+ghost use Rattle.hub_service.specs.Requests.{IsRemoved, IsSent};
 
 use crate::context::Context;
 use crate::info::info;
 use crate::pumping::Pumping;
 use crate::refusal::unnamed;
-use crate::response::{Response, created, ok};
+use crate::response::{Response, answer};
 use crate::rooms::JsonRooms;
 use crate::sent::Sent;
 use crate::{bulk, diff, documents, feeds, locals};
 use hub_databases::{Hub, HubDb, is_name};
 use hub_http::{Refusal, Reply, Request, StatusCode};
 use hub_replies::{commit_body, names_body, ok_body, welcome_body};
-use hub_routes::{Call, Route, Routes};
+use hub_routes::{Call, Routes};
 use hub_session::{Answer, NextItem, Service};
 use hub_shared::{Watch, Watchable};
 use std::alloc::Global;
@@ -108,7 +104,10 @@ impl<'h, N: Wait, P: Pumping> Connection<'h, N, P> {
         ensures { IsListed result }
     {
         let names = self.context.hub.list(self.context.rt)?;
-        ok(names_body(self.context.alloc, names.as_slice()))
+        answer(
+            StatusCode::OK,
+            names_body(self.context.alloc, names.as_slice()),
+        )
     }
 
     // The database of a name.
@@ -136,7 +135,10 @@ impl<'h, N: Wait, P: Pumping> Connection<'h, N, P> {
     {
         let context = &self.context;
         match call {
-            Call::Welcome => ok(Vec::from_slice(context.alloc, welcome_body())),
+            Call::Welcome => answer(
+                StatusCode::OK,
+                Vec::from_slice(context.alloc, welcome_body()),
+            ),
             Call::AllDbs => self.list(),
             Call::DbUpdates => feeds::begin_updates(context, query, body),
             Call::PutDatabase => self.create(name),
@@ -147,31 +149,16 @@ impl<'h, N: Wait, P: Pumping> Connection<'h, N, P> {
             Call::RevsDiff => diff::revs_diff(context, &self.database(name)?, body),
             Call::FullCommit => {
                 self.database(name)?;
-                created(Vec::from_slice(context.alloc, commit_body()))
+                answer(
+                    StatusCode::CREATED,
+                    Vec::from_slice(context.alloc, commit_body()),
+                )
             }
             Call::GetDocument => documents::get(context, &self.database(name)?, id, query),
             Call::PutDocument => documents::put(context, &self.database(name)?, id, query, body),
             Call::DeleteDocument => documents::delete(context, &self.database(name)?, id, query),
             Call::GetLocal => locals::get(context, &self.database(name)?, id),
             Call::PutLocal => locals::put(context, &self.database(name)?, id, body),
-        }
-    }
-
-    // The answer to a request.
-    fn respond(&self, request: &Request) -> Result<Response, Refusal>
-        ensures { (route : Result Route RouteFault) × GoesTo (asked_by request.now) route
-            × Responds (asked_by request.now).body route result }
-    {
-        let body = request.body.as_slice();
-        match self.routes.route(self.context.alloc, request) {
-            Ok(route) => self.call(
-                route.call,
-                route.db.as_str(),
-                route.id.as_str(),
-                route.query,
-                body,
-            ),
-            Err(fault) => Err(Refusal::from(fault)),
         }
     }
 
@@ -185,26 +172,24 @@ impl<'h, N: Wait, P: Pumping> Connection<'h, N, P> {
     }
 
     // The response as it is sent: a feed is kept until its end was handed.
-    fn send(&mut self, response: Response) -> Answer
-        ensures { IsSent (Ok response) result self.old self.new }
+    fn send(&mut self, response: Result<Response, Refusal>) -> Answer
+        ensures { IsSent response result self.old self.new }
     {
         match response {
-            Response::Body(status, body) => Answer::Whole(Reply::Done { status, body }),
-            Response::Stream(mode, sent) => {
+            Ok(Response::Body(status, body)) => Answer::Whole(Reply::Done { status, body }),
+            Ok(Response::Stream(mode, sent)) => {
                 let life = sent.life();
                 self.sent = Some(sent);
                 Answer::Stream(mode, life)
             }
+            Err(refusal) => Answer::Whole(Reply::Refused(refusal)),
         }
     }
 }
 
 impl<'h, N: Wait, P: Pumping> Watchable for Connection<'h, N, P> {
     fn life(&self) -> Option<u64> {
-        match &self.sent {
-            Some(sent) => Some(sent.life()),
-            None => None,
-        }
+        Some(self.sent.as_ref()?.life())
     }
 
     fn due(&self) -> Option<u64> {
@@ -229,10 +214,17 @@ impl<'h, N: Wait, P: Pumping> Service for Connection<'h, N, P> {
 
     fn answer(&mut self, request: &Request) -> Answer {
         self.pumping.pass_request();
-        match self.respond(request) {
-            Ok(response) => self.send(response),
-            Err(refusal) => Answer::Whole(Reply::Refused(refusal)),
-        }
+        let response = match self.routes.route(self.context.alloc, request) {
+            Ok(route) => self.call(
+                route.call,
+                route.db.as_str(),
+                route.id.as_str(),
+                route.query,
+                request.body.as_slice(),
+            ),
+            Err(fault) => Err(Refusal::from(fault)),
+        };
+        self.send(response)
     }
 
     fn is_ready(&self) -> bool {

@@ -5,10 +5,10 @@ ghost use Rattle.hub_service.specs.Calls.{asked_by, says_diffs};
 ghost use Rattle.hub_service.specs.Moments.{IsRead};
 
 use crate::context::Context;
-use crate::response::{Response, ok};
+use crate::response::{Response, answer};
 use hub_databases::HubDb;
 use hub_document::{Asked, DocFault, read_asked};
-use hub_http::Refusal;
+use hub_http::{Refusal, StatusCode};
 use hub_replies::diffs_body;
 use std::sync::Wait;
 
@@ -30,7 +30,7 @@ fn diff<N: Wait>(
     ensures { IsRead (λ db. says_diffs db.journal (Ok asked.items)) result }
 {
     let found = context.look(db, move |state| state.revs_diff(asked))?;
-    ok(diffs_body(context.alloc, found.as_slice()))
+    answer(StatusCode::OK, diffs_body(context.alloc, found.as_slice()))
 }
 
 /// Which of the revisions that a body asks for are missing. It costs the body's length, the wait for
@@ -42,8 +42,6 @@ pub(crate) fn revs_diff<N: Wait>(
 ) -> Result<Response, Refusal>
     ensures { IsRead (λ db. says_diffs db.journal (asked_by body.now)) result }
 {
-    match read_body(context, body) {
-        Ok(asked) => diff(context, db, asked),
-        Err(fault) => Err(Refusal::from(fault)),
-    }
+    let asked = read_body(context, body)?;
+    diff(context, db, asked)
 }

@@ -14,7 +14,7 @@ ghost use Rattle.hub_service.specs.Said.{IsSaid, Refusing};
 
 use crate::context::Context;
 use crate::refusal::{unnoted, with_refusal};
-use crate::response::{Response, ok};
+use crate::response::{Response, answer};
 use hub_database::{Lookup, OpenRev};
 use hub_databases::{Edited, HubDb};
 use hub_document::{Body, Doc, DocFault, DocId, OpenRevs, RevId, put_doc};
@@ -32,7 +32,7 @@ fn say_found(alloc: Global, found: &Lookup) -> Result<Response, Refusal>
     match found {
         Lookup::Unknown => Err(Refusal::Missing),
         Lookup::Deleted => Err(Refusal::DocDeleted),
-        Lookup::Found(doc) => ok(doc_body(alloc, doc)),
+        Lookup::Found(doc) => answer(StatusCode::OK, doc_body(alloc, doc)),
     }
 }
 
@@ -42,7 +42,7 @@ fn say_revs(alloc: Global, which: &OpenRevs, revs: &[OpenRev]) -> Result<Respons
 {
     match (which, revs) {
         (OpenRevs::All, []) => Err(Refusal::Missing),
-        _ => ok(open_revs_body(alloc, revs)),
+        _ => answer(StatusCode::OK, open_revs_body(alloc, revs)),
     }
 }
 
@@ -148,10 +148,8 @@ pub(crate) fn put<N: Wait>(
     ensures { IsWritten (λ db. puts_doc db
         (put_in id.now (doc_asked query.now).rev (doc_asked query.now).new_edits body.now)) result }
 {
-    match read_put(context, id, query, body) {
-        Ok(doc) => edit(context, db, StatusCode::CREATED, doc),
-        Err(fault) => Err(Refusal::from(fault)),
-    }
+    let doc = read_put(context, id, query, body)?;
+    edit(context, db, StatusCode::CREATED, doc)
 }
 
 // Why a document of which no leaf is named is not deleted.
@@ -160,13 +158,8 @@ fn refuse_unnamed(winner: Option<Winner>) -> Refusal
 {
     match winner {
         None => Refusal::Missing,
-        Some(winner) => {
-            if winner.deleted {
-                Refusal::DocDeleted
-            } else {
-                Refusal::Conflict
-            }
-        }
+        Some(winner) if winner.deleted => Refusal::DocDeleted,
+        Some(_) => Refusal::Conflict,
     }
 }
 

@@ -50,20 +50,6 @@ pub(crate) fn begin<N: Wait>(
     }
 }
 
-// Begins what parameters ask of the log of updates.
-fn begin_asked_updates<N: Wait>(
-    context: &Context<'_, N>,
-    params: FeedParams,
-) -> Result<Response, Refusal>
-    ensures { BeginsUpdates (params_asked params) result }
-{
-    let mode = params.mode;
-    match context.hub.updates(context.rt, params) {
-        Ok(feed) => Ok(Response::Stream(mode, Sent::Updates(feed))),
-        Err(fault) => Err(unopened(fault)),
-    }
-}
-
 /// Begins the feed of the log of updates that a query and a body ask for. It costs the reading of both,
 /// and the wait for the log.
 pub(crate) fn begin_updates<N: Wait>(
@@ -73,8 +59,13 @@ pub(crate) fn begin_updates<N: Wait>(
 ) -> Result<Response, Refusal>
     ensures { Begins BeginsUpdates query.now body.now result }
 {
-    match FeedParams::read(context.alloc, query, body) {
-        Ok(params) => begin_asked_updates(context, params),
-        Err(fault) => Err(unread(fault)),
+    let params = match FeedParams::read(context.alloc, query, body) {
+        Ok(params) => params,
+        Err(fault) => return Err(unread(fault)),
+    };
+    let mode = params.mode;
+    match context.hub.updates(context.rt, params) {
+        Ok(feed) => Ok(Response::Stream(mode, Sent::Updates(feed))),
+        Err(fault) => Err(unopened(fault)),
     }
 }

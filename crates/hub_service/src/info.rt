@@ -4,9 +4,9 @@ ghost use Rattle.hub_service.specs.Calls.{says_info};
 ghost use Rattle.hub_service.specs.Moments.{IsRead};
 
 use crate::context::Context;
-use crate::response::{Response, ok};
+use crate::response::{Response, answer};
 use hub_databases::HubDb;
-use hub_http::Refusal;
+use hub_http::{Refusal, StatusCode};
 use hub_replies::info_body;
 use std::sync::Wait;
 
@@ -15,5 +15,5 @@ pub(crate) fn info<N: Wait>(context: &Context<'_, N>, db: &HubDb) -> Result<Resp
     ensures { let name = db.now in IsRead (λ db. says_info name db) result }
 {
     let info = context.look(db, |state| state.info())?;
-    ok(info_body(context.alloc, db.name(), &info))
+    answer(StatusCode::OK, info_body(context.alloc, db.name(), &info))
 }

@@ -11,7 +11,6 @@ mod feeds;
 mod info;
 mod laws;
 mod locals;
-mod next;
 mod pumping;
 mod refusal;
 mod response;

@@ -9,11 +9,11 @@ ghost use Rattle.hub_service.specs.Moments.{IsRead};
 ghost use Rattle.hub_service.specs.Said.{IsSaid};
 
 use crate::context::Context;
-use crate::response::{Response, created, ok};
+use crate::response::{Response, answer};
 use hub_database::Local;
 use hub_databases::HubDb;
 use hub_document::LocalDoc;
-use hub_http::Refusal;
+use hub_http::{Refusal, StatusCode};
 use hub_replies::{edit_front, local_doc_body, local_edit_body};
 use std::alloc::Global;
 use std::sync::Wait;
@@ -23,7 +23,7 @@ fn say_local(alloc: Global, id: &str, found: &Option<Local>) -> Result<Response,
     ensures { IsSaid (says_local (option_map (local_named id.now) found.now)) result }
 {
     match found {
-        Some(local) => ok(local_doc_body(alloc, id, local)),
+        Some(local) => answer(StatusCode::OK, local_doc_body(alloc, id, local)),
         None => Err(Refusal::Missing),
     }
 }
@@ -48,7 +48,7 @@ fn keep<N: Wait>(context: &Context<'_, N>, db: &HubDb, doc: LocalDoc) -> Result<
 {
     let front = edit_front(context.alloc, doc.id.as_str())?;
     let count = context.local_put(db, doc)?;
-    created(local_edit_body(front, count))
+    answer(StatusCode::CREATED, local_edit_body(front, count))
 }
 
 /// Keeps a local document in place of the one of its id. It costs the body's length, the wait for the
@@ -61,8 +61,6 @@ pub(crate) fn put<N: Wait>(
 ) -> Result<Response, Refusal>
     ensures { IsRead (λ db. puts_local db (local_in id.now body.now)) result }
 {
-    match LocalDoc::read(context.alloc, id, body) {
-        Ok(doc) => keep(context, db, doc),
-        Err(fault) => Err(Refusal::from(fault)),
-    }
+    let doc = LocalDoc::read(context.alloc, id, body)?;
+    keep(context, db, doc)
 }

@@ -58,13 +58,12 @@ impl<'h, N: Wait> Pumping for ByTurns<'h, N> {
             return;
         }
         feed.take_into(self.rt, next);
-        if next.is_some() || feed.hold(self.rt, Turn::Expire, &OpenGate).is_err() {
-            return;
+        if next.is_none()
+            && feed.hold(self.rt, Turn::Expire, &OpenGate).is_ok()
+            && feed.hold(self.rt, Turn::Hand, &OpenGate).is_ok()
+        {
+            feed.take_into(self.rt, next);
         }
-        if feed.hold(self.rt, Turn::Hand, &OpenGate).is_err() {
-            return;
-        }
-        feed.take_into(self.rt, next);
     }
 
     fn waits<S: FeedHost>(&self, _feed: &HostFeed<S>) -> bool {

@@ -17,18 +17,13 @@ pub(crate) enum Response {
     Stream(Mode, Sent),
 }
 
-/// 200 with a body, unless that found no memory.
-pub(crate) fn ok(body: Result<Vec<u8>, AllocError>) -> Result<Response, Refusal>
-    ensures said { IfOk body (λ b. IsSaid (Body 200 b.items) result) }
+/// This status with a body, unless that found no memory.
+pub(crate) fn answer(
+    status: StatusCode,
+    body: Result<Vec<u8>, AllocError>,
+) -> Result<Response, Refusal>
+    ensures said { IfOk body (λ b. IsSaid (Body status b.items) result) }
     ensures memory { OnErr body (result ≡ Err Refusal.NoMemory) }
 {
-    Ok(Response::Body(StatusCode::OK, body?))
-}
-
-/// 201 with a body, unless that found no memory.
-pub(crate) fn created(body: Result<Vec<u8>, AllocError>) -> Result<Response, Refusal>
-    ensures said { IfOk body (λ b. IsSaid (Body 201 b.items) result) }
-    ensures memory { OnErr body (result ≡ Err Refusal.NoMemory) }
-{
-    Ok(Response::Body(StatusCode::CREATED, body?))
+    Ok(Response::Body(status, body?))
 }

@@ -41,11 +41,6 @@ impl JsonRooms {
         }
     }
 
-    // Keeps a room for the next request. Without memory for that it is given back.
-    fn keep<N: Wait>(&self, rt: &N, room: Box<JsonRoom>) {
-        let _ = self.idle.lock(rt).push(room);
-    }
-
     /// The JSON value that a text is. It costs the text's length, and twice the wait for a lock that is held
     /// for a step.
     pub(crate) fn read<N: Wait>(&self, rt: &N, bytes: &[u8]) -> Result<Value, DocFault>
@@ -57,7 +52,8 @@ impl JsonRooms {
             return Err(DocFault::NoMemory);
         };
         let read = room.read(self.alloc, bytes);
-        self.keep(rt, room);
+        // Without memory for that it is given back.
+        let _ = self.idle.lock(rt).push(room);
         read
     }
 }

@@ -1,11 +1,13 @@
 //! What a connection is sending.
 
 ghost use Rattle.std.specs.Prelude.{◌≡◌};
-ghost use Rattle.hub_service.specs.Feeds.{behind_listed, life_of, next_listed};
+ghost use Rattle.hub_service.specs.Feeds.{GoesOn, behind_listed, life_of, next_listed};
 
+use crate::pumping::Pumping;
 use hub_database::Descending;
 use hub_document::ChangeRow;
 use hub_model::Item;
+use hub_session::NextItem;
 use hub_shared::{Feed, Plain, UpdatesFeed};
 use std::marker::Model;
 use std::sync::Wait;
@@ -91,6 +93,23 @@ impl Sent {
             Sent::Changes(feed) => feed.label().life(),
             Sent::Updates(feed) => feed.label().life(),
         }
+    }
+
+    /// Puts its next item into `next`, `None` where nothing hands it further: what is left stands behind it.
+    /// It costs what `Pumping::next_item` does; a row of a list that was made at once is moved out of it.
+    pub(crate) fn next<P: Pumping>(&mut self, pumping: &P, next: &mut NextItem)
+        ensures { GoesOn self.old next.new self.new }
+    {
+        match self {
+            Sent::Listed(listed) => next.change = Some(listed.next()),
+            Sent::Changes(feed) => pumping.next_item(feed, &mut next.change),
+            Sent::Updates(feed) => {
+                next.change = None;
+                pumping.next_item(feed, &mut next.update);
+                return;
+            }
+        }
+        next.update = None;
     }
 
     /// Gives back what it holds: a feed is forgotten by its host.

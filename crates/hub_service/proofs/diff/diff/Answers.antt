@@ -27,10 +27,10 @@ pub returns : goal.returns
 returns g c =
     let said =
     said_text (λ (b : Vec ℕ Global). b.items) 200 (diffs_body c.as_slice.result.now) c.diffs_body.result
-    c.ok.result c.diffs_body.ensures c.ok.ensures.said c.ok.ensures.memory in
+    c.answer.result c.diffs_body.ensures c.answer.ensures.said c.answer.ensures.memory in
     found_read (are_diffs c.args.asked)
     (λ db. says_diffs db.journal (Ok c.args.asked.items)) c.in_ok-found.found
-    (Body 200 (diffs_body c.as_slice.result.now)) c.ok.result
+    (Body 200 (diffs_body c.as_slice.result.now)) c.answer.result
     (look_found _ (are_diffs c.args.asked) c.in_ok-found.found c.in_ok-found.ensures
     (λ lent given is. search rules)) said
     (λ db is. ap (λ ds. Body 200 (diffs_body ds)) (c.as_slice.ensures.value ∙ is))

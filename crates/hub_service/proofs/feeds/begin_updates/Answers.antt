@@ -1,17 +1,9 @@
 use Rattle.std.proofs.Common.{refl, inr}
 use Rattle.hub_params.specs.FeedParams.{feed_asked}
-use Rattle.hub_params.specs.FeedShown.{params_asked}
 use Rattle.hub_params.specs.Room.{FeedNeedsRoom}
 use Rattle.hub_service.specs.Feeds.{BeginsUpdates}
-use Rattle.hub_service.proofs.Looks.{read_feed, unread_feed}
+use Rattle.hub_service.proofs.Looks.{unread_feed}
 use Rattle.hub_service.proofs.feeds.begin_updates.Goals as goal
-
-pub returns-in-Ok : goal.returns-in-Ok
-returns-in-Ok g c =
-    read_feed BeginsUpdates (FeedNeedsRoom c.args.query.now c.args.body.now)
-    (feed_asked c.args.query.now c.args.body.now)
-    (params_asked c.in-Ok.params) c.begin_asked_updates.result c.in-Ok.ensures.ok
-    c.begin_asked_updates.ensures
 
 pub returns-in-Err : goal.returns-in-Err
 returns-in-Err g c =

@@ -28,9 +28,9 @@ returns g c =
     let name = c.name.result.now in
     let said =
     said_text (λ (b : Vec ℕ Global). b.items) 200 (info_body name c.in_ok-info.info)
-    c.info_body.result c.ok.result c.info_body.ensures c.ok.ensures.said c.ok.ensures.memory in
-    subst (λ (n : List ℕ). IsRead (λ db. says_info n db) c.ok.result) c.name.ensures
+    c.info_body.result c.answer.result c.info_body.ensures c.answer.ensures.said c.answer.ensures.memory in
+    subst (λ (n : List ℕ). IsRead (λ db. says_info n db) c.answer.result) c.name.ensures
     (found_read is_info (λ db. says_info name db) c.in_ok-info.info
-    (Body 200 (info_body name c.in_ok-info.info)) c.ok.result
+    (Body 200 (info_body name c.in_ok-info.info)) c.answer.result
     (look_found _ is_info c.in_ok-info.info c.in_ok-info.ensures (λ lent given is. search rules)) said
     (λ db is. ap (λ info. Body 200 (info_body name info)) is))

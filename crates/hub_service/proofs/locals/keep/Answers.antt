@@ -23,10 +23,10 @@ returns g c =
     c.in_ok-front.ensures in
     let said =
     said_text (λ (b : Vec ℕ Global). b.items) 201
-    (local_edit_body c.args.doc.id n) c.local_edit_body.result c.created.result
+    (local_edit_body c.args.doc.id n) c.local_edit_body.result c.answer.result
     (told_of (λ (id : List ℕ). c.in_ok-front.front.items ≡ edit_front id)
     (λ (t : Vec ℕ Global) id. t.items ≡ local_edit_body id n) c.local_edit_body.result c.args.doc.id
     front c.local_edit_body.ensures)
-    c.created.ensures.said c.created.ensures.memory in
-    kept_read c.args.doc n c.created.result c.in_ok-count.ensures
-    (λ db is. kept_said db c.args.doc n c.created.result few said is)
+    c.answer.ensures.said c.answer.ensures.memory in
+    kept_read c.args.doc n c.answer.result c.in_ok-count.ensures
+    (λ db is. kept_said db c.args.doc n c.answer.result few said is)
