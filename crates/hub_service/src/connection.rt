@@ -1,10 +1,14 @@
 //! Connections: what a client is answered, request by request.
 
-ghost use Rattle.std.specs.Prelude.{◌≡◌, IfErr, IfOk, None, true};
+ghost use Rattle.std.specs.Prelude.{◌≡◌, IfErr, IfOk, None, Ok, Result, Some, true};
 ghost use Rattle.hub_databases.specs.Names.{is_name as is_database_name};
+ghost use Rattle.hub_http.specs.Stream.{asked_by};
+ghost use Rattle.hub_routes.specs.Routes.{GoesTo};
+ghost use Rattle.hub_routes.specs.declared.route.Route.{Route};
+ghost use Rattle.hub_routes.specs.declared.route.RouteFault.{RouteFault};
 ghost use Rattle.hub_service.specs.Laws.{connection_rules};
 ghost use Rattle.hub_service.specs.Requests.{AnswersCall, AtName, IsNoDatabase, IsListed, IsMade};
-ghost use Rattle.hub_service.specs.Requests.{IsRemoved, IsSent};
+ghost use Rattle.hub_service.specs.Requests.{IsRemoved, IsSent, Responds};
 
 use crate::context::Context;
 use crate::info::info;
@@ -17,7 +21,7 @@ use crate::{bulk, diff, documents, feeds, locals};
 use hub_databases::{Hub, HubDb, is_name};
 use hub_http::{Refusal, Reply, Request, StatusCode};
 use hub_replies::{commit_body, names_body, ok_body, welcome_body};
-use hub_routes::{Call, Routes};
+use hub_routes::{Call, Route, Routes};
 use hub_session::{Answer, NextItem, Service};
 use hub_shared::{Watch, Watchable};
 use std::alloc::Global;
@@ -162,6 +166,24 @@ impl<'h, N: Wait, P: Pumping> Connection<'h, N, P> {
         }
     }
 
+    // The answer to a request.
+    fn respond(&self, request: &Request) -> Result<Response, Refusal>
+        ensures { (route : Result Route RouteFault) × GoesTo (asked_by request.now) route
+            × Responds (asked_by request.now).body route result }
+    {
+        let body = request.body.as_slice();
+        match self.routes.route(self.context.alloc, request) {
+            Ok(route) => self.call(
+                route.call,
+                route.db.as_str(),
+                route.id.as_str(),
+                route.query,
+                body,
+            ),
+            Err(fault) => Err(Refusal::from(fault)),
+        }
+    }
+
     // Whether a feed that gave no item may give one later.
     fn waits(&self) -> bool {
         match &self.sent {
@@ -172,17 +194,16 @@ impl<'h, N: Wait, P: Pumping> Connection<'h, N, P> {
     }
 
     // The response as it is sent: a feed is kept until its end was handed.
-    fn send(&mut self, response: Result<Response, Refusal>) -> Answer
-        ensures { IsSent response result self.old self.new }
+    fn send(&mut self, response: Response) -> Answer
+        ensures { IsSent (Ok response) result self.old self.new }
     {
         match response {
-            Ok(Response::Body(status, body)) => Answer::Whole(Reply::Done { status, body }),
-            Ok(Response::Stream(mode, sent)) => {
+            Response::Body(status, body) => Answer::Whole(Reply::Done { status, body }),
+            Response::Stream(mode, sent) => {
                 let life = sent.life();
                 self.sent = Some(sent);
                 Answer::Stream(mode, life)
             }
-            Err(refusal) => Answer::Whole(Reply::Refused(refusal)),
         }
     }
 }
@@ -214,17 +235,10 @@ impl<'h, N: Wait, P: Pumping> Service for Connection<'h, N, P> {
 
     fn answer(&mut self, request: &Request) -> Answer {
         self.pumping.pass_request();
-        let response = match self.routes.route(self.context.alloc, request) {
-            Ok(route) => self.call(
-                route.call,
-                route.db.as_str(),
-                route.id.as_str(),
-                route.query,
-                request.body.as_slice(),
-            ),
-            Err(fault) => Err(Refusal::from(fault)),
-        };
-        self.send(response)
+        match self.respond(request) {
+            Ok(response) => self.send(response),
+            Err(refusal) => Answer::Whole(Reply::Refused(refusal)),
+        }
     }
 
     fn is_ready(&self) -> bool {
