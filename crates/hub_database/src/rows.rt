@@ -87,7 +87,6 @@ impl Source for Contents {
 
     /// The document is found in constant time. It costs what `RevTree::best` does, with every leaf
     /// what `RevTree::leaves` does, and with its document a copy of the members.
-    #[inline(always)]
     fn row(&self, seq: u64, style: Style, include_docs: bool) -> Result<ChangeRow, AllocError> {
         let entry = self.journal[seq as usize - 1];
         let document = &self.documents[entry.document as usize];

@@ -21,7 +21,6 @@ pub enum Filter {
 impl Filter {
     /// Whether the document with this id is shown. It takes no memory. Constant time, but for
     /// listed ids, where it costs what `DocIds::contains` does.
-    #[inline(always)]
     pub fn passes(&self, id: &str) -> bool
         ensures { result ≡ passes (filter_of self.now) id.now }
     {

@@ -1,6 +1,6 @@
 -- The texts of rows of changes.
 use Rattle.std.proofs.Common.{◌≡◌, ℕ, ◌≤◌, List, [], ◌∷◌, ◌++◌, length, map, take, take_all}
-use Rattle.std.proofs.Common.{sym, ap, ◌∙◌, arith, append_assoc, append-nil, codes, decimal, Some, None, false}
+use Rattle.std.proofs.Common.{sym, ap, ◌∙◌, arith, append_assoc, append-nil, codes, decimal, Some}
 use Rattle.std.specs.List.{flat_map, join_with_byte}
 use Rattle.hub_model.specs.Revision.{Revision, text_of}
 use Rattle.json.specs.Print.{escape, quoted}
@@ -8,7 +8,7 @@ use Rattle.hub_model.specs.Row.{ChangeRow}
 use Rattle.hub_document.specs.DocText.{doc_text, row_doc}
 use Rattle.hub_document.specs.SequenceText.{sequence_text}
 use Rattle.hub_http.specs.ChangeTexts.{revision_text, revisions_text, row_mark, doc_member, row_end}
-use Rattle.hub_http.specs.ChangeTexts.{id_member, row_head, plain_front, change_row_text}
+use Rattle.hub_http.specs.ChangeTexts.{id_member, row_head, plain_front}
 
 -- the later ones have a comma before each
 joined : (p : List ℕ) (revisions : List Revision)
@@ -48,10 +48,10 @@ revisions_written held mid new revision revisions all i e first later end =
 
 -- the parts of the front of a row whose id needs no escape
 pub plain_parts : (held : List ℕ) (life seq : ℕ) (id : List ℕ)
-    → (held ++ (codes "{\"seq\":\"" ++ (decimal seq ++ (45 ∷ (decimal life ++ (codes "\",\"id\":\"" ++ [])))))) ++ id
+    → ((held ++ codes "{\"seq\":\"") ++ (decimal seq ++ 45 ∷ (decimal life ++ codes "\",\"id\":\""))) ++ id
     ≡ held ++ plain_front life seq id
 unfolding plain_front
-plain_parts held life seq id = simp (append_assoc, append-nil)
+plain_parts held life seq id = simp append_assoc
 
 -- a row whose id needs no escape and whose only revision is this one
 pub plain_row : (held : List ℕ) (life : ℕ) (row : ChangeRow) (revision : Revision) → escape row.id ≡ row.id
@@ -69,31 +69,3 @@ pub doc_ended : (held : List ℕ) (row : ChangeRow) (body : List ℕ) → row.do
     ≡ held ++ 125 ∷ row_end row
 unfolding row_end doc_member
 doc_ended held row body brought = simp (append_assoc, brought)
-
--- the parts of a front that is made at once, in a room of which nothing lies behind it
-pub at_once : (life seq : ℕ) (id rev end rest : List ℕ) → rest ≡ []
-    → plain_front life seq id ++ (codes "\",\"changes\":[{\"rev\":" ++ (rev ++ end))
-    ≡ codes "{\"seq\":\"" ++ (decimal seq ++ (45 ∷ (decimal life ++ (codes "\",\"id\":\""
-    ++ (id ++ (codes "\",\"changes\":[{\"rev\":" ++ (rev ++ (end ++ rest))))))))
-unfolding plain_front
-at_once life seq id rev end rest none = simp (append_assoc, append-nil, none)
-
--- a row that is not deleted and brings no document, whose id needs no escape and whose only revision is this
-pub short_row : (life : ℕ) (row : ChangeRow) (revision : Revision) (rev : List ℕ) → escape row.id ≡ row.id
-    → row.changes ≡ revision ∷ [] → rev ≡ quoted (text_of revision) → row.deleted ≡ false → row.doc ≡ None
-    → plain_front life row.seq row.id ++ (codes "\",\"changes\":[{\"rev\":" ++ (rev ++ codes "}]}"))
-    ≡ change_row_text life row
-unfolding change_row_text plain_front row_head id_member sequence_text revision_text revisions_text row_end row_mark doc_member
-short_row life row revision rev plain only is stays none =
-    simp (append_assoc, plain, only, is, stays, none)
-
--- such a row that brings a document
-pub short_doc_row : (life : ℕ) (row : ChangeRow) (revision : Revision) (rev body : List ℕ)
-    → escape row.id ≡ row.id → row.changes ≡ revision ∷ [] → rev ≡ quoted (text_of revision)
-    → row.deleted ≡ false → row.doc ≡ Some body
-    → change_row_text life row
-    ≡ ((plain_front life row.seq row.id ++ (codes "\",\"changes\":[{\"rev\":"
-    ++ (rev ++ codes "}],\"doc\":"))) ++ doc_text (row_doc row body)) ++ codes "}"
-unfolding change_row_text plain_front row_head id_member sequence_text revision_text revisions_text row_end row_mark doc_member
-short_doc_row life row revision rev body plain only is stays brought =
-    simp (append_assoc, plain, only, is, stays, brought)

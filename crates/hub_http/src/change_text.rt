@@ -1,6 +1,6 @@
 //! The texts of rows of changes.
 
-ghost use Rattle.std.specs.Prelude.{◌≡◌, ◌+◌, ◌<◌, ◌≤◌, [], ◌∷◌, ◌++◌, codes, decimal, drop, length};
+ghost use Rattle.std.specs.Prelude.{◌≡◌, ◌<◌, ◌≤◌, [], ◌∷◌, ◌++◌, codes, decimal, drop, length};
 ghost use Rattle.std.specs.Option.{ForSome};
 ghost use Rattle.hub_document.specs.Appends.{Appends};
 ghost use Rattle.hub_document.specs.DocText.{doc_text, row_doc};
@@ -96,14 +96,32 @@ fn put_row_end(out: &mut Vec<u8>, row: &ChangeRow) -> Result<(), AllocError>
     Ok(())
 }
 
-// What stands between the digits of a sequence and an id, where the number of the life has one digit.
-fn sequence_end(life: u64) -> [u8; 10]
+// Room for the 20 digits of a sequence, and behind it what stands between the sequence and an id, where the
+// number of the life has one digit.
+fn sequence_room(life: u64) -> [u8; 30]
     requires { life < 10 }
-    ensures { result ≡ 45 ∷ (decimal life ++ codes "\",\"id\":\"") }
+    ensures { drop 20 result ≡ 45 ∷ (decimal life ++ codes "\",\"id\":\"") }
 {
-    let mut text = *b"-0\",\"id\":\"";
-    text[1] = b'0' + life as u8;
-    text
+    let mut room = *b"00000000000000000000-0\",\"id\":\"";
+    room[21] = b'0' + life as u8;
+    room
+}
+
+// Appends what a text has from this place on.
+fn put_from(out: &mut Vec<u8>, text: &[u8], at: usize) -> Result<(), AllocError>
+    requires { at ≤ length text.now }
+    ensures { Appends (drop at text.now) result out.old.items out.new.items }
+{
+    out.extend_from_slice(&text[at..])
+}
+
+// What stands between an id and the end of a row's only revision, which has this text.
+fn revision_part(text: &[u8; 36]) -> [u8; 56]
+    ensures { result ≡ codes "\",\"changes\":[{\"rev\":" ++ text.now }
+{
+    let mut part = *b"\",\"changes\":[{\"rev\":....................................";
+    part[20..].copy_from_slice(text.as_slice());
+    part
 }
 
 // Appends what stands behind the only revision of a row that brings no document.
@@ -130,48 +148,6 @@ fn doc_front(deleted: bool) -> &'static str
     }
 }
 
-// Writes a text in front of the place where another begins, and answers where both begin then.
-#[inline(always)]
-fn put_before(room: &mut [u8], at: usize, text: &[u8]) -> usize
-    requires room { (length text.now ≤ at) × (at ≤ length room.old) }
-    ensures written { drop result room.new ≡ text.now ++ drop at room.old }
-    ensures start { result + length text.now ≡ at }
-    ensures len { length room.new ≡ length room.old }
-{
-    let start = at - text.len();
-    room[start..at].copy_from_slice(text);
-    start
-}
-
-// Writes what stands in front of the id of a row in front of this place, and answers where it begins.
-#[inline(always)]
-fn put_sequence_before(room: &mut [u8], at: usize, life: u64, seq: u64) -> usize
-    requires life { life < 10 }
-    requires room { (38 ≤ at) × (at ≤ length room.old) }
-    ensures written { drop result room.new ≡ codes "{\"seq\":\"" ++ (decimal seq
-        ++ (45 ∷ (decimal life ++ (codes "\",\"id\":\"" ++ drop at room.old)))) }
-    ensures start { result ≤ length room.new }
-{
-    let at = put_before(room, at, sequence_end(life).as_slice());
-    let at = write_digits(seq, room, at);
-    put_before(room, at, b"{\"seq\":\"")
-}
-
-// Appends what a room has from this place on.
-#[inline(always)]
-fn put_from(out: &mut Vec<u8>, room: &[u8], at: usize) -> Result<(), AllocError>
-    requires { at ≤ length room.now }
-    ensures { Appends (drop at room.now) result out.old.items out.new.items }
-{
-    out.extend_from_slice(&room[at..])
-}
-
-/// The longest id of a row that is made in one place.
-const LONGEST: usize = 40;
-
-/// The room for such a row, or for its front as far as its document.
-const ROOM: usize = 144;
-
 // A row of one revision whose id needs no escape, in a life whose number has one digit. It is written in few
 // parts.
 #[derive(Drop)]
@@ -194,9 +170,10 @@ impl PlainRow<'_, '_> {
             out.old.items out.new.items }
     {
         let row = self.row;
-        let mut room = [0u8; 38];
-        let at = put_sequence_before(&mut room, 38, self.life, row.seq);
-        put_from(out, room.as_slice(), at)?;
+        let mut text = sequence_room(self.life);
+        let at = write_digits(row.seq, &mut text, 20);
+        out.extend_from_slice(b"{\"seq\":\"")?;
+        put_from(out, text.as_slice(), at)?;
         out.extend_from_slice(row.id.as_str().as_bytes())?;
         Ok(())
     }
@@ -206,27 +183,14 @@ impl PlainRow<'_, '_> {
         ensures { Appends (codes "\",\"changes\":[{\"rev\":" ++ quoted (text_of self.now.rev.now)) result
             out.old.items out.new.items }
     {
-        out.extend_from_slice(b"\",\"changes\":[{\"rev\":")?;
-        self.rev.print_quoted(out)?;
-        Ok(())
-    }
-
-    // Appends it as far as its revision, which has this text, and this end behind that: all by one append.
-    #[inline(always)]
-    fn put_at_once(&self, out: &mut Vec<u8>, rev: &[u8; 36], end: &[u8]) -> Result<(), AllocError>
-        requires { (length self.now.row.now.id ≤ 40) × (length end.now ≤ 10) }
-        ensures { Appends (plain_front self.now.life self.now.row.now.seq self.now.row.now.id
-            ++ (codes "\",\"changes\":[{\"rev\":" ++ (rev.now ++ end.now))) result
-            out.old.items out.new.items }
-    {
-        let row = self.row;
-        let mut room = [0u8; ROOM];
-        let at = put_before(&mut room, ROOM, end);
-        let at = put_before(&mut room, at, rev.as_slice());
-        let at = put_before(&mut room, at, b"\",\"changes\":[{\"rev\":");
-        let at = put_before(&mut room, at, row.id.as_str().as_bytes());
-        let at = put_sequence_before(&mut room, at, self.life, row.seq);
-        put_from(out, room.as_slice(), at)
+        match self.short {
+            Some(text) => out.extend_from_slice(revision_part(text).as_slice()),
+            None => {
+                out.extend_from_slice(b"\",\"changes\":[{\"rev\":")?;
+                self.rev.print_quoted(out)?;
+                Ok(())
+            }
+        }
     }
 
     // Appends its document.
@@ -253,8 +217,8 @@ impl PlainRow<'_, '_> {
         Ok(())
     }
 
-    // Appends all of it, part by part.
-    fn put_parts(&self, out: &mut Vec<u8>) -> Result<(), AllocError>
+    // Appends all of it.
+    fn put(&self, out: &mut Vec<u8>) -> Result<(), AllocError>
         ensures { Appends (change_row_text self.now.life self.now.row.now) result
             out.old.items out.new.items }
     {
@@ -262,26 +226,6 @@ impl PlainRow<'_, '_> {
         self.put_revision(out)?;
         self.put_end(out)?;
         Ok(())
-    }
-
-    // Appends all of it.
-    fn put(&self, out: &mut Vec<u8>) -> Result<(), AllocError>
-        ensures { Appends (change_row_text self.now.life self.now.row.now) result
-            out.old.items out.new.items }
-    {
-        let row = self.row;
-        let Some(rev) = self.short else {
-            return self.put_parts(out);
-        };
-        if row.deleted || row.id.as_str().len() > LONGEST {
-            return self.put_parts(out);
-        }
-        let Some(body) = &row.doc else {
-            return self.put_at_once(out, rev, b"}]}");
-        };
-        self.put_at_once(out, rev, b"}],\"doc\":")?;
-        row.write_plain_doc(out, body, rev)?;
-        out.extend_from_slice(b"}")
     }
 }
 

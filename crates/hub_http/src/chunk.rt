@@ -1,7 +1,7 @@
 //! Chunks to a writer.
 
 ghost use Rattle.std.specs.Prelude.{◌≡◌, ◌<◌, ◌≤◌, [], ◌∷◌, ◌++◌, drop};
-ghost use Rattle.std.specs.Prelude.{OnOk, false, length, IfOk, IsErrOf};
+ghost use Rattle.std.specs.Prelude.{false, length, IfOk, IsErrOf};
 ghost use Rattle.std.specs.Fmt.{digit_glyph, digits};
 ghost use Rattle.hub_http.specs.Chunks.{WritesTo, text_chunks};
 
@@ -54,18 +54,6 @@ fn put_head(bytes: &mut [u8], size: usize) -> usize
     at
 }
 
-// Keeps the room for the head of a chunk, and nothing behind it.
-#[inline(always)]
-fn keep_room(buffer: &mut Vec<u8>) -> Result<(), AllocError>
-    ensures { OnOk result (length buffer.new.items ≡ 18) }
-{
-    if buffer.len() < ROOM {
-        return buffer.resize(ROOM, b'0');
-    }
-    buffer.truncate(ROOM);
-    Ok(())
-}
-
 /// Writes texts as chunks (RFC 9112, section 7.1), each by one call of the writer where that takes
 /// all of it. A text is made where its chunk is written from, and is not copied.
 #[derive(Debug, Drop)]
@@ -93,7 +81,7 @@ impl ChunkWriter {
         ensures { IfOk result (λ start. (start ≤ length self.new.buffer.items)
             × (drop start self.new.buffer.items ≡ text_chunks (T.bytes text.now))) }
     {
-        keep_room(&mut self.buffer)?;
+        self.buffer.resize(ROOM, b'0')?;
         text.append(&mut self.buffer)?;
         let size = self.buffer.len() - ROOM;
         if size == 0 {

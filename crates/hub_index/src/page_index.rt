@@ -185,7 +185,6 @@ impl SeqIndex for PageIndex {
 
     /// A search for the page of the place, and a look at the slots from the place to the row: at most
     /// those of two pages.
-    #[inline(always)]
     fn next_after(&self, place: u64, bound: Option<u64>) -> Option<(u64, u32)> {
         let (seq, document) = row_after(self.pages.as_slice(), place)?;
         match bound {

@@ -11,7 +11,7 @@ returns g c =
     let some : 18 < length held = omega (arith, c.len-size.ensures, c.if-size-eq0.false) in
     let made =
     ap (drop 18) c.in_ok-append.ensures
-    ∙ drop_at c.keep_room.new.buffer.items _ 18 (omega (arith, c.in_ok-keep_room.ensures)) in (
+    ∙ drop_at c.resize.new.self.items _ 18 (omega (arith, c.in_ok-resize.ensures.len)) in (
       grind (arith, common_steps),
       lent_whole c.put_head.new.bytes _ _ c.push-2.new.self.len c.put_head.result (omega arith)
           (chunk_made held c.as_mut_slice.result.now _ c.put_head.result c.len-size.result some
