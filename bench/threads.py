@@ -3,10 +3,10 @@
 
     python3 bench/threads.py
 
-runs the proved program of crates/threads_bench, which `rt run` builds there, and prints writes a second
-beside feeds that one thread sends, and the time from a write until the last of 1,000 feeds has its row.
-Only Python's standard library is used. No figure is asserted anywhere: a figure is read, beside the
-machine's load.
+runs the proved program of crates/threads_bench, which `rt all check` builds, and prints writes a second
+beside feeds that are read, the time from a write until the last of 1,000 feeds has its row, and the
+processor time of readers that stopped. Only Python's standard library is used. No figure is asserted
+anywhere: a figure is read, beside the machine's load.
 """
 
 import os
@@ -30,7 +30,7 @@ def at_share(sorted_figures, share):
 
 def main():
     if not os.path.exists(BENCH):
-        sys.exit("no program: run `rt run` in crates/threads_bench first")
+        sys.exit("no program: run `rt all check` first")
     print("load %.1f, %d processors" % (os.getloadavg()[0], os.cpu_count()))
     for feeds, count in ((0, 20_000), (100, 2_000), (1_000, 200)):
         (passed,) = figures("writes", feeds, count)
@@ -38,6 +38,8 @@ def main():
     news = figures("news", 1_000, 100)
     print("a write until the last of 1,000 feeds has its row: median %.2f ms, 99 in 100 within %.2f ms"
           % (at_share(news, 50) / 1000, at_share(news, 99) / 1000))
+    (idle,) = figures("stopped", 10, 1_000)
+    print("processor time of ten stopped readers over a second: %.2f ms" % (idle / 1000))
 
 
 if __name__ == "__main__":

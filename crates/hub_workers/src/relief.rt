@@ -95,8 +95,8 @@ where
     S: Service + Watchable + Send + Drop,
     K: Clock + Sync,
 {
-    // Starts a thread that relieves a worker's runner, where that was held since the last look. Without memory
-    // or a thread for it, the next look tries again.
+    // Starts a thread that relieves a worker's runner, where that was held since the last look. Without
+    // memory or a thread for it, the next look tries again.
     fn relieve_held<'s>(&'e self, scope: &'s Scope<'s, &'e ()>, seat: &'e Seat<S>) {
         let Some(number) = seat.held() else {
             return;

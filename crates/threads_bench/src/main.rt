@@ -1,18 +1,18 @@
 //! Measures databases that threads share, and prints microseconds: `writes FEEDS COUNT`, the time of
-//! so many writes; `news FEEDS ROUNDS`, for each write the time until each feed's row was taken, rising.
-//! One thread sends all feeds, as a worker of the server does: it polls each of them, and sleeps where none
-//! has an item until the next write. With no argument the program does nothing.
+//! so many writes; `news FEEDS ROUNDS`, for each write the time until every feed's reader took its row,
+//! rising; `stopped READERS DOCUMENTS`, the processor time of a second in which readers with full lanes
+//! take nothing. With no argument it does nothing.
 #![tactic(auto)]
 
 use hub_document::{Doc, Limits};
 use hub_model::Item;
 use hub_params::FeedParams;
-use hub_shared::{Clock, Db, Feed, Gate, Handle, Plain, Point};
+use hub_shared::{Clock, Db, Feed, Gate, Handle, Plain, Point, pump};
 use std::alloc::Global;
 use std::sync::Wait;
-use std::sync::atomic::{AtomicU64, Ordering};
+use std::sync::atomic::{AtomicBool, AtomicU64, Ordering};
 use std::thread::{self, Parker, Threads};
-use std::time::{self, Duration, Instant};
+use std::time::{self, CpuClock, Duration, Instant};
 use std::{env, io};
 
 // A gate that is open, and a clock that stands.
@@ -38,10 +38,10 @@ struct Scene {
     open: AtomicU64,
     /// How many rows were taken.
     rows: AtomicU64,
-    /// Rung behind each write, and behind the deletion.
-    written: Parker,
-    /// Rung where each feed's row was taken.
+    /// Rung where every feed's reader took a row.
     taken: Parker,
+    /// Whether the measuring is done.
+    is_done: AtomicBool,
 }
 
 impl Scene {
@@ -53,55 +53,56 @@ impl Scene {
     }
 }
 
-// Takes what is due to a feed; whether it has ended.
-fn send<R: Wait>(rt: &R, scene: &Scene, feed: &mut Feed<Plain>) -> bool {
-    let mut next = None;
+// Takes a feed's items until its end.
+fn read<R: Wait>(rt: &R, scene: &Scene, mut feed: Feed<Plain>) {
+    scene.open.fetch_add(1, Ordering::SeqCst);
     for _ in rt.forever() {
-        feed.poll(rt, &Free, &Free, &mut next);
-        match &next {
+        let is_over = feed.is_over();
+        match feed.take(rt) {
             Some(Item::Row(_)) => scene.count_row(),
             Some(Item::Beat) => {}
-            Some(Item::End { .. }) => return true,
-            None => break,
+            Some(Item::End { .. }) => break,
+            None if is_over => break,
+            None => feed.wait(rt),
         }
     }
-    feed.is_over()
+    drop(feed.finish(rt));
 }
 
-// Takes what is due to each feed; whether all have ended.
-fn send_all<R: Wait>(rt: &R, scene: &Scene, feeds: &mut Vec<Feed<Plain>>) -> bool {
-    let mut all_ended = true;
-    for feed in feeds.iter_mut() {
-        let has_ended = send(rt, scene, feed);
-        all_ended = all_ended && has_ended;
-    }
-    all_ended
-}
-
-// A continuous feed of each row.
-fn open_feed<R: Wait>(rt: &R, alloc: Global, scene: &Scene) -> Option<Feed<Plain>> {
-    let params = FeedParams::read(alloc, b"feed=continuous", b"").ok()?;
-    let feed = scene.db.handle().ok()?.open_feed(rt, params).ok()?;
+// Takes nothing until the measuring is done.
+fn stand<R: Wait + time::Clock>(rt: &R, scene: &Scene, feed: Feed<Plain>) {
     scene.open.fetch_add(1, Ordering::SeqCst);
-    Some(feed)
-}
-
-// Opens the feeds, and sends them until their ends.
-fn send_feeds<R: Wait>(rt: &R, alloc: Global, scene: &Scene) -> Option<()> {
-    let mut feeds = Vec::new(alloc);
-    for _ in 0..scene.feeds {
-        feeds.push(open_feed(rt, alloc, scene)?).ok()?;
-    }
     for _ in rt.forever() {
-        if send_all(rt, scene, &mut feeds) {
+        if scene.is_done.load(Ordering::SeqCst) {
             break;
         }
-        scene.written.park(rt);
+        thread::sleep(rt, Duration::from_millis(100));
     }
-    for feed in feeds {
-        drop(feed.finish(rt));
-    }
-    Some(())
+    drop(feed.finish(rt));
+}
+
+// A feed with its pump and its reader, which stands or takes.
+fn follow<R: Threads + Wait + time::Clock + Sync>(
+    rt: &R,
+    alloc: Global,
+    scene: &Scene,
+    stands: bool,
+) -> Option<()> {
+    let params = FeedParams::read(alloc, b"feed=continuous", b"").ok()?;
+    let feed = scene.db.handle().ok()?.open_feed(rt, params).ok()?;
+    let id = feed.id();
+    let (pumped, ()) = thread::join(
+        rt,
+        || pump(rt, &scene.db, id, &Free, &Free).is_ok(),
+        || {
+            if stands {
+                stand(rt, scene, feed)
+            } else {
+                read(rt, scene, feed)
+            }
+        },
+    );
+    pumped.then_some(())
 }
 
 // Documents of one edit each.
@@ -115,7 +116,7 @@ fn documents(alloc: Global, count: u64) -> Option<Vec<Vec<Doc>>> {
     Some(all)
 }
 
-// Waits until every feed is open, and was found to have nothing.
+// Waits until every feed is open, and its pump had time to find nothing.
 fn wait_for_feeds<R: Wait + time::Clock>(rt: &R, scene: &Scene) {
     for _ in rt.forever() {
         if scene.open.load(Ordering::SeqCst) >= scene.feeds {
@@ -131,29 +132,21 @@ fn micros(start: &Instant, now: &Instant) -> Option<u64> {
     u64::try_from(passed.as_micros()).ok()
 }
 
-// Writes documents, and wakes the thread that sends.
-fn write<R: Wait>(rt: &R, scene: &Scene, handle: &mut Handle<Plain>, docs: Vec<Doc>) -> Option<()> {
-    handle.store(rt, docs, false).ok()?;
-    scene.written.unpark();
-    Some(())
-}
-
 // How many microseconds it takes to write documents, one a call.
 fn time_writes<R: Wait + time::Clock>(
     rt: &R,
-    scene: &Scene,
     handle: &mut Handle<Plain>,
     all: Vec<Vec<Doc>>,
 ) -> Option<u64> {
     let start = Instant::now(rt).ok()?;
     for docs in all {
-        write(rt, scene, handle, docs)?;
+        handle.write(rt, docs, false).ok()?;
     }
     let end = Instant::now(rt).ok()?;
     micros(&start, &end)
 }
 
-// How many microseconds pass from a write until each feed's row was taken.
+// How many microseconds pass from a write until every feed's reader took its row.
 fn time_news<R: Wait + time::Clock>(
     rt: &R,
     scene: &Scene,
@@ -162,7 +155,7 @@ fn time_news<R: Wait + time::Clock>(
     wanted: u64,
 ) -> Option<u64> {
     let start = Instant::now(rt).ok()?;
-    write(rt, scene, handle, docs)?;
+    handle.write(rt, docs, false).ok()?;
     for _ in rt.forever() {
         if scene.rows.load(Ordering::SeqCst) >= wanted {
             break;
@@ -192,15 +185,24 @@ fn times_of_news<R: Wait + time::Clock>(
     Some(times)
 }
 
+// The processor time in microseconds that the process takes in a second.
+fn time_idle<R: time::Clock + CpuClock>(rt: &R) -> Option<u64> {
+    let before = rt.process_cpu_time().ok()?;
+    thread::sleep(rt, Duration::from_secs(1));
+    let after = rt.process_cpu_time().ok()?;
+    u64::try_from(after.checked_sub(before)?.as_micros()).ok()
+}
+
 // What is measured.
 #[derive(Clone, Copy, PartialEq, Eq)]
 enum Measure {
     Writes,
     News,
+    Stopped,
 }
 
 // Measures, with every feed open, and then ends the feeds.
-fn figures_of<R: Wait + time::Clock>(
+fn figures_of<R: Wait + time::Clock + CpuClock>(
     rt: &R,
     alloc: Global,
     scene: &Scene,
@@ -212,18 +214,24 @@ fn figures_of<R: Wait + time::Clock>(
     wait_for_feeds(rt, scene);
     let figures = match what {
         Measure::Writes => {
-            let passed = time_writes(rt, scene, &mut handle, all)?;
+            let passed = time_writes(rt, &mut handle, all)?;
             vec![in alloc; passed].ok()
         }
         Measure::News => times_of_news(rt, alloc, scene, &mut handle, all),
+        Measure::Stopped => {
+            time_writes(rt, &mut handle, all)?;
+            thread::sleep(rt, Duration::from_millis(500));
+            let passed = time_idle(rt)?;
+            vec![in alloc; passed].ok()
+        }
     };
+    scene.is_done.store(true, Ordering::SeqCst);
     handle.delete(rt).ok()?;
-    scene.written.unpark();
     figures
 }
 
 // Measures with so many feeds.
-fn run<R: Threads + Wait + time::Clock + Sync>(
+fn run<R: Threads + Wait + time::Clock + CpuClock + Sync>(
     rt: &R,
     alloc: Global,
     what: Measure,
@@ -236,16 +244,28 @@ fn run<R: Threads + Wait + time::Clock + Sync>(
         feeds,
         open: AtomicU64::new(0),
         rows: AtomicU64::new(0),
-        written: Parker::new(),
         taken: Parker::new(),
+        is_done: AtomicBool::new(false),
     };
-    let (figures, sent) = thread::join(
+    let parts = thread::map_indices(
         rt,
-        || figures_of(rt, alloc, &scene, what, count),
-        || send_feeds(rt, alloc, &scene),
+        alloc,
+        feeds.saturating_add(1) as usize,
+        &|at| {
+            if at == 0 {
+                return figures_of(rt, alloc, &scene, what, count);
+            }
+            follow(rt, alloc, &scene, what == Measure::Stopped)?;
+            Some(Vec::new(alloc))
+        },
     );
-    sent?;
-    figures
+    let mut first = None;
+    for part in parts.ok()? {
+        if first.is_none() {
+            first = Some(part?);
+        }
+    }
+    first
 }
 
 fn number(text: Option<&String>) -> u64 {
@@ -263,6 +283,7 @@ fn main(rt: HostRuntime) -> io::Result<()> {
     let what = match word {
         Some(word) if word.as_str() == "writes" => Measure::Writes,
         Some(word) if word.as_str() == "news" => Measure::News,
+        Some(word) if word.as_str() == "stopped" => Measure::Stopped,
         _ => return Ok(()),
     };
     let Some(figures) = run(&rt, rt.alloc(), what, feeds, count) else {

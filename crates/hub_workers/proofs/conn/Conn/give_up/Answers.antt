@@ -3,7 +3,9 @@ use Rattle.hub_workers.proofs.DrivenLemmas.{driven_on}
 use Rattle.hub_workers.proofs.conn.Conn.give_up.Goals as goal
 
 pub invariant_of-self : goal.invariant_of-self
-invariant_of-self g c = record {
-  has_run = driven_on g.S.Service.rules (seen c.args.self.now.driven.session) (seen c.give_up.new.self) (λ run. run)
-      c.give_up.ensures.run c.args.self.now.driven.has_run;
-}
+invariant_of-self g c =
+    let was = c.args.self.now.driven in
+    record {
+      has_run = driven_on g.S.Service.rules (seen was.session) (seen c.give_up.new.self) (λ run. run)
+          c.give_up.ensures.run was.has_run;
+    }

@@ -3,7 +3,9 @@ use Rattle.hub_workers.proofs.DrivenLemmas.{driven_on}
 use Rattle.hub_workers.proofs.conn.Conn.step.Goals as goal
 
 pub invariant_of-self : goal.invariant_of-self
-invariant_of-self g c = record {
-  has_run = driven_on g.S.Service.rules (seen c.args.self.now.driven.session) (seen c.step-step.new.self) (λ run. run)
-      c.step-step.ensures.run c.args.self.now.driven.has_run;
-}
+invariant_of-self g c =
+    let was = c.args.self.now.driven in
+    record {
+      has_run = driven_on g.S.Service.rules (seen was.session) (seen c.step-step.new.self) (λ run. run)
+          c.step-step.ensures.run was.has_run;
+    }
