@@ -89,8 +89,8 @@ fn missing_revisions(alloc: Global, diffs: Vec<Diff>) -> Result<VecDeque<Asked>,
     Ok(asked)
 }
 
-/// The next document that the target misses is fetched. Where there is none, all that were fetched are stored,
-/// or the round is over. It takes no memory.
+/// The next document that the target misses is fetched. Where there is none, all that were fetched are
+/// stored, or the round is over. It takes no memory.
 pub(crate) fn retrieval_or_storage(later: VecDeque<Asked>, got: FetchedDocs, last: Seq) -> Next
     ensures value { (s : follow.Session)
         → follower_behind s result ≡ follow.retrieval_or_storage s later.items (map edit_of got) last }

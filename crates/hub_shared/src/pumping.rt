@@ -37,8 +37,9 @@ pub(crate) struct Holding {
 
 impl<S: FeedHost, C: Count> Host<S, C> {
     /// One holding of the lock: the items that wait go into the lane as one block, then come the steps, and
-    /// the items that the steps sent go into the lane as another, also where the steps found no memory. Items
-    /// that wait behind a turn that hands are told as `Full`: once there is room the feed is to be held again.
+    /// the items that the steps sent go into the lane as another, also where the steps found no memory.
+    /// Items that wait behind a turn that hands are told as `Full`: once there is room the feed is to be
+    /// held again.
     pub(crate) fn hold_once<R, G>(
         &self,
         rt: &R,
