@@ -1,13 +1,7 @@
 -- What one hand does, seen of a feed, and of all that keeps it.
-use Rattle.std.proofs.Common.{◌≡◌, ℕ, List, Some, subst, sym, refl, IfSome}
-use Rattle.hub_model.specs.Current.{Current}
-use Rattle.hub_model.specs.Feed.{Feed, Due, DueRow, DueEnd, DueNothing, DueGone, after_due}
-use Rattle.hub_model.specs.Hand.{item_of}
+use Rattle.std.proofs.Common.{◌≡◌, subst, sym}
 use Rattle.hub_model.specs.declared.feeds.Item.{Item}
-use Rattle.hub_model.specs.declared.feeds.Item.TheVariants as item
-use Rattle.hub_feed.specs.Due.{after_sequence, due_sequence}
-use Rattle.hub_feed.specs.Hand.{HandsTo, handed_as}
-use Rattle.hub_feed.specs.Next.{next_of}
+use Rattle.hub_feed.specs.Hand.{HandsTo}
 use Rattle.hub_feed.specs.declared.handed.Handed.{Handed}
 use Rattle.hub_feed.specs.declared.handed.Handed.TheVariants as handed
 use Rattle.hub_feed.specs.declared.next.Next.{Next}
@@ -42,35 +36,3 @@ module _ {R K : Type 0} (behind : K → Item R → K) (refuses : K → Item R �
   hands_keeps (next.Give item) handed.Gone taker hands = absurd hands
   hands_keeps next.Nothing did taker hands = subst P (sym hands.1) looks
   hands_keeps next.Gone did taker hands = subst P (sym hands.1) stays
-
--- an item that is given is due
-pub given_due : {R : Type 0} (show : Current → R) (rows : List Current) (due : Due) (given : Item R)
-    → next_of show rows due ≡ next.Give given → item_of show rows due ≡ Some given
-given_due show rows (DueRow row) given e = cc
-given_due show rows (DueEnd last_seq) given e = cc
-given_due show rows DueNothing given e = absurd (cc)
-given_due show rows DueGone given e = absurd (cc)
-
--- a feed goes on by the sequence that was due as by what was due, where that is an item
-pub sequence_after : {R : Type 0} (show : Current → R) (rows : List Current) (feed : Feed) (due : Due)
-    (len : ℕ) (given : Item R) → next_of show rows due ≡ next.Give given
-    → after_sequence feed (due_sequence due) len ≡ after_due feed due len
-sequence_after show rows feed (DueRow row) len given e = refl
-sequence_after show rows feed (DueEnd last_seq) len given e = refl
-sequence_after show rows feed DueNothing len given e = absurd (cc)
-sequence_after show rows feed DueGone len given e = absurd (cc)
-
--- what a hand does whose item was taken
-module _ {R K X : Type 0} (behind : K → Item R → K) (refuses : K → Item R → Type 0) (old given looked new : X)
-    (sink taker : K) (goes : new ≡ given) where
-  pub hands_taken : (one : Item R) (did : Handed) → did ≡ handed_as one → taker ≡ behind sink one
-      → HandsTo behind refuses old given looked sink (next.Give one) did new taker
-  hands_taken (item.Row row) did e t =
-      subst (λ d. HandsTo behind refuses old given looked sink (next.Give (item.Row row)) d new taker)
-      (sym e) (refl, goes, t)
-  hands_taken item.Beat did e t =
-      subst (λ d. HandsTo behind refuses old given looked sink (next.Give item.Beat) d new taker)
-      (sym e) (refl, goes, t)
-  hands_taken (item.End last_seq pending) did e t =
-      subst (λ d. HandsTo behind refuses old given looked sink (next.Give (item.End last_seq pending))
-      d new taker) (sym e) (refl, goes, t)

@@ -319,11 +319,38 @@ impl FeedState {
         self.accept_due(source, sequence);
     }
 
+    // Gives the sink the item that is due, and goes on behind it. Where the sink gives it back nothing
+    // changes. It costs a push.
+    #[inline(always)]
+    fn give<S: Source, K: Sink<Item<S::Row>>, H: Pushes<K, Item<S::Row>>>(
+        &mut self,
+        source: &S,
+        given: DueSequence,
+        item: Item<S::Row>,
+        handle: &H,
+        sink: &mut K,
+    ) -> Handed
+        requires due { given ≡ due_sequence (due (S.current source.now) self.old) }
+        requires item { next_of (S.shown source.now self.old.params.style self.old.params.include_docs)
+            (S.current source.now) (due (S.current source.now) self.old) ≡ Give item }
+        requires may { MayTake K.allows K.sent sink.old item }
+        ensures { HandsTo K.behind (H.refuses handle.now) self.old
+            (after_due self.old (due (S.current source.now) self.old) (S.length source.now))
+            (after_nothing self.old (S.length source.now)) sink.old (Give item) result self.new sink.new }
+    {
+        let handed = Handed::of(&item);
+        if let Err(_back) = handle.push(sink, item) {
+            return Handed::Full;
+        }
+        self.accept_due(source, given);
+        handed
+    }
+
     /// Hands what is due, where the first row in reach of an open feed is known: it has this sequence,
     /// if there is one. The item is made, then `sink` takes it, and only then the feed goes on. Where
     /// `sink` gives it back nothing changes, and the next hand makes it again. A feed that has nothing
     /// to hand goes to the source's length. Only a row takes memory, and without it nothing changes. It
-    /// costs what the row does, or the count of the rows above an end, and a push.
+    /// costs what `next_item_at` does, and a push.
     pub fn hand<S: Source, K: Sink<Item<S::Row>>, H: Pushes<K, Item<S::Row>>>(
         &mut self,
         source: &S,
@@ -346,23 +373,20 @@ impl FeedState {
             × IsRowDue (due (S.current source.now) self.old)) }
     {
         let due = self.due(first);
-        let item = match due {
+        match due {
             DueSequence::Row(seq) => {
-                Item::Row(source.row(seq, self.params.style, self.params.include_docs)?)
+                let row = source.row(seq, self.params.style, self.params.include_docs)?;
+                Ok(self.give(source, due, Item::Row(row), handle, sink))
             }
-            DueSequence::End(last_seq) => end_at(source, last_seq),
+            DueSequence::End(last_seq) => {
+                Ok(self.give(source, due, end_at(source, last_seq), handle, sink))
+            }
             DueSequence::Nothing => {
                 self.place = source.length();
-                return Ok(Handed::Nothing);
+                Ok(Handed::Nothing)
             }
-            DueSequence::Gone => return Ok(Handed::Gone),
-        };
-        let handed = Handed::of(&item);
-        if let Err(_back) = handle.push(sink, item) {
-            return Ok(Handed::Full);
+            DueSequence::Gone => Ok(Handed::Gone),
         }
-        self.accept_due(source, due);
-        Ok(handed)
     }
 
     /// Whether it may hand rows. Constant time.
