@@ -7,12 +7,12 @@ use Rattle.changes_hub.specs.declared.command.Command.{Command}
 use Rattle.changes_hub.specs.declared.command.Command.TheVariants as command
 
 -- what the program is asked to do: to answer standard input, or to serve so many connections at an address
-pub data Asked : Type 0 where
-  Stdin : Asked
-  Serve : (address : List ℕ) (count : ℕ) → Asked
+pub data ProgramTask : Type 0 where
+  Stdin : ProgramTask
+  Serve : (address : List ℕ) (count : ℕ) → ProgramTask
 
 -- what a command is asked to do
-abbrev pub asked_of : Command → Asked
+abbrev pub asked_of : Command → ProgramTask
 asked_of command.Stdin = Stdin
 asked_of (command.Serve address count) = Serve (string_bytes address) count
 
@@ -31,12 +31,12 @@ count_in text =
     if is_numeral text && nat_lt (digits_value 10 text) (2 ^ 32) then Some (digits_value 10 text) else None
 
 -- nothing stands behind `stdin`
-abbrev pub stdin_with : List (List ℕ) → Option Asked
+abbrev pub stdin_with : List (List ℕ) → Option ProgramTask
 stdin_with [] = Some Stdin
 stdin_with (word ∷ words) = None
 
 -- an ADDRESS and a COUNT stand behind `serve`, and nothing else; whether the address is one is not looked at
-abbrev pub serve_with : List (List ℕ) → Option Asked
+abbrev pub serve_with : List (List ℕ) → Option ProgramTask
 serve_with [] = None
 serve_with (address ∷ []) = None
 serve_with (address ∷ text ∷ []) = option_map (Serve address) (count_in text)
@@ -44,7 +44,7 @@ serve_with (address ∷ text ∷ word ∷ words) = None
 
 -- What words ask for, without the program's own name; where they are no command the usage is told. `stdin` is
 -- a command, and `serve 127.0.0.1:5984 3` is one. `serve`, `stdin 3` and `serve 127.0.0.1:5984 x` are none.
-abbrev pub asked_by : List (List ℕ) → Option Asked
+abbrev pub asked_by : List (List ℕ) → Option ProgramTask
 asked_by [] = None
 asked_by (first ∷ words) =
     if bytes_eq first (codes "stdin") then stdin_with words

@@ -7,8 +7,8 @@ use Rattle.hub_model.specs.Journal.{Edit}
 use Rattle.hub_revtree.specs.Tree.{Tip, tip, tip_of}
 use Rattle.hub_database.specs.declared.document.Document.{Document}
 use Rattle.hub_database.specs.declared.entry.Entry.{Entry}
-use Rattle.hub_database.specs.Filed.{Filed, named, no_edit, edit_in, edit_at, journal_of, IsFiled}
-use Rattle.hub_database.specs.Documents.{filed, files}
+use Rattle.hub_database.specs.Filed.{FiledDocument, edit_with_id, no_edit, edit_in, edit_at, journal_of, IsFiled}
+use Rattle.hub_database.specs.Documents.{filed_document, files}
 use Rattle.hub_database.specs.Reads.{bare_doc, doc_shown, entry_at}
 use Rattle.hub_database.proofs.RowLemmas.{get_default, document_of}
 
@@ -16,21 +16,21 @@ use Rattle.hub_database.proofs.RowLemmas.{get_default, document_of}
 pub edit_found : (limit : ℕ) (numbers : List ℕ → Option ℕ) (documents : List Document) (entries : List Entry)
     → IsFiled limit numbers (files documents) entries → (k : ℕ) (x : Entry) → slice_get entries k ≡ Some x
     → (document : Document) → document ≡ get_or documents x.document document
-    → option_map (named document.id) (slice_get document.tree.edits x.revision)
+    → option_map (edit_with_id document.id) (slice_get document.tree.edits x.revision)
     ≡ slice_get (journal_of (files documents) entries) k
 edit_found limit numbers documents entries st k x here document is =
     let at : slice_get documents x.document ≡ Some document =
     document_of limit numbers documents entries st k x here document is in
-    let filed_so : slice_get (files documents) x.document ≡ Some (filed document) =
-    slice_get-map filed documents x.document ∙ ap (option_map filed) at in
+    let filed_so : slice_get (files documents) x.document ≡ Some (filed_document document) =
+    slice_get-map filed_document documents x.document ∙ ap (option_map filed_document) at in
     let w = st.within k x here in
-    let same : w.0 ≡ filed document = same_Some w.0 (filed document) (sym w.1 ∙ filed_so) in
+    let same : w.0 ≡ filed_document document = same_Some w.0 (filed_document document) (sym w.1 ∙ filed_so) in
     let low : x.revision < length document.tree.edits =
-    subst (λ (z : Filed). x.revision < length z.edits) same w.2 in
+    subst (λ (z : FiledDocument). x.revision < length z.edits) same w.2 in
     let there : slice_get document.tree.edits x.revision ≡ Some
     (get_or document.tree.edits x.revision no_edit) =
     get_default document.tree.edits document.tree.edits x.revision no_edit refl low in
-    ap (option_map (named document.id)) there
+    ap (option_map (edit_with_id document.id)) there
     ∙ (sym (ap (λ o. Some (edit_in o x.revision)) filed_so)
     ∙ sym (slice_get-map (edit_at (files documents)) entries k
     ∙ ap (option_map (edit_at (files documents))) here))
@@ -41,7 +41,7 @@ module _ {A : Type 0} (id : List ℕ) (rev : A → Revision) (deleted : A → Bo
   pub bare_lent : (maybe_edit : Option Edit)
       → Some (tip (rev x) (deleted x) (body x)) ≡ option_map tip_of maybe_edit
       → Some (bare_doc id (rev x) (deleted x) (body x))
-      ≡ option_map (doc_shown false) (option_map (named id) maybe_edit)
+      ≡ option_map (doc_shown false) (option_map (edit_with_id id) maybe_edit)
   bare_lent None e = absurd (none-some (tip (rev x) (deleted x) (body x)) (sym e))
   bare_lent (Some edit) e =
       let same : tip (rev x) (deleted x) (body x) ≡ tip_of edit = same_Some _ _ e in
@@ -50,12 +50,12 @@ module _ {A : Type 0} (id : List ℕ) (rev : A → Revision) (deleted : A → Bo
 
 pub path_lent : (id : List ℕ) (path : Option (List Revision)) (maybe_edit : Option Edit)
     → Some path ≡ option_map (λ e. Some e.path) maybe_edit
-    → Some path ≡ option_map (λ e. Some e.path) (option_map (named id) maybe_edit)
+    → Some path ≡ option_map (λ e. Some e.path) (option_map (edit_with_id id) maybe_edit)
 path_lent id path None e = absurd (none-some path (sym e))
 path_lent id path (Some edit) e = e
 
 pub none_lent : (id : List ℕ) (maybe_edit : Option Edit) → None ≡ option_map tip_of maybe_edit
-    → option_map (named id) maybe_edit ≡ None
+    → option_map (edit_with_id id) maybe_edit ≡ None
 none_lent id None e = refl
 none_lent id (Some edit) e = absurd (none-some (tip_of edit) e)
 

@@ -14,7 +14,7 @@ use Rattle.hub_index.proofs.IndexLemmas.{of_head, of_tail, filter_reverse}
 use Rattle.hub_model.specs.Current.{Current, current_from, current, pending, is_edited}
 use Rattle.hub_model.specs.Descending.{Descending, at_most, descending, falling, falling_rows, lowest}
 use Rattle.hub_model.specs.Feed.{Params, since_of}
-use Rattle.hub_model.specs.Filter.{passes}
+use Rattle.hub_model.specs.Filter.{is_passing}
 use Rattle.hub_model.specs.Journal.{Edit}
 use Rattle.hub_model.specs.Row.{ChangeRow, row_of}
 use Rattle.hub_model.proofs.Lists.{contains_none, contains_here, contains_there, contains_cases}
@@ -145,7 +145,7 @@ module _ (q : Current → Bool) where
 
 -- a row that passes, and lies above where the feed begins
 abbrev pub is_shown : Params → ℕ → Current → Bool
-is_shown asked since row = nat_lt since row.seq && passes asked.filter row.id
+is_shown asked since row = nat_lt since row.seq && is_passing asked.filter row.id
 
 current_few : (n : ℕ) (journal : List Edit) → length (current_from n journal) ≤ length journal
 current_few n [] = omega arith
@@ -206,33 +206,33 @@ module _ (journal : List Edit) (asked : Params) (since : ℕ) where
     step = step_some (is_shown asked since) (falling_all journal) place c falls (sym found)
 
     -- a row that does not pass
-    pub passed_by : since < c.seq → passes asked.filter c.id ≡ false → left place ≡ left c.seq
+    pub passed_by : since < c.seq → is_passing asked.filter c.id ≡ false → left place ≡ left c.seq
     passed_by h f =
         step
         ∙ ap (λ b. if b then (c ∷ left c.seq) else left c.seq)
-        (ap (λ b. b && passes asked.filter c.id) (lt-ltb since c.seq h) ∙ f)
+        (ap (λ b. b && is_passing asked.filter c.id) (lt-ltb since c.seq h) ∙ f)
 
     -- and one that does
-    pub taken_up : since < c.seq → passes asked.filter c.id ≡ true → left place ≡ c ∷ left c.seq
+    pub taken_up : since < c.seq → is_passing asked.filter c.id ≡ true → left place ≡ c ∷ left c.seq
     taken_up h t =
         step
         ∙ ap (λ b. if b then (c ∷ left c.seq) else left c.seq)
-        (ap (λ b. b && passes asked.filter c.id) (lt-ltb since c.seq h) ∙ t)
+        (ap (λ b. b && is_passing asked.filter c.id) (lt-ltb since c.seq h) ∙ t)
 
     -- none of the rows from here on lies above where the feed begins
     pub past_since : c.seq ≤ since → left place ≡ []
     past_since h =
         step
         ∙ (ap (λ b. if b then (c ∷ left c.seq) else left c.seq)
-        (ap (λ b. b && passes asked.filter c.id) (le-ltb since c.seq h))
+        (ap (λ b. b && is_passing asked.filter c.id) (le-ltb since c.seq h))
         ∙ filter_nothing (λ (d : Current). nat_lt d.seq c.seq && is_shown asked since d)
         (falling_all journal) (λ d m. low d))
       where
-        low : (d : Current) → (nat_lt d.seq c.seq && (nat_lt since d.seq && passes asked.filter d.id)) ≡ false
+        low : (d : Current) → (nat_lt d.seq c.seq && (nat_lt since d.seq && is_passing asked.filter d.id)) ≡ false
         low d = elim (cases_Bool (nat_lt d.seq c.seq)) [
           | inl t ↦
               ap (λ b. b && is_shown asked since d) t
-              ∙ ap (λ b. b && passes asked.filter d.id)
+              ∙ ap (λ b. b && is_passing asked.filter d.id)
               (le-ltb since d.seq (let l : d.seq < c.seq = ltb-true d.seq c.seq t in omega (arith, l, h)))
           | inr f ↦ ap (λ b. b && is_shown asked since d) f
         ]
@@ -347,7 +347,7 @@ module _ (journal : List Edit) (asked : Params) (since : ℕ) where
       filter_in (is_shown asked since) (current journal) row
       (contains_reverse (filter (is_shown asked since) (current journal)) row
       (contains_most asked.limit (reverse (filter (is_shown asked since) (current journal))) row h)) in
-      ltb-true since row.seq (and_parts (nat_lt since row.seq) (passes asked.filter row.id) i.1).0
+      ltb-true since row.seq (and_parts (nat_lt since row.seq) (is_passing asked.filter row.id) i.1).0
 
   -- the lowest row that is shown
   lowest_shown : (rows : List Current) → lowest_row since (map show rows) ≡ lowest since rows

@@ -8,7 +8,7 @@ use Rattle.hub_model.specs.Row.{is_deleted}
 use Rattle.hub_database.specs.declared.answers.Info.{Info}
 use Rattle.hub_database.specs.declared.contents.Contents.TheInside.{Inside}
 use Rattle.hub_database.specs.Reads.{info_of}
-use Rattle.hub_database.specs.Documents.{filed, files, deleted_in}
+use Rattle.hub_database.specs.Documents.{filed_document, files, deleted_in}
 use Rattle.hub_database.specs.Inside.{HasDocuments, IsCounted, edits_inside}
 use Rattle.hub_database.proofs.CountLemmas.{live_in, deleted_few}
 
@@ -20,7 +20,7 @@ count_below inside st counted = omega (
   counted,
   deleted_few (edits_inside inside),
   st.filed.each,
-  length-map inside.documents.items filed,
+  length-map inside.documents.items filed_document,
 )
 
 -- the answer
@@ -31,7 +31,7 @@ pub info_by : (inside : Inside) → HasDocuments inside → IsCounted inside →
     (info_of (edits_inside inside) life)
 info_by inside st counted live updates life sum many =
     let documents : length (files inside.documents.items) ≡ length inside.documents.items =
-    length-map inside.documents.items filed in
+    length-map inside.documents.items filed_document in
     let lives : live ≡ count_by (λ c. not (is_deleted (leaves_of (edits_inside inside) c.id)))
     (current (edits_inside inside)) =
     omega (arith, sum, counted, documents, st.filed.each, live_in (edits_inside inside)) in

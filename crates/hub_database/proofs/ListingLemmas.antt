@@ -16,10 +16,10 @@ use Rattle.std.proofs.lemmas.List.Kept.{AllPairs-filter}
 use Rattle.std.proofs.lemmas.Option.{none-some, same_Some}
 use Rattle.std.proofs.lemmas.Slice.Eq.{bytes_eq-Decides}
 use Rattle.hub_model.specs.Current.{Current, current}
-use Rattle.hub_model.specs.Entries.{changed, entry_in, without}
-use Rattle.hub_model.specs.Feed.{Due, DueEnd, DueGone, DueNothing, DueRow, Ending, Feed, Params, after_due}
-use Rattle.hub_model.specs.Feed.{after_nothing, due, end, expire, is_in_reach, is_open, is_within, waits}
-use Rattle.hub_model.specs.Filter.{Design, DocIds, Everything, Filter, passes}
+use Rattle.hub_model.specs.Entries.{with_change, entry_in, without}
+use Rattle.hub_model.specs.Feed.{Due, DueEnd, DueGone, DueNothing, DueRow, Ending, Feed, Params, feed_after_due}
+use Rattle.hub_model.specs.Feed.{after_nothing, next_due, end, expired_feed, is_in_reach, is_open, is_within, is_waiting_mode}
+use Rattle.hub_model.specs.Filter.{Design, DocIds, Everything, Filter, is_passing}
 use Rattle.hub_model.specs.Journal.{Edit}
 use Rattle.hub_document.proofs.PlaceLemmas.{copied_at}
 use Rattle.hub_index.proofs.IndexLemmas.{find_nothing}
@@ -31,15 +31,15 @@ use Rattle.hub_model.proofs.Rows.{current_within}
 use Rattle.hub_model.proofs.Shown.{find_is}
 use Rattle.hub_model.proofs.Tests.{any_at, at_any, filter_in, in_filter}
 use Rattle.hub_model.specs.declared.feeds.Style.{Style}
-use Rattle.hub_feed.specs.Feeds.{FeedList, ended, feeds_of, over}
-use Rattle.hub_feed.specs.Host.{behind_answer, feeds_behind, handed}
+use Rattle.hub_feed.specs.Feeds.{FeedList, ended_entry, feeds_of, over}
+use Rattle.hub_feed.specs.Host.{hosted_after_next, feeds_behind, hosted_after_hand}
 use Rattle.hub_feed.specs.Reach.{IsFirst, first_listed, listed_in}
 use Rattle.hub_feed.specs.declared.next.Next.{Next}
 use Rattle.hub_feed.specs.declared.next.Next.TheVariants.{Give, Gone, Nothing}
 use Rattle.hub_feed.proofs.CurrentLemmas.{contains_map, next_ahead}
 use Rattle.hub_feed.proofs.FeedsLemmas.{pairs_map}
 use Rattle.hub_feed.proofs.ListedLemmas.{one_parts}
-use Rattle.hub_database.specs.Listing.{IsListing, passing, seq_of_row}
+use Rattle.hub_database.specs.Listing.{IsListing, passing_sequences, seq_of_row}
 use Rattle.hub_database.specs.declared.listing.Listing.{Listing}
 
 -- a number behind the first of rising ones is above it, and those behind it rise
@@ -123,11 +123,11 @@ module _ {A B : Type 0} where
       from (Some y) i (inr k) later = contains_there y b (filter_map h xs) (later k)
 
 -- the sequences that pass rise
-pub passing_rises : (shows : Filter) (journal : List Edit) → AllPairs (λ m n. m < n) (passing shows journal)
+pub passing_rises : (shows : Filter) (journal : List Edit) → AllPairs (λ m n. m < n) (passing_sequences shows journal)
 passing_rises shows journal =
     pairs_map (λ m n. m < n) (λ (row : Current). row.seq)
-    (filter (λ (row : Current). passes shows row.id) (current journal))
-    (AllPairs-filter (λ (row other : Current). row.seq < other.seq) (λ (row : Current). passes shows row.id)
+    (filter (λ (row : Current). is_passing shows row.id) (current journal))
+    (AllPairs-filter (λ (row other : Current). row.seq < other.seq) (λ (row : Current). is_passing shows row.id)
     (current journal)
     (rows_rise journal))
 
@@ -152,23 +152,23 @@ row_there journal row h =
     sym (next_ahead journal row.id row.seq 0 None h (rw low refl))
 
 found_passing : (journal : List Edit) (ids : List (List ℕ)) (n : ℕ)
-    → Contains (filter_map (seq_of_row journal) ids) n → Contains (passing (DocIds ids) journal) n
+    → Contains (filter_map (seq_of_row journal) ids) n → Contains (passing_sequences (DocIds ids) journal) n
 found_passing journal ids n h =
     let i = in_some (seq_of_row journal) ids n h in
     let r = row_found journal i.0 n i.2 in
     let listed : list_any (bytes_eq r.0.id) ids ≡ true =
     at_any (bytes_eq r.0.id) ids i.0 i.1 ((bytes_eq-Decides r.0.id i.0).1 r.2) in
-    let kept = in_filter (λ (row : Current). passes (DocIds ids) row.id) (current journal) r.0 r.1 listed in
-    subst (Contains (passing (DocIds ids) journal)) r.3
+    let kept = in_filter (λ (row : Current). is_passing (DocIds ids) row.id) (current journal) r.0 r.1 listed in
+    subst (Contains (passing_sequences (DocIds ids) journal)) r.3
     (contains_map (λ (row : Current). row.seq)
-    (filter (λ (row : Current). passes (DocIds ids) row.id) (current journal)) r.0 kept)
+    (filter (λ (row : Current). is_passing (DocIds ids) row.id) (current journal)) r.0 kept)
 
 passing_found : (journal : List Edit) (ids : List (List ℕ)) (n : ℕ)
-    → Contains (passing (DocIds ids) journal) n → Contains (filter_map (seq_of_row journal) ids) n
+    → Contains (passing_sequences (DocIds ids) journal) n → Contains (filter_map (seq_of_row journal) ids) n
 passing_found journal ids n h =
     let i = in_map (λ (row : Current). row.seq)
-    (filter (λ (row : Current). passes (DocIds ids) row.id) (current journal)) n h in
-    let kept = filter_in (λ (row : Current). passes (DocIds ids) row.id) (current journal) i.0 i.1 in
+    (filter (λ (row : Current). is_passing (DocIds ids) row.id) (current journal)) n h in
+    let kept = filter_in (λ (row : Current). is_passing (DocIds ids) row.id) (current journal) i.0 i.1 in
     let listed = any_at (bytes_eq i.0.id) ids kept.1 in
     let same : i.0.id ≡ listed.0 = (bytes_eq-Decides i.0.id listed.0).0 listed.2 in
     some_in (seq_of_row journal) ids listed.0 n listed.1
@@ -178,9 +178,9 @@ passing_found journal ids n h =
 pub arranged : (journal : List Edit) (ids : List (List ℕ)) (found list : List ℕ)
     → found ≡ filter_map (seq_of_row journal) ids → AllPairs (λ m n. m < n) list
     → ((n : ℕ) → Contains found n → Contains list n) → ((n : ℕ) → Contains list n → Contains found n)
-    → list ≡ passing (DocIds ids) journal
+    → list ≡ passing_sequences (DocIds ids) journal
 arranged journal ids found list is rise keeps adds =
-    same_rising list (passing (DocIds ids) journal) rise (passing_rises (DocIds ids) journal)
+    same_rising list (passing_sequences (DocIds ids) journal) rise (passing_rises (DocIds ids) journal)
     (λ n h. found_passing journal ids n (subst (λ l. Contains l n) is (adds n h)))
     (λ n h. keeps n (subst (λ l. Contains l n) (sym is) (passing_found journal ids n h)))
 
@@ -262,11 +262,11 @@ taken_at place bound xs at o rise point got =
 -- that of a feed's passing rows is the first in its reach
 reach_taken : (feed : Feed) (rows : List Current)
     → find (is_between feed.place feed.bound)
-    (map (λ (row : Current). row.seq) (filter (λ (row : Current). passes feed.params.filter row.id) rows))
+    (map (λ (row : Current). row.seq) (filter (λ (row : Current). is_passing feed.params.filter row.id) rows))
     ≡ option_map (λ (row : Current). row.seq) (find (is_in_reach feed) rows)
 reach_taken feed [] = refl
 reach_taken feed (row ∷ rows) =
-    elim (cases_Bool (passes feed.params.filter row.id)) [
+    elim (cases_Bool (is_passing feed.params.filter row.id)) [
       | inl p ↦ elim (cases_Bool (nat_lt feed.place row.seq)) [
         | inl a ↦ elim (cases_Bool (is_within feed.bound row.seq)) [
           | inl b ↦ rw (p, a, b) refl
@@ -292,14 +292,14 @@ listed_is Design ids e = absurd (cc)
 pub first_is : (feed : Feed) (journal : List Edit) (ids : List (List ℕ)) (place : ℕ) (bound : Option ℕ)
     (rows : List ℕ) (first : Option ℕ)
     → Some ids ≡ listed_in feed.params.filter → place ≡ feed.place → bound ≡ feed.bound
-    → rows ≡ passing (DocIds ids) journal
+    → rows ≡ passing_sequences (DocIds ids) journal
     → first ≡ find (λ n. nat_lt place n && is_within bound n) rows
     → IsFirst first (current journal) (Some feed)
 first_is feed journal ids place bound rows first lists p b r is waits =
     is ∙ (ap (λ z. find (λ n. nat_lt z n && is_within bound n) rows) p
     ∙ (ap (λ z. find (λ n. nat_lt feed.place n && is_within z n) rows) b
     ∙ (ap (find (is_between feed.place feed.bound))
-    (r ∙ ap (λ z. passing z journal) (sym (listed_is feed.params.filter ids lists)))
+    (r ∙ ap (λ z. passing_sequences z journal) (sym (listed_is feed.params.filter ids lists)))
     ∙ reach_taken feed (current journal))))
 
 -- each feed that is there, of those whose numbers were given, was there before and asks for the same
@@ -324,7 +324,7 @@ all_stay : (next : ℕ) (feeds : List (ℕ × Feed)) → AskTheSame next feeds f
 all_stay next feeds q low = one_stays (entry_in q feeds)
 
 pub one_asks : (id next : ℕ) (change : Feed → Feed) (feeds : List (ℕ × Feed))
-    → ((feed : Feed) → (change feed).params ≡ feed.params) → AskTheSame next feeds (changed id change feeds)
+    → ((feed : Feed) → (change feed).params ≡ feed.params) → AskTheSame next feeds (with_change id change feeds)
 one_asks id next change feeds keeps q low =
     elim (same_number q id) [
       | inl e ↦ rw (e, own_changed id change feeds) (one_changes change keeps (entry_in id feeds))
@@ -350,22 +350,22 @@ ends_asking feed = from (is_open feed.status)
     from true = refl
     from false = refl
 
-end_in : (q : ℕ) (feeds : List (ℕ × Feed)) → entry_in q (map ended feeds) ≡ option_map end (entry_in q feeds)
+end_in : (q : ℕ) (feeds : List (ℕ × Feed)) → entry_in q (map ended_entry feeds) ≡ option_map end (entry_in q feeds)
 end_in q [] = refl
 end_in q (p ∷ feeds) = elim (cases_Bool (nat_eq p.0 q)) [ inl t ↦ rw t refl | inr t ↦ rw t (end_in q feeds) ]
 
-pub all_end : (next : ℕ) (feeds : List (ℕ × Feed)) → AskTheSame next feeds (map ended feeds)
+pub all_end : (next : ℕ) (feeds : List (ℕ × Feed)) → AskTheSame next feeds (map ended_entry feeds)
 all_end next feeds q low = rw (end_in q feeds) (one_changes end ends_asking (entry_in q feeds))
 
 -- a feed that hands, or whose time is over, asks for the same
-hands_asking : (due : Due) (feed : Feed) (len : ℕ) → (after_due feed due len).params ≡ feed.params
+hands_asking : (due : Due) (feed : Feed) (len : ℕ) → (feed_after_due feed due len).params ≡ feed.params
 hands_asking (DueRow c) feed len = refl
 hands_asking (DueEnd last_seq) feed len = refl
 hands_asking DueNothing feed len = refl
 hands_asking DueGone feed len = refl
 
-pub expires_asking : (feed : Feed) → (expire feed).params ≡ feed.params
-expires_asking feed = from (is_open feed.status && waits feed.params.mode)
+pub expires_asking : (feed : Feed) → (expired_feed feed).params ≡ feed.params
+expires_asking feed = from (is_open feed.status && is_waiting_mode feed.params.mode)
   where
     from : (b : Bool) → (if b then record feed { status = Ending } else feed).params ≡ feed.params
     from true = refl
@@ -386,18 +386,18 @@ module _ (journal : List Edit) (old new : List (ℕ × Feed)) (next next' : ℕ)
 
   rows_on : (o : Option ℕ) → IfSome o (λ n. n < next)
       → IfSome o (λ n. IfSome (entry_in n old)
-      (λ feed. listing.rows.items ≡ passing feed.params.filter journal))
+      (λ feed. listing.rows.items ≡ passing_sequences feed.params.filter journal))
       → IfSome o (λ n. IfSome (entry_in n new)
-      (λ feed. listing.rows.items ≡ passing feed.params.filter journal))
+      (λ feed. listing.rows.items ≡ passing_sequences feed.params.filter journal))
   rows_on None given h = tt
   rows_on (Some n) given h = from (entry_in n new) (same n given)
     where
       from : (maybe_feed : Option Feed)
           → IfSome maybe_feed (λ g. (feed : Feed) × (entry_in n old ≡ Some feed) × (g.params ≡ feed.params))
-          → IfSome maybe_feed (λ g. listing.rows.items ≡ passing g.params.filter journal)
+          → IfSome maybe_feed (λ g. listing.rows.items ≡ passing_sequences g.params.filter journal)
       from None k = tt
       from (Some g) (feed, is, asks) =
-          (rw is at h) ∙ ap (λ (params : Params). passing params.filter journal) (sym asks)
+          (rw is at h) ∙ ap (λ (params : Params). passing_sequences params.filter journal) (sym asks)
 
   pub kept_on : IsListing journal old next listing → IsListing journal new next' listing
   kept_on x = record { given = given_on listing.feed x.given; rows = rows_on listing.feed x.given x.rows }
@@ -406,7 +406,7 @@ module _ (journal : List Edit) (old new : List (ℕ × Feed)) (next next' : ℕ)
 pub answer_kept : {R : Type 0} (journal : List Edit) (len : ℕ) (rows : List Current)
     (shown : Style → Bool → Current → R)
     (old new : FeedList) (id : ℕ) (answer : Next R) (listing : Listing)
-    → new ≡ feeds_of (behind_answer (over len rows shown old) id answer)
+    → new ≡ feeds_of (hosted_after_next (over len rows shown old) id answer)
     → IsListing journal old.feeds old.next listing → IsListing journal new.feeds new.next listing
 answer_kept journal len rows shown old new id answer listing is x =
     subst (λ (list : FeedList). IsListing journal list.feeds list.next listing) (sym is)
@@ -416,10 +416,10 @@ answer_kept journal len rows shown old new id answer listing is x =
 -- or handed what was due to it
 pub handed_kept : {R : Type 0} (journal : List Edit) (len : ℕ) (rows : List Current)
     (shown : Style → Bool → Current → R)
-    (old new : FeedList) (id : ℕ) (listing : Listing) → new ≡ feeds_of (handed (over len rows shown old) id)
+    (old new : FeedList) (id : ℕ) (listing : Listing) → new ≡ feeds_of (hosted_after_hand (over len rows shown old) id)
     → IsListing journal old.feeds old.next listing → IsListing journal new.feeds new.next listing
 handed_kept journal len rows shown old new id listing is x =
-    let change : Feed → Feed = λ f. after_due f (due rows f) len in
+    let change : Feed → Feed = λ f. feed_after_due f (next_due rows f) len in
     subst (λ (list : FeedList). IsListing journal list.feeds list.next listing) (sym is)
-    (kept_on journal old.feeds (changed id change old.feeds) old.next old.next (omega arith)
-    (one_asks id old.next change old.feeds (λ f. hands_asking (due rows f) f len)) listing x)
+    (kept_on journal old.feeds (with_change id change old.feeds) old.next old.next (omega arith)
+    (one_asks id old.next change old.feeds (λ f. hands_asking (next_due rows f) f len)) listing x)

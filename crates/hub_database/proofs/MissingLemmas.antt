@@ -8,7 +8,7 @@ use Rattle.hub_model.specs.Revision.{Revision}
 use Rattle.hub_model.specs.Path.{names}
 use Rattle.hub_model.specs.Journal.{Edit, edits_of, is_known}
 use Rattle.hub_model.specs.Leaves.{leaves_of, revisions_of}
-use Rattle.hub_model.specs.Missing.{Asked, Diff, missing, highest}
+use Rattle.hub_model.specs.Missing.{RevisionsOfDoc, Diff, unknown_revisions, highest}
 use Rattle.hub_model.specs.Missing.{possible_ancestors, diff_of, is_wanted, diffs}
 use Rattle.hub_database.specs.declared.document.Document.{Document}
 use Rattle.hub_database.specs.Found.{IsFound, wanted_diff}
@@ -49,11 +49,11 @@ some_of (revision ∷ revisions) e = λ n. absurd (cc)
 -- what a document that is asked for misses
 module _ (journal : List Edit) (id : List ℕ) (document : Document) (f : IsFound journal id document) where
   missing_same : (revisions : List Revision)
-      → missing document.tree.edits [] revisions ≡ missing journal id revisions
+      → unknown_revisions document.tree.edits [] revisions ≡ unknown_revisions journal id revisions
   missing_same [] = refl
   missing_same (revision ∷ revisions) =
-      ap (λ b. if not b then (revision ∷ missing document.tree.edits [] revisions) else
-      missing document.tree.edits [] revisions)
+      ap (λ b. if not b then (revision ∷ unknown_revisions document.tree.edits [] revisions) else
+      unknown_revisions document.tree.edits [] revisions)
       (sym (known_named journal id document.tree.edits f.kept f.one revision))
       ∙ ap (λ ms. if not (is_known journal id revision) then (revision ∷ ms) else ms) (missing_same revisions)
 
@@ -63,11 +63,11 @@ module _ (journal : List Edit) (id : List ℕ) (document : Document) (f : IsFoun
       ap (λ ms. filter (λ r. nat_lt r.generation (highest ms))
       (revisions_of (leaves_of document.tree.edits [])))
       (missing_same revisions)
-      ∙ ap (filter (λ r. nat_lt r.generation (highest (missing journal id revisions))))
+      ∙ ap (filter (λ r. nat_lt r.generation (highest (unknown_revisions journal id revisions))))
       (leaves_same journal id document f)
 
   -- nothing
-  pub whole_found : (revisions others : List Revision) → others ≡ missing document.tree.edits [] revisions
+  pub whole_found : (revisions others : List Revision) → others ≡ unknown_revisions document.tree.edits [] revisions
       → others ≡ [] → None ≡ wanted_diff journal (record { id = id; revs = revisions })
   whole_found revisions others is none =
       ap (λ ns. chosen id ns (possible_ancestors journal id revisions))
@@ -75,7 +75,7 @@ module _ (journal : List Edit) (id : List ℕ) (document : Document) (f : IsFoun
 
   -- something
   pub diff_found : (revisions others ancestors : List Revision)
-      → others ≡ missing document.tree.edits [] revisions
+      → others ≡ unknown_revisions document.tree.edits [] revisions
       → ancestors ≡ possible_ancestors document.tree.edits [] revisions → others ≢ []
       → Some (record { id = id; missing = others; possible_ancestors = ancestors })
       ≡ wanted_diff journal (record { id = id; revs = revisions })
@@ -85,20 +85,20 @@ module _ (journal : List Edit) (id : List ℕ) (document : Document) (f : IsFoun
       ∙ ap (λ ns. chosen id ns (possible_ancestors journal id revisions)) (is ∙ missing_same revisions))
 
   -- where a revision is missing, there is a difference
-  pub some_wanted : (revisions : List Revision) → ¬ (missing document.tree.edits [] revisions ≡ [])
+  pub some_wanted : (revisions : List Revision) → ¬ (unknown_revisions document.tree.edits [] revisions ≡ [])
       → ¬ (wanted_diff journal (record { id = id; revs = revisions }) ≡ None)
   some_wanted revisions some =
-      chosen_not id (missing journal id revisions) (possible_ancestors journal id revisions)
+      chosen_not id (unknown_revisions journal id revisions) (possible_ancestors journal id revisions)
       (λ e. some (missing_same revisions ∙ e))
 
 -- of an unknown document all are missing
 module _ (journal : List Edit) (id : List ℕ) (none : edits_of journal id ≡ []) where
-  all_missing : (revisions : List Revision) → missing journal id revisions ≡ revisions
+  all_missing : (revisions : List Revision) → unknown_revisions journal id revisions ≡ revisions
   all_missing [] = refl
   all_missing (revision ∷ revisions) =
       ap (λ es.
       if not (list_any (λ (edit : Edit). names edit.path revision) es) then
-      (revision ∷ missing journal id revisions) else missing journal id revisions)
+      (revision ∷ unknown_revisions journal id revisions) else unknown_revisions journal id revisions)
       none
       ∙ ap (λ ms. revision ∷ ms) (all_missing revisions)
 
@@ -110,13 +110,13 @@ module _ (journal : List Edit) (id : List ℕ) (none : edits_of journal id ≡ [
       ∙ (ap (chosen id revisions)
       (empty
       ∙ ap (λ ls.
-      filter (λ (revision : Revision). nat_lt revision.generation (highest (missing journal id revisions)))
+      filter (λ (revision : Revision). nat_lt revision.generation (highest (unknown_revisions journal id revisions)))
       (revisions_of ls))
       (sym (no_leaves journal id none)))
       ∙ ap (λ ns. chosen id ns (possible_ancestors journal id revisions)) (sym (all_missing revisions)))
 
 -- the differences, after one more document that misses nothing
-pub diffs_none : (journal : List Edit) (before : List Asked) (asked : Asked)
+pub diffs_none : (journal : List Edit) (before : List RevisionsOfDoc) (asked : RevisionsOfDoc)
     → None ≡ wanted_diff journal asked → diffs journal (before ++ asked ∷ []) ≡ diffs journal before
 diffs_none journal [] asked e = from (is_wanted (diff_of journal asked)) e
   where

@@ -6,7 +6,7 @@ use Rattle.std.proofs.lemmas.Grind.{common_steps}
 use Rattle.hub_model.specs.Revision.{Revision}
 use Rattle.hub_model.specs.Journal.{Edit}
 use Rattle.hub_model.specs.Draft.{Draft, generation_of, parent_of}
-use Rattle.hub_revtree.specs.Extend.{extends_path}
+use Rattle.hub_revtree.specs.Extend.{edit_on_path}
 use Rattle.hub_database.specs.Looked.{IsStorable, NeedsRoomFor, look_at, look_by, look_made, unless_full}
 use Rattle.hub_database.specs.declared.document.Incoming.{Incoming}
 use Rattle.hub_database.specs.declared.document.Looked.{Looked}
@@ -19,7 +19,7 @@ by_is e0 edit known acceptable full h = grind (arith, common_steps)
 
 -- one that says it of an edit that is made here has a path for it, and a generation
 made_has : (edits : List Edit) (draft : Draft) (edit : Edit) (o : Option (List Revision)) (full : Bool)
-    → Ready edit ≡ unless_full full (look_made (extends_path edits draft o))
+    → Ready edit ≡ unless_full full (look_made (edit_on_path edits draft o))
     → (path : List Revision) × (o ≡ Some path) × (generation_of (parent_of path) < 65535)
 made_has edits draft edit o full h = grind (arith, nat_tests, common_steps)
 

@@ -23,9 +23,9 @@ use Rattle.hub_feed.proofs.CurrentLemmas.{row_there}
 use Rattle.hub_revtree.specs.Tree.{IsRevTree}
 use Rattle.hub_database.specs.declared.entry.Entry.{Entry}
 use Rattle.hub_database.specs.declared.document.Document.{Document}
-use Rattle.hub_database.specs.Filed.{Filed, named, edit_at, edit_in, journal_of, IsFiled}
+use Rattle.hub_database.specs.Filed.{FiledDocument, edit_with_id, edit_at, edit_in, journal_of, IsFiled}
 use Rattle.hub_database.specs.Indexed.{IsIndexed, latest_at, latest_of}
-use Rattle.hub_database.specs.Documents.{filed, files}
+use Rattle.hub_database.specs.Documents.{filed_document, files}
 use Rattle.hub_database.proofs.IndexedLemmas.{document_at}
 use Rattle.hub_database.proofs.NamedLemmas.{renamed, leaves_named, revisions_named, deleted_named}
 
@@ -53,7 +53,7 @@ row_as seq id edits style include_docs seen = record {
 
 -- a document's row, by its tree
 row_by : (journal : List Edit) (style : Style) (include_docs : Bool) (row : Current) (edits : List Edit)
-    → edits_of journal row.id ≡ map (named row.id) edits → IsRevTree edits
+    → edits_of journal row.id ≡ map (edit_with_id row.id) edits → IsRevTree edits
     → row_of journal style include_docs row ≡ row_as row.seq row.id edits style include_docs (length journal)
 row_by journal style include_docs row edits kept tree =
     rw (
@@ -70,7 +70,7 @@ module _ (limit : ℕ) (numbers : List ℕ → Option ℕ) (documents : List Doc
       → x.document < length documents
   entry_low i x low is =
       let w = st.within i x (at_place entries i x low is) in
-      omega (arith, slice_get_within (files documents) x.document w.0 w.1, length-map documents filed)
+      omega (arith, slice_get_within (files documents) x.document w.0 w.1, length-map documents filed_document)
 
   row_at : (row : Current) → Contains (current (journal_of (files documents) entries)) row
       → (i : ℕ) (x : Entry) → row.seq ≡ i + 1 → slice_get entries i ≡ Some x → (document : Document)
@@ -80,8 +80,8 @@ module _ (limit : ℕ) (numbers : List ℕ → Option ℕ) (documents : List Doc
       ≡ row_as row.seq document.id document.tree.edits style include_docs
       (length (journal_of (files documents) entries))
   row_at row h i x s here document at tree style include_docs =
-      let there : slice_get (files documents) x.document ≡ Some (filed document) =
-      slice_get-map filed documents x.document ∙ ap (option_map filed) at in
+      let there : slice_get (files documents) x.document ≡ Some (filed_document document) =
+      slice_get-map filed_document documents x.document ∙ ap (option_map filed_document) at in
       let edit : slice_get (journal_of (files documents) entries) i ≡ Some (edit_at (files documents) x) =
       slice_get-map (edit_at (files documents)) entries i
       ∙ ap (option_map (edit_at (files documents))) here in
@@ -91,9 +91,9 @@ module _ (limit : ℕ) (numbers : List ℕ → Option ℕ) (documents : List Doc
       same_Some (edit_at (files documents) x) own.0 (sym edit ∙ own.1) in
       let same : document.id ≡ row.id =
       sym (ap (λ o. (edit_in o x.revision).id) there) ∙ (ap (λ (e : Edit). e.id) found ∙ own.2) in
-      let kept = st.kept x.document (filed document) there in
+      let kept = st.kept x.document (filed_document document) there in
       row_by J style include_docs row document.tree.edits
-      (subst (λ q. edits_of J q ≡ map (named q) document.tree.edits) same kept) tree
+      (subst (λ q. edits_of J q ≡ map (edit_with_id q) document.tree.edits) same kept) tree
       ∙ ap (λ (q : List ℕ). row_as row.seq q document.tree.edits style include_docs (length J)) (sym same)
 
   pub row_answer : (result : Result ChangeRow AllocError) (seq seen i : ℕ) (x : Entry) → seq ≡ i + 1
@@ -118,13 +118,13 @@ module _ (documents : List Document) (entries : List Entry) (index : List (ℕ �
   number_low : (k : ℕ) (p : List ℕ × ℕ) → latest_at (files documents) k ≡ Some p → k < length documents
   number_low k p is =
       let d = document_at (files documents) k p is in
-      omega (arith, slice_get_within (files documents) k d.0 d.1, length-map documents filed)
+      omega (arith, slice_get_within (files documents) k d.0 d.1, length-map documents filed_document)
 
   number_there : (k : ℕ) (document : Document) → k < length documents → document ≡ get_or documents k document
       → latest_at (files documents) k ≡ Some (document.id, document.latest)
   number_there k document low is =
       ap (option_map latest_of)
-      (slice_get-map filed documents k ∙ ap (option_map filed) (at_place documents k document low is))
+      (slice_get-map filed_document documents k ∙ ap (option_map filed_document) (at_place documents k document low is))
 
   -- a document's row lies at its latest edit
   pub document_row : (k : ℕ) (document : Document) → k < length documents
@@ -181,7 +181,7 @@ pub document_of : (limit : ℕ) (numbers : List ℕ → Option ℕ) (documents :
 document_of limit numbers documents entries st i x here document is =
     let w = st.within i x here in
     at_place documents x.document document
-    (omega (arith, slice_get_within (files documents) x.document w.0 w.1, length-map documents filed)) is
+    (omega (arith, slice_get_within (files documents) x.document w.0 w.1, length-map documents filed_document)) is
 
 -- the document with an id that has a number
 pub numbered : (limit : ℕ) (numbers : List ℕ → Option ℕ) (documents : List Document) (entries : List Entry)
@@ -191,11 +191,11 @@ pub numbered : (limit : ℕ) (numbers : List ℕ → Option ℕ) (documents : Li
 numbered limit numbers documents entries st id k e =
     let w = st.found id k e in
     let low : k < length documents =
-    omega (arith, slice_get_within (files documents) k w.0 w.1, length-map documents filed) in (
+    omega (arith, slice_get_within (files documents) k w.0 w.1, length-map documents filed_document) in (
       low,
-      λ document is. ap (λ (f : Filed). f.id)
-          (same_Some (filed document) w.0
-          (sym (slice_get-map filed documents k
-          ∙ ap (option_map filed) (at_place documents k document low is)) ∙ w.1))
+      λ document is. ap (λ (f : FiledDocument). f.id)
+          (same_Some (filed_document document) w.0
+          (sym (slice_get-map filed_document documents k
+          ∙ ap (option_map filed_document) (at_place documents k document low is)) ∙ w.1))
           ∙ w.2,
     )

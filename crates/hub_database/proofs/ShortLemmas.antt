@@ -6,7 +6,7 @@ use Rattle.std.proofs.lemmas.Bool.{cases_Bool}
 use Rattle.hub_model.specs.Revision.{Revision}
 use Rattle.hub_model.specs.Journal.{Edit, IsLegal, edits_of}
 use Rattle.hub_model.specs.Leaves.{leaves_of, revisions_of}
-use Rattle.hub_model.specs.Missing.{Asked, diff_of, diffs, is_wanted}
+use Rattle.hub_model.specs.Missing.{RevisionsOfDoc, diff_of, diffs, is_wanted}
 use Rattle.hub_model.proofs.Drafts.{has_leaf}
 use Rattle.hub_model.proofs.Leaves.{is_leaf_from}
 use Rattle.hub_model.proofs.Legal.{first_in, has_first, legal_sound}
@@ -14,7 +14,7 @@ use Rattle.hub_model.proofs.Lists.{contains_none, contains_here}
 use Rattle.hub_model.proofs.Tests.{edits_in}
 use Rattle.hub_document.specs.declared.open_revs.OpenRevs.TheVariants.{All, Listed}
 use Rattle.hub_database.specs.declared.document.Document.{Document}
-use Rattle.hub_database.specs.Filed.{named}
+use Rattle.hub_database.specs.Filed.{edit_with_id}
 use Rattle.hub_database.specs.Found.{IsFound, wanted_diff}
 use Rattle.hub_database.specs.Reads.{open_rev, open_revs}
 use Rattle.hub_database.proofs.ShownLemmas.{leaves_same}
@@ -44,7 +44,7 @@ module _ (journal : List Edit) (id : List ℕ) (document : Document) (f : IsFoun
   pub edits_open : IsLegal journal → ¬ (document.tree.edits ≡ []) → ¬ (open_revs journal id All revs ≡ [])
   edits_open legal some =
       map_some (open_rev journal id revs) (revisions_of (leaves_of journal id))
-      (leaves_some journal id legal (λ e. map_some (named id) document.tree.edits some (sym f.kept ∙ e)))
+      (leaves_some journal id legal (λ e. map_some (edit_with_id id) document.tree.edits some (sym f.kept ∙ e)))
 
   -- and where there is a leaf
   pub leaves_open : (revisions : List Revision) → revisions ≡ revisions_of (leaves_of document.tree.edits [])
@@ -59,7 +59,7 @@ pub listed_open : (journal : List Edit) (id : List ℕ) (revs : Bool) (revisions
 listed_open journal id revs revisions some = map_some (open_rev journal id revs) revisions some
 
 -- a document that misses something is told of
-pub diffs_some : (journal : List Edit) (before later : List Asked) (asked : Asked)
+pub diffs_some : (journal : List Edit) (before later : List RevisionsOfDoc) (asked : RevisionsOfDoc)
     → ¬ (wanted_diff journal asked ≡ None) → ¬ (diffs journal (before ++ asked ∷ later) ≡ [])
 diffs_some journal [] later asked some = from (is_wanted (diff_of journal asked)) refl
   where

@@ -8,7 +8,7 @@ use Rattle.hub_model.specs.Revision.{Revision}
 use Rattle.hub_model.specs.Path.{names, is_first}
 use Rattle.hub_model.specs.Journal.{Edit, IsLegal, edits_of, is_known}
 use Rattle.hub_model.specs.Leaves.{Leaf, leaves_among, best_first, leaves_of, revisions_of}
-use Rattle.hub_model.specs.Walk.{line_of, is_head, shown, shown_of}
+use Rattle.hub_model.specs.Walk.{line_of, is_head, shown_edit, shown_of}
 use Rattle.hub_model.proofs.Lists.{contains_here}
 use Rattle.hub_model.proofs.Legal.{first_in}
 use Rattle.hub_model.proofs.Tests.{at_any, is_named, same_is}
@@ -23,8 +23,8 @@ use Rattle.hub_revtree.proofs.HeadLemmas.{leaf_headed}
 use Rattle.hub_database.specs.declared.document.Document.{Document}
 use Rattle.hub_database.specs.declared.answers.Lookup.TheVariants as looked
 use Rattle.hub_database.specs.declared.entry.Entry.{Entry}
-use Rattle.hub_database.specs.Filed.{Filed, named, journal_of, IsFiled}
-use Rattle.hub_database.specs.Documents.{filed, files}
+use Rattle.hub_database.specs.Filed.{FiledDocument, edit_with_id, journal_of, IsFiled}
+use Rattle.hub_database.specs.Documents.{filed_document, files}
 use Rattle.hub_database.specs.Found.{IsFound, shown_in, history_of}
 use Rattle.hub_database.specs.Reads.{HasDocument, doc_shown, lookup, lookup_of, open_rev_of, open_rev}
 use Rattle.hub_database.specs.Reads.{open_revs}
@@ -44,10 +44,10 @@ module _ (journal : List Edit) (id : List ℕ) (document : Document) (f : IsFoun
       ∙ winner_renamed id (leaves_of document.tree.edits [])
 
   -- what is shown of a revision
-  pub shown_found : (revision : Revision) → shown journal id revision ≡ shown_in document revision
+  pub shown_found : (revision : Revision) → shown_edit journal id revision ≡ shown_in document revision
   shown_found revision =
       shown_named journal id document.tree.edits f.kept f.one revision
-      ∙ ap (λ i. option_map (named i) (shown document.tree.edits [] revision)) (sym f.same)
+      ∙ ap (λ i. option_map (edit_with_id i) (shown_edit document.tree.edits [] revision)) (sym f.same)
 
   -- the leaves
   pub leaves_same : revisions_of (leaves_of document.tree.edits []) ≡ revisions_of (leaves_of journal id)
@@ -133,7 +133,7 @@ module _ (document : Document) (revision other : Revision) (deleted : Bool) (bod
           body = t.body;
         })) same
         ∙ ap (λ o. option_map (doc_shown revs)
-        (option_map (named document.id) (shown_of edits [] revision o)))
+        (option_map (edit_with_id document.id) (shown_of edits [] revision o)))
         (sym found)))
 
   pub doc_found : Some (tip other deleted body) ≡ option_map tip_of
@@ -151,7 +151,7 @@ module _ (document : Document) (revision other : Revision) (deleted : Bool) (bod
 -- what is shown of a leaf is of the edit that it heads
 module _ (journal : List Edit) (id : List ℕ) (legal : IsLegal journal) where
   leaf_shown : (leaf : Leaf) → Contains (leaves_of journal id) leaf
-      → shown journal id leaf.rev
+      → shown_edit journal id leaf.rev
       ≡ Some (record {
         id = id;
         path = line_of journal id leaf.rev;
@@ -176,19 +176,19 @@ module _ (journal : List Edit) (id : List ℕ) (legal : IsLegal journal) where
   -- and one that is not
   lookup_live : (revs : Bool) (winner : Winner) → Some winner ≡ winner_of (leaves_of journal id)
       → winner.deleted ≡ false
-      → option_map looked.Found (option_map (doc_shown revs) (shown journal id winner.rev)) ≡ Some
+      → option_map looked.Found (option_map (doc_shown revs) (shown_edit journal id winner.rev)) ≡ Some
       (lookup journal id revs)
   lookup_live revs winner is live = from (leaves_of journal id) refl is
     where
       from : (leaves : List Leaf) → leaves_of journal id ≡ leaves → Some winner ≡ winner_of leaves
-          → option_map looked.Found (option_map (doc_shown revs) (shown journal id winner.rev))
+          → option_map looked.Found (option_map (doc_shown revs) (shown_edit journal id winner.rev))
           ≡ Some (lookup_of journal id revs leaves)
       from [] q e = absurd (cc)
       from (l ∷ leaves) q e =
           let same = same_Some _ winner (sym e) in
           let mark : l.edit.deleted ≡ false = ap (λ (other : Winner). other.deleted) same ∙ live in
           let rev : winner.rev ≡ l.rev = sym (ap (λ (other : Winner). other.rev) same) in
-          ap (λ r. option_map looked.Found (option_map (doc_shown revs) (shown journal id r))) rev
+          ap (λ r. option_map looked.Found (option_map (doc_shown revs) (shown_edit journal id r))) rev
           ∙ (ap (λ o. option_map looked.Found (option_map (doc_shown revs) o))
           (leaf_shown l (subst (λ other. Contains other l) (sym q) (contains_here l leaves)))
           ∙ ap (λ b. Some (if b then looked.Deleted
@@ -269,21 +269,21 @@ pub document_found : (limit : ℕ) (numbers : List ℕ → Option ℕ) (document
     → IsFound (journal_of (files documents) entries) id document
 document_found limit numbers documents entries st id k there document is =
     let low = number_below limit numbers documents entries st id k there in
-    let at : slice_get (files documents) k ≡ Some (filed document) =
-    slice_get-map filed documents k ∙ ap (option_map filed) (at_place documents k document low is) in
+    let at : slice_get (files documents) k ≡ Some (filed_document document) =
+    slice_get-map filed_document documents k ∙ ap (option_map filed_document) (at_place documents k document low is) in
     let own = st.found id k there in
-    let same : filed document ≡ own.0 = same_Some (filed document) own.0 (sym at ∙ own.1) in
-    let named_so : document.id ≡ id = ap (λ (z : Filed). z.id) same ∙ own.2 in
+    let same : filed_document document ≡ own.0 = same_Some (filed_document document) own.0 (sym at ∙ own.1) in
+    let named_so : document.id ≡ id = ap (λ (z : FiledDocument). z.id) same ∙ own.2 in
     let kept : edits_of (journal_of (files documents) entries) document.id ≡ map
-    (named document.id) document.tree.edits =
-    st.kept k (filed document) at in
+    (edit_with_id document.id) document.tree.edits =
+    st.kept k (filed_document document) at in
     record {
       same = named_so;
       kept =
-          subst (λ i. edits_of (journal_of (files documents) entries) i ≡ map (named i) document.tree.edits)
+          subst (λ i. edits_of (journal_of (files documents) entries) i ≡ map (edit_with_id i) document.tree.edits)
           named_so
           kept;
-      one = st.one k (filed document) at;
+      one = st.one k (filed_document document) at;
     }
 
 -- each of the revisions that are asked for

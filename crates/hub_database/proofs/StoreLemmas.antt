@@ -15,7 +15,7 @@ use Rattle.std.proofs.lemmas.List.Elements.{filter-append}
 use Rattle.std.proofs.Math.Seq.{map-set_same}
 use Rattle.std.proofs.Math.ListN.{length-set}
 use Rattle.hub_index.specs.Order.{IsOrder, id_at, number_in, with_number}
-use Rattle.hub_index.specs.Rows.{moved, seq_of}
+use Rattle.hub_index.specs.Rows.{rows_after_move, seq_of}
 use Rattle.hub_document.specs.declared.limits.Limits.{Limits}
 use Rattle.hub_model.specs.Revision.{Revision}
 use Rattle.hub_model.specs.Journal.{Edit, edits_of, head_of}
@@ -30,14 +30,14 @@ use Rattle.hub_database.specs.declared.document.Incoming.{Incoming}
 use Rattle.hub_database.specs.declared.document.Looked.{Looked}
 use Rattle.hub_database.specs.declared.document.Looked.TheVariants.{Known, Refused, Ready}
 use Rattle.hub_database.specs.declared.contents.Contents.TheInside.{Inside}
-use Rattle.hub_database.specs.Filed.{Filed, HasNumbers, named, edit_at, ids_of, journal_of, IsFiled}
+use Rattle.hub_database.specs.Filed.{FiledDocument, HasNumbers, edit_with_id, edit_at, ids_of, journal_of, IsFiled}
 use Rattle.hub_database.specs.Looked.{Setting, IsWritten, NeedsRoomFor, IsStorable, stores_edit, look_at}
 use Rattle.hub_database.specs.Looked.{look_in, unless_full, outcome_of, document_after, documents_after}
 use Rattle.hub_database.specs.Looked.{entries_after, journal_after, numbers_after, rows_after}
 use Rattle.hub_database.specs.Indexed.{IsIndexed, latest_of}
-use Rattle.hub_database.specs.Documents.{filed, files}
+use Rattle.hub_database.specs.Documents.{filed_document, files}
 use Rattle.hub_database.specs.Inside.{IsWhole, HasDocuments, IsCounted, HasRows, ShowsSame, IsInserted}
-use Rattle.hub_database.specs.Documents.{deleted_in, one_if, setting_of, unwritten}
+use Rattle.hub_database.specs.Documents.{deleted_in, one_if, setting_of, unwritten_document}
 use Rattle.hub_database.specs.Inside.{edits_inside, first_setting}
 use Rattle.hub_database.specs.Inside.{ids_in, number_by}
 use Rattle.hub_index.proofs.ListLemmas.{at_place, get_push, get_push_other, get_set, get_set_other, text_same}
@@ -54,7 +54,7 @@ pub use Rattle.hub_revtree.proofs.BranchLemmas.{on_err}
 
 -- what storing an edit leaves: the documents and the rows in order, and the journal with the edit if it is
 -- stored
-abbrev pub Leaves : ℕ → List Filed → List Entry → List ℕ → Looked → (List ℕ → Option ℕ) → List Filed
+abbrev pub Leaves : ℕ → List FiledDocument → List Entry → List ℕ → Looked → (List ℕ → Option ℕ) → List FiledDocument
     → List Entry → List (ℕ × ℕ) → Type 0
 Leaves limit documents entries id looked numbers' documents' entries' index' =
     IsFiled limit numbers' documents' entries' ×
@@ -92,28 +92,28 @@ counted_on journal later_journal id Known same count count' was is w i c h =
 counted_on journal later_journal id (Refused f) same count count' was is w i c h =
     stays journal later_journal id same count count' was is w i c h
 counted_on journal later_journal id (Ready e) same count count' was is w i c h =
-    let more = deleted_more journal (named id e) in
-    let now : is ≡ is_deleted (leaves_of (journal ++ named id e ∷ []) id) =
+    let more = deleted_more journal (edit_with_id id e) in
+    let now : is ≡ is_deleted (leaves_of (journal ++ edit_with_id id e ∷ []) id) =
     i ∙ ap (λ K. is_deleted (leaves_of K id)) same in
-    let all : deleted_in later_journal ≡ deleted_in (journal ++ named id e ∷ []) = ap deleted_in same in
+    let all : deleted_in later_journal ≡ deleted_in (journal ++ edit_with_id id e ∷ []) = ap deleted_in same in
     omega (arith, h, c, more, all, ap one_if w, ap one_if now)
 
 -- where it is stored
-module _ (limit : ℕ) (numbers : List ℕ → Option ℕ) (documents : List Filed) (entries : List Entry)
+module _ (limit : ℕ) (numbers : List ℕ → Option ℕ) (documents : List FiledDocument) (entries : List Entry)
     (st : IsFiled limit numbers documents entries) (index : List (ℕ × ℕ))
     (ix : IsIndexed documents entries index) (id : List ℕ) (k : ℕ) (edits : List Edit)
     (was : Was numbers documents id k edits)
     (one : edits_of edits [] ≡ edits) where
   stores : (edit : Edit) → IsStorable edits (Ready edit) → length entries < limit
-      → (numbers' : List ℕ → Option ℕ) (documents' : List Filed)
+      → (numbers' : List ℕ → Option ℕ) (documents' : List FiledDocument)
       → slice_get documents' k
       ≡ Some (record { id = id; latest = length entries + 1; edits = edits ++ edit ∷ [] })
       → ((j : ℕ) → j ≢ k → slice_get documents' j ≡ slice_get documents j)
       → numbers' id ≡ Some k → ((q : List ℕ) → q ≢ id → numbers' q ≡ numbers q)
-      → ((filed : Filed) → slice_get documents k ≡ Some filed → length documents' ≡ length documents)
+      → ((filed : FiledDocument) → slice_get documents k ≡ Some filed → length documents' ≡ length documents)
       → (slice_get documents k ≡ None → length documents' ≡ length documents + 1)
       → Leaves limit documents entries id (Ready edit) numbers' documents'
-      (entries ++ record { document = k; revision = length edits } ∷ []) (moved index k (length entries + 1))
+      (entries ++ record { document = k; revision = length edits } ∷ []) (rows_after_move index k (length entries + 1))
   stores edit s room numbers' documents' at other this rest stay more =
       let ok =
       acceptable_in (journal_of documents entries) id edits
@@ -147,19 +147,19 @@ module _ (limit : ℕ) (numbers : List ℕ → Option ℕ) (documents : List Doc
   in_range = slice_get_within documents k document at
 
   kept_at : edits_of (journal_of (files documents) entries) document.id ≡ map
-      (named document.id) document.tree.edits
+      (edit_with_id document.id) document.tree.edits
   kept_at = st.kept k (filed document) filed_at
 
   -- a document has no more edits than the journal
   pub few_edits : length document.tree.edits ≤ length entries
   few_edits =
       let same : length (edits_of (journal_of (files documents) entries) document.id)
-      ≡ length (map (named document.id) document.tree.edits) =
+      ≡ length (map (edit_with_id document.id) document.tree.edits) =
       ap length kept_at in
       omega (
         arith,
         same,
-        length-map document.tree.edits (named document.id),
+        length-map document.tree.edits (edit_with_id document.id),
         count_filter (λ (edit : Edit). bytes_eq edit.id document.id) (journal_of (files documents) entries),
         length-map entries (edit_at (files documents)),
       )
@@ -198,7 +198,7 @@ module _ (limit : ℕ) (numbers : List ℕ → Option ℕ) (documents : List Doc
       → NeedsRoomFor document.tree.edits [] edit → NeedsRoomFor (journal_of (files documents) entries) id edit
   needs_at id there tree edit n =
       let f = st.found id k there in
-      let this : document.id ≡ id = ap (λ (z : Filed). z.id)
+      let this : document.id ≡ id = ap (λ (z : FiledDocument). z.id)
       (same_Some (filed document) f.0 (sym filed_at ∙ f.1)) ∙ f.2 in
       subst (λ i. NeedsRoomFor (journal_of (files documents) entries) i edit) this
       (needs_in (journal_of (files documents) entries) document.id document.tree.edits kept_at tree.one
@@ -267,7 +267,7 @@ module _ (limit : ℕ) (numbers : List ℕ → Option ℕ) (documents : List Doc
       ≡ nat_le limit (length entries) =
       ap (nat_le limit) (length-map entries (edit_at (files documents))) in
       let f = st.found id k there in
-      let this : document.id ≡ id = ap (λ (z : Filed). z.id)
+      let this : document.id ≡ id = ap (λ (z : FiledDocument). z.id)
       (same_Some (filed document) f.0 (sym filed_at ∙ f.1)) ∙ f.2 in
       let said =
       stores_by (journal_of (files documents) entries) document.id document.tree.edits kept_at tree.one limit
@@ -289,7 +289,7 @@ module _ (limit : ℕ) (numbers : List ℕ → Option ℕ) (documents : List Doc
       let named_now : other.id ≡ document.id = id_stays looked (setting_of k document entries index)
       (filed other) x.document in
       let kept_now : edits_of (journal_of (files (slice_set documents k other)) entries') other.id
-      ≡ map (named other.id) other.tree.edits =
+      ≡ map (edit_with_id other.id) other.tree.edits =
       left.0.kept k (filed other) now in
       let mark_now : is_deleted (leaves_of other.tree.edits [])
       ≡ is_deleted (leaves_of (journal_of (files (slice_set documents k other)) entries') document.id) =
@@ -313,11 +313,11 @@ module _ (limit : ℕ) (numbers : List ℕ → Option ℕ) (documents : List Doc
         left.2,
       )
     where
-      id_stays : (looked : Looked) (setting : Setting) (g : Filed) → g ≡ document_after looked setting
+      id_stays : (looked : Looked) (setting : Setting) (g : FiledDocument) → g ≡ document_after looked setting
           → g.id ≡ setting.document.id
-      id_stays Known setting g e = ap (λ (z : Filed). z.id) e
-      id_stays (Refused fault) setting g e = ap (λ (z : Filed). z.id) e
-      id_stays (Ready x) setting g e = ap (λ (z : Filed). z.id) e
+      id_stays Known setting g e = ap (λ (z : FiledDocument). z.id) e
+      id_stays (Refused fault) setting g e = ap (λ (z : FiledDocument). z.id) e
+      id_stays (Ready x) setting g e = ap (λ (z : FiledDocument). z.id) e
 
 -- the first edit of a document
 module _ (old : Inside) (st : HasDocuments old) (ix : HasRows old) (id : List ℕ)
@@ -384,7 +384,7 @@ module _ (old : Inside) (st : HasDocuments old) (ix : HasRows old) (id : List �
 -- the count after it
 first_counted : (journal later_journal : List Edit) (id : List ℕ) (looked : Looked) (setting : Setting)
     (count count' : ℕ)
-    → setting.document ≡ unwritten id → later_journal ≡ journal_after looked id journal
+    → setting.document ≡ unwritten_document id → later_journal ≡ journal_after looked id journal
     → edits_of journal id ≡ [] → IsStorable [] looked → count ≡ deleted_in journal
     → count' ≡ count + one_if (is_deleted (leaves_of (document_after looked setting).edits []))
     → count' ≡ deleted_in later_journal
@@ -394,7 +394,7 @@ first_counted journal later_journal id Known setting count count' first same non
       h,
       c,
       ap deleted_in same,
-      ap (λ (filed : Filed). one_if (is_deleted (leaves_of filed.edits []))) first,
+      ap (λ (filed : FiledDocument). one_if (is_deleted (leaves_of filed.edits []))) first,
     )
 first_counted journal later_journal id (Refused edit) setting count count' first same none storable c h =
     omega (
@@ -402,32 +402,32 @@ first_counted journal later_journal id (Refused edit) setting count count' first
       h,
       c,
       ap deleted_in same,
-      ap (λ (filed : Filed). one_if (is_deleted (leaves_of filed.edits []))) first,
+      ap (λ (filed : FiledDocument). one_if (is_deleted (leaves_of filed.edits []))) first,
     )
 first_counted journal later_journal id (Ready e) setting count count' first same none storable c h =
     let one : edits_of (e ∷ []) [] ≡ e ∷ [] =
     ap (λ b. if b then (e ∷ []) else []) (text_same e.id [] storable.0) in
-    let kept : edits_of (journal ++ named id e ∷ []) id ≡ map (named id) (e ∷ []) =
-    filter-append (λ (edit : Edit). bytes_eq edit.id id) journal (named id e ∷ [])
-    ∙ (ap (λ es. es ++ (if bytes_eq id id then (named id e ∷ []) else [])) none
-    ∙ ap (λ b. if b then (named id e ∷ []) else []) (text_same id id refl)) in
-    let now : is_deleted (leaves_of (e ∷ []) []) ≡ is_deleted (leaves_of (journal ++ named id e ∷ []) id) =
+    let kept : edits_of (journal ++ edit_with_id id e ∷ []) id ≡ map (edit_with_id id) (e ∷ []) =
+    filter-append (λ (edit : Edit). bytes_eq edit.id id) journal (edit_with_id id e ∷ [])
+    ∙ (ap (λ es. es ++ (if bytes_eq id id then (edit_with_id id e ∷ []) else [])) none
+    ∙ ap (λ b. if b then (edit_with_id id e ∷ []) else []) (text_same id id refl)) in
+    let now : is_deleted (leaves_of (e ∷ []) []) ≡ is_deleted (leaves_of (journal ++ edit_with_id id e ∷ []) id) =
     sym
-    (ap is_deleted (leaves_named (journal ++ named id e ∷ []) id (e ∷ []) kept one)
+    (ap is_deleted (leaves_named (journal ++ edit_with_id id e ∷ []) id (e ∷ []) kept one)
     ∙ deleted_named id (leaves_of (e ∷ []) [])) in
     let before : false ≡ is_deleted (leaves_of journal id) =
     sym (ap (λ es. is_deleted (best_first (leaves_among es es))) none) in
     let only : one_if (is_deleted (leaves_of (setting.document.edits ++ e ∷ []) []))
     ≡ one_if (is_deleted (leaves_of (e ∷ []) [])) =
-    ap (λ (filed : Filed). one_if (is_deleted (leaves_of (filed.edits ++ e ∷ []) []))) first in
+    ap (λ (filed : FiledDocument). one_if (is_deleted (leaves_of (filed.edits ++ e ∷ []) []))) first in
     counted_on journal later_journal id (Ready e) same count count' false
     (is_deleted (leaves_of (e ∷ []) [])) before
     (now ∙ ap (λ K. is_deleted (leaves_of K id)) (sym same)) c (omega (arith, h, only))
 
 -- what a new document brings, one by one
-pub first_stored : (id : List ℕ) (edit : Incoming) (old new : Inside) (none d : Filed) (look : Looked)
+pub first_stored : (id : List ℕ) (edit : Incoming) (old new : Inside) (none d : FiledDocument) (look : Looked)
     (e : Edit) (revision : Revision) (number : ℕ)
-    → none ≡ unwritten id
+    → none ≡ unwritten_document id
     → look
     ≡ unless_full (nat_le old.limits.journal (length old.journal.items)) (look_at none.id none.edits edit)
     → look ≡ Ready e → IsStorable none.edits look → head_of e ≡ Some revision
@@ -439,33 +439,33 @@ pub first_stored : (id : List ℕ) (edit : Incoming) (old new : Inside) (none d 
     → new.numbers ≡ with_number (ids_in old) old.numbers id number
     → IsOrder (ids_in old ++ id ∷ []) new.numbers
     → new.deleted ≡ old.deleted + one_if (is_deleted (leaves_of d.edits []))
-    → new.index ≡ moved old.index number (length old.journal.items + 1)
+    → new.index ≡ rows_after_move old.index number (length old.journal.items + 1)
     → IsInserted id (look_in old.limits.journal (first_setting id old) edit) old new (outcome.Stored revision)
 first_stored id edit old new none d look e revision number first looked ready storable head now place fs js
     order
     absent ns sorted count rows =
     let more : ids_in new ≡ ids_in old ++ id ∷ [] =
     ap ids_of fs
-    ∙ (map_push (λ (z : Filed). z.id) (files old.documents.items) d
+    ∙ (map_push (λ (z : FiledDocument). z.id) (files old.documents.items) d
     ∙ ap (λ (i : List ℕ). ids_in old ++ i ∷ [])
-    (ap (λ (z : Filed). z.id) now ∙ ap (λ (z : Filed). z.id) first)) in
+    (ap (λ (z : FiledDocument). z.id) now ∙ ap (λ (z : FiledDocument). z.id) first)) in
     let next : number ≡ length (ids_in old) =
     omega (
       arith,
       place,
-      length-map (files old.documents.items) (λ (z : Filed). z.id),
-      length-map old.documents.items filed,
+      length-map (files old.documents.items) (λ (z : FiledDocument). z.id),
+      length-map old.documents.items filed_document,
     ) in
     let s : Setting = first_setting id old in
     let is : look_in old.limits.journal s edit ≡ Ready e =
     sym
-    (ap (λ (z : Filed).
+    (ap (λ (z : FiledDocument).
     unless_full (nat_le old.limits.journal (length old.journal.items)) (look_at z.id z.edits edit)) first)
     ∙ (sym looked ∙ ready) in
     let filed_now : d ≡ document_after (Ready e) s =
     now
     ∙ ap
-    (λ (z : Filed). record { id = z.id; latest = length old.journal.items + 1; edits = z.edits ++ e ∷ [] })
+    (λ (z : FiledDocument). record { id = z.id; latest = length old.journal.items + 1; edits = z.edits ++ e ∷ [] })
     first in
     record {
       answer =
@@ -479,12 +479,12 @@ first_stored id edit old new none d look e revision number first looked ready st
       entries =
           js
           ∙ (ap (λ n. old.journal.items ++ record { document = n; revision = length none.edits } ∷ []) place
-          ∙ (ap (λ (z : Filed). old.journal.items
+          ∙ (ap (λ (z : FiledDocument). old.journal.items
           ++ record { document = length old.documents.items; revision = length z.edits } ∷ []) first
           ∙ sym (ap (λ k. entries_after k s) is)));
       rows =
           rows
-          ∙ (ap (λ n. moved old.index n (length old.journal.items + 1)) place
+          ∙ (ap (λ n. rows_after_move old.index n (length old.journal.items + 1)) place
           ∙ sym (ap (λ k. rows_after k s) is));
       numbers =
           λ q. ap (λ z. number_in z new.numbers q) more
@@ -495,11 +495,11 @@ first_stored id edit old new none d look e revision number first looked ready st
       order = subst (λ z. IsOrder z new.numbers) (sym more) sorted;
       deleted =
           count
-          ∙ (ap (λ (z : Filed). old.deleted + one_if (is_deleted (leaves_of z.edits []))) filed_now
+          ∙ (ap (λ (z : FiledDocument). old.deleted + one_if (is_deleted (leaves_of z.edits []))) filed_now
           ∙ sym (ap (λ k. old.deleted + one_if (is_deleted (leaves_of (document_after k s).edits []))) is));
       storable =
           subst (IsStorable []) (ready ∙ sym is)
-          (subst (λ (z : Filed). IsStorable z.edits look) first storable);
+          (subst (λ (z : FiledDocument). IsStorable z.edits look) first storable);
     }
 
 -- what storing it leaves
@@ -548,7 +548,7 @@ same_store old new st counted ix w stay =
     ∙ ap (λ l. number_in (ids_in old) l q) w.numbers in
     let numbers : number_by new ≡ number_by old = λ i q. same q i in (
       record {
-        filed = rw stay (rw (numbers, w.documents, w.journal) st.filed);
+        filed_document = rw stay (rw (numbers, w.documents, w.journal) st.filed);
         order = rw (w.documents, w.numbers) st.order;
       },
       rw (w.deleted, w.documents, w.journal) counted,
@@ -599,7 +599,7 @@ pub number_below : (limit : ℕ) (numbers : List ℕ → Option ℕ) (documents 
     → numbers id ≡ Some k → k < length documents
 number_below limit numbers documents entries st id k there =
     let f = st.found id k there in
-    omega (arith, slice_get_within (files documents) k f.0 f.1, length-map documents filed)
+    omega (arith, slice_get_within (files documents) k f.0 f.1, length-map documents filed_document)
 
 -- and the document is there
 pub document_there : (inside : Inside) → HasDocuments inside → (id : List ℕ) (k : ℕ)
@@ -629,7 +629,7 @@ needs_first inside st id absent edit n =
 pub no_row : (inside : Inside) → HasRows inside → seq_of (length inside.documents.items) inside.index ≡ None
 no_row inside ix =
     let n = length inside.documents.items in
-    let many : length (files inside.documents.items) ≡ n = length-map inside.documents.items filed in
+    let many : length (files inside.documents.items) ≡ n = length-map inside.documents.items filed_document in
     ix.none n
     (ap (option_map latest_of) (slice_get_past (files inside.documents.items) n (omega (arith, many))))
 
@@ -640,18 +640,18 @@ pub ids_stay : (documents : List Document) (k : ℕ) (document other : Document)
     → slice_get documents k ≡ Some document
     → other.id ≡ document.id → ids_of (files (slice_set documents k other)) ≡ ids_of (files documents)
 ids_stay documents k document other at same =
-    map-map (λ (z : Filed). z.id) filed (slice_set documents k other)
+    map-map (λ (z : FiledDocument). z.id) filed_document (slice_set documents k other)
     ∙ (map-set_same (λ (z : Document). z.id) documents k other document
     (same ∙ ap (λ (z : Document). z.id) (sym (get_or_from_slice_get documents k document document at)))
-    ∙ sym (map-map (λ (z : Filed). z.id) filed documents))
+    ∙ sym (map-map (λ (z : FiledDocument). z.id) filed_document documents))
 
 -- an edit that is written keeps its document's id
 pub id_kept : (looked : Looked) (k : ℕ) (document other : Document) (entries : List Entry)
     (index : List (ℕ × ℕ))
-    → filed other ≡ document_after looked (setting_of k document entries index) → other.id ≡ document.id
-id_kept Known k document other entries index e = ap (λ (z : Filed). z.id) e
-id_kept (Refused fault) k document other entries index e = ap (λ (z : Filed). z.id) e
-id_kept (Ready x) k document other entries index e = ap (λ (z : Filed). z.id) e
+    → filed_document other ≡ document_after looked (setting_of k document entries index) → other.id ≡ document.id
+id_kept Known k document other entries index e = ap (λ (z : FiledDocument). z.id) e
+id_kept (Refused fault) k document other entries index e = ap (λ (z : FiledDocument). z.id) e
+id_kept (Ready x) k document other entries index e = ap (λ (z : FiledDocument). z.id) e
 
 -- contents one of whose documents changed, and kept its id
 pub store_stays : (old new : Inside) (k : ℕ) (document other : Document) → HasDocuments old
@@ -666,7 +666,7 @@ store_stays old new k document other st at same documents numbers filed_now =
     λ q. ap (λ z. number_in z new.numbers q) ids ∙ ap (λ l. number_in (ids_in old) l q) numbers in
     let found : number_by new ≡ number_by old = λ i q. each q i in
     record {
-      filed =
+      filed_document =
           subst (λ f. IsFiled new.limits.journal f (files new.documents.items) new.journal.items)
           (sym found) filed_now;
       order = rw (ids, numbers) st.order;
@@ -675,7 +675,7 @@ store_stays old new k document other st at same documents numbers filed_now =
 -- what a write leaves that changed nothing of a document that is there
 pub unchanged_whole : (old new : Inside) → IsWhole old → (id : List ℕ) (k : ℕ) → number_by old id ≡ Some k
     → (document other : Document) → document ≡ get_or old.documents.items k document
-    → filed other ≡ filed document → new.documents.items ≡ slice_set old.documents.items k other
+    → filed_document other ≡ filed_document document → new.documents.items ≡ slice_set old.documents.items k other
     → new.numbers ≡ old.numbers → new.journal.items ≡ old.journal.items → new.index ≡ old.index
     → new.deleted ≡ old.deleted → new.limits ≡ old.limits
     → IsWhole new × (edits_inside new ≡ edits_inside old)
@@ -738,10 +738,10 @@ extended_whole old new w id k there document other is tree tree' edit o x docume
 pub id_here : (documents : List Document) (k : ℕ) (document : Document) → k < length documents
     → document ≡ get_or documents k document → document.id ≡ id_at (ids_of (files documents)) k
 id_here documents k document low is =
-    let within : k < length (files documents) = omega (arith, length-map documents filed) in
+    let within : k < length (files documents) = omega (arith, length-map documents filed_document) in
     sym
-    (get_or-map (λ (z : Filed). z.id) (files documents) k (filed document) [] within
-    ∙ (ap (λ (z : Filed). z.id) (get_or-map filed documents k document (filed document) low)
+    (get_or-map (λ (z : FiledDocument). z.id) (files documents) k (filed_document document) [] within
+    ∙ (ap (λ (z : FiledDocument). z.id) (get_or-map filed_document documents k document (filed_document document) low)
     ∙ ap (λ (z : Document). z.id) (sym is)))
 
 -- a number whose document has an id is the number of that id
@@ -750,12 +750,12 @@ pub number_has : (documents : List Document) (numbers : List ℕ) → HasNumbers
     → number_in (ids_of (files documents)) numbers id ≡ Some k
 number_has documents numbers own id k low here =
     let within : k < length (files documents) =
-    omega (arith, length-map (files documents) (λ (filed : Filed). filed.id)) in
-    let d : Filed = get_or (files documents) k (unwritten []) in
-    let named : d.id ≡ id =
-    sym (get_or-map (λ (filed : Filed). filed.id) (files documents) k (unwritten []) [] within) ∙ here in
-    ap (number_in (ids_of (files documents)) numbers) (sym named)
-    ∙ own k d (slice_get-get_or (files documents) k (unwritten []) within)
+    omega (arith, length-map (files documents) (λ (filed : FiledDocument). filed.id)) in
+    let d : Filed = get_or (files documents) k (unwritten_document []) in
+    let edit_with_id : d.id ≡ id =
+    sym (get_or-map (λ (filed : FiledDocument). filed.id) (files documents) k (unwritten_document []) [] within) ∙ here in
+    ap (number_in (ids_of (files documents)) numbers) (sym edit_with_id)
+    ∙ own k d (slice_get-get_or (files documents) k (unwritten_document []) within)
 
 -- an id that the journal has no edit of has no number
 pub no_number : (inside : Inside) → HasDocuments inside → (id : List ℕ)
@@ -770,13 +770,13 @@ no_number inside is id none = from (number_by inside id) refl
         let kept = is.filed.kept k d f.1 in
         let empty : edits_of (edits_inside inside) d.id ≡ [] =
         ap (edits_of (edits_inside inside)) f.2 ∙ none in
-        let same : length (map (named d.id) d.edits) ≡ 0 = ap length (sym kept ∙ empty) in
-        absurd (omega (arith, same, length-map d.edits (named d.id), is.filed.some k d f.1))
+        let same : length (map (edit_with_id d.id) d.edits) ≡ 0 = ap length (sym kept ∙ empty) in
+        absurd (omega (arith, same, length-map d.edits (edit_with_id d.id), is.filed.some k d f.1))
 
 -- the row of a new document, taken back
 pub row_taken : (rows : List (ℕ × ℕ)) (number seq : ℕ) → seq_of number rows ≡ None
     → All (λ (row : ℕ × ℕ). row.0 < seq) rows
-    → filter (λ (row : ℕ × ℕ). not (nat_eq row.0 seq)) (moved rows number seq) ≡ rows
+    → filter (λ (row : ℕ × ℕ). not (nat_eq row.0 seq)) (rows_after_move rows number seq) ≡ rows
 row_taken rows number seq none above =
     let p : ℕ × ℕ → Bool = λ row. not (nat_eq row.0 seq) in
     ap (filter p) (sym (moved_new number rows seq none))

@@ -4,18 +4,18 @@ use Rattle.hub_model.specs.Current.{current}
 use Rattle.hub_model.specs.Journal.{Edit}
 use Rattle.hub_model.specs.Leaves.{leaves_of}
 use Rattle.hub_model.specs.Row.{is_deleted}
-use Rattle.hub_database.specs.Filed.{Filed}
+use Rattle.hub_database.specs.Filed.{FiledDocument}
 use Rattle.hub_database.specs.Looked.{Setting}
 use Rattle.hub_database.specs.declared.document.Document.{Document}
 use Rattle.hub_database.specs.declared.entry.Entry.{Entry}
 
 -- a document without what its tree has memory for
-abbrev pub filed : Document → Filed
-filed document = record { id = document.id; latest = document.latest; edits = document.tree.edits }
+abbrev pub filed_document : Document → FiledDocument
+filed_document document = record { id = document.id; latest = document.latest; edits = document.tree.edits }
 
 -- documents without what their trees have memory for
-abbrev pub files : List Document → List Filed
-files documents = map filed documents
+abbrev pub files : List Document → List FiledDocument
+files documents = map filed_document documents
 
 -- how many documents of a journal have a deleted winner
 abbrev pub deleted_in : List Edit → ℕ
@@ -29,8 +29,8 @@ one_if false = 0
 -- where an edit is stored of a document that is there
 abbrev pub setting_of : ℕ → Document → List Entry → List (ℕ × ℕ) → Setting
 setting_of number document entries rows =
-    record { number = number; document = filed document; entries = entries; rows = rows }
+    record { number = number; document = filed_document document; entries = entries; rows = rows }
 
 -- a document before its first edit
-abbrev pub unwritten : List ℕ → Filed
-unwritten id = record { id = id; latest = 0; edits = [] }
+abbrev pub unwritten_document : List ℕ → FiledDocument
+unwritten_document id = record { id = id; latest = 0; edits = [] }

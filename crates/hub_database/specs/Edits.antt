@@ -4,8 +4,8 @@ use Rattle.std.specs.Prelude.{◌≡◌, ◌<◌, ℕ, List, [], length, take, s
 use Rattle.std.specs.Prelude.{if◌then◌else◌, unwrap_or, Some, Result, Ok, Err, IfOk, OnErr}
 use Rattle.std.specs.declared.alloc.AllocError.{AllocError}
 use Rattle.hub_model.specs.Journal.{Edit, IsAcceptable}
-use Rattle.hub_model.specs.Draft.{Draft, HasNextRevision, makes}
-use Rattle.hub_model.specs.Outcome.{Stores, StoresAll, merges, refuses, stores_all}
+use Rattle.hub_model.specs.Draft.{Draft, HasNextRevision, draft_result}
+use Rattle.hub_model.specs.Outcome.{Stores, StoresAll, merge_result, refusal_result, stores_all}
 use Rattle.hub_model.specs.Revision.{Revision}
 use Rattle.hub_model.specs.declared.outcomes.Fault.TheVariants as fault
 use Rattle.hub_model.specs.declared.outcomes.Outcome.{Outcome}
@@ -28,16 +28,16 @@ draft_of doc = record { id = doc.id; rev = doc.rev; deleted = doc.deleted; body 
 -- made
 abbrev pub stores_doc : Bool → ℕ → List Edit → Doc → Stores
 stores_doc new_edits limit journal doc =
-    if new_edits then makes limit journal (draft_of doc) else merges limit journal (edit_of doc)
+    if new_edits then draft_result limit journal (draft_of doc) else merge_result limit journal (edit_of doc)
 
 -- documents one after the other, in a database that stands or was deleted
-abbrev pub writes : Bool → Bool → ℕ → List Edit → List Doc → StoresAll
-writes new_edits deleted limit journal docs = stores_all (stores_doc new_edits limit) deleted journal docs
+abbrev pub docs_result : Bool → Bool → ℕ → List Edit → List Doc → StoresAll
+docs_result new_edits deleted limit journal docs = stores_all (stores_doc new_edits limit) deleted journal docs
 
 -- one document as a new edit
-abbrev pub makes_one : Bool → ℕ → List Edit → Doc → Stores
-makes_one deleted limit journal doc =
-    if deleted then refuses journal fault.Deleted else makes limit journal (draft_of doc)
+abbrev pub one_draft_result : Bool → ℕ → List Edit → Doc → Stores
+one_draft_result deleted limit journal doc =
+    if deleted then refusal_result journal fault.Deleted else draft_result limit journal (draft_of doc)
 
 -- Storing the document takes memory: an edit of another database that may be stored; one that is made here
 -- once it has a leaf and a generation left. A document whose revision is known, that contradicts, or that
@@ -71,7 +71,7 @@ pub record IsStore (stores : Stores) (needs : Type 0) (before after : Contents)
 -- batch with two replies stopped at the third.
 pub record IsBatch (new_edits deleted : Bool) (limit : ℕ) (before after : List Edit) (docs : List Doc)
     (batch : Batch) : Type 0 where
-  pub ok : writes new_edits deleted limit before (take (length batch.replies) docs)
+  pub ok : docs_result new_edits deleted limit before (take (length batch.replies) docs)
       ≡ record { outcomes = batch.replies; journal = after }
   pub whole : batch.stopped ≡ false → length batch.replies ≡ length docs
   pub stopped : IsTrue batch.stopped → length batch.replies < length docs

@@ -1,8 +1,8 @@
 -- The feeds of a database that is deleted (CouchDB API reference, _changes; own).
 use Rattle.std.specs.Prelude.{map, true}
-use Rattle.hub_feed.specs.Feeds.{ended}
+use Rattle.hub_feed.specs.Feeds.{ended_entry}
 use Rattle.hub_database.specs.Database.{Database}
 
 -- the database once it is deleted: of each open feed its end is all that is left to hand
-abbrev pub deleted : Database → Database
-deleted db = record db { deleted = true; feeds = map ended db.feeds }
+abbrev pub deleted_database : Database → Database
+deleted_database db = record db { deleted = true; feeds = map ended_entry db.feeds }

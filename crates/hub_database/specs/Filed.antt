@@ -7,56 +7,56 @@ use Rattle.hub_model.specs.Current.{current}
 use Rattle.hub_database.specs.declared.entry.Entry.{Entry}
 
 -- a document: its id, the sequence of its latest edit, and its edits with their id left out
-pub record Filed : Type 0 where
+pub record FiledDocument : Type 0 where
   pub id : List ℕ
   pub latest : ℕ
   pub edits : List Edit
 
 -- the documents' ids, by number
-abbrev pub ids_of : List Filed → List (List ℕ)
-ids_of documents = map (λ (filed : Filed). filed.id) documents
+abbrev pub ids_of : List FiledDocument → List (List ℕ)
+ids_of documents = map (λ (filed : FiledDocument). filed.id) documents
 
 -- the edit with this id
-abbrev pub named : List ℕ → Edit → Edit
-named id edit = record { id = id; path = edit.path; deleted = edit.deleted; body = edit.body }
+abbrev pub edit_with_id : List ℕ → Edit → Edit
+edit_with_id id edit = record { id = id; path = edit.path; deleted = edit.deleted; body = edit.body }
 
 abbrev pub no_edit : Edit
 no_edit = record { id = []; path = []; deleted = false; body = [] }
 
 -- the edit of this number, of the document that is there
-abbrev pub edit_in : Option Filed → ℕ → Edit
+abbrev pub edit_in : Option FiledDocument → ℕ → Edit
 edit_in None revision = no_edit
-edit_in (Some document) revision = named document.id (get_or document.edits revision no_edit)
+edit_in (Some document) revision = edit_with_id document.id (get_or document.edits revision no_edit)
 
 -- the edit that an entry stands for
-abbrev pub edit_at : List Filed → Entry → Edit
+abbrev pub edit_at : List FiledDocument → Entry → Edit
 edit_at documents entry = edit_in (slice_get documents entry.document) entry.revision
 
 -- the journal
-abbrev pub journal_of : List Filed → List Entry → List Edit
+abbrev pub journal_of : List FiledDocument → List Entry → List Edit
 journal_of documents entries = map (edit_at documents) entries
 
 -- each document is found by its id
-abbrev pub HasNumbers : List Filed → List ℕ → Type 0
+abbrev pub HasNumbers : List FiledDocument → List ℕ → Type 0
 HasNumbers documents numbers =
-    (k : ℕ) (filed : Filed) → slice_get documents k ≡ Some filed
+    (k : ℕ) (filed : FiledDocument) → slice_get documents k ≡ Some filed
     → number_in (ids_of documents) numbers filed.id ≡ Some k
 
 -- what holds of the documents, of their numbers by id, and of the entries
 pub record IsFiled (limit : ℕ) (numbers : List ℕ
-    → Option ℕ) (documents : List Filed) (entries : List Entry) : Type 0 where
+    → Option ℕ) (documents : List FiledDocument) (entries : List Entry) : Type 0 where
   pub found : (id : List ℕ) (k : ℕ) → numbers id ≡ Some k
-      → (filed : Filed) × (slice_get documents k ≡ Some filed) × (filed.id ≡ id)
-  pub own : (k : ℕ) (filed : Filed) → slice_get documents k ≡ Some filed → numbers filed.id ≡ Some k
-  pub kept : (k : ℕ) (filed : Filed) → slice_get documents k ≡ Some filed
-      → edits_of (journal_of documents entries) filed.id ≡ map (named filed.id) filed.edits
+      → (filed : FiledDocument) × (slice_get documents k ≡ Some filed) × (filed.id ≡ id)
+  pub own : (k : ℕ) (filed : FiledDocument) → slice_get documents k ≡ Some filed → numbers filed.id ≡ Some k
+  pub kept : (k : ℕ) (filed : FiledDocument) → slice_get documents k ≡ Some filed
+      → edits_of (journal_of documents entries) filed.id ≡ map (edit_with_id filed.id) filed.edits
   pub others : (id : List ℕ) → numbers id ≡ None → edits_of (journal_of documents entries) id ≡ []
   pub within : (i : ℕ) (x : Entry) → slice_get entries i ≡ Some x
-      → (filed : Filed) × (slice_get documents x.document ≡ Some filed) × (x.revision < length filed.edits)
+      → (filed : FiledDocument) × (slice_get documents x.document ≡ Some filed) × (x.revision < length filed.edits)
   pub legal : IsLegal (journal_of documents entries)
   pub count : length entries ≤ limit
   pub fewer : length documents ≤ length entries
-  pub one : (k : ℕ) (filed : Filed) → slice_get documents k ≡ Some filed
+  pub one : (k : ℕ) (filed : FiledDocument) → slice_get documents k ≡ Some filed
       → edits_of filed.edits [] ≡ filed.edits
-  pub some : (k : ℕ) (filed : Filed) → slice_get documents k ≡ Some filed → 1 ≤ length filed.edits
+  pub some : (k : ℕ) (filed : FiledDocument) → slice_get documents k ≡ Some filed → 1 ≤ length filed.edits
   pub each : length documents ≡ length (current (journal_of documents entries))

@@ -2,24 +2,24 @@
 use Rattle.std.specs.Prelude.{◌≡◌, ℕ, List, [], map, Bool, Option, option_map, if◌then◌else◌, Some, None}
 use Rattle.hub_model.specs.Revision.{Revision}
 use Rattle.hub_model.specs.Journal.{Edit, edits_of}
-use Rattle.hub_model.specs.Missing.{Asked, Diff, diff_of, is_wanted}
-use Rattle.hub_model.specs.Walk.{shown}
+use Rattle.hub_model.specs.Missing.{RevisionsOfDoc, Diff, diff_of, is_wanted}
+use Rattle.hub_model.specs.Walk.{shown_edit}
 use Rattle.hub_revtree.specs.Extend.{path_to}
 use Rattle.hub_database.specs.declared.document.Document.{Document}
-use Rattle.hub_database.specs.Filed.{named}
+use Rattle.hub_database.specs.Filed.{edit_with_id}
 
 -- the document has the id, and its tree the journal's edits of it, their id left out
 pub record IsFound (journal : List Edit) (id : List ℕ) (document : Document) : Type 0 where
   pub same : document.id ≡ id
-  pub kept : edits_of journal id ≡ map (named id) document.tree.edits
+  pub kept : edits_of journal id ≡ map (edit_with_id id) document.tree.edits
   pub one : edits_of document.tree.edits [] ≡ document.tree.edits
 
 -- what a document shows of a revision
 abbrev pub shown_in : Document → Revision → Option Edit
-shown_in document revision = option_map (named document.id) (shown document.tree.edits [] revision)
+shown_in document revision = option_map (edit_with_id document.id) (shown_edit document.tree.edits [] revision)
 
 -- what a document that is asked for misses, where that is anything
-abbrev pub wanted_diff : List Edit → Asked → Option Diff
+abbrev pub wanted_diff : List Edit → RevisionsOfDoc → Option Diff
 wanted_diff journal asked = if is_wanted (diff_of journal asked) then Some (diff_of journal asked) else None
 
 -- a known revision and all that stands behind it, where that is asked for

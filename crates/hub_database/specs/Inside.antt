@@ -6,7 +6,7 @@ use Rattle.hub_model.specs.Leaves.{leaves_of}
 use Rattle.hub_model.specs.Row.{is_deleted}
 use Rattle.hub_model.specs.Revision.{Revision}
 use Rattle.hub_model.specs.declared.outcomes.Outcome.{Outcome}
-use Rattle.hub_database.specs.Documents.{files, deleted_in, one_if, unwritten}
+use Rattle.hub_database.specs.Documents.{files, deleted_in, one_if, unwritten_document}
 use Rattle.hub_database.specs.Looked.{Setting, IsStorable, outcome_of, document_after, documents_after}
 use Rattle.hub_database.specs.Looked.{entries_after, rows_after, numbers_after}
 use Rattle.hub_database.specs.declared.document.Looked.{Looked}
@@ -60,7 +60,7 @@ abbrev pub first_setting : List ℕ → Inside → Setting
 first_setting id inside =
     record {
       number = length inside.documents.items;
-      document = unwritten id;
+      document = unwritten_document id;
       entries = inside.journal.items;
       rows = inside.index;
     }

@@ -31,5 +31,5 @@ put_local other (local ∷ locals) =
     put_at (slice_cmp nat_cmp other.id local.id) other local locals (put_local other locals)
 
 -- a document as it is kept once it is written
-abbrev pub written : List Local → LocalDoc → Local
-written locals doc = record { id = doc.id; count = next_count (local_of locals doc.id); body = doc.body }
+abbrev pub local_after_write : List Local → LocalDoc → Local
+local_after_write locals doc = record { id = doc.id; count = next_count (local_of locals doc.id); body = doc.body }

@@ -9,14 +9,14 @@ use Rattle.hub_model.specs.Journal.{Edit, IsAcceptable, head_of, is_head_known, 
 use Rattle.hub_model.specs.declared.outcomes.Fault.TheVariants as fault
 use Rattle.hub_model.specs.declared.outcomes.Outcome.{Outcome}
 use Rattle.hub_model.specs.declared.outcomes.Outcome.TheVariants as outcome
-use Rattle.hub_model.specs.Outcome.{Stores, merges}
-use Rattle.hub_model.specs.Draft.{HasNextRevision, makes}
-use Rattle.hub_index.specs.Rows.{moved}
-use Rattle.hub_revtree.specs.Extend.{draft, extends}
+use Rattle.hub_model.specs.Outcome.{Stores, merge_result}
+use Rattle.hub_model.specs.Draft.{HasNextRevision, draft_result}
+use Rattle.hub_index.specs.Rows.{rows_after_move}
+use Rattle.hub_revtree.specs.Extend.{draft, edit_of_draft}
 use Rattle.hub_revtree.specs.Tree.{IsRevTree, Tree, nameless}
 use Rattle.hub_revtree.specs.declared.fault.EditFault.{EditFault}
 use Rattle.hub_revtree.specs.declared.fault.EditFault.TheVariants as edit_fault
-use Rattle.hub_database.specs.Filed.{Filed, named}
+use Rattle.hub_database.specs.Filed.{FiledDocument, edit_with_id}
 use Rattle.hub_database.specs.declared.entry.Entry.{Entry}
 use Rattle.hub_database.specs.declared.document.Incoming.{Incoming}
 use Rattle.hub_database.specs.declared.document.Origin.{Origin}
@@ -28,8 +28,8 @@ use Rattle.hub_database.specs.declared.document.Looked.TheVariants.{Known, Refus
 -- is merged, and one that is made here gets its revision
 abbrev pub stores_from : ℕ → List Edit → List ℕ → Origin → Bool → List ℕ → Stores
 stores_from limit journal id (Elsewhere path) deleted body =
-    merges limit journal (named id (nameless path deleted body))
-stores_from limit journal id (Here rev) deleted body = makes limit journal (draft id rev deleted body)
+    merge_result limit journal (edit_with_id id (nameless path deleted body))
+stores_from limit journal id (Here rev) deleted body = draft_result limit journal (draft id rev deleted body)
 
 -- what storing an incoming edit of the document answers, and the journal after it
 abbrev pub stores_edit : ℕ → List Edit → List ℕ → Incoming → Stores
@@ -53,7 +53,7 @@ abbrev pub look_from : List ℕ → List Edit → Origin → Bool → List ℕ �
 look_from id edits (Elsewhere path) deleted body =
     look_by (nameless path deleted body) (is_head_known edits [] path)
     (is_acceptable edits (nameless path deleted body))
-look_from id edits (Here rev) deleted body = look_made (extends edits (draft id rev deleted body))
+look_from id edits (Here rev) deleted body = look_made (edit_of_draft edits (draft id rev deleted body))
 
 -- what is said of an incoming edit after these edits of its document
 abbrev pub look_at : List ℕ → List Edit → Incoming → Looked
@@ -79,7 +79,7 @@ HasRoom room looked = Unit {0}
 -- has a leaf to extend and a generation left
 abbrev pub NeedsRoomFrom : List Edit → List ℕ → Origin → Bool → List ℕ → Type 0
 NeedsRoomFrom journal id (Elsewhere path) deleted body =
-    IsAcceptable journal (named id (nameless path deleted body))
+    IsAcceptable journal (edit_with_id id (nameless path deleted body))
 NeedsRoomFrom journal id (Here rev) deleted body = HasNextRevision journal (draft id rev deleted body)
 
 -- storing an incoming edit of the document takes memory
@@ -110,7 +110,7 @@ outcome_of (Ready e) = outcome.Stored (unwrap_or (head_of e) (record { generatio
 -- where a write stores its edit: the document and its number, the journal's entries, and the rows by sequence
 pub record Setting : Type 0 where
   pub number : ℕ
-  pub document : Filed
+  pub document : FiledDocument
   pub entries : List Entry
   pub rows : List (ℕ × ℕ)
 
@@ -126,7 +126,7 @@ look_in limit setting edit =
 -- document 3, and the row of document 3 at sequence 8 in place of the one that it had.
 
 -- the document: an edit that is stored is its latest
-abbrev pub document_after : Looked → Setting → Filed
+abbrev pub document_after : Looked → Setting → FiledDocument
 document_after (Ready e) setting =
     record {
       id = setting.document.id;
@@ -144,16 +144,16 @@ entries_after looked setting = setting.entries
 
 -- the rows: the document's is the last, at the sequence of the edit that is stored
 abbrev pub rows_after : Looked → Setting → List (ℕ × ℕ)
-rows_after (Ready e) setting = moved setting.rows setting.number (length setting.entries + 1)
+rows_after (Ready e) setting = rows_after_move setting.rows setting.number (length setting.entries + 1)
 rows_after looked setting = setting.rows
 
 -- the journal: the edit that is stored stands last, with its document's id
 abbrev pub journal_after : Looked → List ℕ → List Edit → List Edit
-journal_after (Ready e) id journal = journal ++ named id e ∷ []
+journal_after (Ready e) id journal = journal ++ edit_with_id id e ∷ []
 journal_after looked id journal = journal
 
 -- the documents: that of a first edit that is stored stands last
-abbrev pub documents_after : Looked → Setting → List Filed → List Filed
+abbrev pub documents_after : Looked → Setting → List FiledDocument → List FiledDocument
 documents_after (Ready e) setting documents = documents ++ document_after (Ready e) setting ∷ []
 documents_after looked setting documents = documents
 

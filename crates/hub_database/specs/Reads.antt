@@ -6,7 +6,7 @@ use Rattle.hub_model.specs.Journal.{Edit, head_of}
 use Rattle.hub_model.specs.Leaves.{Leaf, leaves_of, revisions_of}
 use Rattle.hub_model.specs.Current.{current}
 use Rattle.hub_model.specs.Row.{is_deleted}
-use Rattle.hub_model.specs.Walk.{shown, line_of}
+use Rattle.hub_model.specs.Walk.{shown_edit, line_of}
 use Rattle.hub_document.specs.declared.doc.Doc.{Doc}
 use Rattle.hub_document.specs.declared.open_revs.OpenRevs.{OpenRevs}
 use Rattle.hub_document.specs.declared.open_revs.OpenRevs.TheVariants.{All, Listed}
@@ -39,7 +39,7 @@ open_rev_of revs revision (Some edit) = opened.Found (doc_shown revs edit)
 
 -- what is shown of a revision of a document
 abbrev pub open_rev : List Edit → List ℕ → Bool → Revision → OpenRev
-open_rev journal id revs revision = open_rev_of revs revision (shown journal id revision)
+open_rev journal id revs revision = open_rev_of revs revision (shown_edit journal id revision)
 
 -- the revisions that are asked for: every leaf, best first, or those listed, in their order
 abbrev pub asked_of : List Edit → List ℕ → OpenRevs → List Revision

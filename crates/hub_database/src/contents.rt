@@ -4,7 +4,7 @@ ghost use Rattle.std.specs.Prelude.{[], ◌∷◌, ◌++◌, false, ◌≡◌, �
 ghost use Rattle.std.specs.Prelude.{length, vec_len, vec_capacity, None, IfOk, IfErr, OnOk, OnErr};
 ghost use Rattle.std.specs.List.{All};
 ghost use Rattle.hub_index.specs.Order.{IsOrder, number_in, with_number};
-ghost use Rattle.hub_index.specs.Rows.{seq_of, moved};
+ghost use Rattle.hub_index.specs.Rows.{seq_of, rows_after_move};
 ghost use Rattle.hub_model.specs.Journal.{edits_of};
 ghost use Rattle.hub_database.specs.Documents.{files, one_if};
 ghost use Rattle.hub_database.specs.Edits.{IsBatch, IsStore, NeedsRoom, stores_doc};
@@ -56,12 +56,12 @@ impl Model for Contents {
 
     ghost Value = { Kept };
 
-    ghost use Rattle.hub_database.specs.Kept.{kept};
+    ghost use Rattle.hub_database.specs.Kept.{locals_of};
     ghost use Rattle.hub_database.specs.Inside.{IsWhole, edits_inside};
 
     ghost view = { λ a. record {
       journal = edits_inside a;
-      locals = kept a.locals;
+      locals = locals_of a.locals;
       limits = a.limits;
       life = a.life;
     } };
@@ -109,7 +109,7 @@ fn enter(
     ensures order { OnOk result
         (IsOrder (ids_of (files documents.old.items) ++ id.now ∷ []) numbers.new) }
     ensures index { OnOk result (index.new
-        ≡ moved index.old (length documents.old.items) (length journal.old.items + 1)) }
+        ≡ rows_after_move index.old (length documents.old.items) (length journal.old.items + 1)) }
     ensures err { OnErr result ((numbers.new ≡ numbers.old) × (index.new ≡ index.old)) }
 {
     reserve_one(documents)?;

@@ -6,16 +6,16 @@ ghost use Rattle.hub_model.specs.Descending.{descending};
 ghost use Rattle.hub_model.specs.Draft.{HasNextRevision};
 ghost use Rattle.hub_model.specs.Journal.{IsLegal};
 ghost use Rattle.hub_model.specs.Missing.{diffs};
-ghost use Rattle.hub_model.specs.Outcome.{refuses};
+ghost use Rattle.hub_model.specs.Outcome.{refusal_result};
 ghost use Rattle.hub_model.specs.declared.outcomes.Fault.{Fault};
 ghost use Rattle.hub_model.specs.declared.outcomes.Fault.TheVariants.{Deleted, SequenceFull};
 ghost use Rattle.hub_model.specs.declared.outcomes.Outcome.TheVariants.{Stored, Refused};
 ghost use Rattle.hub_params.specs.FeedModel.{params_of};
 ghost use Rattle.hub_database.specs.Answers.{local_named};
 ghost use Rattle.hub_database.specs.Database.{IsDeletedFault, IsFreeRead, IsRead, contents_of};
-ghost use Rattle.hub_database.specs.Edits.{IsBatch, draft_of, makes_one, reply_of};
-ghost use Rattle.hub_database.specs.Feeds.{deleted};
-ghost use Rattle.hub_database.specs.Locals.{local_of, put_local, written};
+ghost use Rattle.hub_database.specs.Edits.{IsBatch, draft_of, one_draft_result, reply_of};
+ghost use Rattle.hub_database.specs.Feeds.{deleted_database};
+ghost use Rattle.hub_database.specs.Locals.{local_of, put_local, local_after_write};
 ghost use Rattle.hub_database.specs.Reads.{HasDocument, info_of, lookup, open_revs as open_revs_of};
 
 use crate::answers::{Diff, Info, Lookup, OpenRev};
@@ -206,16 +206,16 @@ impl DbState {
     /// documents.
     pub fn local_put(&mut self, doc: LocalDoc) -> Result<u64, DbFault>
         ensures ok { IfOk result (λ count. (self.old.deleted ≡ false)
-            × (count ≡ (written self.old.locals doc).count)
+            × (count ≡ (local_after_write self.old.locals doc).count)
             × (self.new ≡ record self.old {
-              locals = put_local (written self.old.locals doc) self.old.locals;
+              locals = put_local (local_after_write self.old.locals doc) self.old.locals;
             })) }
         ensures err { IfErr result (λ e. (self.new ≡ self.old)
             × (IsDeletedFault self.old e
             ⊎ ((self.old.deleted ≡ false) × ((e ≡ DbFault.NoMemory)
-            ⊎ ((e ≡ DbFault.Refused SequenceFull) × (2 ^ 64 ≤ (written self.old.locals doc).count)))))) }
+            ⊎ ((e ≡ DbFault.Refused SequenceFull) × (2 ^ 64 ≤ (local_after_write self.old.locals doc).count)))))) }
         ensures memory { result ≡ Err DbFault.NoMemory
-            → (self.old.deleted ≡ false) × ((written self.old.locals doc).count < 2 ^ 64) }
+            → (self.old.deleted ≡ false) × ((local_after_write self.old.locals doc).count < 2 ^ 64) }
     {
         self.standing()?;
         self.contents.local_put(doc)
@@ -258,13 +258,13 @@ impl DbState {
     /// in the index of rows, and what `RevTree::best` does.
     pub fn write_one(&mut self, doc: Doc) -> Result<RevId, DbFault>
         ensures ok { IfOk result (λ rev.
-            makes_one self.old.deleted self.old.limits.journal self.old.journal doc
+            one_draft_result self.old.deleted self.old.limits.journal self.old.journal doc
             ≡ record { outcome = Stored rev; journal = self.new.journal }) }
         ensures rest { self.new ≡ record self.old { journal = self.new.journal } }
         ensures err { IfErr result (λ e. (self.new ≡ self.old) × ((e ≡ DbFault.NoMemory)
             ⊎ ((fault : Fault) × (e ≡ DbFault.Refused fault)
-            × (makes_one self.old.deleted self.old.limits.journal self.old.journal doc
-            ≡ refuses self.old.journal fault)))) }
+            × (one_draft_result self.old.deleted self.old.limits.journal self.old.journal doc
+            ≡ refusal_result self.old.journal fault)))) }
         ensures memory { result ≡ Err DbFault.NoMemory
             → (self.old.deleted ≡ false) × HasNextRevision self.old.journal (draft_of doc) }
     {
@@ -277,7 +277,7 @@ impl DbState {
     /// Deletes the database, and ends its open feeds: what is left of each is its end. It takes no
     /// memory, and costs a step for each feed.
     pub fn delete(&mut self) -> Result<(), DbFault>
-        ensures ok { OnOk result ((self.old.deleted ≡ false) × (self.new ≡ deleted self.old)) }
+        ensures ok { OnOk result ((self.old.deleted ≡ false) × (self.new ≡ deleted_database self.old)) }
         ensures err { IfErr result (λ e. (self.old.deleted ≡ true) × (e ≡ DbFault.Refused Deleted)
             × (self.new ≡ self.old)) }
     {

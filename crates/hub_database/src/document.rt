@@ -9,7 +9,7 @@ ghost use Rattle.hub_model.specs.Leaves.{leaves_of};
 ghost use Rattle.hub_model.specs.Row.{changes_of, doc_of, is_deleted};
 ghost use Rattle.hub_revtree.specs.Tree.{IsRevTree};
 ghost use Rattle.hub_database.specs.Looked.{IsLook, IsWritten, NeedsRoomFor, look_in, unless_full};
-ghost use Rattle.hub_database.specs.Documents.{filed, setting_of};
+ghost use Rattle.hub_database.specs.Documents.{filed_document, setting_of};
 ghost use Rattle.hub_database.specs.declared.document.Origin.TheVariants.{Elsewhere, Here};
 
 use crate::entry::Entry;
@@ -135,7 +135,7 @@ pub(crate) fn look(
 impl Document {
     /// A document with no edit.
     pub(crate) fn new(alloc: Global, id: DocId) -> Document
-        ensures { filed result ≡ record { id = id; latest = 0; edits = [] } }
+        ensures { filed_document result ≡ record { id = id; latest = 0; edits = [] } }
     {
         Document {
             id,
@@ -153,7 +153,7 @@ impl Document {
         requires few { length self.old.tree.edits < 2 ^ 32 }
         requires limit { length journal.old.items + 1 < 2 ^ 32 }
         ensures rev { head_of ready ≡ Some result }
-        ensures filed { filed self.new ≡ record {
+        ensures filed { filed_document self.new ≡ record {
           id = self.old.id;
           latest = length journal.old.items + 1;
           edits = self.old.tree.edits ++ ready ∷ [];
@@ -190,7 +190,7 @@ impl Document {
         ensures written { let before = setting_of number self.old journal.old.items index.old in
             let after = setting_of number self.new journal.new.items index.new in
             IfOk result (IsWritten (look_in limit before edit) before after) }
-        ensures err { OnErr result ((filed self.new ≡ filed self.old)
+        ensures err { OnErr result ((filed_document self.new ≡ filed_document self.old)
             × (journal.new.items ≡ journal.old.items) × (index.new ≡ index.old)) }
         ensures memory { OnErr result (NeedsRoomFor self.old.tree.edits [] edit) }
     {

@@ -3,7 +3,7 @@
 ghost use Rattle.std.specs.Prelude.{◌≡◌, Some, position, IfSome, IfOk, OnErr};
 ghost use Rattle.hub_model.specs.Current.{current};
 ghost use Rattle.hub_model.specs.Entries.{entry_in, is_of};
-ghost use Rattle.hub_feed.specs.Host.{answered, behind_answer, due_to, handed, item_due};
+ghost use Rattle.hub_feed.specs.Host.{next_of_number, hosted_after_next, due_of_number, hosted_after_hand, item_of_number};
 ghost use Rattle.hub_feed.specs.Next.{IsRowDue};
 ghost use Rattle.hub_feed.specs.Reach.{IsFirst};
 ghost use Rattle.hub_database.specs.Hosting.{hosted_of, with_hosted};
@@ -175,10 +175,10 @@ impl DbState {
     /// `FeedState::next_item` does, and a binary search among the feeds unless the last call was for the
     /// same feed. It keeps no rows of listed documents: `hand` does.
     pub fn next_item(&mut self, feed: FeedId) -> Result<Next<ChangeRow>, AllocError>
-        ensures ok { IfOk result (λ next. (next ≡ answered (hosted_of self.old) feed.number)
-            × (self.new ≡ with_hosted self.old (behind_answer (hosted_of self.old) feed.number next))) }
+        ensures ok { IfOk result (λ next. (next ≡ next_of_number (hosted_of self.old) feed.number)
+            × (self.new ≡ with_hosted self.old (hosted_after_next (hosted_of self.old) feed.number next))) }
         ensures err { OnErr result ((self.new ≡ self.old)
-            × IsRowDue (due_to (hosted_of self.old) feed.number)) }
+            × IsRowDue (due_of_number (hosted_of self.old) feed.number)) }
     {
         let Some(at) = self.feeds.place(feed) else {
             return Ok(Next::Gone);
@@ -189,8 +189,8 @@ impl DbState {
     /// Goes on behind the item that `next_item` gives now. It takes no memory, and constant time where
     /// the last item was made for this feed.
     pub fn accept_item(&mut self, feed: FeedId, item: &Item<ChangeRow>)
-        requires due { item_due (hosted_of self.old) feed.number ≡ Some item.now }
-        ensures { self.new ≡ with_hosted self.old (handed (hosted_of self.old) feed.number) }
+        requires due { item_of_number (hosted_of self.old) feed.number ≡ Some item.now }
+        ensures { self.new ≡ with_hosted self.old (hosted_after_hand (hosted_of self.old) feed.number) }
     {
         self.feeds.accept_item(&self.contents, feed, item);
     }

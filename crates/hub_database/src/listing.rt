@@ -5,7 +5,7 @@ ghost use Rattle.std.specs.Prelude.{string_bytes, Contains, None, Some, IsTrue, 
 ghost use Rattle.std.specs.List.{AllPairs, cons_option, filter_map};
 ghost use Rattle.hub_model.specs.Feed.{is_within};
 ghost use Rattle.hub_model.specs.Filter.{DocIds};
-ghost use Rattle.hub_database.specs.Listing.{KeepsOrLists, passing, seq_of_row};
+ghost use Rattle.hub_database.specs.Listing.{KeepsOrLists, passing_sequences, seq_of_row};
 
 use crate::contents::Contents;
 use hub_feed::{Source, is_ahead};
@@ -81,7 +81,7 @@ impl Listing {
     // Finds the rows of the feed of this number, which lists these ids.
     fn list(&mut self, number: u64, contents: &Contents, ids: &[String]) -> Result<(), AllocError>
         ensures ok { OnOk result ((self.new.feed ≡ Some number)
-            × (self.new.rows.items ≡ passing (DocIds (map string_bytes ids.now)) contents.now.journal)) }
+            × (self.new.rows.items ≡ passing_sequences (DocIds (map string_bytes ids.now)) contents.now.journal)) }
         ensures err { OnErr result (self.new.feed ≡ None) }
     {
         self.feed = None;
@@ -97,9 +97,9 @@ impl Listing {
     /// found. Where memory is short they are not kept. Once they are: constant time.
     pub(crate) fn holds(&mut self, number: u64, contents: &Contents, ids: &[String]) -> bool
         requires kept { self.old.feed ≡ Some number
-            → self.old.rows.items ≡ passing (DocIds (map string_bytes ids.now)) contents.now.journal }
+            → self.old.rows.items ≡ passing_sequences (DocIds (map string_bytes ids.now)) contents.now.journal }
         ensures held { IsTrue result
-            → self.new.rows.items ≡ passing (DocIds (map string_bytes ids.now)) contents.now.journal }
+            → self.new.rows.items ≡ passing_sequences (DocIds (map string_bytes ids.now)) contents.now.journal }
         ensures new { KeepsOrLists number (DocIds (map string_bytes ids.now)) contents.now.journal
             self.old self.new }
     {

@@ -4,8 +4,8 @@ ghost use Rattle.std.specs.Prelude.{◌≡◌, ◌⊎◌, ◌<◌, ◌≤◌, �
 ghost use Rattle.std.specs.Prelude.{IfSome, IfNone, IfOk, IfErr, OnOk, OnErr};
 ghost use Rattle.hub_model.specs.declared.outcomes.Fault.TheVariants.{SequenceFull};
 ghost use Rattle.hub_database.specs.Answers.{local_named};
-ghost use Rattle.hub_database.specs.Kept.{kept};
-ghost use Rattle.hub_database.specs.Locals.{local_of, next_count, put_local, written};
+ghost use Rattle.hub_database.specs.Kept.{locals_of};
+ghost use Rattle.hub_database.specs.Locals.{local_of, next_count, put_local, local_after_write};
 
 use crate::batch::DbFault;
 use crate::contents::Contents;
@@ -38,8 +38,8 @@ impl Local {
 
 // Puts a local document in the place of the one of its id, if there is one.
 fn put(locals: &mut BTreeMap<String, Local>, id: LocalId, local: Local) -> Result<(), AllocError>
-    ensures ok { OnOk result (kept locals.new ≡ put_local (local_named id local) (kept locals.old)) }
-    ensures err { OnErr result (kept locals.new ≡ kept locals.old) }
+    ensures ok { OnOk result (locals_of locals.new ≡ put_local (local_named id local) (locals_of locals.old)) }
+    ensures err { OnErr result (locals_of locals.new ≡ locals_of locals.old) }
 {
     locals.insert(id.into_string(), local)?;
     Ok(())
@@ -66,14 +66,14 @@ impl Contents {
 
     /// Stores a local document, as `DbState::local_put` says.
     pub(crate) fn local_put(&mut self, doc: LocalDoc) -> Result<u64, DbFault>
-        ensures ok { IfOk result (λ count. (count ≡ (written self.old.locals doc).count)
+        ensures ok { IfOk result (λ count. (count ≡ (local_after_write self.old.locals doc).count)
             × (self.new ≡ record self.old {
-              locals = put_local (written self.old.locals doc) self.old.locals;
+              locals = put_local (local_after_write self.old.locals doc) self.old.locals;
             })) }
         ensures rest { self.new ≡ record self.old { locals = self.new.locals } }
         ensures err { IfErr result (λ e. (self.new ≡ self.old) × ((e ≡ DbFault.NoMemory)
-            ⊎ ((e ≡ DbFault.Refused SequenceFull) × (2 ^ 64 ≤ (written self.old.locals doc).count)))) }
-        ensures memory { result ≡ Err DbFault.NoMemory → (written self.old.locals doc).count < 2 ^ 64 }
+            ⊎ ((e ≡ DbFault.Refused SequenceFull) × (2 ^ 64 ≤ (local_after_write self.old.locals doc).count)))) }
+        ensures memory { result ≡ Err DbFault.NoMemory → (local_after_write self.old.locals doc).count < 2 ^ 64 }
     {
         let LocalDoc { id, body } = doc;
         let Some(count) = self.count_after(id.as_str()) else {

@@ -3,7 +3,7 @@ use Rattle.std.proofs.Common.{◌≡◌, ℕ, ◌<◌, List, [], ◌∷◌, leng
 use Rattle.std.proofs.Common.{is_some, true, Ok, String, string_bytes, arith, sym, true≢false}
 use Rattle.std.specs.Prelude.{IsOkAnd}
 use Rattle.std.specs.declared.alloc.Global.{Global}
-use Rattle.hub_model.specs.Missing.{Asked}
+use Rattle.hub_model.specs.Missing.{RevisionsOfDoc}
 use Rattle.hub_model.specs.Revision.{Revision}
 use Rattle.serde_json.specs.View.{view, members_view}
 use Rattle.serde_json.specs.declared.value.Value.{Value}
@@ -12,15 +12,15 @@ use Rattle.hub_document.specs.Read.{or_fault}
 use Rattle.hub_document.specs.declared.doc.DocFault.TheVariants.{BadRev}
 
 -- one or more are asked for
-abbrev AsksSome : Option (List Asked) → Type 0
+abbrev AsksSome : Option (List RevisionsOfDoc) → Type 0
 AsksSome asked = IsOkAnd (or_fault asked BadRev Ok) (λ v. 0 < length v)
 
-one_in_front : (asked : Asked) (rest : Option (List Asked)) → is_some (in_front asked rest) ≡ true
+one_in_front : (asked : RevisionsOfDoc) (rest : Option (List RevisionsOfDoc)) → is_some (in_front asked rest) ≡ true
     → AsksSome (in_front asked rest)
 one_in_front asked None h = absurd (true≢false (sym h))
 one_in_front asked (Some others) h = let some : 0 < length (asked ∷ others) = omega arith in some
 
-one_more : (id : List ℕ) (revs : Option (List Revision)) (rest : Option (List Asked))
+one_more : (id : List ℕ) (revs : Option (List Revision)) (rest : Option (List RevisionsOfDoc))
     → is_some (option_and_then (λ r. in_front (record { id = id; revs = r }) rest) revs) ≡ true
     → AsksSome (option_and_then (λ r. in_front (record { id = id; revs = r }) rest) revs)
 one_more id None rest h = absurd (true≢false (sym h))

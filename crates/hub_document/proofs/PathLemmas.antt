@@ -12,7 +12,7 @@ use Rattle.serde_json.specs.Find.{get, as_str, as_array, as_u64, as_number}
 use Rattle.serde_json.specs.View.{items_view}
 use Rattle.serde_json.specs.declared.value.Value.{Value}
 use Rattle.hub_document.specs.RevisionText.{is_hash, with_hash}
-use Rattle.hub_document.specs.Histories.{falling, starting, history_in}
+use Rattle.hub_document.specs.Histories.{falling, limited_history, history_in}
 
 -- the generations are n, n - 1 and so on
 abbrev pub FallsFrom : ℕ → List Revision → Type 0
@@ -81,12 +81,12 @@ one_read n content items revisions h = some_read revisions (falls_from n (item c
     some_read (r ∷ rest) f e = history_from n r rest f
 
 -- and so is what a good `start` reads
-starting_from : (start : ℕ) (ids : Items) (revisions : List Revision) → starting start ids ≡ Some revisions
+starting_from : (start : ℕ) (ids : Items) (revisions : List Revision) → limited_history start ids ≡ Some revisions
     → IsHistory revisions
 starting_from start no_items revisions h = absurd (cc)
 starting_from start (item d ds) revisions h = from (ltb 0 start && ltb start (2 ^ 16)) refl h
   where
-    from : (t : Bool) → (ltb 0 start && ltb start (2 ^ 16)) ≡ t → starting start (item d ds) ≡ Some revisions
+    from : (t : Bool) → (ltb 0 start && ltb start (2 ^ 16)) ≡ t → limited_history start (item d ds) ≡ Some revisions
         → IsHistory revisions
     from true fits h = one_read start d ds revisions (rw fits at h)
     from false fits h =
@@ -94,7 +94,7 @@ starting_from start (item d ds) revisions h = from (ltb 0 start && ltb start (2 
 
 -- a good start of one hash at least
 pub starting_is : (start : ℕ) (ids : List Value) → length ids ≢ 0 → 0 < start → start < 2 ^ 16
-    → falling start (items_view ids) ≡ starting start (items_view ids)
+    → falling start (items_view ids) ≡ limited_history start (items_view ids)
 starting_is start [] some above below = absurd (some refl)
 starting_is start (value ∷ values) some above below =
     rw (lt-ltb 0 start above, lt-ltb start (2 ^ 16) below) refl
@@ -104,10 +104,10 @@ pub history_is_path : (content : Data) (revisions : List Revision) → history_i
     → IsHistory revisions
 history_is_path content revisions h =
     option_and_then_some {P = IsHistory revisions}
-    (λ start. option_and_then (starting start) (option_and_then as_array (get (codes "ids") content)))
+    (λ start. option_and_then (limited_history start) (option_and_then as_array (get (codes "ids") content)))
     (option_and_then as_u64 (option_and_then as_number (get (codes "start") content))) revisions h
     (λ start first more.
-    option_and_then_some {P = IsHistory revisions} (starting start)
+    option_and_then_some {P = IsHistory revisions} (limited_history start)
     (option_and_then as_array (get (codes "ids") content))
     revisions more (λ ids list read. starting_from start ids revisions read))
 

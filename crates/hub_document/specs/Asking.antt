@@ -3,7 +3,7 @@ use Rattle.std.specs.Prelude.{ℕ, List, [], ◌∷◌, codes, Bool, true, ◌&&
 use Rattle.std.specs.Prelude.{option_map, option_and_then, Result, Ok}
 use Rattle.std.specs.Str.{bytes_eq}
 use Rattle.hub_model.specs.Revision.{Revision}
-use Rattle.hub_model.specs.Missing.{Asked}
+use Rattle.hub_model.specs.Missing.{RevisionsOfDoc}
 use Rattle.serde_json.specs.Data.{Data, Items, no_items, item, Members, no_members, member}
 use Rattle.serde_json.specs.Find.{as_str, as_array, as_object}
 use Rattle.hub_document.specs.Histories.{rev_in}
@@ -38,13 +38,13 @@ are_lists (member id d ms) =
     is_some (option_and_then (λ ds. if_holds (are_texts ds)) (as_array d)) && are_lists ms
 
 -- each member's id with its revisions, where each is an array of them
-abbrev pub asked_of : Members → Option (List Asked)
+abbrev pub asked_of : Members → Option (List RevisionsOfDoc)
 asked_of no_members = Some []
 asked_of (member id d ms) =
     option_and_then (λ revs. in_front (record { id = id; revs = revs }) (asked_of ms)) (revs_in d)
 
 -- what a value asks: an object of arrays of texts, or else that fault; each text a revision, or else that one
-abbrev pub asked_in : Data → Result (List Asked) DocFault
+abbrev pub asked_in : Data → Result (List RevisionsOfDoc) DocFault
 asked_in content =
     or_fault (as_object content) NotObject (λ ms.
     or_fault (if_holds (are_lists ms)) NotObject (λ _.

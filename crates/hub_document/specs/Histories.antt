@@ -41,9 +41,9 @@ falling n (item d ds) =
     ∷ rs) (falling (n - 1) ds)) (option_and_then (with_hash n) (as_str d))
 
 -- a history from a generation within the limits: of one revision at least
-abbrev pub starting : ℕ → Items → Option (List Revision)
-starting start no_items = None
-starting start (item d ds) =
+abbrev pub limited_history : ℕ → Items → Option (List Revision)
+limited_history start no_items = None
+limited_history start (item d ds) =
     if nat_lt 0 start && nat_lt start (2 ^ 16) then falling start (item d ds) else None
 
 -- the history that `_revisions` writes by `start` and `ids`. {"start":3,"ids":["c","b"]} writes 3-c 2-b.
@@ -51,7 +51,7 @@ starting start (item d ds) =
 abbrev pub history_in : Data → Option (List Revision)
 history_in content =
     option_and_then
-    (λ start. option_and_then (starting start) (option_and_then as_array (get (codes "ids") content)))
+    (λ start. option_and_then (limited_history start) (option_and_then as_array (get (codes "ids") content)))
     (option_and_then as_u64 (option_and_then as_number (get (codes "start") content)))
 
 -- a revision that is named is the first of the history

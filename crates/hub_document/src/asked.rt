@@ -25,7 +25,7 @@ pub struct Asked {
 
 impl Model for Asked {
     ghost use Rattle.std.specs.Prelude.{string_bytes};
-    ghost use Rattle.hub_model.specs.Missing.{Asked as Asking};
+    ghost use Rattle.hub_model.specs.Missing.{RevisionsOfDoc as Asking};
 
     ghost Value = { Asking };
 

@@ -2,7 +2,7 @@
 
 ghost use Rattle.std.specs.Prelude.{◌≡◌, ◌<◌, ◌≤◌, ◌++◌, codes, IfOk, OnOk};
 ghost use Rattle.json.specs.Print.{escape, quoted};
-ghost use Rattle.hub_model.specs.Draft.{made, generation_of as generation_in, bool_text, parent_text};
+ghost use Rattle.hub_model.specs.Draft.{new_revision, generation_of as generation_in, bool_text, parent_text};
 ghost use Rattle.hub_document.specs.DraftText.{Takes};
 
 use crate::body::Body;
@@ -75,7 +75,7 @@ pub fn rev_of_edit(
 ) -> Result<DigestRev, AllocError>
     requires { generation_in parent < 65535 }
     ensures { IfOk result
-        (λ r. r ≡ made (record { id = id.now; rev = parent; deleted = deleted; body = body.now }) parent) }
+        (λ r. r ≡ new_revision (record { id = id.now; rev = parent; deleted = deleted; body = body.now }) parent) }
 {
     let mut hasher = Md5::new();
     hasher.update(opening(deleted));

@@ -3,12 +3,12 @@ use Rattle.std.proofs.Common.{◌≡◌, ◌∙◌, ℕ, ◌<◌, ◌≤◌, Lis
 use Rattle.std.proofs.Common.{IfSome, Contains}
 use Rattle.hub_model.specs.Current.{Current, pending}
 use Rattle.hub_model.specs.Feed.{Feed, Due, DueRow, DueEnd}
-use Rattle.hub_model.specs.Feed.{DueNothing, DueGone, due, is_in_reach}
+use Rattle.hub_model.specs.Feed.{DueNothing, DueGone, next_due, is_in_reach}
 use Rattle.hub_model.proofs.Due.{due_row, reach_parts, within_bound}
 use Rattle.hub_model.proofs.Shown.{find_is}
 use Rattle.hub_feed.specs.Due.{due_sequence}
 use Rattle.hub_model.specs.declared.feeds.Item.TheVariants as item
-use Rattle.hub_feed.specs.Next.{next_of}
+use Rattle.hub_feed.specs.Next.{next_of_due}
 use Rattle.hub_feed.specs.declared.next.Next.TheVariants.{Give}
 use Rattle.hub_feed.specs.declared.feed.DueSequence.TheVariants.{Row, End}
 
@@ -21,18 +21,18 @@ row_due DueNothing seq e = absurd (cc)
 row_due DueGone seq e = absurd (cc)
 
 -- it is a current one in reach
-pub row_here : (rows : List Current) (feed : Feed) (seq : ℕ) → Row seq ≡ due_sequence (due rows feed)
-    → (row : Current) × (due rows feed ≡ DueRow row) × Contains rows row × (row.seq ≡ seq)
+pub row_here : (rows : List Current) (feed : Feed) (seq : ℕ) → Row seq ≡ due_sequence (next_due rows feed)
+    → (row : Current) × (next_due rows feed ≡ DueRow row) × Contains rows row × (row.seq ≡ seq)
     × (is_in_reach feed row ≡ true)
 row_here rows feed seq e =
-    let (row, is, same) = row_due (due rows feed) seq e in
+    let (row, is, same) = row_due (next_due rows feed) seq e in
     let here = find_is (is_in_reach feed) rows row (due_row rows feed row is).1 in
     (row, is, here.1, same, here.0)
 
 -- and it lies above the place, and not above the bound or the length
 pub row_lies : (rows : List Current) (len : ℕ) (feed : Feed) (seq : ℕ)
     → ((row : Current) → Contains rows row → row.seq ≤ len)
-    → Row seq ≡ due_sequence (due rows feed)
+    → Row seq ≡ due_sequence (next_due rows feed)
     → (feed.place < seq) × (seq ≤ len) × IfSome feed.bound (λ b. seq ≤ b)
 row_lies rows len feed seq within e =
     let (row, is, here, same, reached) = row_here rows feed seq e in
@@ -49,15 +49,15 @@ end_due DueGone last_seq e = absurd (cc)
 
 -- what a feed gives to which a row is due by its sequence, of which this is made
 pub row_given : {R : Type 0} (show : Current → R) (rows : List Current) (feed : Feed) (seq : ℕ) (made : R)
-    → Row seq ≡ due_sequence (due rows feed)
+    → Row seq ≡ due_sequence (next_due rows feed)
     → ((row : Current) → Contains rows row → row.seq ≡ seq → made ≡ show row)
-    → next_of show rows (due rows feed) ≡ Give (item.Row made)
+    → next_of_due show rows (next_due rows feed) ≡ Give (item.Row made)
 row_given show rows feed seq made e shows =
     let (row, is, here, same, reached) = row_here rows feed seq e in
-    ap (next_of show rows) is ∙ ap (λ r. Give (item.Row r)) (sym (shows row here same))
+    ap (next_of_due show rows) is ∙ ap (λ r. Give (item.Row r)) (sym (shows row here same))
 
 -- and to which an end is due
 pub end_given : {R : Type 0} (show : Current → R) (rows : List Current) (feed : Feed) (last_seq : ℕ)
-    → End last_seq ≡ due_sequence (due rows feed)
-    → next_of show rows (due rows feed) ≡ Give (item.End last_seq (pending rows last_seq))
-end_given show rows feed last_seq e = ap (next_of show rows) (end_due (due rows feed) last_seq e)
+    → End last_seq ≡ due_sequence (next_due rows feed)
+    → next_of_due show rows (next_due rows feed) ≡ Give (item.End last_seq (pending rows last_seq))
+end_given show rows feed last_seq e = ap (next_of_due show rows) (end_due (next_due rows feed) last_seq e)

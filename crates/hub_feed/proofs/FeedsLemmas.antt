@@ -8,19 +8,19 @@ use Rattle.std.proofs.lemmas.List.Elements.{All-map, All-filter, All-push}
 use Rattle.std.proofs.lemmas.List.Kept.{AllPairs-cons}
 use Rattle.std.proofs.lemmas.Option.{none-some}
 use Rattle.hub_model.specs.Current.{Current}
-use Rattle.hub_model.specs.Entries.{changed, entry_in, without, AreRising}
+use Rattle.hub_model.specs.Entries.{with_change, entry_in, without, AreRising}
 use Rattle.hub_model.specs.Feed.{Feed, Params, Status, Open, Ending, Ended, Finished, Due, DueRow, DueEnd}
-use Rattle.hub_model.specs.Feed.{DueNothing, DueGone, begin, due, due_at, due_open, is_in_reach, is_open}
-use Rattle.hub_model.specs.Feed.{waits, expire, end, bound_of, bound_after, after_due, after_nothing}
+use Rattle.hub_model.specs.Feed.{DueNothing, DueGone, new_feed, next_due, due_by_status, due_while_open, is_in_reach, is_open}
+use Rattle.hub_model.specs.Feed.{is_waiting_mode, expired_feed, end, bound_of, bound_after, feed_after_due, after_nothing}
 use Rattle.hub_model.specs.declared.feeds.Mode.{Mode}
 use Rattle.hub_model.specs.declared.feeds.Mode.TheVariants.{Normal, Longpoll, Continuous}
 use Rattle.hub_model.proofs.Fitting.{since_within}
 use Rattle.hub_model.proofs.Entries.{changed_here, none_above, stays_here, rising_changed}
 use Rattle.hub_model.proofs.Entries.{rising_without, below_changed, below_without}
 use Rattle.hub_model.proofs.Shown.{find_is}
-use Rattle.hub_feed.specs.Feeds.{AreBehind, AreNumbered, IsBehind, ended}
+use Rattle.hub_feed.specs.Feeds.{AreBehind, AreNumbered, IsBehind, ended_entry}
 use Rattle.hub_feed.specs.Host.{feeds_behind}
-use Rattle.hub_feed.specs.Next.{after_next, next_of}
+use Rattle.hub_feed.specs.Next.{feed_after_next, next_of_due}
 use Rattle.hub_feed.specs.declared.next.Next.{Next}
 
 -- one feed goes
@@ -59,7 +59,7 @@ module _ (id : ℕ) (change : Feed → Feed) where
       from false = h
 
   pub numbered_changed : (next : ℕ) (feeds : List (ℕ × Feed)) → AreNumbered next feeds
-      → AreNumbered next (changed id change feeds)
+      → AreNumbered next (with_change id change feeds)
   numbered_changed next feeds x = record {
     rising = rising_changed id change feeds x.rising;
     given = below_changed id change next feeds x.given;
@@ -67,7 +67,7 @@ module _ (id : ℕ) (change : Feed → Feed) where
 
   pub behind_changed : (len : ℕ) (feeds : List (ℕ × Feed))
       → ((feed : Feed) → IsBehind len feed → IsBehind len (change feed)) → AreBehind len feeds
-      → AreBehind len (changed id change feeds)
+      → AreBehind len (with_change id change feeds)
   behind_changed len feeds keeps behind =
       All-map (λ (p : ℕ × Feed). IsBehind len p.1) changed_one feeds
       (λ k d l. one_behind len keeps (get_or feeds k d) (behind k d l))
@@ -79,9 +79,9 @@ bound_behind Longpoll len = tt
 bound_behind Continuous len = tt
 
 pub behind_opened : (len life number : ℕ) (params : Params) (feeds : List (ℕ × Feed)) → AreBehind len feeds
-    → AreBehind len (feeds ++ (number, begin params len life) ∷ [])
+    → AreBehind len (feeds ++ (number, new_feed params len life) ∷ [])
 behind_opened len life number params feeds behind =
-    All-push (λ (p : ℕ × Feed). IsBehind len p.1) feeds (number, begin params len life) behind
+    All-push (λ (p : ℕ × Feed). IsBehind len p.1) feeds (number, new_feed params len life) behind
     (since_within params.since len life, bound_behind params.mode len)
 
 -- a feed that looks, or goes on, stays behind it
@@ -93,7 +93,7 @@ behind_bound len m le Longpoll (Some bound) h = h
 behind_bound len m le Continuous bound h = h
 
 pub looks_behind : (len : ℕ) (due : Due) (feed : Feed) → IsBehind len feed
-    → IsBehind len (after_next feed due len)
+    → IsBehind len (feed_after_next feed due len)
 looks_behind len (DueRow c) feed h = h
 looks_behind len (DueEnd last_seq) feed h = h
 looks_behind len DueNothing feed h = (omega arith, h.1)
@@ -101,11 +101,11 @@ looks_behind len DueGone feed h = h
 
 pub goes_behind : (rows : List Current) (len m : ℕ) → len ≤ m
     → ((row : Current) → Contains rows row → row.seq ≤ len)
-    → (feed : Feed) → IsBehind m feed → IsBehind m (after_due feed (due rows feed) len)
+    → (feed : Feed) → IsBehind m feed → IsBehind m (feed_after_due feed (next_due rows feed) len)
 goes_behind rows len m le within feed h = from feed.status
   where
     opened : (maybe_row : Option Current) (bound : Option ℕ) → find (is_in_reach feed) rows ≡ maybe_row
-        → feed.bound ≡ bound → IsBehind m (after_due feed (due_open maybe_row bound) len)
+        → feed.bound ≡ bound → IsBehind m (feed_after_due feed (due_while_open maybe_row bound) len)
     opened (Some row) bound e q = (
       (let low = within row (find_is (is_in_reach feed) rows row e).1 in omega (arith, low, le)),
       behind_bound len m le feed.params.mode feed.bound h.1,
@@ -113,15 +113,15 @@ goes_behind rows len m le within feed h = from feed.status
     opened None (Some bound) e q = (subst (λ maybe_row. IfSome maybe_row (λ b. b ≤ m)) q h.1, h.1)
     opened None None e q = (le, h.1)
 
-    from : (status : Status) → IsBehind m (after_due feed (due_at status rows feed) len)
+    from : (status : Status) → IsBehind m (feed_after_due feed (due_by_status status rows feed) len)
     from Open = opened (find (is_in_reach feed) rows) feed.bound refl refl
     from Ending = h
     from Ended = h
     from Finished = h
 
 -- and so does one whose time is over, or that ends
-pub expired_behind : (len : ℕ) (feed : Feed) → IsBehind len feed → IsBehind len (expire feed)
-expired_behind len feed h = from (is_open feed.status && waits feed.params.mode)
+pub expired_behind : (len : ℕ) (feed : Feed) → IsBehind len feed → IsBehind len (expired_feed feed)
+expired_behind len feed h = from (is_open feed.status && is_waiting_mode feed.params.mode)
   where
     from : (b : Bool) → IsBehind len (if b then record feed { status = Ending } else feed)
     from true = h
@@ -144,15 +144,15 @@ pairs_map R f (x ∷ xs) pairs =
     (pairs_map R f xs (λ i j d l m. pairs (suc i) (suc j) d (omega arith) (omega arith)))
 
 pub numbered_ended : (next : ℕ) (feeds : List (ℕ × Feed)) → AreNumbered next feeds
-    → AreNumbered next (map ended feeds)
+    → AreNumbered next (map ended_entry feeds)
 numbered_ended next feeds x = record {
-  rising = pairs_map (λ (a b : ℕ × Feed). a.0 < b.0) ended feeds x.rising;
-  given = All-map (λ (p : ℕ × Feed). p.0 < next) ended feeds x.given;
+  rising = pairs_map (λ (a b : ℕ × Feed). a.0 < b.0) ended_entry feeds x.rising;
+  given = All-map (λ (p : ℕ × Feed). p.0 < next) ended_entry feeds x.given;
 }
 
-pub behind_ended : (len : ℕ) (feeds : List (ℕ × Feed)) → AreBehind len feeds → AreBehind len (map ended feeds)
+pub behind_ended : (len : ℕ) (feeds : List (ℕ × Feed)) → AreBehind len feeds → AreBehind len (map ended_entry feeds)
 behind_ended len feeds behind =
-    All-map (λ (p : ℕ × Feed). IsBehind len p.1) ended feeds
+    All-map (λ (p : ℕ × Feed). IsBehind len p.1) ended_entry feeds
     (λ k d l. ended_behind len (get_or feeds k d).1 (behind k d l))
 
 -- the feed of this number stands here
@@ -162,7 +162,7 @@ module _ {R : Type 0} (id : ℕ) (feeds : List (ℕ × Feed))
   -- the feeds behind what the feed there answers
   pub behind_here : (show : Current → R) (rows : List Current) (len : ℕ) (new : Feed) → AreRising feeds
       → (due : Due) (next : Next R)
-      → next ≡ next_of show rows due → new ≡ after_next p.1 due len
+      → next ≡ next_of_due show rows due → new ≡ feed_after_next p.1 due len
       → slice_set feeds at (p.0, new) ≡ feeds_behind id len next feeds
   behind_here show rows len new rising (DueRow c) next e h = rw e (stays_here id feeds at placed p is new h)
   behind_here show rows len new rising (DueEnd last_seq) next e h =

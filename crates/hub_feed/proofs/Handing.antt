@@ -1,8 +1,8 @@
 -- How a list that fits a feed goes on fitting it, of what is followed by its edits.
 use Rattle.std.proofs.Common.{◌≡◌, List, [], ◌∷◌, ◌++◌, length, refl}
 use Rattle.std.specs.Prelude.{Some, true}
-use Rattle.hub_model.specs.Feed.{Feed, DueNothing, after_due, after_nothing, beat_due, expire}
-use Rattle.hub_model.specs.Hand.{due_in, due_item}
+use Rattle.hub_model.specs.Feed.{Feed, DueNothing, feed_after_due, after_nothing, is_beat_allowed, expired_feed}
+use Rattle.hub_model.specs.Hand.{journal_due, next_item}
 use Rattle.hub_model.specs.Journal.{Edit}
 use Rattle.hub_model.specs.RowKind.{RowKind}
 use Rattle.hub_model.specs.declared.feeds.Item.{Item}
@@ -24,23 +24,23 @@ module _ {R : Type 0} (kind : RowKind R) (allowed : List Edit → Type 0) (journ
   }
 
   -- behind the item that is due
-  pub fitting_handed : (item : Item R) → due_item kind journal feed ≡ Some item
-      → IsFitting kind allowed journal (after_due feed (due_in journal feed) (length journal))
+  pub fitting_handed : (item : Item R) → next_item kind journal feed ≡ Some item
+      → IsFitting kind allowed journal (feed_after_due feed (journal_due journal feed) (length journal))
       (items ++ item ∷ [])
   fitting_handed item due =
       record { legal = fitting.legal; fits = fits_handed kind journal feed items item due fitting.fits }
 
   -- behind nothing to hand
-  pub fitting_nothing : due_in journal feed ≡ DueNothing
+  pub fitting_nothing : journal_due journal feed ≡ DueNothing
       → IsFitting kind allowed journal (after_nothing feed (length journal)) items
   fitting_nothing due =
       record { legal = fitting.legal; fits = fits_nothing kind journal feed items due fitting.fits }
 
   -- behind a heartbeat
-  pub fitting_beat : beat_due feed ≡ true → IsFitting kind allowed journal feed (items ++ Beat ∷ [])
+  pub fitting_beat : is_beat_allowed feed ≡ true → IsFitting kind allowed journal feed (items ++ Beat ∷ [])
   fitting_beat due =
       record { legal = fitting.legal; fits = fits_beat kind journal feed items due fitting.fits }
 
   -- and once its time is over
-  pub fitting_expired : IsFitting kind allowed journal (expire feed) items
+  pub fitting_expired : IsFitting kind allowed journal (expired_feed feed) items
   fitting_expired = record { legal = fitting.legal; fits = fits_expire kind journal feed items fitting.fits }

@@ -5,7 +5,7 @@ use Rattle.std.proofs.lemmas.Bool.{cases_Bool, both_ways, and_parts, ltb-true, l
 use Rattle.std.proofs.lemmas.Option.{same_Some, none-some}
 use Rattle.hub_model.specs.Current.{Current}
 use Rattle.hub_model.specs.Feed.{Feed, is_in_reach, is_within}
-use Rattle.hub_model.specs.Filter.{passes}
+use Rattle.hub_model.specs.Filter.{is_passing}
 use Rattle.hub_model.proofs.Lists.{contains_here, contains_there}
 use Rattle.hub_model.proofs.Shown.{find_is, find_not}
 use Rattle.hub_feed.specs.Reach.{first_within}
@@ -51,28 +51,28 @@ and_assoc false y z = refl
 
 -- in reach is ahead and passing
 reach_is : (feed : Feed) (row : Current)
-    → is_in_reach feed row ≡ (is_ahead feed row && passes feed.params.filter row.id)
+    → is_in_reach feed row ≡ (is_ahead feed row && is_passing feed.params.filter row.id)
 reach_is feed row =
-    and_assoc (nat_lt feed.place row.seq) (is_within feed.bound row.seq) (passes feed.params.filter row.id)
+    and_assoc (nat_lt feed.place row.seq) (is_within feed.bound row.seq) (is_passing feed.params.filter row.id)
 
 -- where no row is ahead none is in reach
 pub none_in_reach : (feed : Feed) (rows : List Current) → None ≡ first_within feed.place feed.bound rows
     → find (is_in_reach feed) rows ≡ None
 none_in_reach feed rows e =
     find_nothing (is_in_reach feed) rows (λ c h t. find_not (is_ahead feed) rows (sym e) c h
-    (and_parts (is_ahead feed c) (passes feed.params.filter c.id) (sym (reach_is feed c) ∙ t)).0)
+    (and_parts (is_ahead feed c) (is_passing feed.params.filter c.id) (sym (reach_is feed c) ∙ t)).0)
 
 -- the first row ahead is the first in reach, if it passes
 pub found_in_reach : (feed : Feed) (rows : List Current) (row : Current)
-    → Some row ≡ first_within feed.place feed.bound rows → passes feed.params.filter row.id ≡ true
+    → Some row ≡ first_within feed.place feed.bound rows → is_passing feed.params.filter row.id ≡ true
     → find (is_in_reach feed) rows ≡ Some row
 found_in_reach feed [] row e t = absurd (none-some row (sym e))
 found_in_reach feed (other ∷ rows) row e t =
     let r = reach_is feed other in
     elim (cases_Bool (is_ahead feed other)) [
       | inl y ↦ let same : row ≡ other = same_Some row other (e ∙ rw y refl) in
-          let t' : passes feed.params.filter other.id ≡ true =
-          subst (λ (x : Current). passes feed.params.filter x.id ≡ true) same t in
+          let t' : is_passing feed.params.filter other.id ≡ true =
+          subst (λ (x : Current). is_passing feed.params.filter x.id ≡ true) same t in
           rw r (rw y (rw t' (ap Some (sym same))))
       | inr n ↦ rw r (rw n (found_in_reach feed rows row (e ∙ rw n refl) t))
     ]
@@ -95,7 +95,7 @@ same_above feed seq row low high =
 -- going on behind a first row that does not pass finds the same
 behind_first : (feed : Feed) (row : Current) (rows : List Current)
     → AllPairs (λ (other b : Current). other.seq < b.seq) (row ∷ rows)
-    → is_ahead feed row ≡ true → passes feed.params.filter row.id ≡ false
+    → is_ahead feed row ≡ true → is_passing feed.params.filter row.id ≡ false
     → find (is_in_reach feed) (row ∷ rows) ≡ find (is_in_reach (record feed { place = row.seq })) (row ∷ rows)
 behind_first feed row rows rise y stays =
     let behind : Feed = record feed { place = row.seq } in
@@ -111,14 +111,14 @@ behind_first feed row rows rise y stays =
 -- going on behind the first row ahead finds the same, if that row does not pass
 pub reach_behind : (feed : Feed) (rows : List Current) (row : Current)
     → AllPairs (λ (a b : Current). a.seq < b.seq) rows
-    → Some row ≡ first_within feed.place feed.bound rows → passes feed.params.filter row.id ≡ false
+    → Some row ≡ first_within feed.place feed.bound rows → is_passing feed.params.filter row.id ≡ false
     → find (is_in_reach feed) rows ≡ find (is_in_reach (record feed { place = row.seq })) rows
 reach_behind feed [] row rise e stays = refl
 reach_behind feed (other ∷ rows) row rise e stays =
     elim (cases_Bool (is_ahead feed other)) [
       | inl y ↦ let same : other ≡ row = sym (same_Some row other (e ∙ rw y refl)) in
-          let stays' : passes feed.params.filter other.id ≡ false =
-          subst (λ (x : Current). passes feed.params.filter x.id ≡ false) (sym same) stays in
+          let stays' : is_passing feed.params.filter other.id ≡ false =
+          subst (λ (x : Current). is_passing feed.params.filter x.id ≡ false) (sym same) stays in
           subst (λ (x : Current).
           find (is_in_reach feed) (other ∷ rows) ≡ find (is_in_reach (record feed { place = x.seq }))
           (other ∷ rows))

@@ -47,8 +47,8 @@ pub record IsChangedTo (feeds : List (ℕ × Feed)) (least : ℕ) (old now : Fee
 
 -- a feed, with its number, once what it follows is deleted: where it is open, its end is all that is left to
 -- hand
-abbrev pub ended : ℕ × Feed → ℕ × Feed
-ended p = (p.0, end p.1)
+abbrev pub ended_entry : ℕ × Feed → ℕ × Feed
+ended_entry p = (p.0, end p.1)
 
 -- The feeds, kept over so many edits with these current rows, which are shown so: a step of a feed looks at
 -- no more than that.

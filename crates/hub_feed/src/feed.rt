@@ -2,16 +2,16 @@
 
 ghost use Rattle.std.specs.Prelude.{◌≡◌, ◌<◌, ◌≤◌, map, option_map, find};
 ghost use Rattle.std.specs.Prelude.{List, Some, string_bytes, IfSome, IfOk, OnErr};
-ghost use Rattle.hub_model.specs.Feed.{Open, begin, due, is_in_reach, is_open, bound_of, bound_after};
-ghost use Rattle.hub_model.specs.Feed.{status_after, after_due, after_nothing, after_row, beat_due, expire};
+ghost use Rattle.hub_model.specs.Feed.{Open, new_feed, next_due, is_in_reach, is_open, bound_of, bound_after};
+ghost use Rattle.hub_model.specs.Feed.{status_after, feed_after_due, after_nothing, after_row, is_beat_allowed, expired_feed};
 ghost use Rattle.hub_model.specs.Feed.{end};
-ghost use Rattle.hub_model.specs.Hand.{item_of};
+ghost use Rattle.hub_model.specs.Hand.{item_of_due};
 ghost use Rattle.hub_model.specs.declared.feeds.Item.TheVariants.{End};
 ghost use Rattle.hub_model.specs.Current.{Current, pending};
 ghost use Rattle.hub_params.specs.FeedModel.{params_of};
 ghost use Rattle.hub_feed.specs.Due.{after_sequence, due_sequence};
 ghost use Rattle.hub_feed.specs.Hand.{HandsTo, MayTake};
-ghost use Rattle.hub_feed.specs.Next.{next_of, after_next, IsRowDue};
+ghost use Rattle.hub_feed.specs.Next.{next_of_due, feed_after_next, IsRowDue};
 ghost use Rattle.hub_feed.specs.Reach.{IsReady, first_listed, lesser, listed_in};
 ghost use Rattle.hub_feed.specs.Shown.{status_of};
 ghost use Rattle.hub_feed.specs.declared.next.Next.TheVariants.{Give};
@@ -171,7 +171,7 @@ impl FeedState {
     /// A feed that is opened while there are `length` edits of the life of this number. Where it is
     /// asked to begin at a sequence of another life it begins at the first edit. Constant time.
     pub fn begin(params: FeedParams, length: u64, life: u64) -> FeedState
-        ensures { result ≡ begin (params_of params) length life }
+        ensures { result ≡ new_feed (params_of params) length life }
     {
         let since = params.since.within(length, life);
         let bound = bound_of(params.mode, length);
@@ -234,7 +234,7 @@ impl FeedState {
     fn due(&self, first: Option<u64>) -> DueSequence
         ensures { (rows : List Current)
             → (self.now.status ≡ Open → first ≡ option_map (λ c. c.seq) (find (is_in_reach self.now) rows))
-            → result ≡ due_sequence (due rows self.now) }
+            → result ≡ due_sequence (next_due rows self.now) }
     {
         match self.status {
             Status::Open => match (first, self.bound) {
@@ -254,11 +254,11 @@ impl FeedState {
     pub fn next_item<S: Source>(&mut self, source: &S) -> Result<Next<S::Row>, AllocError>
         requires reached { self.old.place ≤ S.length source.now }
         ensures ok { IfOk result (λ next.
-            next ≡ next_of (S.shown source.now self.old.params.style self.old.params.include_docs)
-            (S.current source.now) (due (S.current source.now) self.old)) }
+            next ≡ next_of_due (S.shown source.now self.old.params.style self.old.params.include_docs)
+            (S.current source.now) (next_due (S.current source.now) self.old)) }
         ensures new { IfOk result (λ next.
-            self.new ≡ after_next self.old (due (S.current source.now) self.old) (S.length source.now)) }
-        ensures err { OnErr result ((self.new ≡ self.old) × IsRowDue (due (S.current source.now) self.old)) }
+            self.new ≡ feed_after_next self.old (next_due (S.current source.now) self.old) (S.length source.now)) }
+        ensures err { OnErr result ((self.new ≡ self.old) × IsRowDue (next_due (S.current source.now) self.old)) }
     {
         let first = self.first_of_open(source);
         match self.due(first) {
@@ -291,7 +291,7 @@ impl FeedState {
     // The feed goes on behind the item of which this is the sequence: a row's, or an end's. It takes no
     // memory, and constant time.
     fn accept_due<S: Source>(&mut self, source: &S, sequence: DueSequence)
-        requires due { sequence ≡ due_sequence (due (S.current source.now) self.old) }
+        requires due { sequence ≡ due_sequence (next_due (S.current source.now) self.old) }
         ensures { self.new ≡ after_sequence self.old sequence (S.length source.now) }
     {
         match sequence {
@@ -306,10 +306,10 @@ impl FeedState {
 
     /// Goes on behind the item that `next_item` gives now. It takes no memory, and constant time.
     pub fn accept_item<S: Source>(&mut self, source: &S, item: &Item<S::Row>)
-        requires due { item_of (S.shown source.now self.old.params.style self.old.params.include_docs)
-            (S.current source.now) (due (S.current source.now) self.old)
+        requires due { item_of_due (S.shown source.now self.old.params.style self.old.params.include_docs)
+            (S.current source.now) (next_due (S.current source.now) self.old)
             ≡ Some item.now }
-        ensures { self.new ≡ after_due self.old (due (S.current source.now) self.old) (S.length source.now) }
+        ensures { self.new ≡ feed_after_due self.old (next_due (S.current source.now) self.old) (S.length source.now) }
     {
         let sequence = match item {
             Item::Row(row) => DueSequence::Row(S::seq(row)),
@@ -330,12 +330,12 @@ impl FeedState {
         handle: &H,
         sink: &mut K,
     ) -> Handed
-        requires due { given ≡ due_sequence (due (S.current source.now) self.old) }
-        requires item { next_of (S.shown source.now self.old.params.style self.old.params.include_docs)
-            (S.current source.now) (due (S.current source.now) self.old) ≡ Give item }
+        requires due { given ≡ due_sequence (next_due (S.current source.now) self.old) }
+        requires item { next_of_due (S.shown source.now self.old.params.style self.old.params.include_docs)
+            (S.current source.now) (next_due (S.current source.now) self.old) ≡ Give item }
         requires may { MayTake K.allows K.sent sink.old item }
         ensures { HandsTo K.behind (H.refuses handle.now) self.old
-            (after_due self.old (due (S.current source.now) self.old) (S.length source.now))
+            (feed_after_due self.old (next_due (S.current source.now) self.old) (S.length source.now))
             (after_nothing self.old (S.length source.now)) sink.old (Give item) result self.new sink.new }
     {
         let handed = Handed::of(&item);
@@ -359,18 +359,18 @@ impl FeedState {
         sink: &mut K,
     ) -> Result<Handed, AllocError>
         requires ready { IsReady (S.length source.now) (S.current source.now) self.old first }
-        requires may { IfSome (item_of
+        requires may { IfSome (item_of_due
             (S.shown source.now self.old.params.style self.old.params.include_docs)
-            (S.current source.now) (due (S.current source.now) self.old))
+            (S.current source.now) (next_due (S.current source.now) self.old))
             (MayTake K.allows K.sent sink.old) }
         ensures ok { IfOk result (λ did. HandsTo K.behind (H.refuses handle.now) self.old
-            (after_due self.old (due (S.current source.now) self.old) (S.length source.now))
+            (feed_after_due self.old (next_due (S.current source.now) self.old) (S.length source.now))
             (after_nothing self.old (S.length source.now)) sink.old
-            (next_of (S.shown source.now self.old.params.style self.old.params.include_docs)
-            (S.current source.now) (due (S.current source.now) self.old))
+            (next_of_due (S.shown source.now self.old.params.style self.old.params.include_docs)
+            (S.current source.now) (next_due (S.current source.now) self.old))
             did self.new sink.new) }
         ensures err { OnErr result ((self.new ≡ self.old) × (sink.new ≡ sink.old)
-            × IsRowDue (due (S.current source.now) self.old)) }
+            × IsRowDue (next_due (S.current source.now) self.old)) }
     {
         let due = self.due(first);
         match due {
@@ -423,14 +423,14 @@ impl FeedState {
 
     /// Whether a heartbeat may be handed: one was asked for, and the feed is open and waits.
     pub fn beat_due(&self) -> bool
-        ensures { result ≡ beat_due self.now }
+        ensures { result ≡ is_beat_allowed self.now }
     {
         self.status == Status::Open && self.params.mode.waits() && self.params.heartbeat.is_some()
     }
 
     /// Its time without an item is over: an open feed that waits is ending.
     pub fn expire(&mut self)
-        ensures { self.new ≡ expire self.old }
+        ensures { self.new ≡ expired_feed self.old }
     {
         if self.status == Status::Open && self.params.mode.waits() {
             self.status = Status::Ending;

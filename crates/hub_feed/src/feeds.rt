@@ -2,12 +2,12 @@
 
 ghost use Rattle.std.specs.Prelude.{◌≡◌, ◌<◌, ◌^◌, ◌+◌, ◌-◌, ◌||◌, ◌++◌, ◌∷◌, [], ℕ, length, map};
 ghost use Rattle.std.specs.Prelude.{nat_le, position, Some, None, IfSome, IfOk, OnOk, OnErr};
-ghost use Rattle.hub_model.specs.Entries.{changed, entry_in, is_of, without};
-ghost use Rattle.hub_model.specs.Feed.{begin, expire};
+ghost use Rattle.hub_model.specs.Entries.{with_change, entry_in, is_of, without};
+ghost use Rattle.hub_model.specs.Feed.{new_feed, expired_feed};
 ghost use Rattle.hub_params.specs.FeedModel.{params_of};
-ghost use Rattle.hub_feed.specs.Feeds.{AreBehind, IsChangedTo, IsReadyAt, ended, feeds_of, over};
+ghost use Rattle.hub_feed.specs.Feeds.{AreBehind, IsChangedTo, IsReadyAt, ended_entry, feeds_of, over};
 ghost use Rattle.hub_feed.specs.Hand.{HandsTo, MayTake};
-ghost use Rattle.hub_feed.specs.Host.{answered, behind_answer, due_to, handed, is_beat_due, item_due};
+ghost use Rattle.hub_feed.specs.Host.{next_of_number, hosted_after_next, due_of_number, hosted_after_hand, is_beat_allowed_if_any, item_of_number};
 ghost use Rattle.hub_feed.specs.Next.{IsRowDue};
 ghost use Rattle.hub_feed.specs.declared.next.Next.TheVariants.{Nothing};
 
@@ -51,7 +51,7 @@ impl Model for Feeds {
 
 // Ends each feed that is open.
 fn end_each(feeds: &mut Vec<(u64, FeedState)>)
-    ensures { feeds.new.items ≡ map ended feeds.old.items }
+    ensures { feeds.new.items ≡ map ended_entry feeds.old.items }
 {
     for feed in feeds.iter_mut() {
         feed.1.end();
@@ -85,7 +85,7 @@ impl Feeds {
         ensures number { IfOk result (λ id. id.number ≡ self.old.next) }
         ensures fresh { IfOk result (λ id. entry_in id.number self.old.feeds ≡ None) }
         ensures ok { OnOk result (self.new ≡ record {
-          feeds = self.old.feeds ++ (self.old.next, begin (params_of params) length life) ∷ [];
+          feeds = self.old.feeds ++ (self.old.next, new_feed (params_of params) length life) ∷ [];
           next = self.old.next + 1;
         }) }
         ensures err { OnErr result (self.new ≡ self.old) }
@@ -130,11 +130,11 @@ impl Feeds {
     ) -> Result<Next<S::Row>, AllocError>
         requires behind { AreBehind (S.length source.now) self.old.feeds }
         requires placed { Some at ≡ position (is_of feed.number) self.old.feeds }
-        ensures ok { IfOk result (λ next. (next ≡ answered
+        ensures ok { IfOk result (λ next. (next ≡ next_of_number
             (over (S.length source.now) (S.current source.now) (S.shown source.now) self.old) feed.number)
-            × (self.new ≡ feeds_of (behind_answer (over (S.length source.now) (S.current source.now)
+            × (self.new ≡ feeds_of (hosted_after_next (over (S.length source.now) (S.current source.now)
             (S.shown source.now) self.old) feed.number next))) }
-        ensures err { OnErr result ((self.new ≡ self.old) × IsRowDue (due_to
+        ensures err { OnErr result ((self.new ≡ self.old) × IsRowDue (due_of_number
             (over (S.length source.now) (S.current source.now) (S.shown source.now) self.old) feed.number)) }
         ensures behind { AreBehind (S.length source.now) self.new.feeds }
     {
@@ -158,18 +158,18 @@ impl Feeds {
     ) -> Result<Handed, AllocError>
         requires ready { IsReadyAt (S.length source.now) (S.current source.now) self.old.feeds feed.number
             at first }
-        requires may { IfSome (item_due
+        requires may { IfSome (item_of_number
             (over (S.length source.now) (S.current source.now) (S.shown source.now) self.old) feed.number)
             (MayTake K.allows K.sent sink.old) }
         ensures ok { IfOk result (λ did. HandsTo K.behind (H.refuses handle.now) self.old
-            (feeds_of (handed (over (S.length source.now) (S.current source.now) (S.shown source.now)
+            (feeds_of (hosted_after_hand (over (S.length source.now) (S.current source.now) (S.shown source.now)
             self.old) feed.number))
-            (feeds_of (behind_answer (over (S.length source.now) (S.current source.now)
+            (feeds_of (hosted_after_next (over (S.length source.now) (S.current source.now)
             (S.shown source.now) self.old) feed.number Nothing))
-            sink.old (answered (over (S.length source.now) (S.current source.now) (S.shown source.now)
+            sink.old (next_of_number (over (S.length source.now) (S.current source.now) (S.shown source.now)
             self.old) feed.number)
             did self.new sink.new) }
-        ensures err { OnErr result ((self.new ≡ self.old) × (sink.new ≡ sink.old) × IsRowDue (due_to
+        ensures err { OnErr result ((self.new ≡ self.old) × (sink.new ≡ sink.old) × IsRowDue (due_of_number
             (over (S.length source.now) (S.current source.now) (S.shown source.now) self.old) feed.number)) }
         ensures behind { AreBehind (S.length source.now) self.new.feeds }
     {
@@ -180,10 +180,10 @@ impl Feeds {
     /// Goes on behind the item that `next_at` gives now. It takes no memory, and constant time where
     /// the last item was made for this feed.
     pub fn accept_item<S: Source>(&mut self, source: &S, feed: FeedId, item: &Item<S::Row>)
-        requires due { item_due
+        requires due { item_of_number
             (over (S.length source.now) (S.current source.now) (S.shown source.now) self.old) feed.number
             ≡ Some item.now }
-        ensures { IsChangedTo (handed (over (S.length source.now) (S.current source.now)
+        ensures { IsChangedTo (hosted_after_hand (over (S.length source.now) (S.current source.now)
             (S.shown source.now) self.old) feed.number).feeds (S.length source.now) self.old self.new }
     {
         let Some(at) = place_near(self.list.as_slice(), self.near, feed.number) else {
@@ -196,7 +196,7 @@ impl Feeds {
     /// Whether a heartbeat may be handed to a feed now: one was asked for, and the feed is open and
     /// waits. It takes no memory, and costs a binary search.
     pub fn beat_due(&self, feed: FeedId) -> bool
-        ensures { result ≡ is_beat_due (entry_in feed.number self.now.feeds) }
+        ensures { result ≡ is_beat_allowed_if_any (entry_in feed.number self.now.feeds) }
     {
         let Some(at) = place_of(self.list.as_slice(), feed.number) else {
             return false;
@@ -208,7 +208,7 @@ impl Feeds {
     /// A feed's time without an item is over: an open feed that waits is ending. It takes no memory,
     /// and costs a binary search.
     pub fn expire(&mut self, feed: FeedId)
-        ensures { IsChangedTo (changed feed.number expire self.old.feeds) 0 self.old self.new }
+        ensures { IsChangedTo (with_change feed.number expired_feed self.old.feeds) 0 self.old self.new }
     {
         let Some(at) = place_of(self.list.as_slice(), feed.number) else {
             return;
@@ -229,7 +229,7 @@ impl Feeds {
     /// What they follow is deleted: each feed that is open is ending. It takes no memory, and costs a
     /// step for each feed.
     pub fn end_all(&mut self)
-        ensures { IsChangedTo (map ended self.old.feeds) 0 self.old self.new }
+        ensures { IsChangedTo (map ended_entry self.old.feeds) 0 self.old self.new }
     {
         end_each(&mut self.list);
     }

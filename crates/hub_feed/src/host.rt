@@ -5,16 +5,16 @@ ghost use Rattle.std.specs.Prelude.{None, Contains, IfOk, IfErr, IfSome, OnOk, O
 ghost use Rattle.std.specs.List.{AllPairs};
 ghost use Rattle.hub_model.specs.Current.{Current};
 ghost use Rattle.hub_model.specs.Entries.{entry_in};
-ghost use Rattle.hub_model.specs.Feed.{Feed, Params, DueNothing, after_nothing, begin, beat_due, due, expire};
+ghost use Rattle.hub_model.specs.Feed.{Feed, Params, DueNothing, after_nothing, new_feed, is_beat_allowed, next_due, expired_feed};
 ghost use Rattle.hub_model.specs.declared.feeds.Item.{Item as HandedItem};
 ghost use Rattle.hub_model.specs.declared.feeds.Item.TheVariants.{Beat};
 ghost use Rattle.hub_model.specs.declared.feeds.Style.{Style as Listing};
 ghost use Rattle.hub_params.specs.FeedModel.{params_of};
 ghost use Rattle.hub_feed.specs.Hand.{HandsTo, MayTake};
 ghost use Rattle.hub_feed.specs.Next.{IsRowDue};
-ghost use Rattle.hub_feed.specs.Host.{Hosted, with_feeds, refuses, opening_fault, opened};
-ghost use Rattle.hub_feed.specs.Host.{due_to, answered, item_for, item_due, behind_answer};
-ghost use Rattle.hub_feed.specs.Host.{behind_due, handed, is_beat_due, expired, finished};
+ghost use Rattle.hub_feed.specs.Host.{Hosted, with_feeds, opening_refusal, opening_fault, hosted_after_opening};
+ghost use Rattle.hub_feed.specs.Host.{due_of_number, next_of_number, item_of_feed, item_of_number, hosted_after_next};
+ghost use Rattle.hub_feed.specs.Host.{hosted_feed_after_due, hosted_after_hand, is_beat_allowed_if_any, hosted_after_expiry, hosted_after_finish};
 ghost use Rattle.hub_feed.specs.declared.next.Next.TheVariants.{Nothing};
 
 use crate::handed::Handed;
@@ -73,7 +73,7 @@ pub trait FeedHost: HostView {
         ensures length { result ≡ (Self.hosted self.now).length }
         ensures begins { (params : Params)
             → Self.fits self.now
-            (begin params (Self.hosted self.now).length (Self.hosted self.now).life) [] };
+            (new_feed params (Self.hosted self.now).length (Self.hosted self.now).life) [] };
 
     /// The number of the life that they are of. It takes no memory.
     fn life(&self) -> u64
@@ -81,16 +81,16 @@ pub trait FeedHost: HostView {
 
     /// Why no feed is opened now, where memory is not what is missing. It takes no memory.
     fn refusal(&self) -> Option<OpenFault>
-        ensures { result ≡ refuses (Self.hosted self.now) };
+        ensures { result ≡ opening_refusal (Self.hosted self.now) };
 
     /// Opens a feed, which stays until it is finished, under a number that no feed had before.
     /// `descending` is not looked at. A refusal takes no memory.
     fn open_feed(&mut self, params: FeedParams) -> Result<FeedId, OpenFault>
-        ensures free { OnOk result (refuses (Self.hosted self.old) ≡ None) }
+        ensures free { OnOk result (opening_refusal (Self.hosted self.old) ≡ None) }
         ensures new { IfOk result (λ id. entry_in id.number (Self.hosted self.old).feeds ≡ None) }
         ensures number { IfOk result (λ id. id.number ≡ (Self.hosted self.old).next_feed) }
         ensures ok { OnOk result
-            (self.new ≡ with_hosted self.old (opened (Self.hosted self.old) (params_of params))) }
+            (self.new ≡ with_hosted self.old (hosted_after_opening (Self.hosted self.old) (params_of params))) }
         ensures err { IfErr result (λ e. (self.new ≡ self.old)
             × (e ≡ opening_fault (Self.hosted self.old))) };
 
@@ -104,27 +104,27 @@ pub trait FeedHost: HostView {
         handle: &H,
         sink: &mut K,
     ) -> Result<Handed, AllocError>
-        requires may { IfSome (item_due (Self.hosted self.old) feed.number)
+        requires may { IfSome (item_of_number (Self.hosted self.old) feed.number)
             (MayTake K.allows K.sent sink.old) }
         ensures ok { IfOk result (λ did. HandsTo K.behind (H.refuses handle.now) self.old
-            (with_hosted self.old (handed (Self.hosted self.old) feed.number))
-            (with_hosted self.old (behind_answer (Self.hosted self.old) feed.number Nothing))
-            sink.old (answered (Self.hosted self.old) feed.number) did self.new sink.new) }
+            (with_hosted self.old (hosted_after_hand (Self.hosted self.old) feed.number))
+            (with_hosted self.old (hosted_after_next (Self.hosted self.old) feed.number Nothing))
+            sink.old (next_of_number (Self.hosted self.old) feed.number) did self.new sink.new) }
         ensures err { OnErr result ((self.new ≡ self.old) × (sink.new ≡ sink.old)
-            × IsRowDue (due_to (Self.hosted self.old) feed.number)) };
+            × IsRowDue (due_of_number (Self.hosted self.old) feed.number)) };
 
     /// Whether a heartbeat may be handed to a feed now: one was asked for, and the feed is open and
     /// waits. It takes no memory.
     fn beat_due(&self, feed: FeedId) -> bool
-        ensures { result ≡ is_beat_due (entry_in feed.number (Self.hosted self.now).feeds) };
+        ensures { result ≡ is_beat_allowed_if_any (entry_in feed.number (Self.hosted self.now).feeds) };
 
     /// A feed's time without an item is over: an open feed that waits is ending. It takes no memory.
     fn expire(&mut self, feed: FeedId)
-        ensures { self.new ≡ with_hosted self.old (expired (Self.hosted self.old) feed.number) };
+        ensures { self.new ≡ with_hosted self.old (hosted_after_expiry (Self.hosted self.old) feed.number) };
 
     /// Forgets a feed, if there is one of this number. It takes no memory.
     fn finish(&mut self, feed: FeedId)
-        ensures { self.new ≡ with_hosted self.old (finished (Self.hosted self.old) feed.number) };
+        ensures { self.new ≡ with_hosted self.old (hosted_after_finish (Self.hosted self.old) feed.number) };
 
     /// The current rows rise.
     ghost rise: { (s : Self) → AllPairs (λ (c d : Current). c.seq < d.seq) (Self.hosted s).current };
@@ -155,19 +155,19 @@ pub trait FeedHost: HostView {
 
     /// With the item that is due it fits the feed that handed that.
     ghost handed_fits: { (s : Self) (f : Feed) (items : List (HandedItem Self.Row))
-        → (item : HandedItem Self.Row) → item_for (Self.hosted s) f ≡ Some item → Self.fits s f items
-        → Self.fits s (behind_due (Self.hosted s) f) (items ++ item ∷ []) };
+        → (item : HandedItem Self.Row) → item_of_feed (Self.hosted s) f ≡ Some item → Self.fits s f items
+        → Self.fits s (hosted_feed_after_due (Self.hosted s) f) (items ++ item ∷ []) };
 
     /// It fits the feed that was found to have nothing to hand.
     ghost waiting_fits: { (s : Self) (f : Feed) (items : List (HandedItem Self.Row))
-        → due (Self.hosted s).current f ≡ DueNothing → Self.fits s f items
+        → next_due (Self.hosted s).current f ≡ DueNothing → Self.fits s f items
         → Self.fits s (after_nothing f (Self.hosted s).length) items };
 
     /// It fits with a heartbeat that may be handed.
-    ghost beat_fits: { (s : Self) (f : Feed) (items : List (HandedItem Self.Row)) → beat_due f ≡ true
+    ghost beat_fits: { (s : Self) (f : Feed) (items : List (HandedItem Self.Row)) → is_beat_allowed f ≡ true
         → Self.fits s f items → Self.fits s f (items ++ Beat ∷ []) };
 
     /// It fits the feed whose time is over.
     ghost expired_fits: { (s : Self) (f : Feed) (items : List (HandedItem Self.Row)) → Self.fits s f items
-        → Self.fits s (expire f) items };
+        → Self.fits s (expired_feed f) items };
 }

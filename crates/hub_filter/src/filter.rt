@@ -1,7 +1,7 @@
 //! The filters of a feed.
 
 ghost use Rattle.std.specs.Prelude.{◌≡◌, IfOk, OnErr};
-ghost use Rattle.hub_model.specs.Filter.{passes};
+ghost use Rattle.hub_model.specs.Filter.{is_passing};
 ghost use Rattle.hub_filter.specs.Shown.{filter_of, HasIds};
 
 use crate::DocIds;
@@ -22,7 +22,7 @@ impl Filter {
     /// Whether the document with this id is shown. It takes no memory. Constant time, but for
     /// listed ids, where it costs what `DocIds::contains` does.
     pub fn passes(&self, id: &str) -> bool
-        ensures { result ≡ passes (filter_of self.now) id.now }
+        ensures { result ≡ is_passing (filter_of self.now) id.now }
     {
         match self {
             Filter::All => true,

@@ -8,7 +8,7 @@ use Rattle.std.proofs.lemmas.List.Elements.{Contains-append_cases}
 use Rattle.std.proofs.lemmas.List.{drop-append-le}
 use Rattle.hub_follow_model.specs.Follower.{Session, checkpoint_log}
 use Rattle.hub_follow_model.specs.ChangesFeed.{items_of}
-use Rattle.hub_follow_model.specs.Sequence.{beginning, counted, seq_in, with_lives, lesser_seq}
+use Rattle.hub_follow_model.specs.Sequence.{beginning, count_in_life, seq_in, with_lives, lesser_seq}
 use Rattle.hub_follow_model.specs.declared.seq.Seq.{Seq}
 use Rattle.hub_follow_model.specs.ReplicationLog.{ReplicationLog, HistoryEntry, common_sequence}
 use Rattle.hub_follow_model.specs.ReplicationLog.{common_session_sequence, recorded_seq_of}
@@ -130,7 +130,7 @@ module _ (journal later_journal : List Edit) where
       same true = p
       same false = done_zero journal later_journal
 
-      by_life : (of : Option ℕ) → IsDone journal later_journal (counted life seq.n of)
+      by_life : (of : Option ℕ) → IsDone journal later_journal (count_in_life life seq.n of)
       by_life None = p
       by_life (Some of) = same (nat_eq of life)
 

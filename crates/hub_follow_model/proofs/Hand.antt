@@ -13,13 +13,13 @@ use Rattle.hub_follow_model.specs.ChangesFeed.{items_of, ended_feed, HasChangesA
 use Rattle.hub_model.specs.Current.{IsCurrent}
 use Rattle.hub_model.specs.Journal.{Edit, IsHead, IsKnown, IsLegal, is_known}
 use Rattle.hub_model.specs.Leaves.{IsLeaf}
-use Rattle.hub_model.specs.Missing.{missing, wanted, diffs, diff_of, is_wanted, with_missing, Asked, Diff}
+use Rattle.hub_model.specs.Missing.{unknown_revisions, missing_by_document, diffs, diff_of, is_wanted, with_missing, RevisionsOfDoc, Diff}
 use Rattle.hub_model.specs.Revision.{Revision}
 use Rattle.hub_model.specs.RightlyHanded.{rows_of, IsRowOf}
 use Rattle.hub_model.specs.RowKind.{change_rows}
 use Rattle.hub_model.specs.declared.feeds.Style.TheVariants.{AllDocs}
 use Rattle.hub_model.specs.Row.{IsRow, ChangeRow}
-use Rattle.hub_model.specs.Walk.{shown, IsShown}
+use Rattle.hub_model.specs.Walk.{shown_edit, IsShown}
 use Rattle.hub_follow_model.proofs.Bring.{IsCopy, AreCopies}
 use Rattle.hub_model.proofs.Lists.{contains_none, contains_here, contains_there, contains_cases, same_split}
 use Rattle.hub_model.proofs.Shown.{is_current_from, shown_is}
@@ -31,8 +31,8 @@ use Rattle.hub_follow_model.proofs.Done.{IsUnmoved, IsDoneBut, IsDone, drop_in, 
 use Rattle.hub_follow_model.proofs.Done.{contains_map, map_contains, rows_of-items}
 
 -- what is in hand
-abbrev pub InAsked : List Asked → List ℕ → Revision → Type 0
-InAsked asked id revision = (a : Asked) × Contains asked a × (a.id ≡ id) × Contains a.revs revision
+abbrev pub InAsked : List RevisionsOfDoc → List ℕ → Revision → Type 0
+InAsked asked id revision = (a : RevisionsOfDoc) × Contains asked a × (a.id ≡ id) × Contains a.revs revision
 
 abbrev pub InGot : List Edit → List ℕ → Revision → Type 0
 InGot got id revision = (edit : Edit) × Contains got edit × (edit.id ≡ id) × IsHead edit revision
@@ -133,10 +133,10 @@ module _ (journal later_journal : List Edit) (since last : ℕ) (rows : List Cha
   in_row n edit id revision current q leaf row c at fits =
       let shown = row_is (take row.seen journal) false row fits in
       let as_leaf =
-      leaf_then n edit id revision (take row.seen journal) (drop row.seen journal) shown.0
+      leaf_then n edit id revision (take row.seen journal) (drop row.seen journal) shown_edit.0
       (sym (take-append-drop row.seen journal))
-      (subst (λ z. IsCurrent (take row.seen journal) z shown.0) at shown.1) current q leaf in
-      let same : row.id ≡ id = sym shown.2 ∙ as_leaf.0 in (
+      (subst (λ z. IsCurrent (take row.seen journal) z shown_edit.0) at shown_edit.1) current q leaf in
+      let same : row.id ≡ id = sym shown_edit.2 ∙ as_leaf.0 in (
         revisions_of_row row,
         contains_map revisions_of_row row rows c,
         same,
@@ -171,13 +171,13 @@ module _ (journal later_journal : List Edit) (since last : ℕ) (rows : List Cha
 -- an answer of `revs_diff` leaves out what is known
 pub missing_in : (later_journal : List Edit) (id : List ℕ) (revs : List Revision) (revision : Revision)
     → Contains revs revision
-    → IsKnown later_journal id revision ⊎ Contains (missing later_journal id revs) revision
+    → IsKnown later_journal id revision ⊎ Contains (unknown_revisions later_journal id revs) revision
 missing_in later_journal id revs revision c = elim (cases_Bool (is_known later_journal id revision)) [
   | inl t ↦ inl (known_is later_journal id revision t)
   | inr t ↦ inr (in_filter (λ r. not (is_known later_journal id r)) revs revision c (ap not t))
 ]
 
-pub asked_first : (id' : List ℕ) (revs : List Revision) (rest : List Asked) (id : List ℕ)
+pub asked_first : (id' : List ℕ) (revs : List Revision) (rest : List RevisionsOfDoc) (id : List ℕ)
     (revision : Revision)
     → id' ≡ id → Contains revs revision → InAsked (with_missing id' revs rest) id revision
 asked_first id' [] rest id revision q c = absurd (contains_none revision c)
@@ -188,34 +188,34 @@ asked_first id' (other ∷ revs) rest id revision q c = (
   c,
 )
 
-pub asked_rest : (id' : List ℕ) (revs : List Revision) (rest : List Asked) (id : List ℕ) (revision : Revision)
+pub asked_rest : (id' : List ℕ) (revs : List Revision) (rest : List RevisionsOfDoc) (id : List ℕ) (revision : Revision)
     → InAsked rest id revision → InAsked (with_missing id' revs rest) id revision
 asked_rest id' [] rest id revision k = k
 asked_rest id' (other ∷ revs) rest id revision (a, c, q, i) =
     (a, contains_there (record { id = id'; revs = other ∷ revs }) a rest c, q, i)
 
-pub wanted_in : (later_journal : List Edit) (asked : List Asked) (id : List ℕ) (revision : Revision)
+pub wanted_in : (later_journal : List Edit) (asked : List RevisionsOfDoc) (id : List ℕ) (revision : Revision)
     → InAsked asked id revision
-    → IsKnown later_journal id revision ⊎ InAsked (wanted later_journal asked) id revision
+    → IsKnown later_journal id revision ⊎ InAsked (missing_by_document later_journal asked) id revision
 wanted_in later_journal [] id revision (a, c, q, i) = absurd (contains_none a c)
 wanted_in later_journal (x ∷ asked) id revision (a, c, q, i) =
     both (wanted_in later_journal asked id revision) (contains_cases x a asked c)
   where
     both : (InAsked asked id revision → IsKnown later_journal id revision
-        ⊎ InAsked (wanted later_journal asked) id revision)
+        ⊎ InAsked (missing_by_document later_journal asked) id revision)
         → (x ≡ a) ⊎ Contains asked a → IsKnown later_journal id revision
-        ⊎ InAsked (wanted later_journal (x ∷ asked)) id revision
+        ⊎ InAsked (missing_by_document later_journal (x ∷ asked)) id revision
     both ih (inl e) =
-        let named : x.id ≡ id = ap (λ (z : Asked). z.id) e ∙ q in
+        let named : x.id ≡ id = ap (λ (z : RevisionsOfDoc). z.id) e ∙ q in
         ⊎_elim (λ k. inl (subst (λ z. IsKnown later_journal z revision) named k))
-        (λ k. inr (asked_first x.id (missing later_journal x.id x.revs)
-        (wanted later_journal asked) id revision named k))
+        (λ k. inr (asked_first x.id (unknown_revisions later_journal x.id x.revs)
+        (missing_by_document later_journal asked) id revision named k))
         (missing_in later_journal x.id x.revs revision
-        (subst (λ (z : Asked). Contains z.revs revision) (sym e) i))
+        (subst (λ (z : RevisionsOfDoc). Contains z.revs revision) (sym e) i))
     both ih (inr d) =
         ⊎_elim (λ k. inl k)
-        (λ k. inr (asked_rest x.id (missing later_journal x.id x.revs)
-        (wanted later_journal asked) id revision k)) (ih (a, d, q, i))
+        (λ k. inr (asked_rest x.id (unknown_revisions later_journal x.id x.revs)
+        (missing_by_document later_journal asked) id revision k)) (ih (a, d, q, i))
 
 -- the differences are what is wanted
 lacking_first : (diff : Diff) (rest : List Diff) (lost : List Revision) → diff.missing ≡ lost
@@ -227,16 +227,16 @@ lacking_first diff rest (revision ∷ revs) e =
     ap (λ b. map missing_revisions (if b then (diff ∷ rest) else rest)) some
     ∙ ap (λ z. record { id = diff.id; revs = z } ∷ map missing_revisions rest) e
 
-pub lacking_diffs : (journal : List Edit) (asked : List Asked)
-    → map missing_revisions (diffs journal asked) ≡ wanted journal asked
+pub lacking_diffs : (journal : List Edit) (asked : List RevisionsOfDoc)
+    → map missing_revisions (diffs journal asked) ≡ missing_by_document journal asked
 lacking_diffs journal [] = refl
 lacking_diffs journal (a ∷ asked) =
-    lacking_first (diff_of journal a) (diffs journal asked) (missing journal a.id a.revs) refl
-    ∙ ap (with_missing a.id (missing journal a.id a.revs)) (lacking_diffs journal asked)
+    lacking_first (diff_of journal a) (diffs journal asked) (unknown_revisions journal a.id a.revs) refl
+    ∙ ap (with_missing a.id (unknown_revisions journal a.id a.revs)) (lacking_diffs journal asked)
 
 -- an answer of `open_revs` is of copies
 pub opened_in : (journal : List Edit) (id : List ℕ) (revs : List Revision) (got : List Edit)
-    → IsLegal journal → all_documents id revs (map (shown journal id) revs) ≡ Ok got
+    → IsLegal journal → all_documents id revs (map (shown_edit journal id) revs) ≡ Ok got
     → AreCopies journal got × ((revision : Revision) → Contains revs revision → InGot got id revision)
 opened_in journal id [] got legal q =
     let none : got ≡ [] = cc in (
@@ -245,10 +245,10 @@ opened_in journal id [] got legal q =
           absurd (contains_none revision c),
     )
 opened_in journal id (r ∷ revs) got legal q =
-    at (shown journal id r) refl (all_documents id revs (map (shown journal id) revs))
+    at (shown_edit journal id r) refl (all_documents id revs (map (shown_edit journal id) revs))
     (λ edits u. opened_in journal id revs edits legal u) q
   where
-    at : (maybe_edit : Option Edit) → shown journal id r ≡ maybe_edit → (o : Result (List Edit) Fault)
+    at : (maybe_edit : Option Edit) → shown_edit journal id r ≡ maybe_edit → (o : Result (List Edit) Fault)
         → ((edits : List Edit) → o ≡ Ok edits → AreCopies journal edits
         × ((revision : Revision) → Contains revs revision → InGot edits id revision))
         → with_document id r maybe_edit o ≡ Ok got
@@ -267,15 +267,15 @@ opened_in journal id (r ∷ revs) got legal q =
                 rest = [];
                 r = r;
                 split = append-nil journal;
-                shown = subst (λ z. IsShown journal z r e) (sym shown.named) shown;
+                shown_edit = subst (λ z. IsShown journal z r e) (sym shown_edit.named) shown_edit;
               }))
               (λ v. k.0 f v) (contains_cases e f edits (subst (λ z. Contains z f) (sym is) c)),
           λ revision c. ⊎_elim
               (λ (v : r ≡ revision). (
                 e,
                 subst (λ z. Contains z e) is (contains_here e edits),
-                shown.named,
-                subst (λ z. IsHead e z) v shown.head,
+                shown_edit.named,
+                subst (λ z. IsHead e z) v shown_edit.head,
               ))
               (λ v.
               let g = k.1 revision v in

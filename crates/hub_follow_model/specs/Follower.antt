@@ -6,7 +6,7 @@ use Rattle.hub_model.specs.declared.outcomes.Fault.{Fault as Refusal}
 use Rattle.hub_model.specs.declared.outcomes.Outcome.{Outcome}
 use Rattle.hub_model.specs.declared.outcomes.Outcome.TheVariants as outcome
 use Rattle.hub_model.specs.Journal.{Edit}
-use Rattle.hub_model.specs.Missing.{Asked, Diff}
+use Rattle.hub_model.specs.Missing.{RevisionsOfDoc, Diff}
 use Rattle.hub_model.specs.Revision.{Revision}
 use Rattle.hub_model.specs.Row.{ChangeRow}
 use Rattle.hub_follow_model.specs.Sequence.{seq_of}
@@ -25,7 +25,7 @@ pub data Call : Type 0 where
   -- the changes above a sequence (listen to changes feed)
   Changes : (since : Seq) → Call
   -- which of these revisions it misses (calculate revision difference)
-  RevsDiff : (asked : List Asked) → Call
+  RevsDiff : (asked : List RevisionsOfDoc) → Call
   -- these with their histories (fetch changed documents)
   OpenRevs : (id : List ℕ) (revs : List Revision) → Call
   -- to store them with their histories (upload batch of changed documents)
@@ -54,8 +54,8 @@ pub record Session : Type 0 where
 -- what a round or a checkpoint is at; `last` is the sequence that the round's changes end at
 pub data Phase : Type 0 where
   Listing : Phase
-  Comparison : (asked : List Asked) (last : Seq) → Phase
-  Retrieval : (next : Asked) (later : List Asked) (got : List Edit) (last : Seq) → Phase
+  Comparison : (asked : List RevisionsOfDoc) (last : Seq) → Phase
+  Retrieval : (next : RevisionsOfDoc) (later : List RevisionsOfDoc) (got : List Edit) (last : Seq) → Phase
   Storage : (got : List Edit) (last : Seq) → Phase
   SourceCheckpoint : Phase
   TargetCheckpoint : Phase
@@ -95,11 +95,11 @@ checkpoint_log session history =
     }
 
 -- the document of a row, with the leaves that the row lists
-abbrev pub revisions_of_row : ChangeRow → Asked
+abbrev pub revisions_of_row : ChangeRow → RevisionsOfDoc
 revisions_of_row row = record { id = row.id; revs = row.changes }
 
 -- a document with the revisions that the target misses
-abbrev pub missing_revisions : Diff → Asked
+abbrev pub missing_revisions : Diff → RevisionsOfDoc
 missing_revisions diff = record { id = diff.id; revs = diff.missing }
 
 -- the call that a phase makes. With the changes after 3 read, of which a has 2-d, it is RevsDiff of a with
@@ -137,7 +137,7 @@ abbrev pub ready_at : Session → Seq → Follower
 ready_at session last = Ready (record session { place = last })
 
 -- behind the changes: their revisions are compared, or the round is over where there are none
-abbrev pub comparison_or_ready : Session → List Asked → Seq → Follower
+abbrev pub comparison_or_ready : Session → List RevisionsOfDoc → Seq → Follower
 comparison_or_ready session [] last = ready_at session last
 comparison_or_ready session (a ∷ asked) last = Busy session (Comparison (a ∷ asked) last)
 
@@ -148,7 +148,7 @@ storage_or_ready session (edit ∷ got) last = Busy session (Storage (edit ∷ g
 
 -- the next document that the target misses is fetched, or all are stored where there is none. Where a, b and
 -- c are missing each has an OpenRevs of its own, and one Merge stores all three (proved: `FirstRoundCalls`).
-abbrev pub retrieval_or_storage : Session → List Asked → List Edit → Seq → Follower
+abbrev pub retrieval_or_storage : Session → List RevisionsOfDoc → List Edit → Seq → Follower
 retrieval_or_storage session [] got last = storage_or_ready session got last
 retrieval_or_storage session (next ∷ later) got last = Busy session (Retrieval next later got last)
 
@@ -194,7 +194,7 @@ IsAnswerToNext None answer = ⊥
 IsAnswerToNext (Some call) answer = IsAnswerTo call answer
 
 -- the follower behind the documents of one more row
-abbrev pub after_retrieval : Session → List Asked → List Edit → Seq → Result (List Edit) Fault
+abbrev pub after_retrieval : Session → List RevisionsOfDoc → List Edit → Seq → Result (List Edit) Fault
     → Result Follower Fault
 after_retrieval session later got last (Ok docs) = Ok (retrieval_or_storage session later (got ++ docs) last)
 after_retrieval session later got last (Err fault) = Err fault

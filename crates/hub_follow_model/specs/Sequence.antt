@@ -13,13 +13,13 @@ abbrev pub seq_of : (life n : ℕ) → Seq
 seq_of life n = record { n = n; life = Some life }
 
 -- a number of such a life as it counts in this one
-abbrev pub counted : (life n : ℕ) → Option ℕ → ℕ
-counted life n None = n
-counted life n (Some of) = counted_in life n of
+abbrev pub count_in_life : (life n : ℕ) → Option ℕ → ℕ
+count_in_life life n None = n
+count_in_life life n (Some of) = counted_in life n of
 
 -- a sequence as it counts in this life: as 0 where it is of another, and as it is where its life is not known
 abbrev pub seq_in : (life : ℕ) → Seq → ℕ
-seq_in life seq = counted life seq.n seq.life
+seq_in life seq = count_in_life life seq.n seq.life
 
 -- a number with the life that is there; the beginning where two are there that differ
 abbrev pub with_lives : ℕ → Option ℕ → Option ℕ → Seq

@@ -6,11 +6,11 @@ use Rattle.hub_model.specs.declared.feeds.Style.TheVariants.{AllDocs}
 use Rattle.hub_model.specs.declared.outcomes.Fault.TheVariants.{SequenceFull}
 use Rattle.hub_model.specs.Current.{current}
 use Rattle.hub_model.specs.Journal.{Edit}
-use Rattle.hub_model.specs.Missing.{Asked, diffs}
+use Rattle.hub_model.specs.Missing.{RevisionsOfDoc, diffs}
 use Rattle.hub_model.specs.Outcome.{merges_all}
 use Rattle.hub_model.specs.Revision.{Revision}
 use Rattle.hub_model.specs.Row.{ChangeRow, row_of}
-use Rattle.hub_model.specs.Walk.{shown}
+use Rattle.hub_model.specs.Walk.{shown_edit}
 use Rattle.hub_model.specs.WorkedFeeds.{rev, doc}
 use Rattle.hub_follow_model.specs.Follower.{Call, Changes, RevsDiff, OpenRevs, Merge, LocalPut, Source}
 use Rattle.hub_follow_model.specs.Follower.{Target}
@@ -53,7 +53,7 @@ rows_above journal since =
     map (row_of journal AllDocs false) (filter (λ c. nat_lt since c.seq) (current journal))
 
 -- one revision of a document
-abbrev pub one_of : List ℕ → Revision → Asked
+abbrev pub one_of : List ℕ → Revision → RevisionsOfDoc
 one_of id revision = record { id = id; revs = revision ∷ [] }
 
 -- the sequence n of the source, which is in its first life
@@ -76,9 +76,9 @@ abbrev pub first_answers : List Answer
 first_answers =
     ChangesAnswer (rows_above three_edits 0) 3 1
     ∷ RevsDiffAnswer (diffs [] (map revisions_of_row (rows_above three_edits 0)))
-    ∷ OpenRevsAnswer (map (shown three_edits (codes "a")) (rev 1 (codes "a") ∷ []))
-    ∷ OpenRevsAnswer (map (shown three_edits (codes "b")) (rev 1 (codes "b") ∷ []))
-    ∷ OpenRevsAnswer (map (shown three_edits (codes "c")) (rev 1 (codes "c") ∷ []))
+    ∷ OpenRevsAnswer (map (shown_edit three_edits (codes "a")) (rev 1 (codes "a") ∷ []))
+    ∷ OpenRevsAnswer (map (shown_edit three_edits (codes "b")) (rev 1 (codes "b") ∷ []))
+    ∷ OpenRevsAnswer (map (shown_edit three_edits (codes "c")) (rev 1 (codes "c") ∷ []))
     ∷ MergeAnswer (merges_all 10 [] three_edits).outcomes ∷ []
 
 -- the changes after 0, all that is missing, each document, and then they are stored
@@ -102,7 +102,7 @@ abbrev pub second_answers : List Answer
 second_answers =
     ChangesAnswer (rows_above four_edits 3) 4 1
     ∷ RevsDiffAnswer (diffs three_edits (map revisions_of_row (rows_above four_edits 3)))
-    ∷ OpenRevsAnswer (map (shown four_edits (codes "a")) (rev 2 (codes "d") ∷ []))
+    ∷ OpenRevsAnswer (map (shown_edit four_edits (codes "a")) (rev 2 (codes "d") ∷ []))
     ∷ MergeAnswer (merges_all 10 three_edits (second_edit ∷ [])).outcomes ∷ []
 
 -- the changes after 3, what is missing of a, and then that is stored with its history

@@ -2,13 +2,13 @@
 -- Any call may fail (own, over the CouchDB Replication Protocol).
 use Rattle.std.specs.Prelude.{◌≡◌, ℕ, List, [], ◌∷◌, map, take, Contains, Bool, true, false, IsTrue, Option}
 use Rattle.std.specs.Prelude.{Some, None, MatchOption, ◌⊎◌, option_map}
-use Rattle.hub_model.specs.Draft.{Draft, makes}
+use Rattle.hub_model.specs.Draft.{Draft, draft_result}
 use Rattle.hub_model.specs.Journal.{Edit}
 use Rattle.hub_model.specs.Missing.{diffs}
 use Rattle.hub_model.specs.Outcome.{merges_all, stores_all}
 use Rattle.hub_model.specs.RightlyHanded.{ChangeItem}
 use Rattle.hub_model.specs.Row.{ChangeRow}
-use Rattle.hub_model.specs.Walk.{shown}
+use Rattle.hub_model.specs.Walk.{shown_edit}
 use Rattle.hub_follow_model.specs.ChangesFeed.{IsChangesAnswer, HasChangesAnswer}
 use Rattle.hub_follow_model.specs.Follower.{Call, LocalGet, Changes, RevsDiff, OpenRevs, Merge, LocalPut}
 use Rattle.hub_follow_model.specs.Follower.{Answer, LogAnswer, ChangesAnswer, RevsDiffAnswer, OpenRevsAnswer}
@@ -66,7 +66,7 @@ IsAnswered world (Changes since) (ChangesAnswer rows last life) new =
 IsAnswered world (RevsDiff asked) (RevsDiffAnswer answered) new =
     (answered ≡ diffs world.target asked) × (new ≡ world)
 IsAnswered world (OpenRevs id revs) (OpenRevsAnswer docs) new =
-    (docs ≡ map (shown world.source id) revs) × (new ≡ world)
+    (docs ≡ map (shown_edit world.source id) revs) × (new ≡ world)
 IsAnswered world (Merge docs) (MergeAnswer outcomes) new =
     (outcomes ≡ (merges_all world.limit world.target docs).outcomes)
     × (new ≡ record world { target = (merges_all world.limit world.target docs).journal })
@@ -141,7 +141,7 @@ abbrev pub Step : World → Event → World → Type 0
 Step world (Write docs) new =
     new ≡ record world { source = (merges_all world.limit world.source docs).journal }
 Step world (InteractiveWrite drafts) new =
-    new ≡ record world { source = (stores_all (makes world.limit) false world.source drafts).journal }
+    new ≡ record world { source = (stores_all (draft_result world.limit) false world.source drafts).journal }
 Step world (Start session_id) new =
     (IsFreeFor world session_id
     × (new ≡ record world { sessions = session_id ∷ world.sessions; follower = SourceStart session_id }))

@@ -1,12 +1,12 @@
 -- How a session does not begin.
 use Rattle.std.proofs.Common.{inl, inr, Result, Ok, Err}
 use Rattle.std.specs.Prelude.{IfErr}
-use Rattle.hub_follower.specs.Peers.{Gives, Fails, Standing, Breaks, BeginsNot}
+use Rattle.hub_follower.specs.Peers.{Gives, Fails, FollowState, Breaks, BeginsNot}
 use Rattle.hub_follower.specs.declared.fault.FollowFault.{FollowFault}
 use Rattle.hub_follower.specs.declared.fault.FollowFault.TheVariants.{NoMemory, BadLogId, Peer, Refused, Lost}
 
 module _ {S T : Type 0} (gives_s : Gives S) (gives_t : Gives T) (loses_s : Fails S) (loses_t : Fails T)
-    (old new : Standing S T) where
+    (old new : FollowState S T) where
   -- no call breaks for a bad id
   never : Breaks gives_s gives_t loses_s loses_t BadLogId old new → ⊥
   never (between, mid, walks, (call, owes, fails, inl (answer, serves, told))) = told

@@ -16,7 +16,7 @@ use Rattle.std.specs.Str.{bytes_eq}
 use Rattle.hub_model.specs.Current.{Current, current}
 use Rattle.hub_model.specs.declared.feeds.Item.TheVariants.{Row, Beat, End}
 use Rattle.hub_model.specs.declared.feeds.Style.TheVariants.{AllDocs}
-use Rattle.hub_model.specs.Filter.{passes, Everything}
+use Rattle.hub_model.specs.Filter.{is_passing, Everything}
 use Rattle.hub_model.specs.Journal.{Edit}
 use Rattle.hub_model.specs.Revision.{Revision, is_same}
 use Rattle.hub_model.specs.RightlyHanded.{ChangeItem, rows_of, IsAsked, IsRowOf, Follows, EndsAt}
@@ -272,14 +272,14 @@ shown_is journal row h =
     let K = take row.seen journal in
     let a = any_at (same_row row) (all_above K 0) h in
     let m = map_contains (row_of K AllDocs false) (rows_above K 0) a.0 a.1 in
-    let f = filter_in (λ (c : Current). nat_lt 0 c.seq && passes Everything c.id) (current K) m.0 m.1 in
+    let f = filter_in (λ (c : Current). nat_lt 0 c.seq && is_passing Everything c.id) (current K) m.0 m.1 in
     (m.0, f.0, row_is row a.0 a.2 ∙ sym m.2)
 
 listed_above : (journal : List Edit) (since : ℕ) (row : Current) → Contains (current journal) row
     → since < row.seq → Contains (all_above journal since) (row_of journal AllDocs false row)
 listed_above journal since row m up =
     contains_map (row_of journal AllDocs false) row (rows_above journal since)
-    (in_filter (λ (other : Current). nat_lt since other.seq && passes Everything other.id)
+    (in_filter (λ (other : Current). nat_lt since other.seq && is_passing Everything other.id)
     (current journal) row m
     (and_from (nat_lt since row.seq) true (lt-ltb since row.seq up) refl))
 
@@ -324,7 +324,7 @@ is_listed_from journal since last rows whole =
     each row m =
         let q = map_contains (row_of journal AllDocs false) (rows_above journal since) row m in
         let c = q.0 in
-        let f = filter_in (λ (d : Current). nat_lt since d.seq && passes Everything d.id)
+        let f = filter_in (λ (d : Current). nat_lt since d.seq && is_passing Everything d.id)
         (current journal) c q.1 in
         let up = ltb-true since c.seq (and_parts (nat_lt since c.seq) true f.1).0 in
         subst (λ (z : ChangeRow). (nat_lt last z.seq || has_sequence rows z.seq) ≡ true) q.2

@@ -6,9 +6,9 @@ use Rattle.hub_follow_model.specs.World.{World, Event, Reply, LossBefore, LossAf
 use Rattle.hub_follow_model.specs.World.{Run, Step, IsAnswered, IsPartialMerge, empty_world}
 use Rattle.hub_follow_model.specs.Copied.{IsFaithful}
 use Rattle.hub_follow_model.proofs.Theorem.{faithful}
-use Rattle.hub_follower.specs.Exact.{Held, IsExact, IsExactLoss, IsStoredInPart, world_at}
+use Rattle.hub_follower.specs.Exact.{PeerContents, IsExact, IsExactLoss, IsStoredInPart, world_at}
 use Rattle.hub_follower.specs.Exact.{HasRun, ExactWalksRun, ExactBreaksRun, ExactPeersCopy}
-use Rattle.hub_follower.specs.Peers.{Standing, standing_of, side_of, Serves, ServesAt}
+use Rattle.hub_follower.specs.Peers.{FollowState, standing_of, side_of, Serves, ServesAt}
 use Rattle.hub_follower.specs.Peers.{LosesAt, FailsSo, Steps, Walks}
 use Rattle.hub_follower.specs.declared.fault.FollowFault.{FollowFault}
 use Rattle.hub_follower.proofs.Happening.{run_more}
@@ -20,15 +20,15 @@ run_on [] more world mid new e r = subst (λ (other : World). Run other more new
 run_on (event ∷ events) more world mid new (m, step, rest) r = (m, step, run_on events more m mid new rest r)
 
 module _ (limit : ℕ) (sessions : List (List ℕ)) where
-  abbrev at : follow.Follower → Held → Held → World
+  abbrev at : follow.Follower → PeerContents → PeerContents → World
   at core held other = world_at limit sessions (standing_of core held other)
 
-  both : (core : follow.Follower) (held other s' t' : Held) → s' ≡ held → t' ≡ other
+  both : (core : follow.Follower) (held other s' t' : PeerContents) → s' ≡ held → t' ≡ other
       → at core s' t' ≡ at core held other
-  both core held other s' t' p q = ap (λ (z : Held). at core z t') p ∙ ap (λ (z : Held). at core held z) q
+  both core held other s' t' p q = ap (λ (z : PeerContents). at core z t') p ∙ ap (λ (z : PeerContents). at core held z) q
 
   serves_answers : (core : follow.Follower) (call : follow.Call) (answer : follow.Answer)
-      (held other s' t' : Held) → Serves (IsExact limit) (IsExact limit) call answer held other s' t'
+      (held other s' t' : PeerContents) → Serves (IsExact limit) (IsExact limit) call answer held other s' t'
       → IsAnswered (at core held other) call answer (at core s' t')
   serves_answers core (follow.LocalGet follow.Source) (follow.LogAnswer log) held other s' t' (p, q) =
       (p.0, both core held other s' t' p.1 q)
@@ -46,16 +46,16 @@ module _ (limit : ℕ) (sessions : List (List ℕ)) where
       (p.0, both core held other s' t' p.1 q)
   serves_answers core (follow.OpenRevs id revs) answer held other s' t' (p, q) = absurd p
   serves_answers core (follow.Merge docs) (follow.MergeAnswer outcomes) held other s' t' (q, p) =
-      (p.0, ap (λ (z : Held). at core z t') q ∙ ap (λ (z : Held). at core held z) p.1)
+      (p.0, ap (λ (z : PeerContents). at core z t') q ∙ ap (λ (z : PeerContents). at core held z) p.1)
   serves_answers core (follow.Merge docs) answer held other s' t' (q, p) = absurd p
   serves_answers core (follow.LocalPut follow.Source log) follow.PutAnswer held other s' t' (p, q) =
-      ap (λ (z : Held). at core z t') p ∙ ap (λ (z : Held). at core (record held { log = Some log }) z) q
+      ap (λ (z : PeerContents). at core z t') p ∙ ap (λ (z : PeerContents). at core (record held { log = Some log }) z) q
   serves_answers core (follow.LocalPut follow.Target log) follow.PutAnswer held other s' t' (q, p) =
-      ap (λ (z : Held). at core z t') q ∙ ap (λ (z : Held). at core held z) p
+      ap (λ (z : PeerContents). at core z t') q ∙ ap (λ (z : PeerContents). at core held z) p
   serves_answers core (follow.LocalPut follow.Source log) answer held other s' t' (p, q) = absurd p
   serves_answers core (follow.LocalPut follow.Target log) answer held other s' t' (q, p) = absurd p
 
-  step_runs : (old new : Standing Held Held) → Steps (IsExact limit) (IsExact limit) old new
+  step_runs : (old new : FollowState PeerContents PeerContents) → Steps (IsExact limit) (IsExact limit) old new
       → Step (world_at limit sessions old) Reply (world_at limit sessions new)
   step_runs old new (call, answer, owes, serves, takes) =
       let w = world_at limit sessions old in
@@ -69,9 +69,9 @@ module _ (limit : ℕ) (sessions : List (List ℕ)) where
         ap (λ z. at (follow.follower_of_result old.follower z) new.source new.target) (sym takes),
       )
 
-  walk_runs : (between : List (Standing Held Held)) (old new : Standing Held Held)
+  walk_runs : (between : List (FollowState PeerContents PeerContents)) (old new : FollowState PeerContents PeerContents)
       → Walks (IsExact limit) (IsExact limit) between old new → HasRun limit sessions old new
-  walk_runs [] old new e = ([], ap (λ (z : Standing Held Held). world_at limit sessions z) e)
+  walk_runs [] old new e = ([], ap (λ (z : FollowState PeerContents PeerContents). world_at limit sessions z) e)
   walk_runs (mid ∷ between) old new (step, rest) =
       let i = walk_runs between mid new rest in
       (Reply ∷ i.0, (world_at limit sessions mid, step_runs old mid step, i.1))
@@ -79,19 +79,19 @@ module _ (limit : ℕ) (sessions : List (List ℕ)) where
   -- ---- a call that fails
 
   -- a part of the documents was stored, by the database at this side
-  abbrev IsPartAt : follow.Side → follow.Call → (held other s' t' : Held) → Type 0
+  abbrev IsPartAt : follow.Side → follow.Call → (held other s' t' : PeerContents) → Type 0
   IsPartAt follow.Source call held other s' t' = IsStoredInPart limit held call s' × (t' ≡ other)
   IsPartAt follow.Target call held other s' t' = (s' ≡ held) × IsStoredInPart limit other call t'
 
   -- the call had no effect, its whole effect, or a part of it
-  abbrev IsLeft : follow.Side → follow.Call → (held other s' t' : Held) → Type 0
+  abbrev IsLeft : follow.Side → follow.Call → (held other s' t' : PeerContents) → Type 0
   IsLeft side call held other s' t' =
       ((s' ≡ held) × (t' ≡ other))
       ⊎ (((answer : follow.Answer)
       × ServesAt (IsExact limit) (IsExact limit) side call answer held other s' t')
       ⊎ IsPartAt side call held other s' t')
 
-  lost : (side : follow.Side) (call : follow.Call) (held other s' t' : Held)
+  lost : (side : follow.Side) (call : follow.Call) (held other s' t' : PeerContents)
       → LosesAt (IsExactLoss limit) (IsExactLoss limit) side call held other s' t'
       → IsLeft side call held other s' t'
   lost follow.Source call held other s' t' (inl e, q) = inl (e, q)
@@ -104,10 +104,10 @@ module _ (limit : ℕ) (sessions : List (List ℕ)) where
   lost follow.Target call held other s' t' (q, inr (inr (inr p))) = inr (inr (q, p))
 
   -- some event leads to what is left
-  abbrev Happens : (old new : Standing Held Held) → Type 0
+  abbrev Happens : (old new : FollowState PeerContents PeerContents) → Type 0
   Happens old new = (event : Event) × Step (world_at limit sessions old) event (world_at limit sessions new)
 
-  module _ (old new : Standing Held Held) (fails : new.follower ≡ follow.after_failure old.follower) where
+  module _ (old new : FollowState PeerContents PeerContents) (fails : new.follower ≡ follow.after_failure old.follower) where
     none_happens : new.source ≡ old.source → new.target ≡ old.target → Happens old new
     none_happens p q = (
       LossBefore,
@@ -140,8 +140,8 @@ module _ (limit : ℕ) (sessions : List (List ℕ)) where
           PartialMerge count,
           subst (λ (o : Option follow.Call). IsPartialMerge w o count v) (sym owes)
               (ap (λ z. at z new.source new.target) fails
-              ∙ (ap (λ (z : Held). at (follow.after_failure old.follower) z new.target) q
-              ∙ ap (λ (z : Held). at (follow.after_failure old.follower) old.source z) p)),
+              ∙ (ap (λ (z : PeerContents). at (follow.after_failure old.follower) z new.target) q
+              ∙ ap (λ (z : PeerContents). at (follow.after_failure old.follower) old.source z) p)),
         )
     part_happens (follow.LocalGet follow.Source) owes (p, q) = absurd p
     part_happens (follow.LocalGet follow.Target) owes (q, p) = absurd p
@@ -157,7 +157,7 @@ module _ (limit : ℕ) (sessions : List (List ℕ)) where
     left_happens call owes (inr (inl (answer, serves))) = all_happens call answer owes serves
     left_happens call owes (inr (inr part)) = part_happens call owes part
 
-  fails_happens : (fault : FollowFault) (old new : Standing Held Held)
+  fails_happens : (fault : FollowFault) (old new : FollowState PeerContents PeerContents)
       → FailsSo (IsExact limit) (IsExact limit) (IsExactLoss limit) (IsExactLoss limit) fault old new
       → Happens old new
   fails_happens fault old new (call, owes, fails, inl (answer, serves, told)) =
@@ -179,7 +179,7 @@ exact_breaks_run limit sessions fault old new (between, mid, walks, fails) =
           (world_at limit sessions new) r.1 e.1,
     )
 
-goes_on : (limit : ℕ) (sessions : List (List ℕ)) (events : List Event) (old new : Standing Held Held)
+goes_on : (limit : ℕ) (sessions : List (List ℕ)) (events : List Event) (old new : FollowState PeerContents PeerContents)
     → Run (empty_world limit) events (world_at limit sessions old) → HasRun limit sessions old new
     → IsFaithful (world_at limit sessions new)
 goes_on limit sessions events old new r (more, s) =

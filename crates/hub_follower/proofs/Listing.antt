@@ -13,7 +13,7 @@ use Rattle.std.specs.Prelude.{All, AllPairs, ◌&&◌, nat_lt, reverse, min}
 use Rattle.hub_model.specs.Descending.{descending, falling, falling_rows}
 use Rattle.hub_follower.specs.Listing.{rows_above, all_above, listing_params, AreFirst}
 use Rattle.hub_model.specs.Current.{Current, current}
-use Rattle.hub_model.specs.Filter.{passes, Everything}
+use Rattle.hub_model.specs.Filter.{is_passing, Everything}
 use Rattle.hub_model.specs.Journal.{Edit}
 use Rattle.hub_model.specs.RightlyHanded.{IsAsked, IsRowOf, Follows, EndsAt}
 use Rattle.hub_model.specs.Row.{ChangeRow, row_of}
@@ -207,20 +207,20 @@ module _ (journal : List Edit) (since : ℕ) (from : since ≤ length journal) w
   rise_above : Rise above
   rise_above =
       rise_from above
-      (AllPairs-filter Lower (λ c. nat_lt since c.seq && passes Everything c.id) (current journal)
+      (AllPairs-filter Lower (λ c. nat_lt since c.seq && is_passing Everything c.id) (current journal)
       (rows_rise journal))
 
   sound_in : (row : Current) → Contains above row → Contains (current journal) row × (since < row.seq)
       × (row.seq ≤ length journal)
   sound_in row m =
-      let p = filter_in (λ (row : Current). nat_lt since row.seq && passes Everything row.id)
+      let p = filter_in (λ (row : Current). nat_lt since row.seq && is_passing Everything row.id)
       (current journal) row m in
       let w = current_within 1 journal row p.0 in
       (p.0, test_above since row.seq p.1, omega (arith, w.1))
 
   whole_in : (row : Current) → Contains (current journal) row → since < row.seq → Contains above row
   whole_in row m up =
-      in_filter (λ (row : Current). nat_lt since row.seq && passes Everything row.id) (current journal) row m
+      in_filter (λ (row : Current). nat_lt since row.seq && is_passing Everything row.id) (current journal) row m
       (above_test since row.seq up)
 
   -- what goes downwards is this list from its end

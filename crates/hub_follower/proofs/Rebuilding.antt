@@ -8,7 +8,7 @@ use Rattle.std.proofs.lemmas.Option.{same_Some, none-some}
 use Rattle.std.specs.Prelude.{slice_get, option_map, if◌then◌else◌, not}
 use Rattle.hub_model.specs.declared.outcomes.Outcome.{Outcome}
 use Rattle.hub_model.specs.Journal.{Edit, IsAcceptable, IsLegal, IsLegalAfter, is_head_known, is_acceptable}
-use Rattle.hub_model.specs.Outcome.{Stores, StoresAll, merges, merges_all}
+use Rattle.hub_model.specs.Outcome.{Stores, StoresAll, merge_result, merges_all}
 use Rattle.hub_model.specs.Revision.{Revision}
 use Rattle.hub_model.specs.Path.{is_history}
 use Rattle.hub_model.proofs.Tests.{not_true, is_acceptable_from}
@@ -48,7 +48,7 @@ head_is_new other_journal edit a =
 
 -- and is stored where there is room
 merged_next : (limit : ℕ) (other_journal : List Edit) (edit : Edit) → IsAcceptable other_journal edit
-    → length other_journal < limit → (merges limit other_journal edit).journal ≡ other_journal ++ edit ∷ []
+    → length other_journal < limit → (merge_result limit other_journal edit).journal ≡ other_journal ++ edit ∷ []
 merged_next limit other_journal edit a room =
     ap (λ (stores : Stores). stores.journal)
     (chosen_no (is_head_known other_journal edit.id edit.path) _ _ (head_is_new other_journal edit a)

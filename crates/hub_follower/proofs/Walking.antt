@@ -5,12 +5,12 @@ use Rattle.std.proofs.Common.{true, false, Option, Some, None, Result, Ok, Err}
 use Rattle.std.specs.Prelude.{OnErr, IfErr}
 use Rattle.std.specs.Result.{IsErrAnd}
 use Rattle.hub_model.specs.Journal.{Edit}
-use Rattle.hub_model.specs.Missing.{Asked}
+use Rattle.hub_model.specs.Missing.{RevisionsOfDoc}
 use Rattle.hub_follow_model.specs.Follower as follow
 use Rattle.hub_follow_model.specs.Sequence.{seq_of}
 use Rattle.hub_follow_model.specs.World as world
 use Rattle.hub_follow_model.specs.declared.seq.Seq.{Seq}
-use Rattle.hub_follower.specs.Peers.{Gives, Fails, Standing, Steps, FailsSo, Breaks, Walks}
+use Rattle.hub_follower.specs.Peers.{Gives, Fails, FollowState, Steps, FailsSo, Breaks, Walks}
 use Rattle.hub_follower.specs.Peers.{Reaches, HasCountedCalls, IsPastAsking, calls_left, Idles}
 use Rattle.hub_follower.specs.declared.fault.FollowFault.{FollowFault}
 
@@ -44,7 +44,7 @@ rests : (core core' : follow.Follower) (session : follow.Session) → core' ≡ 
 rests core core' session e n =
     subst (λ z. Leads core z) (sym e) (inl refl, tt, (λ p. tt), (λ p. let m = n p in omega (arith, m)))
 
-to_compare_leads : (session : follow.Session) (asked : List Asked) (last : Seq) (core' : follow.Follower)
+to_compare_leads : (session : follow.Session) (asked : List RevisionsOfDoc) (last : Seq) (core' : follow.Follower)
     → follow.comparison_or_ready session asked last ≡ core' → Leads (follow.Busy session follow.Listing) core'
 to_compare_leads session [] last core' e =
     rests (follow.Busy session follow.Listing) core' (record session { place = last }) (sym e) (λ p. absurd p)
@@ -64,7 +64,7 @@ to_store_leads session work (edit ∷ got) last core' e n =
     subst (λ z. Leads (follow.Busy session work) z) e
     (inr refl, tt, (λ p. tt), (λ p. let m = n p in omega (arith, m)))
 
-to_fetch_leads : (session : follow.Session) (work : follow.Phase) (later : List Asked) (got : List Edit)
+to_fetch_leads : (session : follow.Session) (work : follow.Phase) (later : List RevisionsOfDoc) (got : List Edit)
     (last : Seq) (core' : follow.Follower)
     → follow.retrieval_or_storage session later got last ≡ core'
     → (HasCountedCalls (follow.Busy session work) → length later + 2 ≤ calls_left (follow.Busy session work))
@@ -74,7 +74,7 @@ to_fetch_leads session work (asked ∷ later) got last core' e n =
     subst (λ z. Leads (follow.Busy session work) z) e
     (inr refl, tt, (λ p. tt), (λ p. let m = n p in omega (arith, m)))
 
-fetched_leads : (session : follow.Session) (next : Asked) (later : List Asked) (got : List Edit) (last : Seq)
+fetched_leads : (session : follow.Session) (next : RevisionsOfDoc) (later : List RevisionsOfDoc) (got : List Edit) (last : Seq)
     (o : Result (List Edit) follow.Fault) (core' : follow.Follower)
     → follow.after_retrieval session later got last o ≡ Ok core'
     → Leads (follow.Busy session (follow.Retrieval next later got last)) core'
@@ -151,40 +151,40 @@ past_none (follow.Ready s) e = (tt, tt)
 past_none (follow.Busy s work) e = absurd (cc)
 
 module _ {S T : Type 0} (gives_s : Gives S) (gives_t : Gives T) where
-  pub walk_more : (between : List (Standing S T)) (old mid new : Standing S T)
+  pub walk_more : (between : List (FollowState S T)) (old mid new : FollowState S T)
       → Walks gives_s gives_t between old mid → Steps gives_s gives_t mid new
       → Walks gives_s gives_t (between ++ new ∷ []) old new
-  walk_more [] old mid new e p = (subst (λ (z : Standing S T). Steps gives_s gives_t z new) e p, refl)
+  walk_more [] old mid new e p = (subst (λ (z : FollowState S T). Steps gives_s gives_t z new) e p, refl)
   walk_more (q ∷ between) old mid new (x, w) p = (x, walk_more between q mid new w p)
 
-  pub reach_none : (old : Standing S T) → Reaches gives_s gives_t old old
+  pub reach_none : (old : FollowState S T) → Reaches gives_s gives_t old old
   reach_none old = record { walk = ([], refl); left = inr refl }
 
   -- a call was made, or none was owed
-  pub past_asking : (made : Bool) (old new : Standing S T) → Idles made old new
+  pub past_asking : (made : Bool) (old new : FollowState S T) → Idles made old new
       → (made ≡ true → Steps gives_s gives_t old new) → IsPastAsking new.follower
   past_asking false old new idle ok =
       let (n, e) = idle refl in
-      subst (λ (z : Standing S T). IsPastAsking z.follower) (sym e) (past_none old.follower n).0
+      subst (λ (z : FollowState S T). IsPastAsking z.follower) (sym e) (past_none old.follower n).0
   past_asking true old new idle ok = let p = ok refl in (leads old.follower p.1 new.follower p.4).1
 
-  pub counted : (made : Bool) (old new : Standing S T)
+  pub counted : (made : Bool) (old new : FollowState S T)
       → Idles made old new → (made ≡ true → Steps gives_s gives_t old new) → IsPastAsking old.follower
       → HasCountedCalls new.follower
   counted false old new idle ok past =
       let (n, e) = idle refl in
-      subst (λ (z : Standing S T). HasCountedCalls z.follower) (sym e) (past_none old.follower n).1
+      subst (λ (z : FollowState S T). HasCountedCalls z.follower) (sym e) (past_none old.follower n).1
   counted true old new idle ok past = let p = ok refl in (leads old.follower p.1 new.follower p.4).2 past
 
-  pub counted_more : (old new : Standing S T) → Steps gives_s gives_t old new → HasCountedCalls old.follower
+  pub counted_more : (old new : FollowState S T) → Steps gives_s gives_t old new → HasCountedCalls old.follower
       → HasCountedCalls new.follower
   counted_more old new p c = (leads old.follower p.1 new.follower p.4).2 (counted_past old.follower c)
 
-  pub fewer_left : (old new : Standing S T) → Steps gives_s gives_t old new → HasCountedCalls old.follower
+  pub fewer_left : (old new : FollowState S T) → Steps gives_s gives_t old new → HasCountedCalls old.follower
       → calls_left new.follower + 1 ≤ calls_left old.follower
   fewer_left old new p c = (leads old.follower p.1 new.follower p.4).3 c
 
-  module _ (old mid : Standing S T) (r : Reaches gives_s gives_t old mid) where
+  module _ (old mid : FollowState S T) (r : Reaches gives_s gives_t old mid) where
     -- while a call is owed, a failure leaves what it leaves of the first follower
     owing_left : (call : follow.Call) → follow.next_call mid.follower ≡ Some call
         → follow.after_failure mid.follower ≡ follow.after_failure old.follower
@@ -192,20 +192,20 @@ module _ {S T : Type 0} (gives_s : Gives S) (gives_t : Gives T) where
         ⊎_elim (λ (n : follow.next_call mid.follower ≡ None).
         absurd (let u : Some call ≡ None = sym o ∙ n in cc)) (λ p. p) r.left
 
-    pub reach_more : (new : Standing S T) → Steps gives_s gives_t mid new → Reaches gives_s gives_t old new
+    pub reach_more : (new : FollowState S T) → Steps gives_s gives_t mid new → Reaches gives_s gives_t old new
     reach_more new p = record {
       walk = (r.walk.0 ++ new ∷ [], walk_more r.walk.0 old mid new r.walk.1 p);
       left =
           ⊎_elim (λ n. inl n) (λ q. inr (q ∙ owing_left p.0 p.2)) (leads mid.follower p.1 new.follower p.4).0;
     }
 
-    pub reach_on : (made : Bool) (new : Standing S T) → Idles made mid new
+    pub reach_on : (made : Bool) (new : FollowState S T) → Idles made mid new
         → (made ≡ true → Steps gives_s gives_t mid new) → Reaches gives_s gives_t old new
     reach_on true new idle ok = reach_more new (ok refl)
     reach_on false new idle ok =
-        let (n, e) = idle refl in subst (λ (z : Standing S T). Reaches gives_s gives_t old z) (sym e) r
+        let (n, e) = idle refl in subst (λ (z : FollowState S T). Reaches gives_s gives_t old z) (sym e) r
 
-    module _ (loses_s : Fails S) (loses_t : Fails T) (fault : FollowFault) (new : Standing S T)
+    module _ (loses_s : Fails S) (loses_t : Fails T) (fault : FollowFault) (new : FollowState S T)
         (p : FailsSo gives_s gives_t loses_s loses_t fault mid new) where
       pub reach_breaks : Breaks gives_s gives_t loses_s loses_t fault old new
       reach_breaks = (r.walk.0, mid, r.walk.1, p)

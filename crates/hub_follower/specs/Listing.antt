@@ -3,7 +3,7 @@ use Rattle.std.specs.Prelude.{◌≡◌, ◌≤◌, ◌<◌, ℕ, List, length, 
 use Rattle.std.specs.Prelude.{filter, get_or, nat_lt, ◌&&◌, false, None}
 use Rattle.hub_model.specs.Current.{Current, current}
 use Rattle.hub_model.specs.Feed.{Params}
-use Rattle.hub_model.specs.Filter.{passes, Everything}
+use Rattle.hub_model.specs.Filter.{is_passing, Everything}
 use Rattle.hub_model.specs.Journal.{Edit}
 use Rattle.hub_model.specs.Row.{ChangeRow, row_of}
 use Rattle.hub_database.specs.Database.{Database}
@@ -13,7 +13,7 @@ use Rattle.hub_model.specs.declared.feeds.Style.TheVariants.{AllDocs}
 
 -- the current rows above a sequence
 abbrev pub rows_above : List Edit → ℕ → List Current
-rows_above journal since = filter (λ c. nat_lt since c.seq && passes Everything c.id) (current journal)
+rows_above journal since = filter (λ c. nat_lt since c.seq && is_passing Everything c.id) (current journal)
 
 -- as they are shown with every leaf
 abbrev pub all_above : List Edit → ℕ → List ChangeRow

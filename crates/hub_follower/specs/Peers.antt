@@ -11,12 +11,12 @@ use Rattle.hub_follower.specs.declared.peer.CallFault.TheVariants as call_fault
 use Rattle.hub_follower.specs.Views.{IsFaultOf}
 
 -- a count rose, or stands at its last value
-abbrev pub Rose : ℕ → ℕ → Type 0
-Rose old new = (old < new) ⊎ (new ≡ 2 ^ 64 - 1)
+abbrev pub HasGrown : ℕ → ℕ → Type 0
+HasGrown old new = (old < new) ⊎ (new ≡ 2 ^ 64 - 1)
 
 -- a call tells a fault of the peer only where its count of faults rose so
 abbrev pub IsCountedFault : CallFault → ℕ → ℕ → Type 0
-IsCountedFault call_fault.Peer old new = Rose old new
+IsCountedFault call_fault.Peer old new = HasGrown old new
 IsCountedFault call_fault.NoMemory old new = Unit {0}
 
 -- What the outcome of a call tells of its peer's count of faults: the count does not fall, and the outcome
@@ -44,7 +44,7 @@ IsOwnFault fault = Unit {0}
 
 -- a follower with a good id tells a fault of a peer only where the count of one of its two peers rose so
 abbrev pub IsCountedOfBoth : FollowFault → (s s' t t' : ℕ) → Type 0
-IsCountedOfBoth told.Peer s s' t t' = Rose s s' ⊎ Rose t t'
+IsCountedOfBoth told.Peer s s' t t' = HasGrown s s' ⊎ HasGrown t t'
 IsCountedOfBoth told.BadLogId s s' t t' = ⊥
 IsCountedOfBoth fault s s' t t' = Unit {0}
 
@@ -90,13 +90,13 @@ pub record IsLogCalled {S A : Type 0} (gives : Gives S) (loses : Fails S) (count
   pub counts : CallCounts result (count old) (count new)
 
 -- a follower and its two peers, as they stand between two calls
-pub record Standing (S T : Type 0) : Type 0 where
+pub record FollowState (S T : Type 0) : Type 0 where
   pub follower : follow.Follower
   pub source : S
   pub target : T
 
 -- this follower, over these peers
-abbrev pub standing_of : {S T : Type 0} → follow.Follower → S → T → Standing S T
+abbrev pub standing_of : {S T : Type 0} → follow.Follower → S → T → FollowState S T
 standing_of follower source target =
     record { follower = follower; source = source; target = target }
 
@@ -122,7 +122,7 @@ abbrev pub Loses : {S T : Type 0} → Fails S → Fails T → follow.Call → S 
 Loses loses_s loses_t call s t s' t' = LosesAt loses_s loses_t (side_of call) call s t s' t'
 
 -- the owed call is answered, and its answer taken
-abbrev pub Steps : {S T : Type 0} → Gives S → Gives T → Standing S T → Standing S T → Type 0
+abbrev pub Steps : {S T : Type 0} → Gives S → Gives T → FollowState S T → FollowState S T → Type 0
 Steps gives_s gives_t old new =
     (call : follow.Call) × (answer : follow.Answer) × (follow.next_call old.follower ≡ Some call)
     × Serves gives_s gives_t call answer old.source old.target new.source new.target
@@ -147,7 +147,7 @@ pub record IsMade {S T A : Type 0} (gives_s : Gives S) (gives_t : Gives T) (lose
 
 -- the call is answered, and its answer dropped for this fault: the one that it tells, or that memory ran out
 abbrev pub Drops : {S T : Type 0} → Gives S → Gives T → follow.Call → FollowFault
-    → Standing S T → Standing S T → Type 0
+    → FollowState S T → FollowState S T → Type 0
 Drops gives_s gives_t call fault old new =
     (answer : follow.Answer)
     × Serves gives_s gives_t call answer old.source old.target new.source new.target
@@ -157,7 +157,7 @@ Drops gives_s gives_t call fault old new =
 -- failure, and the peer that is not called stays. Where the call is to store a and b, the target may have
 -- neither of them, both, or the part that its own way to fail leaves.
 abbrev pub FailsSo : {S T : Type 0} → Gives S → Gives T → Fails S → Fails T → FollowFault
-    → Standing S T → Standing S T → Type 0
+    → FollowState S T → FollowState S T → Type 0
 FailsSo gives_s gives_t loses_s loses_t fault old new =
     (call : follow.Call) × (follow.next_call old.follower ≡ Some call)
     × (new.follower ≡ follow.after_failure old.follower)
@@ -165,17 +165,17 @@ FailsSo gives_s gives_t loses_s loses_t fault old new =
     ⊎ (IsFaultOfCall fault × Loses loses_s loses_t call old.source old.target new.source new.target))
 
 -- one step after another, through these standings; the last of them is the new one
-abbrev pub Walks : {S T : Type 0} → Gives S → Gives T → List (Standing S T)
-    → Standing S T → Standing S T → Type 0
+abbrev pub Walks : {S T : Type 0} → Gives S → Gives T → List (FollowState S T)
+    → FollowState S T → FollowState S T → Type 0
 Walks gives_s gives_t [] old new = new ≡ old
 Walks gives_s gives_t (mid ∷ between) old new =
     Steps gives_s gives_t old mid × Walks gives_s gives_t between mid new
 
 -- Calls are made and their answers taken, until none is owed. A round that finds no changes is a walk of one
 -- step.
-abbrev pub IsWalk : {S T : Type 0} → Gives S → Gives T → Standing S T → Standing S T → Type 0
+abbrev pub IsWalk : {S T : Type 0} → Gives S → Gives T → FollowState S T → FollowState S T → Type 0
 IsWalk {S} {T} gives_s gives_t old new =
-    (between : List (Standing S T)) × Walks gives_s gives_t between old new
+    (between : List (FollowState S T)) × Walks gives_s gives_t between old new
     × (follow.next_call new.follower ≡ None)
 
 -- Calls are made and their answers taken up to a middle, and the call that is owed there fails for this
@@ -183,16 +183,16 @@ IsWalk {S} {T} gives_s gives_t old new =
 -- Where the target fails to store a, the middle owes the merge. Behind the failure the follower has its
 -- session, in no phase, at the place where the round began.
 abbrev pub Breaks : {S T : Type 0} → Gives S → Gives T → Fails S → Fails T → FollowFault
-    → Standing S T → Standing S T → Type 0
+    → FollowState S T → FollowState S T → Type 0
 Breaks {S} {T} gives_s gives_t loses_s loses_t fault old new =
-    (between : List (Standing S T)) × (mid : Standing S T) × Walks gives_s gives_t between old mid
+    (between : List (FollowState S T)) × (mid : FollowState S T) × Walks gives_s gives_t between old mid
     × FailsSo gives_s gives_t loses_s loses_t fault mid new
 
 -- A round or a checkpoint that begins with this follower makes its calls until none is owed, or up to one
 -- that fails. Behind a failure the follower is as it was.
 pub record IsCarriedOut {S T A : Type 0} (gives_s : Gives S) (gives_t : Gives T) (loses_s : Fails S)
     (loses_t : Fails T) (count_s : S → ℕ) (count_t : T → ℕ) (begun : follow.Follower)
-    (result : Result A FollowFault) (old new : Standing S T) : Type 0 where
+    (result : Result A FollowFault) (old new : FollowState S T) : Type 0 where
   pub walk : OnOk result (IsWalk gives_s gives_t (standing_of begun old.source old.target) new)
   pub err :
       IfErr result (λ e. Breaks gives_s gives_t loses_s loses_t e
@@ -201,13 +201,13 @@ pub record IsCarriedOut {S T A : Type 0} (gives_s : Gives S) (gives_t : Gives T)
   pub counts : BothCount count_s count_t result old.source old.target new.source new.target
 
 -- both peers stayed
-abbrev pub HasSamePeers : {S T : Type 0} → Standing S T → Standing S T → Type 0
+abbrev pub HasSamePeers : {S T : Type 0} → FollowState S T → FollowState S T → Type 0
 HasSamePeers old new = (new.source ≡ old.source) × (new.target ≡ old.target)
 
 -- A session does not begin for this fault. No call was made where the id of the logs is refused; where memory
 -- ran out, none was made or one broke; for any other fault one broke.
 abbrev pub BeginsNot : {S T : Type 0} → Gives S → Gives T → Fails S → Fails T → FollowFault
-    → Standing S T → Standing S T → Type 0
+    → FollowState S T → FollowState S T → Type 0
 BeginsNot gives_s gives_t loses_s loses_t told.BadLogId old new = HasSamePeers old new
 BeginsNot gives_s gives_t loses_s loses_t told.NoMemory old new =
     HasSamePeers old new ⊎ Breaks gives_s gives_t loses_s loses_t told.NoMemory old new
@@ -216,9 +216,9 @@ BeginsNot gives_s gives_t loses_s loses_t fault old new =
 
 -- From one standing calls were made and answers taken up to another. While it owes a call, a failure leaves
 -- the follower that it would have left of the first one.
-pub record Reaches {S T : Type 0} (gives_s : Gives S) (gives_t : Gives T) (old new : Standing S T)
+pub record Reaches {S T : Type 0} (gives_s : Gives S) (gives_t : Gives T) (old new : FollowState S T)
     : Type 0 where
-  pub walk : (between : List (Standing S T)) × Walks gives_s gives_t between old new
+  pub walk : (between : List (FollowState S T)) × Walks gives_s gives_t between old new
   pub left :
       (follow.next_call new.follower ≡ None)
       ⊎ (follow.after_failure new.follower ≡ follow.after_failure old.follower)
@@ -248,14 +248,14 @@ calls_left (follow.Busy s follow.SourceCheckpoint) = 2
 calls_left (follow.Busy s follow.TargetCheckpoint) = 1
 
 -- no call was made only where none was owed, and all stayed
-abbrev pub Idles : {S T : Type 0} → Bool → Standing S T → Standing S T → Type 0
+abbrev pub Idles : {S T : Type 0} → Bool → FollowState S T → FollowState S T → Type 0
 Idles made old new = made ≡ false → (follow.next_call old.follower ≡ None) × (new ≡ old)
 
 -- What comes of the owed call: whether one was made and its answer taken, or why it failed. The counts of
 -- faults tell it. A follower that owes nothing makes none, and all stays.
 pub record IsStep {S T : Type 0} (gives_s : Gives S) (gives_t : Gives T) (loses_s : Fails S)
     (loses_t : Fails T) (count_s : S → ℕ) (count_t : T → ℕ) (result : Result Bool FollowFault)
-    (old new : Standing S T) : Type 0 where
+    (old new : FollowState S T) : Type 0 where
   pub idle : IfOk result (λ made. Idles made old new)
   pub ok : IfOk result (λ made. made ≡ true → Steps gives_s gives_t old new)
   pub err : IfErr result (λ fault. FailsSo gives_s gives_t loses_s loses_t fault old new)

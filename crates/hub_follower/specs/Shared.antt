@@ -4,7 +4,7 @@ use Rattle.hub_model.specs.Journal.{Edit, IsLegal}
 use Rattle.hub_model.specs.Missing.{diffs}
 use Rattle.hub_model.specs.Outcome.{merges_all}
 use Rattle.hub_model.specs.Revision.{Revision}
-use Rattle.hub_model.specs.Walk.{shown}
+use Rattle.hub_model.specs.Walk.{shown_edit}
 use Rattle.hub_model.specs.declared.outcomes.Fault.TheVariants.{Deleted}
 use Rattle.hub_model.specs.declared.outcomes.Outcome.{Outcome}
 use Rattle.hub_model.specs.declared.outcomes.Outcome.TheVariants.{Refused}
@@ -20,7 +20,7 @@ abbrev pub IsShared : follow.Call → follow.Answer → Type 0
 IsShared (follow.RevsDiff asked) (follow.RevsDiffAnswer answered) =
     (journal : List Edit) × IsLegal journal × (answered ≡ diffs journal asked)
 IsShared (follow.OpenRevs id revs) (follow.OpenRevsAnswer docs) =
-    (journal : List Edit) × IsLegal journal × (docs ≡ map (shown journal id) revs)
+    (journal : List Edit) × IsLegal journal × (docs ≡ map (shown_edit journal id) revs)
 IsShared (follow.Merge docs) (follow.MergeAnswer outcomes) =
     (journal : List Edit) × (limit : ℕ) × IsLegal journal
     × ((outcomes ≡ (merges_all limit journal docs).outcomes) ⊎ (outcomes ≡ all_deleted docs))

@@ -1,14 +1,14 @@
 -- What counts that never fall keep.
 use Rattle.std.proofs.Common.{ℕ, ◌≤◌, inl, inr, arith}
 use Rattle.std.proofs.lemmas.Grind.{common_steps}
-use Rattle.hub_http.specs.Counts.{CallCounts, GaveUp, Rose}
+use Rattle.hub_http.specs.Counts.{CallCounts, HasGivenUp, HasGrown}
 
 -- calls that gave up behind others gave up
-pub gave_up_since : (a b c x y z : ℕ) → a ≤ b → x ≤ y → GaveUp b c y z → GaveUp a c x z
+pub gave_up_since : (a b c x y z : ℕ) → a ≤ b → x ≤ y → HasGivenUp b c y z → HasGivenUp a c x z
 gave_up_since a b c x y z p q (inl r) = inl (grind (arith, common_steps))
 gave_up_since a b c x y z p q (inr r) = inr (grind (arith, common_steps))
 
-rose_since : (a b c : ℕ) → a ≤ b → Rose b c → Rose a c
+rose_since : (a b c : ℕ) → a ≤ b → HasGrown b c → HasGrown a c
 rose_since a b c p r = grind (arith, common_steps)
 
 -- what a call counts, and calls before it, at which no count fell

@@ -15,7 +15,7 @@ use Rattle.hub_http.specs.declared.fault.HttpFault.{HttpFault}
 use Rattle.hub_http.specs.declared.fault.HttpFault.TheVariants.{NoMemory, BadHead, HeadTooLong, BodyTooLong}
 use Rattle.hub_http.specs.declared.fault.HttpFault.TheVariants.{Version, Coding, Ended, IoFault}
 use Rattle.hub_http.specs.Heads.{Begins, BeginsFaulty, length_by, pairs_of}
-use Rattle.hub_http.specs.Stream.{Asked, Spells, IsCut, Faults}
+use Rattle.hub_http.specs.Stream.{PlainRequest, Spells, IsCut, Faults}
 use Rattle.hub_http.specs.Exclusions.{IsOutside, IsHeadFault, IsOpenFault}
 use Rattle.hub_http.proofs.HeadLemmas.{asked_faults, head_has_bytes}
 
@@ -138,7 +138,7 @@ spelled_says head body rest l fault w k b (inr (inr (v, inl x))) =
     absurd (no_error (length_by head) l fault k x)
 spelled_says head body rest l fault w k b (inr (inr (v, inr x))) = absurd (full head body rest l k b x.1)
 
-pub spelled_no_fault : (bytes : List ℕ) (asked : Asked) (rest : List ℕ) (fault : HttpFault)
+pub spelled_no_fault : (bytes : List ℕ) (asked : PlainRequest) (rest : List ℕ) (fault : HttpFault)
     → Spells bytes asked rest → Faults bytes fault → IsOutside fault
 spelled_no_fault bytes asked rest fault x f =
     let b = x.1.begins in
@@ -184,7 +184,7 @@ short_head_begins = record {
 no_head : (head : RequestHead) (rest : List ℕ) → ReadsRequest [] head rest → ⊥
 no_head head rest r = let n = head_has_bytes [] head rest r in omega (arith, n)
 
-pub nothing_spells : (asked : Asked) (rest : List ℕ) → Spells [] asked rest → ⊥
+pub nothing_spells : (asked : PlainRequest) (rest : List ℕ) → Spells [] asked rest → ⊥
 nothing_spells asked rest x = no_head x.0 (asked.body ++ rest) x.1.begins.reads
 
 no_faulty : (fault : HttpFault) → BeginsFaulty [] fault → ⊥

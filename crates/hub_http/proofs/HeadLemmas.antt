@@ -13,7 +13,7 @@ use Rattle.httparse.proofs.GrammarLemmas.{request_prefix_free}
 use Rattle.hub_http.specs.declared.fault.HttpFault.{HttpFault}
 use Rattle.hub_http.specs.declared.fault.HttpFault.TheVariants.{NoMemory, BadHead, HeadTooLong, BodyTooLong}
 use Rattle.hub_http.specs.declared.fault.HttpFault.TheVariants.{Version, Coding, Ended, IoFault}
-use Rattle.hub_http.specs.Heads.{Pair, is_digits, body_limit, length_of, asked, is_target, values_named}
+use Rattle.hub_http.specs.Heads.{Pair, is_digits, body_limit, length_of, length_or_fault, is_target, values_named}
 use Rattle.hub_http.specs.Heads.{Begins, BeginsFaulty, BeginsTooLong, NeverHasHead, length_by}
 use Rattle.hub_http.specs.Exclusions.{IsHeadFault}
 use Rattle.hub_http.specs.Looking.{LookFaults, LooksWithin}
@@ -58,16 +58,16 @@ begins buf headers spans x room short = record {
 
 pub asked_is : (buf : List ℕ) (headers : List HeaderSpan) (spans : RequestSpans)
     (x : IsRequestOf buf headers spans)
-    → asked spans.version (span_bytes buf spans.path) (map (header_bytes buf) (take spans.headers headers))
+    → length_or_fault spans.version (span_bytes buf spans.path) (map (header_bytes buf) (take spans.headers headers))
     ≡ length_by x.0
 asked_is buf headers spans x =
-    ap (λ v. asked v (span_bytes buf spans.path) (map (header_bytes buf) (take spans.headers headers)))
-    x.1.version ∙ ap (λ t. asked x.0.minor t (map (header_bytes buf) (take spans.headers headers))) x.1.path
-    ∙ ap (λ ps. asked x.0.minor x.0.target ps) x.1.fields
+    ap (λ v. length_or_fault v (span_bytes buf spans.path) (map (header_bytes buf) (take spans.headers headers)))
+    x.1.version ∙ ap (λ t. length_or_fault x.0.minor t (map (header_bytes buf) (take spans.headers headers))) x.1.path
+    ∙ ap (λ ps. length_or_fault x.0.minor x.0.target ps) x.1.fields
 
 pub begins_faulty : (buf : List ℕ) (headers : List HeaderSpan) (spans : RequestSpans) (fault : HttpFault)
     → IsRequestOf buf headers spans → length headers ≤ 64 → spans.len ≤ 16384
-    → asked spans.version (span_bytes buf spans.path)
+    → length_or_fault spans.version (span_bytes buf spans.path)
     (map (header_bytes buf) (take spans.headers headers)) ≡ Err fault → BeginsFaulty buf fault
 begins_faulty buf headers spans fault x room short h =
     (x.0, drop spans.len buf, begins buf headers spans x room short, sym (asked_is buf headers spans x) ∙ h)
@@ -96,8 +96,8 @@ asked_choice true false false r fault f h = inl (inl (cc))
 asked_choice false b c r fault f h = inr (inl (cc))
 
 pub asked_faults : (minor : ℕ) (target : List ℕ) (pairs : List Pair) (fault : HttpFault)
-    → asked minor target pairs ≡ Err fault → IsHeadFault fault
-unfolding asked
+    → length_or_fault minor target pairs ≡ Err fault → IsHeadFault fault
+unfolding length_or_fault
 asked_faults minor target pairs e h =
     asked_choice _ _ (is_target target) (length_of (values_named (codes "content-length") pairs)) e
     (length_of_faults _ e) h

@@ -10,11 +10,11 @@ use Rattle.hub_http.specs.declared.request.Request.{Request}
 use Rattle.hub_http.specs.Heads.{length_by}
 use Rattle.hub_http.specs.Looking.{IsHeadAt}
 use Rattle.hub_http.specs.Offers.{SpellsAll}
-use Rattle.hub_http.specs.Stream.{Asked, asked_by, Spells, IsCut}
+use Rattle.hub_http.specs.Stream.{PlainRequest, asked_by, Spells, IsCut}
 use Rattle.hub_http.proofs.RequestLemmas.{spelled}
 
 -- a request, with more bytes behind it
-pub spells_more : (bytes : List ℕ) (asked : Asked) (rest more : List ℕ) → Spells bytes asked rest
+pub spells_more : (bytes : List ℕ) (asked : PlainRequest) (rest more : List ℕ) → Spells bytes asked rest
     → Spells (bytes ++ more) asked (rest ++ more)
 spells_more bytes asked rest more s =
     let h = s.0 in
@@ -38,7 +38,7 @@ spells_more bytes asked rest more s =
     )
 
 -- several requests, with more bytes behind them
-pub all_more : (all : List Asked) (bytes rest more : List ℕ) → SpellsAll bytes all rest
+pub all_more : (all : List PlainRequest) (bytes rest more : List ℕ) → SpellsAll bytes all rest
     → SpellsAll (bytes ++ more) all (rest ++ more)
 all_more [] bytes rest more s = ap (λ l. l ++ more) s
 all_more (asked ∷ all) bytes rest more s =

@@ -17,7 +17,7 @@ use Rattle.hub_http.specs.declared.fault.HttpFault.TheVariants.{Version, Coding,
 use Rattle.hub_http.specs.declared.head.Head.{Head}
 use Rattle.hub_http.specs.declared.request.Request.{Request}
 use Rattle.hub_http.specs.Heads.{Pair, Begins, BeginsFaulty, BeginsTooLong, GoesOn}
-use Rattle.hub_http.specs.Heads.{NeverHasHead, HasHeadFault, IsPartOfHead, length_of, asked}
+use Rattle.hub_http.specs.Heads.{NeverHasHead, HasHeadFault, IsPartOfHead, length_of, length_or_fault}
 use Rattle.hub_http.specs.Heads.{is_digits, is_target, values_named, pairs_of, body_limit}
 use Rattle.hub_http.proofs.HeadLemmas.{head_has_bytes}
 use Rattle.hub_http.specs.Stream.{Spells, asked_by, Leaves}
@@ -224,8 +224,8 @@ asked_bound_choice true false false r l f h = absurd (cc)
 asked_bound_choice false b c r l f h = absurd (cc)
 
 asked_bound : (minor : ℕ) (target : List ℕ) (pairs : List Pair) (l : Option ℕ)
-    → asked minor target pairs ≡ Ok l → unwrap_or l 0 ≤ 8388608
-unfolding asked
+    → length_or_fault minor target pairs ≡ Ok l → unwrap_or l 0 ≤ 8388608
+unfolding length_or_fault
 asked_bound minor target pairs l h =
     asked_bound_choice _ _ (is_target target)
     (length_of (values_named (codes "content-length") pairs)) l (length_of_bound _ l) h

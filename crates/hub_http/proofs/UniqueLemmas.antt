@@ -6,7 +6,7 @@ use Rattle.std.proofs.lemmas.List.{drop_at}
 use Rattle.httparse.proofs.GrammarLemmas.{request_unique}
 use Rattle.hub_http.specs.declared.fault.HttpFault.{HttpFault}
 use Rattle.hub_http.specs.Heads.{length_by, close_by}
-use Rattle.hub_http.specs.Stream.{Asked, Spells}
+use Rattle.hub_http.specs.Stream.{PlainRequest, Spells}
 
 same_front : (a b r q : List ℕ) → a ++ r ≡ b ++ q → length a ≡ length b → (a ≡ b) × (r ≡ q)
 same_front a b r q e l = (
@@ -14,7 +14,7 @@ same_front a b r q e l = (
   sym (drop_at a r (length a) refl) ∙ ap (drop (length a)) e ∙ drop_at b q (length a) (sym l),
 )
 
-pub spells_unique : (bytes : List ℕ) (asked other : Asked) (r q : List ℕ) → Spells bytes asked r
+pub spells_unique : (bytes : List ℕ) (asked other : PlainRequest) (r q : List ℕ) → Spells bytes asked r
     → Spells bytes other q → (asked ≡ other) × (r ≡ q)
 spells_unique bytes asked other r q x y =
     let same = request_unique bytes x.0 y.0 _ _ x.1.begins.reads y.1.begins.reads in

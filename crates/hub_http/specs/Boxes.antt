@@ -7,8 +7,8 @@ use Rattle.hub_http.specs.declared.outbox.Handed.{Handed}
 use Rattle.hub_http.specs.declared.outbox.Handed.TheVariants.{Took, Again, Refused}
 
 -- the bytes that came and that no request took yet
-abbrev pub came_to : Inbox → List ℕ
-came_to inbox = inbox.pending
+abbrev pub arrived_bytes : Inbox → List ℕ
+arrived_bytes inbox = inbox.pending
 
 -- whether no more bytes come
 abbrev pub is_over : Inbox → Bool

@@ -5,7 +5,7 @@ use Rattle.hub_http.specs.declared.fault.HttpFault.{HttpFault}
 use Rattle.hub_http.specs.declared.fault.HttpFault.TheVariants.{NoMemory, BadHead, HeadTooLong, BodyTooLong}
 use Rattle.hub_http.specs.declared.fault.HttpFault.TheVariants.{Version, Coding, Ended, IoFault}
 use Rattle.hub_http.specs.Heads.{BeginsFaulty}
-use Rattle.hub_http.specs.Stream.{Asked, Spells, Faults}
+use Rattle.hub_http.specs.Stream.{PlainRequest, Spells, Faults}
 
 -- a fault that says nothing of the bytes: no memory was found, or the reader failed
 abbrev pub IsOutside : HttpFault → Type 0
@@ -23,12 +23,12 @@ IsOpenFault fault = (fault ≡ BadHead) ⊎ ((fault ≡ HeadTooLong) ⊎ (fault 
 -- empty line and then `junk` have none
 abbrev pub SpelledHasNoFault : Type 0
 SpelledHasNoFault =
-    (bytes : List ℕ) (asked : Asked) (rest : List ℕ) (fault : HttpFault)
+    (bytes : List ℕ) (asked : PlainRequest) (rest : List ℕ) (fault : HttpFault)
     → Spells bytes asked rest → Faults bytes fault → IsOutside fault
 
 -- no bytes spell no request
 abbrev pub NothingSpellsNothing : Type 0
-NothingSpellsNothing = (asked : Asked) (rest : List ℕ) → ¬ (Spells [] asked rest)
+NothingSpellsNothing = (asked : PlainRequest) (rest : List ℕ) → ¬ (Spells [] asked rest)
 
 -- and have no fault, nor are they answered as out of memory: an end of the input between requests is clean,
 -- unless the reader failed

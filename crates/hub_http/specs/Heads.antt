@@ -90,8 +90,8 @@ length_asked target pairs =
 
 -- the length that a head asks for, or the first of its faults: the version, a transfer coding, its target or
 -- length. So with a version of 1.0 and a transfer coding the fault is Version.
-unfoldable pub asked : ℕ → List ℕ → List Pair → Result (Option ℕ) HttpFault
-asked minor target pairs =
+unfoldable pub length_or_fault : ℕ → List ℕ → List Pair → Result (Option ℕ) HttpFault
+length_or_fault minor target pairs =
     if minor == 1
     then (if list_any (is_named (codes "transfer-encoding")) pairs
     then Err Coding
@@ -104,7 +104,7 @@ pairs_of head = map name_and_value head.fields
 
 -- the length that a head asks for, or its first fault
 abbrev pub length_by : RequestHead → Result (Option ℕ) HttpFault
-length_by head = asked head.minor head.target (pairs_of head)
+length_by head = length_or_fault head.minor head.target (pairs_of head)
 
 -- the connection closes after the answer
 abbrev pub close_by : RequestHead → Bool

@@ -6,7 +6,7 @@ use Rattle.hub_http.specs.declared.fault.HttpFault.TheVariants.{Ended, IoFault}
 use Rattle.hub_http.specs.declared.next.Next.{Next}
 use Rattle.hub_http.specs.declared.next.Next.TheVariants.{Whole, NotYet, End}
 use Rattle.hub_http.specs.Heads.{IsPartOfHead}
-use Rattle.hub_http.specs.Stream.{Asked, asked_by, Spells, IsCut, Faults}
+use Rattle.hub_http.specs.Stream.{PlainRequest, asked_by, Spells, IsCut, Faults}
 
 -- there are none, or they end in the middle of a head or of a body: so of the front of a request, up to any
 -- of its bytes but the last one. `GET / HT` is one, and so is a whole head that asks for 3 bytes, with ab
@@ -31,6 +31,6 @@ LeavesSoFar over bytes (Ok End) rest = (over ≡ true) × (bytes ≡ []) × (res
 LeavesSoFar over bytes (Err e) rest = (rest ≡ bytes) × FaultsSoFar over bytes e
 
 -- bytes are these requests, one after the other, and then rest
-abbrev pub SpellsAll : List ℕ → List Asked → List ℕ → Type 0
+abbrev pub SpellsAll : List ℕ → List PlainRequest → List ℕ → Type 0
 SpellsAll bytes [] rest = bytes ≡ rest
 SpellsAll bytes (asked ∷ more) rest = (mid : List ℕ) × Spells bytes asked mid × SpellsAll mid more rest

@@ -9,7 +9,7 @@ use Rattle.std.specs.Io.KnownBytes.{prepend_known}
 use Rattle.hub_http.specs.Heads.{length_by, close_by, Begins, HasHeadFault, IsPartOfHead}
 
 -- a request without where it lies in memory
-pub record Asked : Type 0 where
+pub record PlainRequest : Type 0 where
   pub method : List ℕ
   pub target : List ℕ
   pub has_length : Bool
@@ -17,7 +17,7 @@ pub record Asked : Type 0 where
   pub body : List ℕ
 
 -- what a request asks
-abbrev pub asked_by : Request → Asked
+abbrev pub asked_by : Request → PlainRequest
 asked_by request = record {
   method = request.method;
   target = request.target.items;
@@ -28,7 +28,7 @@ asked_by request = record {
 
 -- bytes are this head, the body that it asks for, and then rest; a says what was asked. The head of a
 -- POST with a Content-Length of 2, and then abc, are that request with the body ab, and then c.
-pub record SpelledBy (bytes : List ℕ) (asked : Asked) (rest : List ℕ) (head : RequestHead) : Type 0 where
+pub record SpelledBy (bytes : List ℕ) (asked : PlainRequest) (rest : List ℕ) (head : RequestHead) : Type 0 where
   pub begins : Begins bytes head (asked.body ++ rest)
   pub length : Option ℕ
   pub length_is : length_by head ≡ Ok length
@@ -39,7 +39,7 @@ pub record SpelledBy (bytes : List ℕ) (asked : Asked) (rest : List ℕ) (head 
   pub body : Rattle.std.specs.Prelude.length asked.body ≡ unwrap_or length 0
 
 -- bytes are that request and then rest
-abbrev pub Spells : List ℕ → Asked → List ℕ → Type 0
+abbrev pub Spells : List ℕ → PlainRequest → List ℕ → Type 0
 Spells bytes asked rest = (head : RequestHead) × SpelledBy bytes asked rest head
 
 -- the bytes end in the body that their head asks for. They are so where a head asks for 3 bytes, and ab

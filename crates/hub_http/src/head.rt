@@ -1,7 +1,7 @@
 //! Heads of requests.
 ghost use Rattle.std.specs.Prelude.{◌≡◌, ◌≤◌, length, codes, is_some};
 ghost use Rattle.std.specs.List.{list_any};
-ghost use Rattle.hub_http.specs.Heads.{same_word, is_named, asked, field_limit};
+ghost use Rattle.hub_http.specs.Heads.{same_word, is_named, length_or_fault, field_limit};
 ghost use Rattle.hub_http.specs.Looking.{Looks, LooksWithin};
 
 use crate::connection::has_close;
@@ -76,9 +76,9 @@ fn has_coding(fields: &Fields) -> bool
 }
 
 /// The length that a head asks for, or its first fault.
-#[tactic(auto, unfolding(crate::specs::Heads::asked))]
+#[tactic(auto, unfolding(crate::specs::Heads::length_or_fault))]
 fn asked(minor: u8, target: &[u8], fields: &Fields) -> Result<Option<u64>, HttpFault>
-    ensures { result ≡ asked minor target.now fields.now }
+    ensures { result ≡ length_or_fault minor target.now fields.now }
 {
     if minor != 1 {
         return Err(HttpFault::Version);

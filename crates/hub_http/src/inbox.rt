@@ -1,7 +1,7 @@
 //! Bytes that are offered as they come, and the requests that they spell.
 ghost use Rattle.std.specs.Prelude.{◌≡◌, ◌++◌, [], true, false, OnOk, OnErr};
 ghost use Rattle.httparse.specs.Grammar.{RequestHead};
-ghost use Rattle.hub_http.specs.Boxes.{came_to, is_over};
+ghost use Rattle.hub_http.specs.Boxes.{arrived_bytes, is_over};
 ghost use Rattle.hub_http.specs.Looking.{IsHeadAt};
 ghost use Rattle.hub_http.specs.Offers.{LeavesSoFar};
 
@@ -49,7 +49,7 @@ fn take_request(
 impl Inbox {
     /// Nothing came.
     pub fn new(alloc: Global) -> Inbox
-        ensures empty { came_to result ≡ [] }
+        ensures empty { arrived_bytes result ≡ [] }
         ensures open { is_over result ≡ false }
     {
         Inbox {
@@ -70,8 +70,8 @@ impl Inbox {
     /// be offered again.
     pub fn offer(&mut self, bytes: &[u8]) -> Result<(), AllocError>
         requires { is_over self.old ≡ false }
-        ensures ok { OnOk result (came_to self.new ≡ came_to self.old ++ bytes.now) }
-        ensures err { OnErr result (came_to self.new ≡ came_to self.old) }
+        ensures ok { OnOk result (arrived_bytes self.new ≡ arrived_bytes self.old ++ bytes.now) }
+        ensures err { OnErr result (arrived_bytes self.new ≡ arrived_bytes self.old) }
         ensures open { is_over self.new ≡ false }
     {
         self.pending.put(bytes)
@@ -80,7 +80,7 @@ impl Inbox {
     /// Says that no more bytes come.
     pub fn end(&mut self)
         ensures over { is_over self.new ≡ true }
-        ensures same { came_to self.new ≡ came_to self.old }
+        ensures same { arrived_bytes self.new ≡ arrived_bytes self.old }
     {
         self.is_over = true;
     }
@@ -93,7 +93,7 @@ impl Inbox {
     /// whatever `Content-Length` says: for 65,536 bytes at first, then for as many again as came, and
     /// never for more than the request has.
     pub fn next(&mut self) -> Result<Next, HttpFault>
-        ensures told { LeavesSoFar (is_over self.old) (came_to self.old) result (came_to self.new) }
+        ensures told { LeavesSoFar (is_over self.old) (arrived_bytes self.old) result (arrived_bytes self.new) }
         ensures over { is_over self.new ≡ is_over self.old }
     {
         if self.pending.is_empty() {

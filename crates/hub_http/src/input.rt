@@ -2,7 +2,7 @@
 ghost use Rattle.std.specs.Prelude.{◌≡◌, ℕ, List, Option, is_err};
 ghost use Rattle.std.specs.Io.{ReadsAtMost};
 ghost use Rattle.std.specs.Io.KnownBytes.{ReadConsumes};
-ghost use Rattle.hub_http.specs.Counts.{bumped, bumped_if, call_failed};
+ghost use Rattle.hub_http.specs.Counts.{one_more, one_more_if, call_failed};
 
 use std::io;
 
@@ -25,9 +25,9 @@ pub trait Input {
     fn read(&mut self, buf: &mut [u8]) -> io::Result<usize>
         ensures bound { ReadsAtMost result buf.new }
         ensures bytes { ReadConsumes (left self.old) (left self.new) result buf.new }
-        ensures faults { fault_count self.new ≡ bumped_if (is_err result) (fault_count self.old) }
-        ensures failures { failure_count self.new ≡ bumped_if (call_failed result) (failure_count self.old) }
-        ensures reads { read_count self.new ≡ bumped (read_count self.old) };
+        ensures faults { fault_count self.new ≡ one_more_if (is_err result) (fault_count self.old) }
+        ensures failures { failure_count self.new ≡ one_more_if (call_failed result) (failure_count self.old) }
+        ensures reads { read_count self.new ≡ one_more (read_count self.old) };
 
     /// How many reads answered an error. The count stays at 2^64 - 1.
     fn faults(&self) -> u64

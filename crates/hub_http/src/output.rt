@@ -4,7 +4,7 @@ ghost use Rattle.std.specs.Prelude.{IfNone, IfSome, OnOk, IsErr};
 ghost use Rattle.std.specs.Io.{WritesAtMost};
 ghost use Rattle.std.specs.IoError.{error_kind};
 ghost use Rattle.std.specs.Io.KnownBytes.{Keeps, Appends, WriteAppends};
-ghost use Rattle.hub_http.specs.Counts.{bumped_if, write_faulted, write_failed, call_failed};
+ghost use Rattle.hub_http.specs.Counts.{one_more_if, write_faulted, write_failed, call_failed};
 ghost use Rattle.hub_http.specs.Counts.{is_interruption, CallCounts, AppendsFront, SendsTo};
 
 use std::io;
@@ -27,9 +27,9 @@ pub trait Output {
         ensures bound { WritesAtMost result buf.now }
         ensures bytes { WriteAppends (written self.old) (written self.new) result buf.now }
         ensures faults { fault_count self.new
-            ≡ bumped_if (write_faulted result buf.now) (fault_count self.old) }
+            ≡ one_more_if (write_faulted result buf.now) (fault_count self.old) }
         ensures failures { failure_count self.new
-            ≡ bumped_if (write_failed result buf.now) (failure_count self.old) };
+            ≡ one_more_if (write_failed result buf.now) (failure_count self.old) };
 
     /// Takes all of the bytes as written and keeps their memory, or gives them back. A writer that has
     /// no use for it gives them back, as this body does.
@@ -46,8 +46,8 @@ pub trait Output {
     /// Hands on what was written and not handed on yet.
     fn flush(&mut self) -> io::Result<()>
         ensures bytes { Keeps (written self.old) (written self.new) }
-        ensures faults { fault_count self.new ≡ bumped_if (is_err result) (fault_count self.old) }
-        ensures failures { failure_count self.new ≡ bumped_if (call_failed result) (failure_count self.old) };
+        ensures faults { fault_count self.new ≡ one_more_if (is_err result) (fault_count self.old) }
+        ensures failures { failure_count self.new ≡ one_more_if (call_failed result) (failure_count self.old) };
 
     /// How many calls faulted. The count stays at 2^64 - 1.
     fn faults(&self) -> u64

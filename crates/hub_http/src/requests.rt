@@ -3,7 +3,7 @@ ghost use Rattle.std.specs.Prelude.{◌≡◌, ◌<◌, ◌≤◌, ◌⊎◌, �
 ghost use Rattle.std.specs.Prelude.{Err, IfOk, IfErr, IfSome, OnOk, IsErrOf, IsTrue, IsFalse};
 ghost use Rattle.std.specs.Io.KnownBytes.{Keeps, IsAtEnd};
 ghost use Rattle.hub_http.specs.Counts.{CallCounts};
-ghost use Rattle.hub_http.specs.Stream.{Asked, Leaves, Spells, to_read};
+ghost use Rattle.hub_http.specs.Stream.{PlainRequest, Leaves, Spells, to_read};
 ghost use Rattle.hub_http.specs.Exclusions.{SpelledHasNoFault, NothingSpellsNothing};
 ghost use Rattle.hub_http.specs.Exclusions.{NothingHasNoFault, HeadHasOneFault, HeadFaultIsNamed};
 ghost use Rattle.hub_http.specs.Exclusions.{WholeHeadHasOneFault, OtherFaultsAreOpen};
@@ -182,7 +182,7 @@ impl<R: Input> Requests<R> {
 
 /// Bytes spell at most one request at their front.
 pub fn one_reading()
-    ensures { (bytes : List ℕ) (a b : Asked) (r q : List ℕ) → Spells bytes a r → Spells bytes b q
+    ensures { (bytes : List ℕ) (a b : PlainRequest) (r q : List ℕ) → Spells bytes a r → Spells bytes b q
         → (a ≡ b) × (r ≡ q) }
 {}
 
@@ -202,9 +202,9 @@ pub fn one_verdict()
 /// More bytes behind those of a request change nothing of it: they come behind what is left. So it is of
 /// several requests, and of a fault that a head has.
 pub fn more_behind()
-    ensures spelled { (bytes : List ℕ) (a : Asked) (rest more : List ℕ)
+    ensures spelled { (bytes : List ℕ) (a : PlainRequest) (rest more : List ℕ)
         → Spells bytes a rest → Spells (bytes ++ more) a (rest ++ more) }
-    ensures all { (all : List Asked) (bytes rest more : List ℕ)
+    ensures all { (all : List PlainRequest) (bytes rest more : List ℕ)
         → SpellsAll bytes all rest → SpellsAll (bytes ++ more) all (rest ++ more) }
     ensures faulty { (bytes more : List ℕ) (e : HttpFault)
         → HasHeadFault bytes e → HasHeadFault (bytes ++ more) e }

@@ -1,6 +1,6 @@
 //! Any reader or writer of std, with its counts.
 ghost use Rattle.std.specs.Prelude.{◌≡◌};
-ghost use Rattle.hub_http.specs.Counts.{bumped};
+ghost use Rattle.hub_http.specs.Counts.{one_more};
 
 use crate::input::Input;
 use crate::output::{Output, is_interrupted};
@@ -44,7 +44,7 @@ impl<T> Tally<T> {
 
 /// One more, up to the last value.
 pub(crate) fn bump(count: u64) -> u64
-    ensures { result ≡ bumped count }
+    ensures { result ≡ one_more count }
 {
     count.saturating_add(1)
 }

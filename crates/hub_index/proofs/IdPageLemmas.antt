@@ -19,7 +19,7 @@ use Rattle.std.proofs.lemmas.List.Elements.{All-nil, All-cons, All-head, All-tai
 use Rattle.std.proofs.lemmas.List.Elements.{All-append, All-take, All-drop}
 use Rattle.std.proofs.lemmas.List.Elements.{Contains-get_or, Contains-append_left, Contains-append_right}
 use Rattle.std.proofs.lemmas.List.Elements.{All-weaker, filter-append}
-use Rattle.hub_index.specs.Order.{IsOrder, id_at, id_cmp, has_id, number_in, lies_below, with_number}
+use Rattle.hub_index.specs.Order.{IsOrder, id_at, id_cmp, has_id, number_in, is_below, with_number}
 use Rattle.hub_index.specs.Order.{begins_up_to, IsNumberPage}
 use Rattle.hub_index.proofs.OrderLemmas.{Rises, less_up_to, greater_less, pairs_right, pairs_across}
 use Rattle.hub_index.proofs.OrderLemmas.{order_left, order_right, find_before, filter_drops}
@@ -120,14 +120,14 @@ module _ {A : Type 0} (f : A → List ℕ) where
       -- the pages before one that begins with the id or below it lie below it
       pub below_page : (pages : List A) (k : ℕ) (x : A) → k < length pages → x ≡ get_or pages k x
           → AllPairs (Rises ids) (flat_map f pages) → begins_up_to ids id (f x) ≡ true
-          → All (λ n. lies_below ids id n ≡ true) (flat_map f (take k pages))
+          → All (λ n. is_below ids id n ≡ true) (flat_map f (take k pages))
       below_page pages k x l is rising h =
           below (flat_map f (take k pages)) (f x) (flat_map f (drop (k + 1) pages))
           (subst (AllPairs (Rises ids)) (cut_at pages k x l is) rising) h
         where
           below : (xs ys zs : List ℕ) → AllPairs (Rises ids) (xs ++ (ys ++ zs))
               → begins_up_to ids id ys ≡ true
-              → All (λ n. lies_below ids id n ≡ true) xs
+              → All (λ n. is_below ids id n ≡ true) xs
           below xs [] zs pairs e j d m<l = absurd (cc)
           below xs (m ∷ ys) zs pairs e j d m<l =
               ap is_lt
@@ -138,8 +138,8 @@ module _ {A : Type 0} (f : A → List ℕ) where
       -- where the pages that begin with the id or below it are the first k: what lies before the last of them
       pub before_page : (pages : List A) (k : ℕ) → k ≤ length pages → AllPairs (Rises ids) (flat_map f pages)
           → AllWithin (λ x. begins_up_to ids id (f x) ≡ true) pages 0 k
-          → All (λ n. lies_below ids id n ≡ true) (flat_map f (take (k - 1) pages))
-      before_page pages zero l rising low = All-nil (λ n. lies_below ids id n ≡ true)
+          → All (λ n. is_below ids id n ≡ true) (flat_map f (take (k - 1) pages))
+      before_page pages zero l rising low = All-nil (λ n. is_below ids id n ≡ true)
       before_page [] (suc k) l rising low = absurd (omega arith)
       before_page (p ∷ ps) (suc k) l rising low =
           let x = get_or (p ∷ ps) k p in
@@ -341,7 +341,7 @@ page_there k (suc m) n p within first e d apart =
 
 module _ {A : Type 0} (f : A → List ℕ) (ids : List (List ℕ)) (id : List ℕ) (pages : List A) (k : ℕ) (x : A)
     (l : k < length pages) (is : x ≡ get_or pages k x)
-    (below : All (λ n. lies_below ids id n ≡ true) (flat_map f (take k pages)))
+    (below : All (λ n. is_below ids id n ≡ true) (flat_map f (take k pages)))
     (above : All (λ n. is_gt (id_cmp ids id n) ≡ true) (flat_map f (drop (k + 1) pages))) where
   pub page_order : IsOrder ids (flat_map f pages) → IsOrder ids (f x)
   page_order order =
@@ -354,22 +354,22 @@ module _ {A : Type 0} (f : A → List ℕ) (ids : List (List ℕ)) (id : List �
   page_finds =
       ap (find (has_id ids id)) (cut_at f pages k x l is)
       ∙ (find_behind (has_id ids id) (flat_map f (take k pages)) (f x ++ flat_map f (drop (k + 1) pages))
-      (All-weaker (λ n. lies_below ids id n ≡ true) (λ n. has_id ids id n ≡ false) (not_below ids id)
+      (All-weaker (λ n. is_below ids id n ≡ true) (λ n. has_id ids id n ≡ false) (not_below ids id)
       (flat_map f (take k pages)) below)
       ∙ find_before (has_id ids id) (f x) (flat_map f (drop (k + 1) pages))
       (All-weaker (λ n. is_gt (id_cmp ids id n) ≡ true) (λ n. has_id ids id n ≡ false)
       (λ n h. (not_above ids id n h).0) (flat_map f (drop (k + 1) pages)) above))
 
   -- a number goes to the place of its id on the page
-  pub page_takes : (at n : ℕ) → at ≤ length (f x) → take at (f x) ≡ filter (lies_below ids id) (f x)
-      → drop at (f x) ≡ filter (λ m. not (lies_below ids id m)) (f x)
+  pub page_takes : (at n : ℕ) → at ≤ length (f x) → take at (f x) ≡ filter (is_below ids id) (f x)
+      → drop at (f x) ≡ filter (λ m. not (is_below ids id m)) (f x)
       → insert (flat_map f pages) (length (flat_map f (take k pages)) + at) n
       ≡ with_number ids (flat_map f pages) id n
   page_takes at n low before behind =
       let front = flat_map f (take k pages) in
       let back = flat_map f (drop (k + 1) pages) in
-      let p = lies_below ids id in
-      let q : ℕ → Bool = λ m. not (lies_below ids id m) in
+      let p = is_below ids id in
+      let q : ℕ → Bool = λ m. not (is_below ids id m) in
       let high : All (λ m. p m ≡ false) back =
       All-weaker (λ m. is_gt (id_cmp ids id m) ≡ true) (λ m. p m ≡ false)
       (λ m h. (not_above ids id m h).1) back above in

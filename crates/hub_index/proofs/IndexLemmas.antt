@@ -19,7 +19,7 @@ use Rattle.std.proofs.lemmas.List.Kept.{AllPairs-filter}
 use Rattle.std.proofs.lemmas.List.Quantifiers.{all_pairs_push}
 use Rattle.std.proofs.lemmas.List.Sums.{length-filter}
 use Rattle.std.proofs.lemmas.Option.{none-some}
-use Rattle.hub_index.specs.Rows.{IsIndex, seq_of, moved, is_within, next_after, last_before, count_after}
+use Rattle.hub_index.specs.Rows.{IsIndex, seq_of, rows_after_move, is_within, next_after, last_before, count_after}
 
 -- equal options have equal values
 pub same_Some : {X : Type 0} (a b : X) → Some a ≡ Some b → a ≡ b
@@ -255,7 +255,7 @@ module _ (document : ℕ) where
 
   -- a document that has no row loses none
   pub moved_new : (rows : List (ℕ × ℕ)) (seq : ℕ) → seq_of document rows ≡ None
-      → rows ++ (seq, document) ∷ [] ≡ moved rows document seq
+      → rows ++ (seq, document) ∷ [] ≡ rows_after_move rows document seq
   moved_new rows seq e =
       ap (λ l. l ++ (seq, document) ∷ []) (sym (filter_keeps is_other rows (none_of rows e)))
 
@@ -273,7 +273,7 @@ module _ (document : ℕ) where
       → AllPairs (λ (other_row third_row : ℕ × ℕ). other_row.0 < third_row.0) rows
       → AllPairs (λ (other_row third_row : ℕ × ℕ). other_row.1 ≢ third_row.1) rows
       → seq_of document rows ≡ Some old
-      → remove_entry (is_at (nat_cmp old)) (rows ++ (seq, document) ∷ []) ≡ moved rows document seq
+      → remove_entry (is_at (nat_cmp old)) (rows ++ (seq, document) ∷ []) ≡ rows_after_move rows document seq
   without [] old seq rising once e = absurd (none-some old e)
   without (row ∷ rows) old seq rising once e =
       elim (cases_Bool (nat_eq row.1 document)) [
@@ -311,12 +311,12 @@ module _ (document : ℕ) where
 
   -- a document that has a row loses that one
   pub moved_old : (rows : List (ℕ × ℕ)) (old seq : ℕ) → IsIndex rows → seq_of document rows ≡ Some old
-      → remove_entry (is_at (nat_cmp old)) (rows ++ (seq, document) ∷ []) ≡ moved rows document seq
+      → remove_entry (is_at (nat_cmp old)) (rows ++ (seq, document) ∷ []) ≡ rows_after_move rows document seq
   moved_old rows old seq index e = without rows old seq index.rising index.once e
 
   -- rows after a move
   pub index_moved : (rows : List (ℕ × ℕ)) (seq : ℕ) → IsIndex rows → 0 < seq
-      → All (λ (row : ℕ × ℕ). row.0 < seq) rows → IsIndex (moved rows document seq)
+      → All (λ (row : ℕ × ℕ). row.0 < seq) rows → IsIndex (rows_after_move rows document seq)
   index_moved rows seq index positive all = record {
     rising =
         all_pairs_push (λ (other_row third_row : ℕ × ℕ). other_row.0 < third_row.0) (filter is_other rows)
@@ -348,18 +348,18 @@ module _ (document seq : ℕ) (value rows inserted : List (ℕ × ℕ))
       ∙ (ap (λ l. insert_entry nat_cmp l seq document) seen ∙ insert_last value seq document above_all)
 
   pub after_insert : (old : Option ℕ) → seq_of document value ≡ old → old ≡ None
-      → inserted ≡ moved value document seq
+      → inserted ≡ rows_after_move value document seq
   after_insert old own is = at_end ∙ moved_new document value seq (own ∙ is)
 
   pub after_remove : (removed : List (ℕ × ℕ)) (old : Option ℕ) (key : ℕ) → IsIndex rows
       → seq_of document value ≡ old → old ≡ Some key → removed ≡ remove_entry (is_at (nat_cmp key)) inserted
-      → removed ≡ moved value document seq
+      → removed ≡ rows_after_move value document seq
   after_remove removed old key index own is by_remove =
       by_remove
       ∙ (ap (remove_entry (is_at (nat_cmp key))) at_end
       ∙ moved_old document value key seq (subst IsIndex seen index) (own ∙ is))
 
 pub index_after : (document seq : ℕ) (value rows after : List (ℕ × ℕ)) → rows ≡ value → IsIndex rows
-    → 0 < seq → All (λ (row : ℕ × ℕ). row.0 < seq) value → after ≡ moved value document seq → IsIndex after
+    → 0 < seq → All (λ (row : ℕ × ℕ). row.0 < seq) value → after ≡ rows_after_move value document seq → IsIndex after
 index_after document seq value rows after seen index positive all is =
     subst IsIndex (sym is) (index_moved document value seq (subst IsIndex seen index) positive all)

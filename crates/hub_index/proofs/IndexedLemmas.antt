@@ -9,7 +9,7 @@ use Rattle.std.proofs.lemmas.Bool.{both_ways, eqb-true, eq-eqb}
 use Rattle.std.proofs.lemmas.List.{map-append}
 use Rattle.std.proofs.lemmas.List.Elements.{All-contains_itself}
 use Rattle.std.proofs.lemmas.Option.{same_Some, none-some}
-use Rattle.hub_index.specs.Rows.{seq_of, moved, next_after, last_before, count_after}
+use Rattle.hub_index.specs.Rows.{seq_of, rows_after_move, next_after, last_before, count_after}
 use Rattle.hub_index.specs.Rows as index_rows
 use Rattle.hub_index.specs.Indexed.{IsIndexed, id_in, row_in}
 use Rattle.hub_index.proofs.ListLemmas.{text_same, text_apart, number_apart, at_place, contains_reverse}
@@ -49,27 +49,27 @@ kept_key j k n row rows b =
     seq_of j ((if not b then (row ∷ others) else others) ++ (n, k) ∷ [])
 
 -- the key of a number that is moved
-moved_here : (rows : List (ℕ × ℕ)) (k n : ℕ) → seq_of k (moved rows k n) ≡ Some n
+moved_here : (rows : List (ℕ × ℕ)) (k n : ℕ) → seq_of k (rows_after_move rows k n) ≡ Some n
 moved_here [] k n = rw (eq-eqb k k refl) refl
 moved_here (row ∷ rows) k n = from (moved_here rows k n) (nat_eq row.1 k) refl
   where
-    from : seq_of k (moved rows k n) ≡ Some n → (b : Bool) → nat_eq row.1 k ≡ b
+    from : seq_of k (rows_after_move rows k n) ≡ Some n → (b : Bool) → nat_eq row.1 k ≡ b
         → kept_key k k n row rows b ≡ Some n
     from rest true t = rest
-    from rest false t = ap (first_key k row (moved rows k n)) t ∙ rest
+    from rest false t = ap (first_key k row (rows_after_move rows k n)) t ∙ rest
 
 -- and of another
-moved_other : (rows : List (ℕ × ℕ)) (k n j : ℕ) → j ≢ k → seq_of j (moved rows k n) ≡ seq_of j rows
+moved_other : (rows : List (ℕ × ℕ)) (k n j : ℕ) → j ≢ k → seq_of j (rows_after_move rows k n) ≡ seq_of j rows
 moved_other [] k n j h = rw (number_apart k j (λ e. h (sym e))) refl
 moved_other (row ∷ rows) k n j h = from (moved_other rows k n j h) (nat_eq row.1 k) refl
   where
-    from : seq_of j (moved rows k n) ≡ seq_of j rows → (b : Bool) → nat_eq row.1 k ≡ b
+    from : seq_of j (rows_after_move rows k n) ≡ seq_of j rows → (b : Bool) → nat_eq row.1 k ≡ b
         → kept_key j k n row rows b ≡ first_key j row rows (nat_eq row.1 j)
     from rest true t =
         rest ∙ sym (ap (first_key j row rows) (number_apart row.1 j (λ e. h (sym e ∙ eqb-true row.1 k t))))
     from rest false t = here (nat_eq row.1 j)
       where
-        here : (b : Bool) → first_key j row (moved rows k n) b ≡ first_key j row rows b
+        here : (b : Bool) → first_key j row (rows_after_move rows k n) b ≡ first_key j row rows b
         here true = refl
         here false = rest
 
@@ -229,7 +229,7 @@ module _ (ids : ℕ → Option (List ℕ × ℕ)) (journal : List Edit) (index :
     abbrev renewed : List Current → Current → List Current
     renewed cs c = filter (λ (z : Current). not (bytes_eq z.id e.id)) cs ++ c ∷ []
 
-    rows_more : map (row_in ids') (moved index k seq) ≡ current (journal ++ e ∷ [])
+    rows_more : map (row_in ids') (rows_after_move index k seq) ≡ current (journal ++ e ∷ [])
     rows_more =
         map-append (row_in ids') (filter (λ (r : ℕ × ℕ). not (nat_eq r.1 k)) index) ((seq, k) ∷ [])
         ∙ (ap (λ cs. cs ++ row_in ids' (seq, k) ∷ [])
@@ -241,24 +241,24 @@ module _ (ids : ℕ → Option (List ℕ × ℕ)) (journal : List Edit) (index :
         ∙ sym (current_push 1 journal e)))))
 
     -- the rows go on to be the current ones
-    pub indexed_more : IsIndexed ids' (journal ++ e ∷ []) (moved index k seq)
+    pub indexed_more : IsIndexed ids' (journal ++ e ∷ []) (rows_after_move index k seq)
     indexed_more = record { rows = rows_more; key = key'; none = none' }
       where
-        key' : (j : ℕ) (p : List ℕ × ℕ) → ids' j ≡ Some p → seq_of j (moved index k seq) ≡ Some p.1
+        key' : (j : ℕ) (p : List ℕ × ℕ) → ids' j ≡ Some p → seq_of j (rows_after_move index k seq) ≡ Some p.1
         key' j p g = from (same_number j k)
           where
-            from : (j ≡ k) ⊎ (j ≢ k) → seq_of j (moved index k seq) ≡ Some p.1
+            from : (j ≡ k) ⊎ (j ≢ k) → seq_of j (rows_after_move index k seq) ≡ Some p.1
             from (inl s) =
                 let here : ids' k ≡ Some p = subst (λ i. ids' i ≡ Some p) s g in
                 let same : (e.id, seq) ≡ p = same_Some (e.id, seq) p (sym at ∙ here) in
                 let latest : seq ≡ p.1 = ap (λ (z : List ℕ × ℕ). z.1) same in
-                ap (λ i. seq_of i (moved index k seq)) s ∙ (moved_here index k seq ∙ ap Some latest)
+                ap (λ i. seq_of i (rows_after_move index k seq)) s ∙ (moved_here index k seq ∙ ap Some latest)
             from (inr n) = moved_other index k seq j n ∙ ix.key j p (sym (other j n) ∙ g)
 
-        none' : (j : ℕ) → ids' j ≡ None → seq_of j (moved index k seq) ≡ None
+        none' : (j : ℕ) → ids' j ≡ None → seq_of j (rows_after_move index k seq) ≡ None
         none' j g = from (same_number j k)
           where
-            from : (j ≡ k) ⊎ (j ≢ k) → seq_of j (moved index k seq) ≡ None
+            from : (j ≡ k) ⊎ (j ≢ k) → seq_of j (rows_after_move index k seq) ≡ None
             from (inl s) =
                 absurd (none-some (e.id, seq) (sym g ∙ subst (λ i. ids' i ≡ Some (e.id, seq)) (sym s) at))
             from (inr n) = moved_other index k seq j n ∙ ix.none j (sym (other j n) ∙ g)

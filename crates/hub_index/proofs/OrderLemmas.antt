@@ -25,7 +25,7 @@ use Rattle.std.proofs.lemmas.List.Kept.{AllPairs-filter, AllPairs-cons}
 use Rattle.hub_model.proofs.Lists.{same_text}
 use Rattle.hub_model.proofs.Sorted.{gt_is}
 use Rattle.hub_model.proofs.Tests.{not_true}
-use Rattle.hub_index.specs.Order.{IsOrder, id_at, id_cmp, has_id, number_in, lies_below, with_number}
+use Rattle.hub_index.specs.Order.{IsOrder, id_at, id_cmp, has_id, number_in, is_below, with_number}
 use Rattle.hub_index.proofs.ListLemmas.{text_apart, text_same}
 use Rattle.hub_index.proofs.SlotLemmas.{find_behind}
 use Rattle.hub_index.proofs.IndexLemmas.{find_nothing, filter_keeps, of_head, of_tail}
@@ -169,7 +169,7 @@ module _ (ids : List (List ℕ)) where
     not_has Equal n e h = absurd (cc)
     not_has Greater n e h = absurd (cc)
 
-    pub not_below : (n : ℕ) → lies_below ids id n ≡ true → has_id ids id n ≡ false
+    pub not_below : (n : ℕ) → is_below ids id n ≡ true → has_id ids id n ≡ false
     not_below n h = not_has (id_cmp ids id n) n refl h
 
     not_greater : (o : Ordering) (n : ℕ) → id_cmp ids id n ≡ o → is_gt o ≡ true
@@ -180,11 +180,11 @@ module _ (ids : List (List ℕ)) where
 
     -- a number above the id neither has it nor lies below it
     pub not_above : (n : ℕ) → is_gt (id_cmp ids id n) ≡ true
-        → (has_id ids id n ≡ false) × (lies_below ids id n ≡ false)
+        → (has_id ids id n ≡ false) × (is_below ids id n ≡ false)
     not_above n h = not_greater (id_cmp ids id n) n refl h
 
     -- a number that neither lies below the id nor has it lies above
-    pub above_else : (n : ℕ) → lies_below ids id n ≡ false → has_id ids id n ≡ false
+    pub above_else : (n : ℕ) → is_below ids id n ≡ false → has_id ids id n ≡ false
         → is_gt (id_cmp ids id n) ≡ true
     above_else n low apart = from (id_cmp ids id n) refl low
       where
@@ -198,10 +198,10 @@ module _ (ids : List (List ℕ)) where
         from Greater e h = refl
 
     pub below_parted : (numbers : List ℕ) → AllPairs Rises numbers
-        → IsPartitionedBy (lies_below ids id) numbers
+        → IsPartitionedBy (is_below ids id) numbers
     below_parted numbers rising i j d i≤j l h = from (cases_lt i j)
       where
-        from : (i < j) ⊎ (j ≤ i) → lies_below ids id (get_or numbers i d) ≡ true
+        from : (i < j) ⊎ (j ≤ i) → is_below ids id (get_or numbers i d) ≡ true
         from (inl low) =
             ap is_lt
             (lower_first (get_or numbers i d) (get_or numbers j d) (rising i j d low l)
@@ -212,15 +212,15 @@ module _ (ids : List (List ℕ)) where
 
     -- what a search finds where it stops
     module _ (numbers : List ℕ) (at : ℕ) (rising : AllPairs Rises numbers)
-        (before : take at numbers ≡ filter (lies_below ids id) numbers)
-        (behind : drop at numbers ≡ filter (λ n. not (lies_below ids id n)) numbers) where
+        (before : take at numbers ≡ filter (is_below ids id) numbers)
+        (behind : drop at numbers ≡ filter (λ n. not (is_below ids id n)) numbers) where
       from_place : number_in ids numbers id ≡ find (has_id ids id) (drop at numbers)
       from_place =
           ap (find (has_id ids id)) (sym (take-append-drop at numbers))
           ∙ find_behind (has_id ids id) (take at numbers) (drop at numbers)
           (subst (All (λ n. has_id ids id n ≡ false)) (sym before)
-          (All-weaker (λ n. lies_below ids id n ≡ true) (λ n. has_id ids id n ≡ false) not_below
-          (filter (lies_below ids id) numbers) (filter_passes (lies_below ids id) numbers)))
+          (All-weaker (λ n. is_below ids id n ≡ true) (λ n. has_id ids id n ≡ false) not_below
+          (filter (is_below ids id) numbers) (filter_passes (is_below ids id) numbers)))
 
       pub found_past : length numbers ≤ at → number_in ids numbers id ≡ None
       found_past l = from_place ∙ ap (find (has_id ids id)) (drop_all at numbers l)
@@ -235,16 +235,16 @@ module _ (ids : List (List ℕ)) where
           split : drop at numbers ≡ n ∷ rest
           split = drop_more numbers at n l ∙ ap (λ m. m ∷ rest) (sym is)
 
-          passes : All (λ m. not (lies_below ids id m) ≡ true) (n ∷ rest)
+          passes : All (λ m. not (is_below ids id m) ≡ true) (n ∷ rest)
           passes =
-              subst (All (λ m. not (lies_below ids id m) ≡ true)) (sym behind ∙ split)
-              (filter_passes (λ m. not (lies_below ids id m)) numbers)
+              subst (All (λ m. not (is_below ids id m) ≡ true)) (sym behind ∙ split)
+              (filter_passes (λ m. not (is_below ids id m)) numbers)
 
           above : has_id ids id n ≡ false → is_gt (id_cmp ids id n) ≡ true
           above =
               above_else n
-              (not_true (lies_below ids id n)
-              (All-head (λ m. not (lies_below ids id m) ≡ true) n rest passes))
+              (not_true (is_below ids id n)
+              (All-head (λ m. not (is_below ids id m) ≡ true) n rest passes))
 
           later : AllPairs Rises (n ∷ rest)
           later =
@@ -302,18 +302,18 @@ module _ (ids : List (List ℕ)) (numbers : List ℕ) (id : List ℕ) (n : ℕ) 
   abbrev High : ℕ → Type 0
   High b = (b < length ids) × (slice_cmp nat_cmp id (id_at ids b) ≡ Less)
 
-  low : All Low (filter (lies_below ids id) numbers)
+  low : All Low (filter (is_below ids id) numbers)
   low k d l = (
-    All-filter (lies_below ids id) (λ m. m < length ids) numbers order.known k d l,
-    less_is (id_cmp ids id (get_or (filter (lies_below ids id) numbers) k d))
-        (filter_passes (lies_below ids id) numbers k d l),
+    All-filter (is_below ids id) (λ m. m < length ids) numbers order.known k d l,
+    less_is (id_cmp ids id (get_or (filter (is_below ids id) numbers) k d))
+        (filter_passes (is_below ids id) numbers k d l),
   )
 
-  high : All High (filter (λ m. not (lies_below ids id m)) numbers)
+  high : All High (filter (λ m. not (is_below ids id m)) numbers)
   high k d l =
-      let q : ℕ → Bool = λ m. not (lies_below ids id m) in
+      let q : ℕ → Bool = λ m. not (is_below ids id m) in
       let b = get_or (filter q numbers) k d in
-      let lies = not_true (lies_below ids id b) (filter_passes q numbers k d l) in
+      let lies = not_true (is_below ids id b) (filter_passes q numbers k d l) in
       let apart =
       All-filter q (λ m. has_id ids id m ≡ false) numbers (none_pass (has_id ids id) numbers new) k d l in (
         All-filter q (λ m. m < length ids) numbers order.known k d l,
@@ -333,8 +333,8 @@ module _ (ids : List (List ℕ)) (numbers : List ℕ) (id : List ℕ) (n : ℕ) 
 
   pub order_more : IsOrder (ids ++ id ∷ []) (with_number ids numbers id n)
   order_more =
-      let lows = filter (lies_below ids id) numbers in
-      let highs = filter (λ m. not (lies_below ids id m)) numbers in
+      let lows = filter (is_below ids id) numbers in
+      let highs = filter (λ m. not (is_below ids id m)) numbers in
       let size : length (ids ++ id ∷ []) ≡ length ids + 1 = length_push ids id in
       record {
         known =
@@ -344,22 +344,22 @@ module _ (ids : List (List ℕ)) (numbers : List ℕ) (id : List ℕ) (n : ℕ) 
             (All-weaker High (λ m. m < length (ids ++ id ∷ [])) (λ m (l, e). omega arith) highs high));
         rising =
             pairs_join (Rises (ids ++ id ∷ [])) lows (n ∷ highs)
-            (AllPairs-filter (Rises (ids ++ id ∷ [])) (lies_below ids id) numbers all_rise)
+            (AllPairs-filter (Rises (ids ++ id ∷ [])) (is_below ids id) numbers all_rise)
             (AllPairs-cons (Rises (ids ++ id ∷ [])) n highs
             (All-weaker High (Rises (ids ++ id ∷ []) n) behind highs high)
-            (AllPairs-filter (Rises (ids ++ id ∷ [])) (λ m. not (lies_below ids id m)) numbers all_rise))
+            (AllPairs-filter (Rises (ids ++ id ∷ [])) (λ m. not (is_below ids id m)) numbers all_rise))
             across;
       }
     where
-      across : (a y : ℕ) → Contains (filter (lies_below ids id) numbers) a
-          → Contains (n ∷ filter (λ m. not (lies_below ids id m)) numbers) y → Rises (ids ++ id ∷ []) a y
+      across : (a y : ℕ) → Contains (filter (is_below ids id) numbers) a
+          → Contains (n ∷ filter (λ m. not (is_below ids id m)) numbers) y → Rises (ids ++ id ∷ []) a y
       across a y here (zero, l, e) =
           subst (Rises (ids ++ id ∷ []) a) e
-          (before a (All-contains Low (filter (lies_below ids id) numbers) a low here))
+          (before a (All-contains Low (filter (is_below ids id) numbers) a low here))
       across a y here (suc k, l, e) =
-          let la = All-contains Low (filter (lies_below ids id) numbers) a low here in
+          let la = All-contains Low (filter (is_below ids id) numbers) a low here in
           let hy =
-          All-contains High (filter (λ m. not (lies_below ids id m)) numbers) y high (k, omega arith, e) in
+          All-contains High (filter (λ m. not (is_below ids id m)) numbers) y high (k, omega arith, e) in
           rises a y la.0 hy.0 (nat_list_cmp_total.trans (id_at ids a) id (id_at ids y) la.1 hy.1)
 
 -- ---- what is found with one more number
@@ -402,10 +402,10 @@ module _ (ids : List (List ℕ)) (numbers : List ℕ) (id : List ℕ) (n : ℕ) 
       from (same_text id q)
     where
       lows : List ℕ
-      lows = filter (lies_below ids id) numbers
+      lows = filter (is_below ids id) numbers
 
       highs : List ℕ
-      highs = filter (λ m. not (lies_below ids id m)) numbers
+      highs = filter (λ m. not (is_below ids id m)) numbers
 
       agrees : (m : ℕ) → m < length ids → has_id (ids ++ id ∷ []) q m ≡ has_id ids q m
       agrees m l = ap (λ t. bytes_eq t q) (get_or_append_left ids (id ∷ []) [] m l)
@@ -413,7 +413,7 @@ module _ (ids : List (List ℕ)) (numbers : List ℕ) (id : List ℕ) (n : ℕ) 
       as_before : find (has_id (ids ++ id ∷ []) q) (lows ++ highs) ≡ number_in ids numbers q
       as_before =
           ap (find (has_id (ids ++ id ∷ []) q))
-          (parts_whole (lies_below ids id) numbers (below_parted ids id numbers order.rising))
+          (parts_whole (is_below ids id) numbers (below_parted ids id numbers order.rising))
           ∙ find_agree (has_id (ids ++ id ∷ []) q) (has_id ids q) numbers
           (λ k d l. agrees (get_or numbers k d) (order.known k d l))
 
@@ -424,10 +424,10 @@ module _ (ids : List (List ℕ)) (numbers : List ℕ) (id : List ℕ) (n : ℕ) 
       none_low e k d l =
           let m = get_or lows k d in
           let known : m < length ids =
-          All-filter (lies_below ids id) (λ z. z < length ids) numbers order.known k d l in
+          All-filter (is_below ids id) (λ z. z < length ids) numbers order.known k d l in
           agrees m known
           ∙ (ap (λ t. bytes_eq (id_at ids m) t) (sym e)
-          ∙ not_below ids id m (filter_passes (lies_below ids id) numbers k d l))
+          ∙ not_below ids id m (filter_passes (is_below ids id) numbers k d l))
 
       skip : id ≢ q → (ls hs : List ℕ)
           → find (has_id (ids ++ id ∷ []) q) (ls ++ n ∷ hs) ≡ find (has_id (ids ++ id ∷ []) q) (ls ++ hs)

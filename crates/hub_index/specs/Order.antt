@@ -34,14 +34,14 @@ abbrev pub number_in : List (List ℕ) → List ℕ → List ℕ → Option ℕ
 number_in ids numbers id = find (has_id ids id) numbers
 
 -- whether the id of a number lies below an id
-abbrev pub lies_below : List (List ℕ) → List ℕ → ℕ → Bool
-lies_below ids id number = is_lt (id_cmp ids id number)
+abbrev pub is_below : List (List ℕ) → List ℕ → ℕ → Bool
+is_below ids id number = is_lt (id_cmp ids id number)
 
 -- the numbers, and one more, of this id: behind those whose ids lie below it, and before the others. Where 0
 -- is b, 1 is a and 2 is ab, the numbers 1, 0 and one more, 2 of the id ab, are 1, 2, 0.
 abbrev pub with_number : List (List ℕ) → List ℕ → List ℕ → ℕ → List ℕ
 with_number ids numbers id number =
-    filter (lies_below ids id) numbers ++ number ∷ filter (λ n. not (lies_below ids id n)) numbers
+    filter (is_below ids id) numbers ++ number ∷ filter (λ n. not (is_below ids id n)) numbers
 
 -- the numbers of pages, one page behind the other
 abbrev pub numbers_of : {Y : Type 0} → List (Vec ℕ Y) → List ℕ

@@ -18,8 +18,8 @@ seq_of document rows =
 
 -- the rows of the other documents, and then one of this document. From (1, 0), (2, 1) and with document 0
 -- at 3 they are (2, 1), (3, 0).
-abbrev pub moved : List (ℕ × ℕ) → ℕ → ℕ → List (ℕ × ℕ)
-moved rows document seq = filter (λ (row : ℕ × ℕ). not (nat_eq row.1 document)) rows ++ (seq, document) ∷ []
+abbrev pub rows_after_move : List (ℕ × ℕ) → ℕ → ℕ → List (ℕ × ℕ)
+rows_after_move rows document seq = filter (λ (row : ℕ × ℕ). not (nat_eq row.1 document)) rows ++ (seq, document) ∷ []
 
 -- whether a sequence lies above the place, and not above the bound
 abbrev pub is_within : ℕ → Option ℕ → ℕ → Bool

@@ -5,7 +5,7 @@ ghost use Rattle.std.specs.Prelude.{true, take, drop, slice_get, IsSomeAnd, OnOk
 ghost use Rattle.std.specs.List.{All, insert};
 ghost use Rattle.std.specs.Ordering.{is_gt};
 ghost use Rattle.hub_index.specs.Order.{IsNumberPage, IsOrder, PutsAt, begins_up_to, id_cmp};
-ghost use Rattle.hub_index.specs.Order.{lies_below, numbers_of, place_of};
+ghost use Rattle.hub_index.specs.Order.{is_below, numbers_of, place_of};
 
 use crate::id_order::Named;
 use std::alloc::{AllocError, Global};
@@ -37,7 +37,7 @@ pub(crate) fn page_at<N: Named>(names: &N, pages: &[Vec<u32>], id: &str) -> usiz
     requires pages { All IsNumberPage pages.now }
     ensures within { 0 < length pages.now → result < length pages.now }
     ensures first { length pages.now ≡ 0 → result ≡ 0 }
-    ensures below { All (λ n. lies_below (N.ids names.now) id.now n ≡ true)
+    ensures below { All (λ n. is_below (N.ids names.now) id.now n ≡ true)
         (numbers_of (take result pages.now)) }
     ensures above { All (λ n. is_gt (id_cmp (N.ids names.now) id.now n) ≡ true)
         (numbers_of (drop (result + 1) pages.now)) }
@@ -57,9 +57,9 @@ pub(crate) fn page_at<N: Named>(names: &N, pages: &[Vec<u32>], id: &str) -> usiz
 pub(crate) fn place_in<N: Named>(names: &N, numbers: &[u32], id: &str, is_last: bool) -> usize
     requires order { IsOrder (N.ids names.now) numbers.now }
     ensures within { result ≤ length numbers.now }
-    ensures before { take result numbers.now ≡ filter (lies_below (N.ids names.now) id.now) numbers.now }
+    ensures before { take result numbers.now ≡ filter (is_below (N.ids names.now) id.now) numbers.now }
     ensures behind { drop result numbers.now
-        ≡ filter (λ n. not (lies_below (N.ids names.now) id.now n)) numbers.now }
+        ≡ filter (λ n. not (is_below (N.ids names.now) id.now n)) numbers.now }
 {
     let count = numbers.len();
     if is_last && count > 0 && names.id(numbers[count - 1]).cmp(id).is_lt() {

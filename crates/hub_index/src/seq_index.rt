@@ -2,7 +2,7 @@
 
 ghost use Rattle.std.specs.Prelude.{ℕ, List, ◌≡◌, ◌<◌, OnOk, OnErr};
 ghost use Rattle.std.specs.List.{All};
-ghost use Rattle.hub_index.specs.Rows.{IsIndex, seq_of, moved, next_after, last_before, count_after};
+ghost use Rattle.hub_index.specs.Rows.{IsIndex, seq_of, rows_after_move, next_after, last_before, count_after};
 
 use std::alloc::AllocError;
 
@@ -17,7 +17,7 @@ pub trait SeqIndex {
         requires own { seq_of document (rows self.old) ≡ old }
         requires positive { 0 < new }
         requires above { All (λ r. r.0 < new) (rows self.old) }
-        ensures moved { OnOk result (rows self.new ≡ moved (rows self.old) document new) }
+        ensures moved { OnOk result (rows self.new ≡ rows_after_move (rows self.old) document new) }
         ensures err { OnErr result (rows self.new ≡ rows self.old) }
         ensures index { IsIndex (rows self.new) };
 

@@ -5,7 +5,7 @@
 
 ghost use Rattle.std.specs.Prelude.{◌≡◌, ◌<◌, ◌≤◌, [], IfOk, OnOk};
 ghost use Rattle.std.specs.List.{All};
-ghost use Rattle.hub_index.specs.Rows.{seq_of, moved};
+ghost use Rattle.hub_index.specs.Rows.{seq_of, rows_after_move};
 
 use hub_index::{SeqIndex, TreeIndex};
 use std::alloc::{AllocError, Global};
@@ -42,7 +42,7 @@ pub(crate) fn move_again<I: SeqIndex>(
     requires own { seq_of document (I.rows index.old) ≡ old }
     requires positive { 0 < new }
     requires above { All (λ r. r.0 < new) (I.rows index.old) }
-    ensures { OnOk result (I.rows index.new ≡ moved (I.rows index.old) document new) }
+    ensures { OnOk result (I.rows index.new ≡ rows_after_move (I.rows index.old) document new) }
 {
     let before = shown(index);
     match index.move_to(document, old, new) {
@@ -168,7 +168,7 @@ pub(crate) fn seq_in(plain: &[(u64, u32)], document: u32) -> Option<u64>
 
 // Moves a document in a plain list of rows.
 fn move_in(plain: &mut Vec<(u64, u32)>, document: u32, new: u64) -> Result<(), AllocError>
-    ensures { OnOk result (plain.new.items ≡ moved plain.old.items document new) }
+    ensures { OnOk result (plain.new.items ≡ rows_after_move plain.old.items document new) }
 {
     plain.retain(|row| row.1 != document);
     plain.push((new, document))?;
@@ -186,7 +186,7 @@ pub(crate) fn move_both<I: SeqIndex>(
     requires positive { 0 < new }
     requires above { All (λ r. r.0 < new) plain.old.items }
     ensures same { OnOk result (I.rows index.new ≡ plain.new.items) }
-    ensures moved { OnOk result (plain.new.items ≡ moved plain.old.items document new) }
+    ensures moved { OnOk result (plain.new.items ≡ rows_after_move plain.old.items document new) }
     ensures upto { OnOk result (All (λ r. r.0 ≤ new) plain.new.items) }
 {
     let old = seq_in(plain.as_slice(), document);

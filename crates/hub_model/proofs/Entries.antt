@@ -19,7 +19,7 @@ use Rattle.std.proofs.lemmas.List.Quantifiers.{all_pairs_push}
 use Rattle.std.proofs.lemmas.List.Sorted.{IsNonDecreasingBy-from_default}
 use Rattle.std.proofs.lemmas.List.Sums.{position_or_len_is}
 use Rattle.std.proofs.lemmas.Option.{none-some, same_Some, slice_get_past, slice_get_read}
-use Rattle.hub_model.specs.Entries.{is_of, entry_in, changed, without, AreRising}
+use Rattle.hub_model.specs.Entries.{is_of, entry_in, with_change, without, AreRising}
 use Rattle.hub_model.proofs.Shown.{find_is}
 
 -- what a search for a test finds
@@ -137,7 +137,7 @@ module _ {A : Type 0} (number : ℕ) where
   Others entries = All (λ p. is_of number p ≡ false) entries
 
   others_changed : (change : A → A) (entries : List (ℕ × A)) → Others entries
-      → changed number change entries ≡ entries
+      → with_change number change entries ≡ entries
   others_changed change [] others = refl
   others_changed change (q ∷ entries) others =
       rw (others 0 q (omega arith))
@@ -171,7 +171,7 @@ module _ {A : Type 0} (number : ℕ) where
   -- the one here has the number, and those before and after it other ones
   at_place : (change : A → A) (entries : List (ℕ × A)) (at : ℕ) (p : ℕ × A) → AreRising entries
       → slice_get entries at ≡ Some p → p.0 ≡ number
-      → (slice_set entries at (p.0, change p.1) ≡ changed number change entries)
+      → (slice_set entries at (p.0, change p.1) ≡ with_change number change entries)
       × (remove entries at ≡ without number entries)
   at_place change [] at p rising there own = absurd (none-some p there)
   at_place change (q ∷ entries) zero p rising there own =
@@ -215,7 +215,7 @@ module _ {A : Type 0} (number : ℕ) (entries : List (ℕ × A)) (at : ℕ)
 
   -- and changes there
   pub changed_here : (change : A → A) (new : A) → AreRising entries → new ≡ change p.1
-      → slice_set entries at (p.0, new) ≡ changed number change entries
+      → slice_set entries at (p.0, new) ≡ with_change number change entries
   changed_here change new rising e =
       ap (λ (a : A). slice_set entries at (p.0, a)) e
       ∙ (at_place number change entries at p rising there own).0
@@ -235,7 +235,7 @@ module _ {A : Type 0} (number : ℕ) (entries : List (ℕ × A)) where
 
 -- then none is changed, and none is left out
 pub changed_absent : {A : Type 0} (number : ℕ) (change : A → A) (entries : List (ℕ × A))
-    → entry_in number entries ≡ None → changed number change entries ≡ entries
+    → entry_in number entries ≡ None → with_change number change entries ≡ entries
 changed_absent number change entries none = others_changed number change entries (none_of number entries none)
 
 pub without_absent : {A : Type 0} (number : ℕ) (entries : List (ℕ × A)) → entry_in number entries ≡ None
@@ -245,7 +245,7 @@ without_absent number entries none = others_kept number entries (none_of number 
 -- that of this number, and those of others, once it is changed, goes or comes
 module _ {A : Type 0} (id : ℕ) where
   pub own_changed : (change : A → A) (entries : List (ℕ × A))
-      → entry_in id (changed id change entries) ≡ option_map change (entry_in id entries)
+      → entry_in id (with_change id change entries) ≡ option_map change (entry_in id entries)
   own_changed change [] = refl
   own_changed change (p ∷ entries) = elim (cases_Bool (nat_eq p.0 id)) [
     | inl t ↦ rw (t, t) refl
@@ -253,7 +253,7 @@ module _ {A : Type 0} (id : ℕ) where
   ]
 
   pub other_changed : (change : A → A) (q : ℕ) → q ≢ id → (entries : List (ℕ × A))
-      → entry_in q (changed id change entries) ≡ entry_in q entries
+      → entry_in q (with_change id change entries) ≡ entry_in q entries
   other_changed change q n [] = refl
   other_changed change q n (p ∷ entries) =
       elim (cases_Bool (nat_eq p.0 id)) [
@@ -322,16 +322,16 @@ module _ {A : Type 0} where
         from false = refl
 
     pub below_changed : (next : ℕ) (entries : List (ℕ × A)) → AreBelow next entries
-        → AreBelow next (changed id change entries)
+        → AreBelow next (with_change id change entries)
     below_changed next entries below =
         All-map (λ (p : ℕ × A). p.0 < next) changed_one entries
         (λ k d l. let g = below k d l in omega (arith, g, same_number (get_or entries k d)))
 
-    pub rising_changed : (entries : List (ℕ × A)) → AreRising entries → AreRising (changed id change entries)
+    pub rising_changed : (entries : List (ℕ × A)) → AreRising entries → AreRising (with_change id change entries)
     rising_changed [] rising = rising
     rising_changed (p ∷ entries) rising =
         let rest = rising_changed entries (rest_rises p entries rising) in
-        AllPairs-cons (λ (a b : ℕ × A). a.0 < b.0) (changed_one p) (changed id change entries)
+        AllPairs-cons (λ (a b : ℕ × A). a.0 < b.0) (changed_one p) (with_change id change entries)
         (All-map (λ (b : ℕ × A). (changed_one p).0 < b.0) changed_one entries (λ k d l.
         let f = after_first p entries rising k d l in
         omega (arith, f, same_number p, same_number (get_or entries k d)))) rest

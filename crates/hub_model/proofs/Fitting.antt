@@ -16,12 +16,12 @@ use Rattle.hub_model.specs.declared.feeds.Since.TheVariants.{Now, Plain, Tagged}
 use Rattle.hub_model.specs.declared.feeds.Item.{Item}
 use Rattle.hub_model.specs.declared.feeds.Item.TheVariants.{Row, Beat, End}
 use Rattle.hub_model.specs.Feed.{Status, Open, Ending, Ended, Finished, Feed, Due, DueRow, DueEnd}
-use Rattle.hub_model.specs.Feed.{DueNothing, DueGone, since_of, bound_of, due, is_in_reach, bound_after}
-use Rattle.hub_model.specs.Feed.{after_due, after_row, after_end, after_nothing, is_open, is_over, waits}
-use Rattle.hub_model.specs.Filter.{passes}
+use Rattle.hub_model.specs.Feed.{DueNothing, DueGone, since_of, bound_of, next_due, is_in_reach, bound_after}
+use Rattle.hub_model.specs.Feed.{feed_after_due, after_row, after_end, after_nothing, is_open, is_over, is_waiting_mode}
+use Rattle.hub_model.specs.Filter.{is_passing}
 use Rattle.hub_model.specs.FeedLaws.{OpenedFits, GrownFits, HandedFits, WaitingFits, BeatFits}
 use Rattle.hub_model.specs.FeedLaws.{ExpiredFits, EndedFits, FinishedFits, LimitedEnds}
-use Rattle.hub_model.specs.Hand.{due_in, item_of}
+use Rattle.hub_model.specs.Hand.{journal_due, item_of_due}
 use Rattle.hub_model.specs.Journal.{Edit}
 use Rattle.hub_model.specs.RightlyHanded.{is_end, EndsAt, IsAsked, RightlyHanded, Fits, rows_of}
 use Rattle.hub_model.specs.RowKind.{RowKind}
@@ -138,7 +138,7 @@ module _ {R : Type 0} (kind : RowKind R) where
       → Fits kind journal feed items
       → is_over feed.status ≡ false → feed.place ≤ last → last ≤ length journal
       → IfSome feed.bound (λ b. last ≤ b) →
-      ((row : Current) → Contains (current journal) row → IsTrue (passes feed.params.filter row.id)
+      ((row : Current) → Contains (current journal) row → IsTrue (is_passing feed.params.filter row.id)
       → feed.place < row.seq → row.seq ≤ last → ⊥) →
       Fits kind journal (after_end feed last) (items ++ End last n ∷ [])
   fits_end_at journal feed items last n h over p l b gap = record {
@@ -180,11 +180,11 @@ module _ {R : Type 0} (kind : RowKind R) where
 
   -- what is due so is handed
   handed_as : (journal : List Edit) (feed : Feed) (items : List (Item R)) (item : Item R) (due : Due)
-      → due_in journal feed ≡ due
-      → item_of (kind.shown journal feed.params.style feed.params.include_docs)
+      → journal_due journal feed ≡ due
+      → item_of_due (kind.shown journal feed.params.style feed.params.include_docs)
       (current journal) due ≡ Some item
       → Fits kind journal feed items
-      → Fits kind journal (after_due feed due (length journal)) (items ++ item ∷ [])
+      → Fits kind journal (feed_after_due feed due (length journal)) (items ++ item ∷ [])
   handed_as journal feed items item (DueRow c) q e h =
       subst (λ (i : Item R). Fits kind journal (after_row feed c.seq (length journal)) (items ++ i ∷ []))
       (same_Some _ item e) (fits_row journal feed items c h q)
@@ -195,7 +195,7 @@ module _ {R : Type 0} (kind : RowKind R) where
   handed_as journal feed items item DueGone q e h = absurd (none-some item e)
 
   pub fits_handed : HandedFits kind
-  fits_handed J f items item e h = handed_as J f items item (due_in J f) refl e h
+  fits_handed J f items item e h = handed_as J f items item (journal_due J f) refl e h
 
   open_when : (st : Status) → is_open st ≡ true → st ≡ Open
   open_when Open e = refl
@@ -206,8 +206,8 @@ module _ {R : Type 0} (kind : RowKind R) where
   -- a Heartbeat that pushes
   pub fits_beat : BeatFits kind
   fits_beat J f items e h =
-      let p = and_parts (is_open f.status) (waits f.params.mode && f.params.heartbeat) e in
-      let q = and_parts (waits f.params.mode) f.params.heartbeat p.1 in
+      let p = and_parts (is_open f.status) (is_waiting_mode f.params.mode && f.params.heartbeat) e in
+      let q = and_parts (is_waiting_mode f.params.mode) f.params.heartbeat p.1 in
       let open_before = no_end J f items h (ap is_over (open_when f.status p.0)) in
       record {
         right =
@@ -263,7 +263,7 @@ module _ {R : Type 0} (kind : RowKind R) where
 
   pub fits_expire : ExpiredFits kind
   fits_expire J f items h =
-      elim (cases_Bool (is_open f.status && waits f.params.mode)) [
+      elim (cases_Bool (is_open f.status && is_waiting_mode f.params.mode)) [
         | inl t ↦ rw t (fits_ending J f items (and_parts _ _ t).0 h)
         | inr t ↦ rw t h
       ]

@@ -11,7 +11,7 @@ use Rattle.std.proofs.lemmas.List.Elements.{Contains-push, Contains-append_left}
 use Rattle.std.proofs.lemmas.List.Quantifiers.{all_pairs_push}
 use Rattle.hub_model.specs.Current.{Current, current}
 use Rattle.hub_model.specs.Feed.{Status, Feed}
-use Rattle.hub_model.specs.Filter.{passes}
+use Rattle.hub_model.specs.Filter.{is_passing}
 use Rattle.hub_model.specs.declared.feeds.Item.{Item}
 use Rattle.hub_model.specs.declared.feeds.Item.TheVariants.{Row}
 use Rattle.hub_model.specs.Journal.{Edit}
@@ -87,7 +87,7 @@ module _ {R : Type 0} (kind : RowKind R) where
       (place rows : ℕ) (status : Status) →
       RightlyHanded kind journal feed items → rows_of more ≡ [] → feed.place ≤ place → place ≤ length journal
       → IfSome bound (λ b. feed.place ≤ b) → EndsAt place (items ++ more) →
-      ((row : Current) → Contains (current journal) row → IsTrue (passes feed.params.filter row.id)
+      ((row : Current) → Contains (current journal) row → IsTrue (is_passing feed.params.filter row.id)
       → feed.place < row.seq → row.seq ≤ place → ⊥) →
       All (IsAsked feed.params.heartbeat) more →
       RightlyHanded kind journal (moved feed bound place rows status) (items ++ more)
@@ -117,7 +117,7 @@ module _ {R : Type 0} (kind : RowKind R) where
       RightlyHanded kind journal feed items → IsPassingRow kind journal feed row → feed.place < seq
       → seq ≤ length journal →
       IfSome bound (λ b. seq ≤ b) → list_any is_end items ≡ false →
-      ((c : Current) → Contains (current journal) c → IsTrue (passes feed.params.filter c.id)
+      ((c : Current) → Contains (current journal) c → IsTrue (is_passing feed.params.filter c.id)
       → feed.place < c.seq → c.seq ≤ seq → seq ≡ c.seq) →
       IfSome feed.params.limit (λ limit. length (rows_of items) + 1 ≤ max 1 limit) →
       RightlyHanded kind journal (moved feed bound seq rows status) (items ++ Row row ∷ [])

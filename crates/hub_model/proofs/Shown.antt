@@ -10,7 +10,7 @@ use Rattle.hub_model.specs.Revision.{Revision}
 use Rattle.hub_model.specs.Path.{IsFirst, is_first}
 use Rattle.hub_model.specs.Journal.{Edit, IsLegal, edits_of}
 use Rattle.hub_model.specs.Leaves.{HasDoc}
-use Rattle.hub_model.specs.Walk.{IsShown, is_head, shown, shown_of}
+use Rattle.hub_model.specs.Walk.{IsShown, is_head, shown_edit, shown_of}
 use Rattle.hub_model.specs.Current.{Current, IsCurrent, current, current_from, is_edited}
 use Rattle.hub_model.proofs.Lists.{contains_none, contains_here, contains_there, contains_cases}
 use Rattle.hub_model.proofs.Legal.{first_in}
@@ -54,7 +54,7 @@ is_head_from (other ∷ revisions) revision i =
 
 -- what is shown of a revision is so
 pub shown_is : (journal : List Edit) (id : List ℕ) (revision : Revision) (edit : Edit) → IsLegal journal
-    → shown journal id revision ≡ Some edit → IsShown journal id revision edit
+    → shown_edit journal id revision ≡ Some edit → IsShown journal id revision edit
 shown_is journal id revision edit legal h = from (find (is_head revision) (edits_of journal id)) refl h
   where
     from : (maybe_edit : Option Edit) → find (is_head revision) (edits_of journal id) ≡ maybe_edit
@@ -68,7 +68,7 @@ shown_is journal id revision edit legal h = from (find (is_head revision) (edits
         subst (IsShown journal id revision) (same_Some _ edit u)
         (record { named = refl; head = w.0; walk = w.1; doc = (f, p, head, refl, refl) })
 
-pub shown_none : (journal : List Edit) (id : List ℕ) (revision : Revision) → shown journal id revision ≡ None
+pub shown_none : (journal : List Edit) (id : List ℕ) (revision : Revision) → shown_edit journal id revision ≡ None
     → (deleted : Bool) (body : List ℕ) → ¬ HasDoc journal id revision deleted body
 shown_none journal id revision h deleted body d = from (find (is_head revision) (edits_of journal id)) refl h
   where

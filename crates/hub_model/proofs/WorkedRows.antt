@@ -3,8 +3,8 @@ use Rattle.std.proofs.Common.{◌≡◌, ℕ, List, [], ◌∷◌, false, refl}
 use Rattle.std.specs.Prelude.{Some, None, codes}
 use Rattle.hub_model.specs.Revision.{Revision}
 use Rattle.hub_model.specs.Journal.{Edit}
-use Rattle.hub_model.specs.Walk.{shown}
-use Rattle.hub_model.specs.Missing.{Asked, possible_ancestors, wanted}
+use Rattle.hub_model.specs.Walk.{shown_edit}
+use Rattle.hub_model.specs.Missing.{RevisionsOfDoc, possible_ancestors, missing_by_document}
 
 abbrev r : ℕ → List ℕ → Revision
 r n h = record { generation = n; hash = h }
@@ -18,11 +18,11 @@ two =
     doc (codes "a") (r 1 (codes "a") ∷ []) ∷ doc (codes "b") (r 1 (codes "b") ∷ [])
     ∷ doc (codes "a") (r 2 (codes "c") ∷ r 1 (codes "a") ∷ []) ∷ []
 
-abbrev asked : List ℕ → List Revision → Asked
+abbrev asked : List ℕ → List Revision → RevisionsOfDoc
 asked id revs = record { id = id; revs = revs }
 
 -- what is missing of a, b and an unknown document
-missing_rows : wanted two
+missing_rows : missing_by_document two
     (asked (codes "a") (r 1 (codes "a") ∷ r 2 (codes "d") ∷ r 3 (codes "e") ∷ [])
     ∷ asked (codes "b") (r 1 (codes "b") ∷ []) ∷ asked (codes "z") (r 1 (codes "q") ∷ []) ∷ [])
     ≡ asked (codes "a") (r 2 (codes "d") ∷ r 3 (codes "e") ∷ [])
@@ -34,12 +34,12 @@ ancestors_row : possible_ancestors two (codes "a") (r 1 (codes "a") ∷ r 2 (cod
 ancestors_row = refl
 
 -- an ancestor with a body, a leaf with its history, and an unknown revision
-shown_ancestor : shown two (codes "a") (r 1 (codes "a")) ≡ Some (doc (codes "a") (r 1 (codes "a") ∷ []))
+shown_ancestor : shown_edit two (codes "a") (r 1 (codes "a")) ≡ Some (doc (codes "a") (r 1 (codes "a") ∷ []))
 shown_ancestor = refl
 
-shown_leaf : shown two (codes "a") (r 2 (codes "c"))
+shown_leaf : shown_edit two (codes "a") (r 2 (codes "c"))
     ≡ Some (doc (codes "a") (r 2 (codes "c") ∷ r 1 (codes "a") ∷ []))
 shown_leaf = refl
 
-shown_unknown : shown two (codes "a") (r 9 (codes "z")) ≡ None
+shown_unknown : shown_edit two (codes "a") (r 9 (codes "z")) ≡ None
 shown_unknown = refl

@@ -13,8 +13,8 @@ use Rattle.hub_model.specs.Walk.{IsWalk, line_of}
 use Rattle.hub_model.specs.declared.outcomes.Fault.TheVariants.{Contradicts, SequenceFull}
 use Rattle.hub_model.specs.declared.outcomes.Outcome.{Outcome}
 use Rattle.hub_model.specs.declared.outcomes.Outcome.TheVariants.{Stored, Known, Refused}
-use Rattle.hub_model.specs.Outcome.{Stores, adds, merges, Takes, TakesAll, stores_all, merges_all}
-use Rattle.hub_model.specs.Draft.{Draft, parent_of, generation_of, made, edit_of, extended, makes_on, makes}
+use Rattle.hub_model.specs.Outcome.{Stores, addition_result, merge_result, Takes, TakesAll, stores_all, merges_all}
+use Rattle.hub_model.specs.Draft.{Draft, parent_of, generation_of, new_revision, edit_of, extended_path, draft_result_on, draft_result}
 use Rattle.hub_model.proofs.Lists.{contains_here, contains_there}
 use Rattle.hub_model.proofs.Legal.{legal_more, legal_sound}
 use Rattle.hub_model.proofs.Tests.{names_is, acceptable_is, is_acceptable_from, head_known_is}
@@ -35,7 +35,7 @@ path_head [] revision f = absurd f
 path_head (other ∷ revisions) revision f = refl
 
 adds_takes : (limit : ℕ) (journal : List Edit) (edit : Edit) → IsAcceptable journal edit
-    → Takes limit journal edit (adds limit journal edit).outcome (adds limit journal edit).journal
+    → Takes limit journal edit (addition_result limit journal edit).outcome (addition_result limit journal edit).journal
 adds_takes limit journal edit a =
     takes_if limit journal edit (nat_le limit (length journal)) _ _
     (λ t. (a, leb-true limit (length journal) t, refl))
@@ -43,7 +43,7 @@ adds_takes limit journal edit a =
 
 -- storing a replicated edit
 pub merges_takes : (limit : ℕ) (journal : List Edit) (edit : Edit) → IsLegal journal
-    → Takes limit journal edit (merges limit journal edit).outcome (merges limit journal edit).journal
+    → Takes limit journal edit (merge_result limit journal edit).outcome (merge_result limit journal edit).journal
 merges_takes limit journal edit legal =
     takes_if limit journal edit (is_head_known journal edit.id edit.path) _ _
     (λ t. let k = head_known_is journal edit.id edit.path t in (k.0, k.1, k.2, refl))
@@ -66,7 +66,7 @@ takes_legal limit journal edit (Refused SequenceFull) other_journal t h = subst 
 takes_legal limit journal edit (Refused _) other_journal t h = absurd t
 
 pub merges_legal : (limit : ℕ) (journal : List Edit) (edit : Edit) → IsLegal journal
-    → IsLegal (merges limit journal edit).journal
+    → IsLegal (merge_result limit journal edit).journal
 merges_legal limit journal edit h = takes_legal limit journal edit _ _ (merges_takes limit journal edit h) h
 
 -- storing one replicated edit after the other
@@ -74,16 +74,16 @@ pub merges_answer_each : (limit : ℕ) (journal edits : List Edit)
     → length (merges_all limit journal edits).outcomes ≡ length edits
 merges_answer_each limit journal [] = refl
 merges_answer_each limit journal (edit ∷ edits) =
-    ap (λ n. suc n) (merges_answer_each limit (merges limit journal edit).journal edits)
+    ap (λ n. suc n) (merges_answer_each limit (merge_result limit journal edit).journal edits)
 
 pub merges_all_take : (limit : ℕ) (journal edits : List Edit) → IsLegal journal
     → TakesAll limit journal edits (merges_all limit journal edits).outcomes
     (merges_all limit journal edits).journal
 merges_all_take limit journal [] h = refl
 merges_all_take limit journal (edit ∷ edits) h = (
-  (merges limit journal edit).journal,
+  (merge_result limit journal edit).journal,
   merges_takes limit journal edit h,
-  merges_all_take limit (merges limit journal edit).journal edits (merges_legal limit journal edit h),
+  merges_all_take limit (merge_result limit journal edit).journal edits (merges_legal limit journal edit h),
 )
 
 stores_if : (b : Bool) (stores other : Stores) → (b ≡ true → IsLegal stores.journal)
@@ -92,7 +92,7 @@ stores_if true stores other p q = p refl
 stores_if false stores other p q = q refl
 
 adds_legal : (limit : ℕ) (journal : List Edit) (edit : Edit) → IsLegal journal → IsAcceptable journal edit
-    → IsLegal (adds limit journal edit).journal
+    → IsLegal (addition_result limit journal edit).journal
 adds_legal limit journal edit h a = takes_legal limit journal edit _ _ (adds_takes limit journal edit a) h
 
 -- the path that a draft extends is empty, or all that stands behind a known revision
@@ -103,7 +103,7 @@ IsExtended journal id path =
 extended_known : (journal : List Edit) (id : List ℕ) (leaves : List Leaf) (rev : Option Revision)
     (path : List Revision)
     → ((revision : Revision) → names (revisions_of leaves) revision ≡ true → IsKnown journal id revision)
-    → extended journal id leaves rev ≡ Some path → IsExtended journal id path
+    → extended_path journal id leaves rev ≡ Some path → IsExtended journal id path
 extended_known journal id leaves (Some rev) path k e = from (cases_Bool (names (revisions_of leaves) rev))
   where
     from : ((names (revisions_of leaves) rev ≡ true) ⊎ (names (revisions_of leaves) rev ≡ false))
@@ -171,22 +171,22 @@ generation_first (other ∷ revisions) revision i = ap (λ (z : Revision). z.gen
 -- a draft's edit is acceptable where its revision is new
 made_acceptable : (journal : List Edit) (draft : Draft) (path : List Revision) → IsLegal journal
     → IsExtended journal draft.id path
-    → ¬ IsKnown journal draft.id (made draft (parent_of path)) → IsAcceptable journal (edit_of draft path)
+    → ¬ IsKnown journal draft.id (new_revision draft (parent_of path)) → IsAcceptable journal (edit_of draft path)
 made_acceptable journal draft path legal x new = record {
   history = history x;
   new = λ other i k. new (subst (λ revisions. IsKnown journal draft.id revisions) (sym i) k);
-  agrees = tree_with journal (edit_of draft path) (made draft (parent_of path)) legal new path (steps x) refl;
+  agrees = tree_with journal (edit_of draft path) (new_revision draft (parent_of path)) legal new path (steps x) refl;
 }
   where
-    history : IsExtended journal draft.id path → IsHistory (made draft (parent_of path) ∷ path)
+    history : IsExtended journal draft.id path → IsHistory (new_revision draft (parent_of path) ∷ path)
     history (inl e) =
-        subst (λ (revisions : List Revision). IsHistory (made draft (parent_of revisions) ∷ revisions))
+        subst (λ (revisions : List Revision). IsHistory (new_revision draft (parent_of revisions) ∷ revisions))
         (sym e)
         (record { falls = omega arith })
     history (inr (other, k, e)) =
         let w = line_of_walk journal draft.id legal other k in
         let first : IsFirst path other = subst (λ revisions. IsFirst revisions other) (sym e) w.0 in
-        history_on (made draft (parent_of path)) other path
+        history_on (new_revision draft (parent_of path)) other path
         (walk_history journal draft.id (legal_histories journal legal) path other first k
         (subst (λ revisions. IsWalk journal draft.id revisions) (sym e) w.1))
         first (ap (λ (n : ℕ). n + 1) (generation_first path other first))
@@ -200,9 +200,9 @@ made_acceptable journal draft path legal x new = record {
         (line_of_walk journal draft.id legal t k).1) n
 
 pub makes_legal : (limit : ℕ) (journal : List Edit) (draft : Draft) → IsLegal journal
-    → IsLegal (makes limit journal draft).journal
+    → IsLegal (draft_result limit journal draft).journal
 makes_legal limit journal draft h =
-    from (extended journal draft.id (leaves_of journal draft.id) draft.rev) refl
+    from (extended_path journal draft.id (leaves_of journal draft.id) draft.rev) refl
   where
     known : (revision : Revision) → names (revisions_of (leaves_of journal draft.id)) revision ≡ true
         → IsKnown journal draft.id revision
@@ -210,16 +210,16 @@ makes_legal limit journal draft h =
         (leaf_is journal draft.id revision
         (names_is (revisions_of (leaves_of journal draft.id)) revision n)).0
 
-    from : (o : Option (List Revision)) → extended journal draft.id (leaves_of journal draft.id) draft.rev ≡ o
-        → IsLegal (makes_on limit journal draft o).journal
+    from : (o : Option (List Revision)) → extended_path journal draft.id (leaves_of journal draft.id) draft.rev ≡ o
+        → IsLegal (draft_result_on limit journal draft o).journal
     from None e = h
     from (Some path) e =
         stores_if (nat_le 65535 (generation_of (parent_of path))) _ _ (λ t. h) (λ t. stores_if
-        (is_known journal draft.id (made draft (parent_of path))) _ _ (λ u. h)
+        (is_known journal draft.id (new_revision draft (parent_of path))) _ _ (λ u. h)
         (λ u. adds_legal limit journal (edit_of draft path) h
         (made_acceptable journal draft path h
         (extended_known journal draft.id (leaves_of journal draft.id) draft.rev path known e)
-        (λ k. both_ways _ u (is_known_from journal draft.id (made draft (parent_of path)) k)))))
+        (λ k. both_ways _ u (is_known_from journal draft.id (new_revision draft (parent_of path)) k)))))
 
 -- documents one after the other
 pub all_legal : {A : Type 0} (store : List Edit → A → Stores)

@@ -13,7 +13,7 @@ use Rattle.hub_model.specs.Walk.{IsWalk, line_of}
 use Rattle.hub_model.specs.declared.outcomes.Fault.TheVariants.{Conflict, GenerationLimit, SequenceFull}
 use Rattle.hub_model.specs.declared.outcomes.Outcome.{Outcome}
 use Rattle.hub_model.specs.declared.outcomes.Outcome.TheVariants.{Stored, Known, Refused}
-use Rattle.hub_model.specs.Outcome.{Stores, refuses, adds}
+use Rattle.hub_model.specs.Outcome.{Stores, refusal_result, addition_result}
 
 -- an edit before its revision is made. rev names the leaf that it extends
 pub record Draft : Type 0 where
@@ -26,11 +26,11 @@ pub record Draft : Type 0 where
 -- document, and else a deleted winner's. Where the leaves are 2-a, with 1-q behind it, and 1-z, it is
 -- 2-a 1-q for the name 2-a. There is no path for the name 1-q, and none without a name, since the winner 2-a
 -- is not deleted.
-abbrev pub extended : List Edit → List ℕ → List Leaf → Option Revision → Option (List Revision)
-extended journal id leaves (Some rev) =
+abbrev pub extended_path : List Edit → List ℕ → List Leaf → Option Revision → Option (List Revision)
+extended_path journal id leaves (Some rev) =
     if names (revisions_of leaves) rev then Some (line_of journal id rev) else None
-extended journal id [] None = Some []
-extended journal id (winner ∷ others) None =
+extended_path journal id [] None = Some []
+extended_path journal id (winner ∷ others) None =
     if winner.edit.deleted then Some (line_of journal id winner.rev) else None
 
 -- the JSON text of a truth value
@@ -63,8 +63,8 @@ generation_of (Some revision) = revision.generation
 
 -- the draft's revision where it extends this one. A new document x with the body {} gets
 -- 1-6bb47d1c10868be9dedaf96db9579d8b, and behind 1-a it gets 2-7c379ea93cbd7dfe02fff7e52e3793f7.
-abbrev pub made : Draft → Option Revision → Revision
-made draft parent =
+abbrev pub new_revision : Draft → Option Revision → Revision
+new_revision draft parent =
     record { generation = generation_of parent + 1; hash = encode_lower (md5 (draft_text draft parent)) }
 
 -- the edit that a draft becomes where it extends the path
@@ -72,33 +72,33 @@ abbrev pub edit_of : Draft → List Revision → Edit
 edit_of draft path =
     record {
       id = draft.id;
-      path = made draft (parent_of path)
+      path = new_revision draft (parent_of path)
           ∷ path;
       deleted = draft.deleted;
       body = draft.body;
     }
 
 -- what storing it answers where it extends this path
-abbrev pub makes_on : ℕ → List Edit → Draft → Option (List Revision) → Stores
-makes_on limit journal draft None = refuses journal Conflict
-makes_on limit journal draft (Some path) =
-    if nat_le 65535 (generation_of (parent_of path)) then refuses journal GenerationLimit
-    else if is_known journal draft.id (made draft (parent_of path)) then refuses journal Conflict
-    else adds limit journal (edit_of draft path)
+abbrev pub draft_result_on : ℕ → List Edit → Draft → Option (List Revision) → Stores
+draft_result_on limit journal draft None = refusal_result journal Conflict
+draft_result_on limit journal draft (Some path) =
+    if nat_le 65535 (generation_of (parent_of path)) then refusal_result journal GenerationLimit
+    else if is_known journal draft.id (new_revision draft (parent_of path)) then refusal_result journal Conflict
+    else addition_result limit journal (edit_of draft path)
 
 -- what storing it answers, and the journal after it. After an edit with the path 2-b 1-a a draft that names
 -- 1-a is refused as a Conflict (proved: `WritesAnswer`); one that names 2-b is stored, with a revision of
 -- generation 3.
-abbrev pub makes : ℕ → List Edit → Draft → Stores
-makes limit journal draft =
-    makes_on limit journal draft (extended journal draft.id (leaves_of journal draft.id) draft.rev)
+abbrev pub draft_result : ℕ → List Edit → Draft → Stores
+draft_result limit journal draft =
+    draft_result_on limit journal draft (extended_path journal draft.id (leaves_of journal draft.id) draft.rev)
 
 -- There is a path that the draft extends and a generation behind it, so that its revision is to be made: a
 -- draft without `_rev` has one where its document is unknown or its winner deleted, and none where a winner
 -- stands.
 abbrev pub HasNextRevision : List Edit → Draft → Type 0
 HasNextRevision journal draft =
-    (path : List Revision) × (extended journal draft.id (leaves_of journal draft.id) draft.rev ≡ Some path)
+    (path : List Revision) × (extended_path journal draft.id (leaves_of journal draft.id) draft.rev ≡ Some path)
     × (generation_of (parent_of path) < 65535)
 
 -- path is what a draft that names this revision extends, or one that names none. After an edit with the path
@@ -117,19 +117,19 @@ abbrev pub Makes : ℕ → List Edit → Draft → Outcome Revision → List Edi
 Makes limit journal draft (Stored r) new =
     (path : List Revision) × Extends journal draft.id draft.rev path
     × (generation_of (parent_of path) < 65535)
-    × (r ≡ made draft (parent_of path)) × (¬ IsKnown journal draft.id r) × (length journal < limit)
+    × (r ≡ new_revision draft (parent_of path)) × (¬ IsKnown journal draft.id r) × (length journal < limit)
     × (new ≡ journal ++ edit_of draft path ∷ [])
 Makes limit journal draft Known new = ⊥
 Makes limit journal draft (Refused Conflict) new =
     (((path : List Revision) → ¬ Extends journal draft.id draft.rev path)
     ⊎ ((path : List Revision) × Extends journal draft.id draft.rev path
     × (generation_of (parent_of path) < 65535)
-    × IsKnown journal draft.id (made draft (parent_of path)))) × (new ≡ journal)
+    × IsKnown journal draft.id (new_revision draft (parent_of path)))) × (new ≡ journal)
 Makes limit journal draft (Refused GenerationLimit) new =
     (path : List Revision) × Extends journal draft.id draft.rev path
     × (65535 ≤ generation_of (parent_of path)) × (new ≡ journal)
 Makes limit journal draft (Refused SequenceFull) new =
     (path : List Revision) × Extends journal draft.id draft.rev path
     × (generation_of (parent_of path) < 65535)
-    × (¬ IsKnown journal draft.id (made draft (parent_of path))) × (limit ≤ length journal) × (new ≡ journal)
+    × (¬ IsKnown journal draft.id (new_revision draft (parent_of path))) × (limit ≤ length journal) × (new ≡ journal)
 Makes limit journal draft (Refused _) new = ⊥

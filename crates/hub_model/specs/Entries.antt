@@ -17,8 +17,8 @@ entry_in number entries = option_map (λ p. p.1) (find (is_of number) entries)
 
 -- the entries, where the change is made to that of this number. Of (3, x) and (5, y), changed at 5, it is
 -- (3, x) and (5, y) changed; changed at 4 it is the entries as they are.
-abbrev pub changed : {A : Type 0} → ℕ → (A → A) → List (ℕ × A) → List (ℕ × A)
-changed number change entries = map (λ p. if is_of number p then (p.0, change p.1) else p) entries
+abbrev pub with_change : {A : Type 0} → ℕ → (A → A) → List (ℕ × A) → List (ℕ × A)
+with_change number change entries = map (λ p. if is_of number p then (p.0, change p.1) else p) entries
 
 -- the entries but for that of this number
 abbrev pub without : {A : Type 0} → ℕ → List (ℕ × A) → List (ℕ × A)

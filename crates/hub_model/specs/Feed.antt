@@ -8,7 +8,7 @@ use Rattle.hub_model.specs.declared.feeds.Mode.TheVariants.{Normal, Longpoll, Co
 use Rattle.hub_model.specs.declared.feeds.Since.{Since}
 use Rattle.hub_model.specs.declared.feeds.Since.TheVariants.{Now, Plain, Tagged}
 use Rattle.hub_model.specs.declared.feeds.Style.{Style}
-use Rattle.hub_model.specs.Filter.{Filter, passes}
+use Rattle.hub_model.specs.Filter.{Filter, is_passing}
 
 -- what a subscriber asks for
 pub record Params : Type 0 where
@@ -58,8 +58,8 @@ bound_of Longpoll len = None
 bound_of Continuous len = None
 
 -- a feed that is opened while there are len edits of this life
-abbrev pub begin : Params → (len life : ℕ) → Feed
-begin params len life = record {
+abbrev pub new_feed : Params → (len life : ℕ) → Feed
+new_feed params len life = record {
   params = params;
   since = since_of params.since len life;
   bound = bound_of params.mode len;
@@ -77,7 +77,7 @@ is_within (Some bound) n = nat_le n bound
 -- filter the rows at 4 and 8 are in reach, those at 3 and 9 are not.
 abbrev pub is_in_reach : Feed → Current → Bool
 is_in_reach feed row =
-    nat_lt feed.place row.seq && (is_within feed.bound row.seq && passes feed.params.filter row.id)
+    nat_lt feed.place row.seq && (is_within feed.bound row.seq && is_passing feed.params.filter row.id)
 
 -- what a feed has to hand next
 pub data Due : Type 0 where
@@ -87,24 +87,24 @@ pub data Due : Type 0 where
   DueGone : Due
 
 -- of an open feed: the first row in reach, else an End at the bound, if there is one
-abbrev pub due_open : Option Current → Option ℕ → Due
-due_open (Some row) bound = DueRow row
-due_open None (Some bound) = DueEnd bound
-due_open None None = DueNothing
+abbrev pub due_while_open : Option Current → Option ℕ → Due
+due_while_open (Some row) bound = DueRow row
+due_while_open None (Some bound) = DueEnd bound
+due_while_open None None = DueNothing
 
 -- what is due to a feed by its status: only an open one is given rows, one that is ending has its
 -- End left, at its place, and behind that nothing comes
-abbrev pub due_at : Status → List Current → Feed → Due
-due_at Open rows feed = due_open (find (is_in_reach feed) rows) feed.bound
-due_at Ending rows feed = DueEnd feed.place
-due_at Ended rows feed = DueGone
-due_at Finished rows feed = DueGone
+abbrev pub due_by_status : Status → List Current → Feed → Due
+due_by_status Open rows feed = due_while_open (find (is_in_reach feed) rows) feed.bound
+due_by_status Ending rows feed = DueEnd feed.place
+due_by_status Ended rows feed = DueGone
+due_by_status Finished rows feed = DueGone
 
 -- what a feed has to hand next, of these current rows. For an open feed at place 3 with bound 8, of rows
 -- at 2, 6 and 9: the row at 6. Of rows at 2 and 9: an End at 8. Without the bound it is the row at 9, and of
 -- the row at 2 alone nothing is due.
-abbrev pub due : List Current → Feed → Due
-due rows feed = due_at feed.status rows feed
+abbrev pub next_due : List Current → Feed → Due
+next_due rows feed = due_by_status feed.status rows feed
 
 -- a longpoll feed takes its bound at its first row. Where it hands that row while there are 4 edits, its
 -- bound is 4 from then on (proved: `LongpollWaits`).
@@ -140,11 +140,11 @@ abbrev pub after_nothing : Feed → ℕ → Feed
 after_nothing feed len = record feed { place = len }
 
 -- the feed once it handed what was due, or was found to have nothing to hand, while there are len edits
-abbrev pub after_due : Feed → Due → ℕ → Feed
-after_due feed (DueRow c) len = after_row feed c.seq len
-after_due feed (DueEnd last_seq) len = after_end feed last_seq
-after_due feed DueNothing len = after_nothing feed len
-after_due feed DueGone len = feed
+abbrev pub feed_after_due : Feed → Due → ℕ → Feed
+feed_after_due feed (DueRow c) len = after_row feed c.seq len
+feed_after_due feed (DueEnd last_seq) len = after_end feed last_seq
+feed_after_due feed DueNothing len = after_nothing feed len
+feed_after_due feed DueGone len = feed
 
 -- whether its End was handed, or it was dropped
 abbrev pub is_over : Status → Bool
@@ -161,20 +161,20 @@ is_open Ended = false
 is_open Finished = false
 
 -- whether such a feed waits for edits to come
-abbrev pub waits : Mode → Bool
-waits Normal = false
-waits Longpoll = true
-waits Continuous = true
+abbrev pub is_waiting_mode : Mode → Bool
+is_waiting_mode Normal = false
+is_waiting_mode Longpoll = true
+is_waiting_mode Continuous = true
 
 -- whether a heartbeat may be handed. For an open continuous feed that asks for heartbeats it may; for a
 -- normal feed it never may, and for one that does not ask neither (proved: `BeatsAreAsked`).
-abbrev pub beat_due : Feed → Bool
-beat_due feed = is_open feed.status && (waits feed.params.mode && feed.params.heartbeat)
+abbrev pub is_beat_allowed : Feed → Bool
+is_beat_allowed feed = is_open feed.status && (is_waiting_mode feed.params.mode && feed.params.heartbeat)
 
 -- The feed once its time is over: an open feed that waits is ending, another stays as it is. So a longpoll
 -- feed at place 3 has an End at 3 left, and a normal feed goes on with its rows (proved: `TimeEnds`).
-abbrev pub expire : Feed → Feed
-expire feed = if is_open feed.status && waits feed.params.mode then record feed { status = Ending } else feed
+abbrev pub expired_feed : Feed → Feed
+expired_feed feed = if is_open feed.status && is_waiting_mode feed.params.mode then record feed { status = Ending } else feed
 
 -- The feed once its database is deleted: an open feed is ending. So one that handed the row at 2 of three
 -- has an End at 2 left, with 1 pending (proved: `DeletionEnds`).
@@ -182,5 +182,5 @@ abbrev pub end : Feed → Feed
 end feed = if is_open feed.status then record feed { status = Ending } else feed
 
 -- the feed once its subscriber is gone: nothing more is due to it
-abbrev pub finish : Feed → Feed
-finish feed = record feed { status = Finished }
+abbrev pub finished_feed : Feed → Feed
+finished_feed feed = record feed { status = Finished }

@@ -2,10 +2,10 @@
 -- _db_updates).
 use Rattle.std.specs.Prelude.{◌≡◌, ◌≤◌, ℕ, List, [], ◌∷◌, ◌++◌, length, max, true, Some}
 use Rattle.hub_model.specs.Journal.{Edit}
-use Rattle.hub_model.specs.Feed.{Params, Feed, Open, DueNothing, begin}
-use Rattle.hub_model.specs.Feed.{after_due, after_nothing, beat_due, expire}
-use Rattle.hub_model.specs.Feed.{end, finish}
-use Rattle.hub_model.specs.Hand.{due_in, due_item}
+use Rattle.hub_model.specs.Feed.{Params, Feed, Open, DueNothing, new_feed}
+use Rattle.hub_model.specs.Feed.{feed_after_due, after_nothing, is_beat_allowed, expired_feed}
+use Rattle.hub_model.specs.Feed.{end, finished_feed}
+use Rattle.hub_model.specs.Hand.{journal_due, next_item}
 use Rattle.hub_model.specs.RowKind.{RowKind}
 use Rattle.hub_model.specs.declared.feeds.Item.{Item}
 use Rattle.hub_model.specs.declared.feeds.Item.TheVariants.{Beat}
@@ -16,7 +16,7 @@ module _ {R : Type 0} (kind : RowKind R) where
   abbrev pub OpenedFits : Type 0
   OpenedFits =
       (journal : List Edit) (params : Params) (life : ℕ)
-      → Fits kind journal (begin params (length journal) life) []
+      → Fits kind journal (new_feed params (length journal) life) []
 
   -- A list goes on fitting when the journal gets more edits. Where the row at 3 was handed and its document
   -- is edited again at 9, that row stays right: it was current when it was made.
@@ -30,28 +30,28 @@ module _ {R : Type 0} (kind : RowKind R) where
   abbrev pub HandedFits : Type 0
   HandedFits =
       (journal : List Edit) (feed : Feed) (items : List (Item R)) (item : Item R)
-      → due_item kind journal feed ≡ Some item
+      → next_item kind journal feed ≡ Some item
       → Fits kind journal feed items
-      → Fits kind journal (after_due feed (due_in journal feed) (length journal)) (items ++ item ∷ [])
+      → Fits kind journal (feed_after_due feed (journal_due journal feed) (length journal)) (items ++ item ∷ [])
 
   -- A list goes on fitting a feed that was found to have nothing to hand: while there are 5 edits its place
   -- is 5 from then on, and each row up to there that passes was handed.
   abbrev pub WaitingFits : Type 0
   WaitingFits =
-      (journal : List Edit) (feed : Feed) (items : List (Item R)) → due_in journal feed ≡ DueNothing
+      (journal : List Edit) (feed : Feed) (items : List (Item R)) → journal_due journal feed ≡ DueNothing
       → Fits kind journal feed items → Fits kind journal (after_nothing feed (length journal)) items
 
   -- with a heartbeat at its end a list fits the feed, where one may be handed
   abbrev pub BeatFits : Type 0
   BeatFits =
-      (journal : List Edit) (feed : Feed) (items : List (Item R)) → beat_due feed ≡ true
+      (journal : List Edit) (feed : Feed) (items : List (Item R)) → is_beat_allowed feed ≡ true
       → Fits kind journal feed items → Fits kind journal feed (items ++ Beat ∷ [])
 
   -- a list goes on fitting the feed when its time is over
   abbrev pub ExpiredFits : Type 0
   ExpiredFits =
       (journal : List Edit) (feed : Feed) (items : List (Item R)) → Fits kind journal feed items
-      → Fits kind journal (expire feed) items
+      → Fits kind journal (expired_feed feed) items
 
   -- a list goes on fitting the feed when its database is deleted
   abbrev pub EndedFits : Type 0
@@ -63,7 +63,7 @@ module _ {R : Type 0} (kind : RowKind R) where
   abbrev pub FinishedFits : Type 0
   FinishedFits =
       (journal : List Edit) (feed : Feed) (items : List (Item R)) → Fits kind journal feed items
-      → Fits kind journal (finish feed) items
+      → Fits kind journal (finished_feed feed) items
 
   -- a feed that has handed as many rows as it may is not open: with a limit of 3, after the third
   -- row nothing but its End is left to hand

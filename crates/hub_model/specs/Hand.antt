@@ -4,30 +4,30 @@ use Rattle.hub_model.specs.Journal.{Edit}
 use Rattle.hub_model.specs.Current.{Current, current, pending}
 use Rattle.hub_model.specs.Row.{ChangeRow}
 use Rattle.hub_model.specs.RowKind.{RowKind, change_rows}
-use Rattle.hub_model.specs.Feed.{Feed, Due, DueRow, DueEnd, DueNothing, DueGone, due}
+use Rattle.hub_model.specs.Feed.{Feed, Due, DueRow, DueEnd, DueNothing, DueGone, next_due}
 use Rattle.hub_model.specs.declared.feeds.Item.{Item}
 use Rattle.hub_model.specs.declared.feeds.Item.TheVariants.{Row, End}
 
 -- The item that is due, of these current rows; `show` makes of a current row what is handed. An End says how
 -- many rows lie above it: with current rows at 3 and 5, an End at 3 is pending 1.
-abbrev pub item_of : {R : Type 0} → (Current → R) → List Current → Due → Option (Item R)
-item_of show rows (DueRow c) = Some (Row (show c))
-item_of show rows (DueEnd last_seq) = Some (End last_seq (pending rows last_seq))
-item_of show rows DueNothing = None
-item_of show rows DueGone = None
+abbrev pub item_of_due : {R : Type 0} → (Current → R) → List Current → Due → Option (Item R)
+item_of_due show rows (DueRow c) = Some (Row (show c))
+item_of_due show rows (DueEnd last_seq) = Some (End last_seq (pending rows last_seq))
+item_of_due show rows DueNothing = None
+item_of_due show rows DueGone = None
 
 -- what is due to a feed of a journal
-abbrev pub due_in : List Edit → Feed → Due
-due_in journal feed = due (current journal) feed
+abbrev pub journal_due : List Edit → Feed → Due
+journal_due journal feed = next_due (current journal) feed
 
 -- the item that a feed of these edits has to hand, if there is one. After edits of a, b and then a again it
 -- is the row of b at 2 for a new normal feed after 0, and an End at 3 with 0 pending once the row of a at 3
 -- was handed (proved: `AgainIsLater`).
-abbrev pub due_item : {R : Type 0} → RowKind R → List Edit → Feed → Option (Item R)
-due_item kind journal feed =
-    item_of (kind.shown journal feed.params.style feed.params.include_docs) (current journal)
-    (due_in journal feed)
+abbrev pub next_item : {R : Type 0} → RowKind R → List Edit → Feed → Option (Item R)
+next_item kind journal feed =
+    item_of_due (kind.shown journal feed.params.style feed.params.include_docs) (current journal)
+    (journal_due journal feed)
 
 -- the item that a feed of a database's changes has to hand, if there is one
-abbrev pub change_due : List Edit → Feed → Option (Item ChangeRow)
-change_due journal feed = due_item change_rows journal feed
+abbrev pub next_change : List Edit → Feed → Option (Item ChangeRow)
+next_change journal feed = next_item change_rows journal feed

@@ -16,13 +16,13 @@ pub record Stores : Type 0 where
   pub journal : List Edit
 
 -- the document is refused, and the journal stays
-abbrev pub refuses : List Edit → Fault → Stores
-refuses journal fault = record { outcome = Refused fault; journal = journal }
+abbrev pub refusal_result : List Edit → Fault → Stores
+refusal_result journal fault = record { outcome = Refused fault; journal = journal }
 
 -- the edit is added, where the journal has less than `limit` edits
-abbrev pub adds : ℕ → List Edit → Edit → Stores
-adds limit journal edit =
-    if nat_le limit (length journal) then refuses journal SequenceFull
+abbrev pub addition_result : ℕ → List Edit → Edit → Stores
+addition_result limit journal edit =
+    if nat_le limit (length journal) then refusal_result journal SequenceFull
     else record {
       outcome = Stored (unwrap_or (head_of edit) (record { generation = 0; hash = [] }));
       journal = journal ++ edit ∷ [];
@@ -30,11 +30,11 @@ adds limit journal edit =
 
 -- an edit with its history, as a replicator sends it (new_edits=false). After an edit with the path 2-b 1-a
 -- the same one is Known, and one with 3-w 2-b 1-q Contradicts (proved: `WritesAnswer`).
-abbrev pub merges : ℕ → List Edit → Edit → Stores
-merges limit journal edit =
+abbrev pub merge_result : ℕ → List Edit → Edit → Stores
+merge_result limit journal edit =
     if is_head_known journal edit.id edit.path then record { outcome = Known; journal = journal }
-    else if is_acceptable journal edit then adds limit journal edit
-    else refuses journal Contradicts
+    else if is_acceptable journal edit then addition_result limit journal edit
+    else refusal_result journal Contradicts
 
 -- The same as a relation: after journal the edit may come out so and leave the journal so. After an edit
 -- with the path 2-b 1-a one with 3-w 2-b 1-a may come out as Stored 3-w, and where there is no room as
@@ -79,4 +79,4 @@ stores_all store false journal (x ∷ xs) =
 -- edits with their histories, one after the other. Of the paths 2-b, 3-c, 3-c 2-b and 4-d 3-c 2-b of one
 -- document it stores all but the third, which is Known (proved: `LateIsStored`).
 abbrev pub merges_all : ℕ → List Edit → List Edit → StoresAll
-merges_all limit journal edits = stores_all (merges limit) false journal edits
+merges_all limit journal edits = stores_all (merge_result limit) false journal edits

@@ -8,7 +8,7 @@ use Rattle.hub_model.specs.Journal.{Edit}
 use Rattle.hub_model.specs.Current.{Current, current}
 use Rattle.hub_model.specs.Row.{ChangeRow}
 use Rattle.hub_model.specs.RowKind.{RowKind}
-use Rattle.hub_model.specs.Filter.{passes}
+use Rattle.hub_model.specs.Filter.{is_passing}
 use Rattle.hub_model.specs.Feed.{Feed, Open, is_over}
 use Rattle.hub_model.specs.declared.feeds.Item.{Item}
 use Rattle.hub_model.specs.declared.feeds.Item.TheVariants.{Row, Beat, End}
@@ -60,7 +60,7 @@ module _ {R : Type 0} (kind : RowKind R) where
   abbrev pub IsPassingRow : List Edit → Feed → R → Type 0
   IsPassingRow journal feed row = (c : Current) × Contains (current journal) c
       × (row ≡ kind.shown journal feed.params.style feed.params.include_docs c)
-      × IsTrue (passes feed.params.filter c.id)
+      × IsTrue (is_passing feed.params.filter c.id)
 
   -- the row is one of the feed's, and was current when there were `seen` edits. After edits of a, b and then
   -- a again, a row of a at 1 seen at 1 is one for a feed after 0 with place 1. With seen 3 it is none, since
@@ -82,7 +82,7 @@ module _ {R : Type 0} (kind : RowKind R) where
     pub to_length : feed.place ≤ length journal
     pub ends : EndsAt feed.place items
     -- no current row that passes is left out between since and the place
-    pub whole : (row : Current) → Contains (current journal) row → IsTrue (passes feed.params.filter row.id)
+    pub whole : (row : Current) → Contains (current journal) row → IsTrue (is_passing feed.params.filter row.id)
         → feed.since < row.seq
         → row.seq ≤ feed.place → Contains (seqs_of items) row.seq
     pub limited : IfSome feed.params.limit (λ limit. length (rows_of items) ≤ max 1 limit)

@@ -32,8 +32,8 @@ five_edits =
     ∷ doc (codes "a") (rev 3 (codes "a") ∷ rev 2 (codes "a") ∷ rev 1 (codes "a") ∷ []) ∷ []
 
 -- everything after where it begins, so many rows at most
-abbrev pub asked : Since → Option ℕ → Params
-asked since limit =
+abbrev pub normal_params : Since → Option ℕ → Params
+normal_params since limit =
     record {
       mode = Normal;
       since = since;
@@ -45,16 +45,16 @@ asked since limit =
     }
 
 -- how a document of one leaf is shown in that journal
-abbrev pub shown : ℕ → List ℕ → Revision → ChangeRow
-shown seq id winner =
+abbrev pub leaf_row : ℕ → List ℕ → Revision → ChangeRow
+leaf_row seq id winner =
     record { seq = seq; id = id; changes = winner ∷ []; deleted = false; doc = None; seen = 5 }
 
 -- after 2: a at 5, then c at 3, and nothing between
 abbrev pub FallsAfterTwo : Type 0
 FallsAfterTwo =
-    descending five_edits 1 (asked (Plain 2) None)
+    descending five_edits 1 (normal_params (Plain 2) None)
     ≡ record {
-      rows = shown 5 (codes "a") (rev 3 (codes "a")) ∷ shown 3 (codes "c") (rev 1 (codes "c"))
+      rows = leaf_row 5 (codes "a") (rev 3 (codes "a")) ∷ leaf_row 3 (codes "c") (rev 1 (codes "c"))
           ∷ [];
       last_seq = 3;
       pending = 0;
@@ -64,20 +64,20 @@ FallsAfterTwo =
 -- after a sequence above the journal: no row, and the journal's length
 abbrev pub FallsAfterAll : Type 0
 FallsAfterAll =
-    descending five_edits 1 (asked (Plain 9) None)
+    descending five_edits 1 (normal_params (Plain 9) None)
     ≡ record { rows = []; last_seq = 5; pending = 0; life = 1 }
 
 -- after 2 of its own life it is the same; 2 of another life counts as 0, and all rows are shown
 abbrev pub FallsByLife : Type 0
 FallsByLife =
-    (descending five_edits 1 (asked (Tagged 2 1) None) ≡ descending five_edits 1 (asked (Plain 2) None))
-    × (descending five_edits 1 (asked (Tagged 2 7) None) ≡ descending five_edits 1 (asked (Plain 0) None))
+    (descending five_edits 1 (normal_params (Tagged 2 1) None) ≡ descending five_edits 1 (normal_params (Plain 2) None))
+    × (descending five_edits 1 (normal_params (Tagged 2 7) None) ≡ descending five_edits 1 (normal_params (Plain 0) None))
 
 -- a limit of 0 acts as 1: b and c are left out
 abbrev pub FallsOnce : Type 0
 FallsOnce =
-    descending five_edits 1 (asked (Plain 0) (Some 0))
-    ≡ record { rows = shown 5 (codes "a") (rev 3 (codes "a")) ∷ []; last_seq = 5; pending = 2; life = 1 }
+    descending five_edits 1 (normal_params (Plain 0) (Some 0))
+    ≡ record { rows = leaf_row 5 (codes "a") (rev 3 (codes "a")) ∷ []; last_seq = 5; pending = 2; life = 1 }
 
 -- that this happened to the database d
 abbrev pub of_d : UpdateKind → Note

@@ -3,7 +3,7 @@ use Rattle.std.specs.Prelude.{◌≡◌, ℕ, List, [], ◌∷◌, false, Some, 
 use Rattle.hub_model.specs.Revision.{Revision}
 use Rattle.hub_model.specs.Journal.{Edit}
 use Rattle.hub_model.specs.Leaves.{leaves_of, revisions_of}
-use Rattle.hub_model.specs.Walk.{line_of, shown}
+use Rattle.hub_model.specs.Walk.{line_of, shown_edit}
 use Rattle.hub_model.specs.Outcome.{StoresAll, merges_all}
 use Rattle.hub_model.specs.declared.outcomes.Fault.TheVariants.{Contradicts}
 use Rattle.hub_model.specs.declared.outcomes.Outcome.TheVariants.{Stored, Known, Refused}
@@ -43,7 +43,7 @@ LateIsJoined =
     (revisions_of (leaves_of (edit (b2 ∷ []) ∷ edit (c3 ∷ []) ∷ []) (codes "x")) ≡ c3 ∷ b2 ∷ [])
     × (revisions_of (leaves_of late_journal (codes "x")) ≡ d4 ∷ [])
     × (line_of late_journal (codes "x") c3 ≡ c3 ∷ b2 ∷ [])
-    × (shown late_journal (codes "x") c3 ≡ Some (edit (c3 ∷ b2 ∷ [])))
+    × (shown_edit late_journal (codes "x") c3 ≡ Some (edit (c3 ∷ b2 ∷ [])))
 
 -- 5-e alone, 5-e with 4-d, which is known; 6-f with both, and 6-h with another one behind 5-e
 abbrev pub partial_edits : List Edit

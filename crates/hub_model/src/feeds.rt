@@ -1,7 +1,7 @@
 //! The words of feeds that code and definitions share (CouchDB API reference, `_changes`).
 
 ghost use Rattle.std.specs.Prelude.{◌≡◌};
-ghost use Rattle.hub_model.specs.Feed.{since_of, waits};
+ghost use Rattle.hub_model.specs.Feed.{since_of, is_waiting_mode};
 ghost use Rattle.hub_model.specs.RightlyHanded.{is_end};
 
 use crate::by_mode;
@@ -20,7 +20,7 @@ pub enum Mode {
 impl Mode {
     /// Whether such a feed waits for edits to come.
     pub fn waits(self) -> bool
-        ensures { result ≡ waits self }
+        ensures { result ≡ is_waiting_mode self }
     {
         by_mode!(
             self,

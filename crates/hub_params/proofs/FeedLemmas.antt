@@ -3,7 +3,7 @@ use Rattle.std.proofs.Common.{◌≡◌, ◌⊎◌, inl, inr, ℕ, List, Option,
 use Rattle.hub_filter.specs.Listed.{in_order}
 use Rattle.hub_model.specs.Filter.{Filter, DocIds}
 use Rattle.hub_model.specs.declared.feeds.Mode.{Mode}
-use Rattle.hub_params.specs.Encoded.{decoded}
+use Rattle.hub_params.specs.Encoded.{decoded_text}
 use Rattle.hub_params.specs.FeedParams.{FeedAsked, or_fault, or_stop, filter_in}
 use Rattle.hub_params.specs.ListedIds.{ids_in}
 use Rattle.hub_params.specs.Room.{or_next}
@@ -46,8 +46,8 @@ pub staged_ok : (a : Result Rows ParamFault) (b : Result Kind ParamFault)
 staged_ok a b f w g rows kind filter waits flags ea eb ef ew eg = rw (ea, eb, ef, ew, eg) refl
 
 -- the texts of values that are written alike
-pub read : {a b : Option (List ℕ)} → a ≡ b → option_map decoded a ≡ option_map decoded b
-read e = ap (option_map decoded) e
+pub read : {a b : Option (List ℕ)} → a ≡ b → option_map decoded_text a ≡ option_map decoded_text b
+read e = ap (option_map decoded_text) e
 
 -- a function of two and of three texts, at equal texts
 pub at_two : {R : Type 0} (f : Option (List ℕ) → Option (List ℕ) → R) (a a' b b' : Option (List ℕ)) (r : R)

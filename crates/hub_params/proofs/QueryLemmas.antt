@@ -4,7 +4,7 @@ use Rattle.std.proofs.lemmas.List.Elements.{All-head, All-rest}
 use Rattle.std.specs.Option.{option_or}
 use Rattle.std.specs.Str.{bytes_eq}
 use Rattle.form_urlencoded.specs.Form.{raw_pairs, IsPlainText}
-use Rattle.hub_params.specs.Encoded.{decoded}
+use Rattle.hub_params.specs.Encoded.{decoded_text}
 use Rattle.hub_params.specs.Query.{last_of, written_of}
 use Rattle.hub_params.specs.Room.{HasEscapedName}
 
@@ -18,10 +18,10 @@ or_assoc (Some x) b c = refl
 
 -- one more pair is read
 last_with_step : (wanted name value : List ℕ) (left : List (List ℕ × List ℕ)) (kept : Option (List ℕ))
-    → last_with wanted left (option_or (if bytes_eq (decoded name) wanted then Some value else None) kept)
+    → last_with wanted left (option_or (if bytes_eq (decoded_text name) wanted then Some value else None) kept)
     ≡ last_with wanted ((name, value) ∷ left) kept
 last_with_step wanted name value left kept =
-    or_assoc (last_of wanted left) (if bytes_eq (decoded name) wanted then Some value else None) kept
+    or_assoc (last_of wanted left) (if bytes_eq (decoded_text name) wanted then Some value else None) kept
 
 -- all pairs are left, and none was kept
 pub read_none : (wanted query : List ℕ) (left : List (List ℕ × List ℕ)) → left ≡ raw_pairs query
@@ -36,7 +36,7 @@ read_none wanted query left e = rw e (or_none (written_of wanted query))
 pub read_one : (wanted name value text : List ℕ) (left rest : List (List ℕ × List ℕ))
     (kept next whole : Option (List ℕ))
     → left ≡ (name, value) ∷ rest
-    → text ≡ decoded name → next ≡ option_or (if bytes_eq text wanted then Some value else None) kept
+    → text ≡ decoded_text name → next ≡ option_or (if bytes_eq text wanted then Some value else None) kept
     → last_with wanted left kept ≡ whole → last_with wanted rest next ≡ whole
 read_one wanted name value text left rest kept next whole e t n h =
     rw (n, t, last_with_step wanted name value rest kept) (rw e at h)

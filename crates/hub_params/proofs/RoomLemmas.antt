@@ -10,7 +10,7 @@ use Rattle.json.specs.Lex.{punctuate, lex}
 use Rattle.form_urlencoded.specs.Percent.{percent_decode}
 use Rattle.serde_json.specs.Data.{Data}
 use Rattle.hub_document.specs.Read.{json_of}
-use Rattle.hub_params.specs.Encoded.{decoded, text_in}
+use Rattle.hub_params.specs.Encoded.{decoded_text, text_in}
 use Rattle.hub_params.specs.Room.{HasBytes}
 
 -- whatever the error
@@ -19,11 +19,11 @@ at_any_error (Ok x) P p = tt
 at_any_error (Err e) P p = p e
 
 -- nothing stands for nothing
-decoded_nil : decoded [] ≡ []
+decoded_nil : decoded_text [] ≡ []
 unfolding percent_decode utf8_lossy
 decoded_nil = refl
 
-bytes_of_text : (written : List ℕ) → 0 < length (decoded written) → 0 < length written
+bytes_of_text : (written : List ℕ) → 0 < length (decoded_text written) → 0 < length written
 bytes_of_text [] h = rw decoded_nil at h
 bytes_of_text (x ∷ xs) h = omega arith
 

@@ -7,9 +7,9 @@ use Rattle.std.specs.Str.Lossy.{utf8_lossy}
 use Rattle.form_urlencoded.specs.Form.{decode}
 
 -- the text that a written name or value stands for
-abbrev pub decoded : List ℕ → List ℕ
-decoded written = utf8_lossy (decode written)
+abbrev pub decoded_text : List ℕ → List ℕ
+decoded_text written = utf8_lossy (decode written)
 
 -- the text of a value, where there is one
 abbrev pub text_in : Option (Bor (List ℕ)) → Option (List ℕ)
-text_in value = option_map decoded (option_copied value)
+text_in value = option_map decoded_text (option_copied value)

@@ -2,7 +2,7 @@
 -- the faults is own).
 use Rattle.std.specs.Prelude.{ℕ, List, codes, Bool, ◌&&◌, not, Option, Some, None, Result, Ok, Err}
 use Rattle.hub_filter.specs.Listed.{in_order}
-use Rattle.hub_model.specs.Feed.{waits}
+use Rattle.hub_model.specs.Feed.{is_waiting_mode}
 use Rattle.hub_model.specs.Filter.{Filter, Everything, DocIds, Design}
 use Rattle.hub_model.specs.declared.feeds.Mode.{Mode}
 use Rattle.hub_model.specs.declared.feeds.Style.{Style}
@@ -80,7 +80,7 @@ waits_in heartbeat timeout =
 -- `descending`, `include_docs`: only a feed that ends at once, and waits for nothing, goes downwards
 abbrev pub flags_in : Mode → Option (List ℕ) → Option (List ℕ) → Result Flags ParamFault
 flags_in mode descending include_docs =
-    or_fault (if_holds (not (is_value (codes "true") descending && waits mode))) DescendingMode (λ _.
+    or_fault (if_holds (not (is_value (codes "true") descending && is_waiting_mode mode))) DescendingMode (λ _.
     or_fault (flag_in descending) BadFlag (λ descending.
     or_fault (flag_in include_docs) BadFlag (λ include_docs.
     Ok (record { descending = descending; include_docs = include_docs }))))

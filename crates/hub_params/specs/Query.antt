@@ -4,14 +4,14 @@ use Rattle.std.specs.Option.{option_or}
 use Rattle.std.specs.Str.{bytes_eq}
 use Rattle.std.specs.Str.Lossy.{utf8_lossy}
 use Rattle.form_urlencoded.specs.Form.{parse, raw_pairs}
-use Rattle.hub_params.specs.Encoded.{decoded}
+use Rattle.hub_params.specs.Encoded.{decoded_text}
 
 -- the value of the last pair whose name is decoded to this one, as it is written. Of the pairs of
 -- a=1&b=2&%61=%33 the name a has %33, since %61 is decoded to a.
 abbrev pub last_of : List ℕ → List (List ℕ × List ℕ) → Option (List ℕ)
 last_of name [] = None
 last_of name (p ∷ pairs) =
-    option_or (last_of name pairs) (if bytes_eq (decoded p.0) name then Some p.1 else None)
+    option_or (last_of name pairs) (if bytes_eq (decoded_text p.0) name then Some p.1 else None)
 
 -- the value that a query gives a name, as it is written: of a repeated name the last. a=1&b=2&a=%33 gives
 -- the name a the value %33, and the name c none.
@@ -20,7 +20,7 @@ written_of name query = last_of name (raw_pairs query)
 
 -- the same value, decoded. a=1&b=2&a=%33 gives the name a the value 3.
 abbrev pub value_of : List ℕ → List ℕ → Option (List ℕ)
-value_of name query = option_map decoded (written_of name query)
+value_of name query = option_map decoded_text (written_of name query)
 
 -- the names and values that the standard's parser gives, each as a text
 abbrev pub pairs_of : List ℕ → List (List ℕ × List ℕ)

@@ -4,7 +4,7 @@ use Rattle.std.specs.Prelude.{◌⊎◌, ℕ, ◌<◌, All, List, length, codes,
 use Rattle.std.specs.Prelude.{IsSomeAnd, Result, IsOkAnd}
 use Rattle.form_urlencoded.specs.Form.{raw_pairs, IsPlainText}
 use Rattle.hub_model.specs.declared.feeds.Mode.{Mode}
-use Rattle.hub_params.specs.Encoded.{decoded}
+use Rattle.hub_params.specs.Encoded.{decoded_text}
 use Rattle.hub_params.specs.FeedParams.{rows_in, kind_in, filter_in, waits_in, flags_in}
 use Rattle.hub_params.specs.FeedValues.{since_in, limit_in, mode_in, heartbeat_in}
 use Rattle.hub_params.specs.Query.{value_of, written_of}
@@ -48,13 +48,13 @@ or_next needs part next = needs ⊎ IsOkAnd part next
 -- since nothing is read behind the fault x.
 abbrev pub RowsNeedRoom : Option (List ℕ) → Option (List ℕ) → Option (List ℕ) → Type 0
 RowsNeedRoom since limit style =
-    or_behind since (since_in (option_map decoded since)) (
-    or_behind limit (limit_in (option_map decoded limit)) (
+    or_behind since (since_in (option_map decoded_text since)) (
+    or_behind limit (limit_in (option_map decoded_text limit)) (
     IsEscaped style))
 
 -- `feed` and `filter` need room: one of them is escaped, and no fault stands before it
 abbrev pub KindNeedsRoom : Option (List ℕ) → Option (List ℕ) → Type 0
-KindNeedsRoom feed filter = or_behind feed (mode_in (option_map decoded feed)) (IsEscaped filter)
+KindNeedsRoom feed filter = or_behind feed (mode_in (option_map decoded_text feed)) (IsEscaped filter)
 
 -- the list of ids: what the query or the body gives is parsed where it is not empty, and its ids are kept
 abbrev pub IdsNeedRoom : Option (List ℕ) → List ℕ → Shown → Type 0
@@ -65,13 +65,13 @@ IdsNeedRoom ids body Designs = ⊥
 -- `heartbeat` and `timeout` need room: one of them is escaped, and no fault stands before it
 abbrev pub WaitsNeedRoom : Option (List ℕ) → Option (List ℕ) → Type 0
 WaitsNeedRoom heartbeat timeout =
-    or_behind heartbeat (heartbeat_in (option_map decoded heartbeat)) (IsEscaped timeout)
+    or_behind heartbeat (heartbeat_in (option_map decoded_text heartbeat)) (IsEscaped timeout)
 
 -- `descending` and `include_docs` need room. The second is read where the first is good by itself: in a
 -- continuous feed descending=true is a fault, and include_docs=%31 behind it is not read.
 abbrev pub FlagsNeedRoom : Mode → Option (List ℕ) → Option (List ℕ) → Type 0
 FlagsNeedRoom mode descending include_docs =
-    or_next (IsEscaped descending) (flags_in mode (option_map decoded descending) None) (λ _.
+    or_next (IsEscaped descending) (flags_in mode (option_map decoded_text descending) None) (λ _.
     IsEscaped include_docs)
 
 -- The parameters of a feed need room. Those of since=1&limit=2 need none; those of

@@ -11,8 +11,8 @@ use Rattle.hub_model.specs.Revision.{Revision}
 use Rattle.hub_model.specs.Path.{names}
 use Rattle.hub_model.specs.Journal.{Edit}
 use Rattle.hub_model.specs.Leaves.{Leaf, is_behind_head, with_leaf, leaves_among}
-use Rattle.hub_model.specs.Leaves.{comes_before, placed, best_first, leaves_of, revisions_of}
-use Rattle.hub_model.specs.Missing.{highest, missing, possible_ancestors}
+use Rattle.hub_model.specs.Leaves.{comes_before, leaves_with, best_first, leaves_of, revisions_of}
+use Rattle.hub_model.specs.Missing.{highest, unknown_revisions, possible_ancestors}
 use Rattle.hub_revtree.specs.Branch.{Branch, edit_of, edits_in, unnamed_in}
 use Rattle.hub_revtree.specs.declared.leaf.Winner.{Winner}
 use Rattle.hub_revtree.specs.Winner.{has_below, head_in}
@@ -34,10 +34,10 @@ module _ (g : ℕ) where
   below_if false leaves others z p q = q
 
   placed_below : (leaf : Leaf) (others : List Leaf)
-      → has_below g (placed leaf others) ≡ (nat_lt leaf.rev.generation g || has_below g others)
+      → has_below g (leaves_with leaf others) ≡ (nat_lt leaf.rev.generation g || has_below g others)
   placed_below leaf [] = refl
   placed_below leaf (other ∷ leaves) =
-      below_if (comes_before leaf other) (leaf ∷ other ∷ leaves) (other ∷ placed leaf leaves) _ refl
+      below_if (comes_before leaf other) (leaf ∷ other ∷ leaves) (other ∷ leaves_with leaf leaves) _ refl
       (ap (λ b. nat_lt other.rev.generation g || b) (placed_below leaf leaves)
       ∙ or_turned (nat_lt leaf.rev.generation g) (nat_lt other.rev.generation g) (has_below g leaves))
 
@@ -169,28 +169,28 @@ module _ (branches : List Branch) (revs : List Revision) (i : ℕ) (revision : R
 module _ (branches : List Branch) (edits : List Edit) (same : edits_in branches ≡ edits)
     (revs : List Revision) (newest : ℕ)
     (is : newest ≡ highest (unnamed_in branches revs)) where
-  highest_is : newest ≡ highest (missing edits [] revs)
-  highest_is = is ∙ ap highest (missing_by branches revs ∙ ap (λ z. missing z [] revs) same)
+  highest_is : newest ≡ highest (unknown_revisions edits [] revs)
+  highest_is = is ∙ ap highest (missing_by branches revs ∙ ap (λ z. unknown_revisions z [] revs) same)
 
   leaves_are : best_first (leaves_among (edits_in branches) (edits_in branches)) ≡ leaves_of edits []
   leaves_are = sorted_by branches edits same
 
   low_is : (low : Bool)
       → low ≡ list_any (λ b. has_below newest (with_leaf (edits_in branches) (edit_of b) b.path [])) branches
-      → low ≡ has_below (highest (missing edits [] revs)) (leaves_of edits [])
+      → low ≡ has_below (highest (unknown_revisions edits [] revs)) (leaves_of edits [])
   low_is low h = h ∙ (some_branch newest branches ∙ ap₂ has_below highest_is leaves_are)
 
   pub no_ancestors : (low : Bool)
       → low ≡ list_any (λ b. has_below newest (with_leaf (edits_in branches) (edit_of b) b.path [])) branches
       → low ≡ false → possible_ancestors edits [] revs ≡ []
   no_ancestors low h none =
-      none_below (highest (missing edits [] revs)) (leaves_of edits []) (sym (low_is low h) ∙ none)
+      none_below (highest (unknown_revisions edits [] revs)) (leaves_of edits []) (sym (low_is low h) ∙ none)
 
   pub some_ancestors : (low : Bool)
       → low ≡ list_any (λ b. has_below newest (with_leaf (edits_in branches) (edit_of b) b.path [])) branches
       → low ≡ true → ¬ (possible_ancestors edits [] revs ≡ [])
   some_ancestors low h some =
-      some_below (highest (missing edits [] revs)) (leaves_of edits []) (sym (low_is low h) ∙ some)
+      some_below (highest (unknown_revisions edits [] revs)) (leaves_of edits []) (sym (low_is low h) ∙ some)
 
   pub these_ancestors : filter (λ r. nat_lt r.generation newest) (revisions_of (leaves_of edits []))
       ≡ possible_ancestors edits [] revs

@@ -11,7 +11,7 @@ use Rattle.std.proofs.lemmas.Option.{get_or_from_slice_get, same_Some, slice_get
 use Rattle.hub_model.specs.Revision.{Revision, is_same}
 use Rattle.hub_model.specs.Path.{names}
 use Rattle.hub_model.specs.Journal.{Edit, is_known}
-use Rattle.hub_model.specs.Missing.{missing}
+use Rattle.hub_model.specs.Missing.{unknown_revisions}
 use Rattle.hub_model.proofs.Tests.{or_false, or_left, or_right, same_self}
 use Rattle.hub_revtree.specs.Branch.{edit_of, edits_in}
 use Rattle.hub_revtree.specs.Count.{count_after, revision_count}
@@ -34,21 +34,21 @@ brought_after earlier (stem ∷ later) =
 -- one edit more
 count_more : (earlier later : List Edit) (edit : Edit)
     → count_after earlier (later ++ edit ∷ [])
-    ≡ count_after earlier later + length (missing (earlier ++ later) [] edit.path)
+    ≡ count_after earlier later + length (unknown_revisions (earlier ++ later) [] edit.path)
 count_more earlier [] edit =
-    let same : length (missing (earlier ++ []) [] edit.path) ≡ length (missing earlier [] edit.path) =
-    ap (λ es. length (missing es [] edit.path)) (append-nil earlier) in
+    let same : length (unknown_revisions (earlier ++ []) [] edit.path) ≡ length (unknown_revisions earlier [] edit.path) =
+    ap (λ es. length (unknown_revisions es [] edit.path)) (append-nil earlier) in
     omega (arith, same)
 count_more earlier (other ∷ later) edit =
     let ih = count_more (earlier ++ other ∷ []) later edit in
-    let same : length (missing ((earlier ++ other ∷ []) ++ later) [] edit.path)
-    ≡ length (missing (earlier ++ other ∷ later) [] edit.path) =
-    ap (λ es. length (missing es [] edit.path)) (append_assoc earlier (other ∷ []) later) in
+    let same : length (unknown_revisions ((earlier ++ other ∷ []) ++ later) [] edit.path)
+    ≡ length (unknown_revisions (earlier ++ other ∷ later) [] edit.path) =
+    ap (λ es. length (unknown_revisions es [] edit.path)) (append_assoc earlier (other ∷ []) later) in
     omega (arith, ih, same)
 
 -- what is missing of a path is what is new of it
 missing_new : (stems : List Stem) → AreStems stems → (revisions : List Revision)
-    → missing (edits_in (branches_of stems)) [] revisions ≡ new_of stems revisions
+    → unknown_revisions (edits_in (branches_of stems)) [] revisions ≡ new_of stems revisions
 missing_new stems a [] = refl
 missing_new stems a (revision ∷ revisions) =
     let same : is_known (edits_in (branches_of stems)) [] revision ≡ has_revision stems revision =
@@ -114,13 +114,13 @@ counted_more stems stem ih a =
     let bs = branches_of stems in
     let b = branch_of (chain_of (chains_of stems) stem) in
     let rest = rest_known stems stem a in
-    let brought : missing (edits_in bs) [] b.path ≡ new_of stems stem.revisions =
+    let brought : unknown_revisions (edits_in bs) [] b.path ≡ new_of stems stem.revisions =
     missing_new stems (front stems stem a) b.path
     ∙ (ap (new_of stems) rest.1 ∙ new_front stems stem.revisions rest.0 rest.2) in
-    let number : length (missing (edits_in bs) [] b.path) ≡ length (new_of stems stem.revisions) =
+    let number : length (unknown_revisions (edits_in bs) [] b.path) ≡ length (new_of stems stem.revisions) =
     ap length brought in
     let more : revision_count (edits_in bs ++ edit_of b ∷ [])
-    ≡ revision_count (edits_in bs) + length (missing (edits_in bs) [] b.path) =
+    ≡ revision_count (edits_in bs) + length (unknown_revisions (edits_in bs) [] b.path) =
     count_more [] (edits_in bs) (edit_of b) in
     let so_far : brought_after [] stems ≡ revision_count (edits_in bs) = ih (front stems stem a) in
     let whole : brought_after [] (stems ++ stem ∷ []) ≡ revision_count (edits_in bs ++ edit_of b ∷ []) =

@@ -7,11 +7,11 @@ use Rattle.std.specs.List.{list_any}
 use Rattle.std.proofs.lemmas.Bool.{and_from, and_parts, leb-true, both_ways, cases_Bool}
 use Rattle.std.proofs.lemmas.Option.{same_Some}
 use Rattle.hub_model.specs.Revision.{Revision}
-use Rattle.hub_model.specs.Path.{IsFirst, IsNext, IsHistory, names, is_history, agrees}
+use Rattle.hub_model.specs.Path.{IsFirst, IsNext, IsHistory, names, is_history, is_consistent}
 use Rattle.hub_model.specs.Journal.{Edit, IsKnown, IsBehind, IsAcceptable, edits_of, is_known, is_head_known}
 use Rattle.hub_model.specs.Leaves.{Leaf, is_behind_head, leaves_of, revisions_of}
 use Rattle.hub_model.specs.Walk.{IsWalk, line_of}
-use Rattle.hub_model.specs.Draft.{Extends, extended, generation_of, made, parent_of}
+use Rattle.hub_model.specs.Draft.{Extends, extended_path, generation_of, new_revision, parent_of}
 use Rattle.hub_model.proofs.Lists.{contains_here}
 use Rattle.hub_model.proofs.Legal.{legal_sound, next_left}
 use Rattle.hub_model.proofs.Tests.{edits_in as edits_in_of, is_known_from, is_history_from}
@@ -22,7 +22,7 @@ use Rattle.hub_model.proofs.Drafts.{drafts_extend}
 use Rattle.hub_revtree.specs.declared.fault.EditFault.TheVariants.{Conflict}
 use Rattle.hub_revtree.specs.declared.leaf.Winner.{Winner}
 use Rattle.hub_revtree.specs.Branch.{Branch, edit_of, edits_in}
-use Rattle.hub_revtree.specs.Extend.{draft, extends, extends_path, line_to, path_to}
+use Rattle.hub_revtree.specs.Extend.{draft, edit_of_draft, edit_on_path, line_to, path_to}
 use Rattle.hub_revtree.specs.Tree.{IsRevTree, nameless}
 use Rattle.hub_revtree.specs.Winner.{winner_of}
 use Rattle.hub_revtree.proofs.BranchLemmas.{any_map}
@@ -55,7 +55,7 @@ module _ (branches : List Branch) (edits : List Edit) (same : edits_in branches 
         ∙ (ap (λ x. x && not (list_any (λ b. is_behind_head revision (edit_of b)) branches)) known_same
         ∙ sym is)
 
-    pub no_leaf : b ≡ false → extended edits [] (leaves_of edits []) (Some revision) ≡ None
+    pub no_leaf : b ≡ false → extended_path edits [] (leaves_of edits []) (Some revision) ≡ None
     no_leaf t =
         let none : names (revisions_of (leaves_of edits [])) revision ≡ false = leaf_told ∙ t in rw none refl
 
@@ -66,7 +66,7 @@ module _ (branches : List Branch) (edits : List Edit) (same : edits_in branches 
         (not (list_any (λ b. is_behind_head revision (edit_of b)) branches)) (sym is ∙ t)).0
 
     pub leaf_taken : b ≡ true
-        → path_to edits revision ≡ extended edits [] (leaves_of edits []) (Some revision)
+        → path_to edits revision ≡ extended_path edits [] (leaves_of edits []) (Some revision)
     leaf_taken t =
         let leaf : names (revisions_of (leaves_of edits [])) revision ≡ is_known edits [] revision =
         leaf_told ∙ (t ∙ sym (leaf_known t)) in
@@ -108,11 +108,11 @@ is_new edits revision other b known same f = elim (cases_Bool (is_known edits []
 
 -- without a name it is a deleted winner's
 pub dead_extends : (edits : List Edit) (winner : Winner) → Some winner ≡ winner_of (leaves_of edits [])
-    → winner.deleted ≡ true → path_to edits winner.rev ≡ extended edits [] (leaves_of edits []) None
+    → winner.deleted ≡ true → path_to edits winner.rev ≡ extended_path edits [] (leaves_of edits []) None
 dead_extends edits winner is dead = from (leaves_of edits []) refl is
   where
     from : (leaves : List Leaf) → leaves_of edits [] ≡ leaves → Some winner ≡ winner_of leaves
-        → path_to edits winner.rev ≡ extended edits [] leaves None
+        → path_to edits winner.rev ≡ extended_path edits [] leaves None
     from [] q h = absurd (cc)
     from (l ∷ leaves) q h =
         let first : winner ≡ record { rev = l.rev; deleted = l.edit.deleted } = same_Some winner _ h in
@@ -122,7 +122,7 @@ dead_extends edits winner is dead = from (leaves_of edits []) refl is
         (subst (λ other. Contains (revisions_of other) l.rev) (sym q)
         (contains_here l.rev (revisions_of leaves)))).0 in
         let mark : l.edit.deleted ≡ true = sym (ap (λ (other : Winner). other.deleted) first) ∙ dead in
-        subst (λ other. path_to edits other ≡ extended edits [] (l ∷ leaves) None)
+        subst (λ other. path_to edits other ≡ extended_path edits [] (l ∷ leaves) None)
         (sym (ap (λ (other : Winner). other.rev) first)) (rw (known, mark) refl)
 
 pub dead_known : (edits : List Edit) (winner : Winner) → IsRevTree edits
@@ -134,13 +134,13 @@ dead_known edits winner tree is =
 module _ (edits : List Edit) (tree : IsRevTree edits) (id : List ℕ) (parent : Option Revision)
     (deleted : Bool)
     (body : List ℕ) (older : List Revision)
-    (on : extended edits [] (leaves_of edits []) parent ≡ Some older) where
+    (on : extended_path edits [] (leaves_of edits []) parent ≡ Some older) where
   abbrev next : Revision
-  next = made (draft id parent deleted body) (parent_of older)
+  next = new_revision (draft id parent deleted body) (parent_of older)
 
-  so : extends edits (draft id parent deleted body) ≡ extends_path edits (draft id parent deleted body)
+  so : edit_of_draft edits (draft id parent deleted body) ≡ edit_on_path edits (draft id parent deleted body)
       (Some older)
-  so = ap (extends_path edits (draft id parent deleted body)) on
+  so = ap (edit_on_path edits (draft id parent deleted body)) on
 
   low : generation_of (parent_of older) < 65535 → nat_le 65535 (generation_of (parent_of older)) ≡ false
   low below = elim (cases_Bool (nat_le 65535 (generation_of (parent_of older)))) [
@@ -149,11 +149,11 @@ module _ (edits : List Edit) (tree : IsRevTree edits) (id : List ℕ) (parent : 
   ]
 
   pub known_conflicts : generation_of (parent_of older) < 65535 → is_known edits [] next ≡ true
-      → extends edits (draft id parent deleted body) ≡ Err Conflict
+      → edit_of_draft edits (draft id parent deleted body) ≡ Err Conflict
   known_conflicts below known = so ∙ rw (low below, known) refl
 
   pub new_extends : generation_of (parent_of older) < 65535 → is_known edits [] next ≡ false
-      → extends edits (draft id parent deleted body) ≡ Ok (nameless (next ∷ older) deleted body)
+      → edit_of_draft edits (draft id parent deleted body) ≡ Ok (nameless (next ∷ older) deleted body)
   new_extends below new = so ∙ rw (low below, new) refl
 
   -- the path is empty, or all that stands behind a known revision
@@ -193,7 +193,7 @@ module _ (edits : List Edit) (tree : IsRevTree edits) (id : List ℕ) (parent : 
       acceptable_is edits (nameless (next ∷ older) deleted body) tree.legal
       (and_from (is_history (next ∷ older)) _ (is_history_from (next ∷ older) next_history)
       (and_from (not (is_head_known edits [] (next ∷ older))) _ (ap not new)
-      (all_at (λ (edit : Edit). agrees (next ∷ older) edit.path) (edits_of edits []) (λ edit c.
+      (all_at (λ (edit : Edit). is_consistent (next ∷ older) edit.path) (edits_of edits []) (λ edit c.
       is_agreeing (next ∷ older) edit.path (λ s r other n k.
       let own = edits_in_of edits [] edit c in
       elim n [

@@ -9,7 +9,7 @@ use Rattle.std.proofs.lemmas.Option.{same_Some, slice_get_past}
 use Rattle.hub_model.specs.Revision.{Revision}
 use Rattle.hub_model.specs.Journal.{Edit}
 use Rattle.hub_model.specs.Leaves.{Leaf, is_behind_head, with_leaf, leaves_among}
-use Rattle.hub_model.specs.Leaves.{comes_before, placed, best_first, revisions_of}
+use Rattle.hub_model.specs.Leaves.{comes_before, leaves_with, best_first, revisions_of}
 use Rattle.hub_revtree.specs.declared.leaf.Winner.{Winner}
 use Rattle.hub_revtree.specs.Branch.{Branch, edit_of, edits_in}
 use Rattle.hub_revtree.specs.Winner.{winner_of, head_in, better_of, is_better_than, winners_of}
@@ -21,12 +21,12 @@ one leaf = record { rev = leaf.rev; deleted = leaf.edit.deleted }
 
 -- the first of the leaves after one is put in its place
 placed_first : (leaf : Leaf) (others : List Leaf)
-    → winner_of (placed leaf others) ≡ Some (better_of (one leaf) (winner_of others))
+    → winner_of (leaves_with leaf others) ≡ Some (better_of (one leaf) (winner_of others))
 placed_first leaf [] = refl
 placed_first leaf (other ∷ leaves) = from (comes_before leaf other)
   where
     from : (b : Bool)
-        → winner_of (if b then (leaf ∷ other ∷ leaves) else (other ∷ placed leaf leaves)) ≡ Some
+        → winner_of (if b then (leaf ∷ other ∷ leaves) else (other ∷ leaves_with leaf leaves)) ≡ Some
         (if b then one leaf else one other)
     from true = refl
     from false = refl

@@ -12,7 +12,7 @@ use Rattle.std.proofs.lemmas.List.Elements.{All-tail}
 use Rattle.std.proofs.lemmas.List.Sorted.{IsPermutation-reverse, sum_by-IsPermutation, sorted_far, ranks_by}
 use Rattle.std.proofs.lemmas.List.Sums.{sum_by-cons}
 use Rattle.hub_model.specs.Revision.{Revision}
-use Rattle.hub_model.specs.Leaves.{Leaf, best_first, comes_before, leaf_cmp, placed}
+use Rattle.hub_model.specs.Leaves.{Leaf, best_first, comes_before, leaf_cmp, leaves_with}
 use Rattle.hub_model.proofs.Order.{leaf_equal, order_total}
 use Rattle.hub_revtree.specs.declared.leaf.Winner.{Winner}
 use Rattle.hub_revtree.specs.Winner.{winners_of}
@@ -88,7 +88,7 @@ up_to_more x winner (other ∷ winners) l u =
     (upto rank_total x winner other l u.0, up_to_more x winner winners l u.1)
 
 put_up_to : (winner : Winner) (other : Leaf) (leaves : List Leaf) → is_gt (rank winner (one other)) ≡ false
-    → UpTo winner (winners_of leaves) → UpTo winner (winners_of (placed other leaves))
+    → UpTo winner (winners_of leaves) → UpTo winner (winners_of (leaves_with other leaves))
 put_up_to winner other [] low u = (low, tt)
 put_up_to winner other (leaf ∷ leaves) low u = elim (cases_Bool (comes_before other leaf)) [
   | inl t ↦ rw t (low, u)
@@ -96,7 +96,7 @@ put_up_to winner other (leaf ∷ leaves) low u = elim (cases_Bool (comes_before 
 ]
 
 put_rises : (other : Leaf) (leaves : List Leaf) → Rises (winners_of leaves)
-    → Rises (winners_of (placed other leaves))
+    → Rises (winners_of (leaves_with other leaves))
 put_rises other [] r = (tt, tt)
 put_rises other (leaf ∷ leaves) r = elim (cases_Bool (comes_before other leaf)) [
   | inl t ↦
@@ -111,7 +111,7 @@ best_rises [] = tt
 best_rises (leaf ∷ leaves) = put_rises leaf (best_first leaves) (best_rises leaves)
 
 put_sum : (f : Winner → ℕ) (other : Leaf) (leaves : List Leaf)
-    → sum_by f (winners_of (placed other leaves)) ≡ f (one other) + sum_by f (winners_of leaves)
+    → sum_by f (winners_of (leaves_with other leaves)) ≡ f (one other) + sum_by f (winners_of leaves)
 put_sum f other [] = sum_by-cons f (one other) []
 put_sum f other (leaf ∷ leaves) = elim (cases_Bool (comes_before other leaf)) [
   | inl t ↦ rw t (sum_by-cons f (one other) (winners_of (leaf ∷ leaves)))
@@ -119,7 +119,7 @@ put_sum f other (leaf ∷ leaves) = elim (cases_Bool (comes_before other leaf)) 
       rw g
       (omega (
         arith,
-        sum_by-cons f (one leaf) (winners_of (placed other leaves)),
+        sum_by-cons f (one leaf) (winners_of (leaves_with other leaves)),
         put_sum f other leaves,
         sum_by-cons f (one leaf) (winners_of leaves),
       ))

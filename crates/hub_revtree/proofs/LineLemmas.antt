@@ -9,7 +9,7 @@ use Rattle.std.proofs.Math.Seq.{take-append_seam}
 use Rattle.hub_model.specs.Revision.{Revision}
 use Rattle.hub_model.specs.Path.{Falls, IsFirst, IsNext, IsHistory, names}
 use Rattle.hub_model.specs.Journal.{Edit, Edits, IsBehind, IsKnown, IsLegal, edits_of, head_of, is_known}
-use Rattle.hub_model.specs.Missing.{missing}
+use Rattle.hub_model.specs.Missing.{unknown_revisions}
 use Rattle.hub_model.specs.Walk.{IsWalk, behind_in, line_of}
 use Rattle.hub_model.proofs.Legal.{legal_sound}
 use Rattle.hub_model.proofs.Tests.{edits_in as edits_in_of, in_edits, known_is, is_known_from}
@@ -211,7 +211,7 @@ path_history edits revision path tree h = elim (cases_Bool (is_known edits [] re
 
 -- what no path names is missing
 pub missing_by : (branches : List Branch) (revs : List Revision)
-    → unnamed_in branches revs ≡ missing (edits_in branches) [] revs
+    → unnamed_in branches revs ≡ unknown_revisions (edits_in branches) [] revs
 missing_by branches [] = refl
 missing_by branches (revision ∷ revs) = elim (cases_Bool (list_any (λ b. names b.path revision) branches)) [
   | inl t ↦ rw (t, known_by branches revision ∙ t) (missing_by branches revs)

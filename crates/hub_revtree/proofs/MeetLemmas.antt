@@ -8,7 +8,7 @@ use Rattle.std.proofs.lemmas.Bool.{both_ways, cases_Bool}
 use Rattle.std.proofs.lemmas.List.{length-drop, length-take-le, take_all, take_rest}
 use Rattle.std.proofs.lemmas.Option.{same_Some, slice_get_within}
 use Rattle.hub_model.specs.Revision.{Revision}
-use Rattle.hub_model.specs.Path.{IsFirst, IsNext, IsHistory, agrees}
+use Rattle.hub_model.specs.Path.{IsFirst, IsNext, IsHistory, is_consistent}
 use Rattle.hub_model.specs.Journal.{Edit, IsBehind, IsLegal}
 use Rattle.hub_model.specs.Walk.{behind_in}
 use Rattle.hub_model.proofs.Legal.{legal_sound, next_left}
@@ -310,8 +310,8 @@ module _ (stems : List Stem) (a : AreStems stems) (legal : IsLegal (edits_in (br
 
     -- a path that differs from it agrees with none
     pub differs : IsHistory path → common (take (length path - at) rest) chain ≡ None
-        → false ≡ list_all (λ b. agrees path b.path) (branches_of stems)
-    differs history none = elim (cases_Bool (list_all (λ b. agrees path b.path) (branches_of stems))) [
+        → false ≡ list_all (λ b. is_consistent path b.path) (branches_of stems)
+    differs history none = elim (cases_Bool (list_all (λ b. is_consistent path b.path) (branches_of stems))) [
       | inl all ↦ absurd (
           let r = within_rev stems p g.within in
           let f = begins_chain r.0 r.1 in
@@ -328,12 +328,12 @@ module _ (stems : List Stem) (a : AreStems stems) (legal : IsLegal (edits_in (br
       | inr some ↦ sym some
     ]
       where
-        steps_agree : list_all (λ b. agrees path b.path) (branches_of stems) ≡ true → (s t other : Revision)
+        steps_agree : list_all (λ b. is_consistent path b.path) (branches_of stems) ≡ true → (s t other : Revision)
             → IsNext path s t → IsBehind es [] other s → t ≡ other
         steps_agree all s t other n (e, own, m) =
             let i = from_branch stems a e own.0 in
             agrees_is path i.1.path
-            (at_all (λ (b : Branch). agrees path b.path) (branches_of stems) all i.1
+            (at_all (λ (b : Branch). is_consistent path b.path) (branches_of stems) all i.1
             (there (branches_of stems) i.0 i.1 i.2)) history.falls
             ((legal_sound es legal).paths (edit_of i.1) (own_is i.0 i.1 i.2)) s t other n
             (subst (λ (z : Edit). IsNext z.path s other) (sym i.3) m)
@@ -341,7 +341,7 @@ module _ (stems : List Stem) (a : AreStems stems) (legal : IsLegal (edits_in (br
             own_is : (k : ℕ) (b : Branch) → slice_get (branches_of stems) k ≡ Some b → Contains es (edit_of b)
             own_is k b q = (own_of stems a k b q).0
 
-        begun : list_all (λ b. agrees path b.path) (branches_of stems) ≡ true → (r : Revision)
+        begun : list_all (λ b. is_consistent path b.path) (branches_of stems) ≡ true → (r : Revision)
             → rev_at stems (Some p) ≡ Some r → r ≡ g.first
         begun all r placed = from next refl
           where
@@ -387,15 +387,15 @@ module _ (stems : List Stem) (a : AreStems stems) (legal : IsLegal (edits_in (br
 
   -- a path whose steps agree with the stored ones agrees with all
   pub agree_all : ((revision r other : Revision) → IsNext path revision r → IsBehind es [] other revision
-      → r ≡ other) → true ≡ list_all (λ branch. agrees path branch.path) (branches_of stems)
+      → r ≡ other) → true ≡ list_all (λ branch. is_consistent path branch.path) (branches_of stems)
   agree_all steps =
-      sym (all_at (λ (branch : Branch). agrees path branch.path) (branches_of stems) (λ branch c.
+      sym (all_at (λ (branch : Branch). is_consistent path branch.path) (branches_of stems) (λ branch c.
       let i = place_in (branches_of stems) branch c in
       is_agreeing path branch.path
       (λ revision r other n m. steps revision r other n (edit_of branch, own_of stems a i.0 branch i.1, m))))
 
   pub agrees_whole : (at : ℕ) (next : Option Place) → Agrees stems path at next → length path ≤ at
-      → true ≡ list_all (λ b. agrees path b.path) (branches_of stems)
+      → true ≡ list_all (λ b. is_consistent path b.path) (branches_of stems)
   agrees_whole at next g past =
       agree_all (λ s r other n b.
       g.steps s r other (subst (λ z. IsNext z s r) (sym (take_all at path past)) n) b)

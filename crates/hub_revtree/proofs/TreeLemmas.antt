@@ -8,7 +8,7 @@ use Rattle.std.proofs.lemmas.Bool.{cases_Bool, and_parts, and_from, both_ways}
 use Rattle.std.proofs.lemmas.Option.{same_Some}
 use Rattle.std.proofs.lemmas.List.Folds.{list_all-map}
 use Rattle.hub_model.specs.Revision.{Revision}
-use Rattle.hub_model.specs.Path.{IsFirst, IsHistory, names, agrees, is_history, is_first}
+use Rattle.hub_model.specs.Path.{IsFirst, IsHistory, names, is_consistent, is_history, is_first}
 use Rattle.hub_model.specs.Journal.{Edit, IsHead, IsKnown, IsAcceptable}
 use Rattle.hub_model.specs.Journal.{IsLegal, edits_of, is_known, is_head_known}
 use Rattle.hub_model.specs.Walk.{is_head}
@@ -97,11 +97,11 @@ module _ (branches : List Branch) (path : List Revision) (revision : Revision)
       ap not (ap (is_known (edits_in branches) []) (same_Some other revision e)
       ∙ (known_by branches revision ∙ (any_is ∙ h)))
 
-  module _ (all : Bool) (agree : all ≡ list_all (λ b. agrees path b.path) branches) where
-    agree_by : list_all (λ (e : Edit). agrees path e.path) (edits_of (edits_in branches) []) ≡ all
+  module _ (all : Bool) (agree : all ≡ list_all (λ b. is_consistent path b.path) branches) where
+    agree_by : list_all (λ (e : Edit). is_consistent path e.path) (edits_of (edits_in branches) []) ≡ all
     agree_by =
-        ap (λ es. list_all (λ (e : Edit). agrees path e.path) es) (all_of_one branches)
-        ∙ (list_all-map (λ (e : Edit). agrees path e.path) edit_of branches ∙ sym agree)
+        ap (λ es. list_all (λ (e : Edit). is_consistent path e.path) es) (all_of_one branches)
+        ∙ (list_all-map (λ (e : Edit). is_consistent path e.path) edit_of branches ∙ sym agree)
 
     -- a path with a new head that agrees with all is taken
     pub acceptable : (deleted : Bool) (body : List ℕ) → IsLegal (edits_in branches) → IsHistory path

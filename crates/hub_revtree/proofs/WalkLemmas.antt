@@ -5,7 +5,7 @@ use Rattle.std.specs.Prelude.{Bool, Option, Some, None, IfSome, IfNone, slice_ge
 use Rattle.std.specs.List.{list_all}
 use Rattle.hub_model.specs.Revision.{Revision}
 use Rattle.hub_model.specs.Journal.{IsLegal}
-use Rattle.hub_model.specs.Path.{agrees}
+use Rattle.hub_model.specs.Path.{is_consistent}
 use Rattle.hub_model.specs.Walk.{behind_in}
 use Rattle.hub_revtree.specs.declared.stem.Place.{Place}
 use Rattle.hub_revtree.specs.Branch.{Branch, edits_in}
@@ -63,11 +63,11 @@ module _ (s : Storage) (k : IsStored s) where
   told_in after p behind x last = behind x last ∙ ap (λ bs. behind_in x (edits_in bs)) (sym k.shown)
 
   pub agrees_shown : (path revisions : List Revision) (b : Bool) → revisions ≡ path
-      → b ≡ list_all (λ branch. agrees revisions branch.path) (branches_of s.stems)
-      → b ≡ list_all (λ branch. agrees path branch.path) s.list
+      → b ≡ list_all (λ branch. is_consistent revisions branch.path) (branches_of s.stems)
+      → b ≡ list_all (λ branch. is_consistent path branch.path) s.list
   agrees_shown path revisions b same e =
-      subst (λ bs. b ≡ list_all (λ (branch : Branch). agrees path branch.path) bs) k.shown
-      (subst (λ p. b ≡ list_all (λ (branch : Branch). agrees p branch.path) (branches_of s.stems)) same e)
+      subst (λ bs. b ≡ list_all (λ (branch : Branch). is_consistent path branch.path) bs) k.shown
+      (subst (λ p. b ≡ list_all (λ (branch : Branch). is_consistent p branch.path) (branches_of s.stems)) same e)
 
   -- what stands behind the last of a stem's own revisions
   module _ (p : Place) (w : IsWithin s.stems p) (stem : Stem) (e : slice_get s.stems p.stem ≡ Some stem) where

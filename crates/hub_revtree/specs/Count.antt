@@ -2,7 +2,7 @@
 -- then 3-d 2-e 1-a, the first brings 2-b and 1-a, the second 3-c, the third 3-d and 2-e, so the count is 5.
 use Rattle.std.specs.Prelude.{ℕ, ◌+◌, List, [], ◌∷◌, ◌++◌, length}
 use Rattle.hub_model.specs.Journal.{Edit}
-use Rattle.hub_model.specs.Missing.{missing}
+use Rattle.hub_model.specs.Missing.{unknown_revisions}
 
 -- how many revisions these edits of the document whose id is left out name that none of the earlier ones
 -- names, each counted once. In the example above, with the first of the three as the earlier one, it is 3
@@ -10,7 +10,7 @@ use Rattle.hub_model.specs.Missing.{missing}
 abbrev pub count_after : List Edit → List Edit → ℕ
 count_after earlier [] = 0
 count_after earlier (edit ∷ later) =
-    length (missing earlier [] edit.path) + count_after (earlier ++ edit ∷ []) later
+    length (unknown_revisions earlier [] edit.path) + count_after (earlier ++ edit ∷ []) later
 
 -- how many different revisions the edits name
 abbrev pub revision_count : List Edit → ℕ

@@ -5,7 +5,7 @@ use Rattle.hub_model.specs.Revision.{Revision}
 use Rattle.hub_model.specs.Journal.{Edit, is_known}
 use Rattle.hub_model.specs.Leaves.{leaves_of}
 use Rattle.hub_model.specs.Walk.{line_of}
-use Rattle.hub_model.specs.Draft.{Draft, extended, made, generation_of, parent_of}
+use Rattle.hub_model.specs.Draft.{Draft, extended_path, new_revision, generation_of, parent_of}
 use Rattle.hub_revtree.specs.Tree.{nameless}
 use Rattle.hub_revtree.specs.declared.fault.EditFault.{EditFault}
 use Rattle.hub_revtree.specs.declared.fault.EditFault.TheVariants.{Conflict, GenerationLimit}
@@ -15,16 +15,16 @@ abbrev pub draft : List ℕ → Option Revision → Bool → List ℕ → Draft
 draft id rev deleted body = record { id = id; rev = rev; deleted = deleted; body = body }
 
 -- the edit that a draft becomes on this path, its id left out; or why it becomes none
-abbrev pub extends_path : List Edit → Draft → Option (List Revision) → Result Edit EditFault
-extends_path edits draft None = Err Conflict
-extends_path edits draft (Some path) =
+abbrev pub edit_on_path : List Edit → Draft → Option (List Revision) → Result Edit EditFault
+edit_on_path edits draft None = Err Conflict
+edit_on_path edits draft (Some path) =
     if nat_le 65535 (generation_of (parent_of path)) then Err GenerationLimit
-    else (if is_known edits [] (made draft (parent_of path)) then Err Conflict
-    else Ok (nameless (made draft (parent_of path) ∷ path) draft.deleted draft.body))
+    else (if is_known edits [] (new_revision draft (parent_of path)) then Err Conflict
+    else Ok (nameless (new_revision draft (parent_of path) ∷ path) draft.deleted draft.body))
 
 -- the edit that a draft becomes after these edits of its document, on the path that it extends
-abbrev pub extends : List Edit → Draft → Result Edit EditFault
-extends edits draft = extends_path edits draft (extended edits [] (leaves_of edits []) draft.rev)
+abbrev pub edit_of_draft : List Edit → Draft → Result Edit EditFault
+edit_of_draft edits draft = edit_on_path edits draft (extended_path edits [] (leaves_of edits []) draft.rev)
 
 -- a known revision and all that stands behind it
 abbrev pub path_to : List Edit → Revision → Option (List Revision)

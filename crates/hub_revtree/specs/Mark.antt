@@ -12,11 +12,11 @@ use Rattle.hub_revtree.specs.declared.mark.Mark.TheVariants.{Leaf, DeletedLeaf, 
 use Rattle.hub_revtree.specs.Stem.{Stem, AreStems, branches_of, is_behind_newest}
 
 -- whether a mark is that of an edit that deletes the document
-abbrev pub deletes : Mark → Bool
-deletes Leaf = false
-deletes DeletedLeaf = true
-deletes Inner = false
-deletes DeletedInner = true
+abbrev pub is_deletion : Mark → Bool
+is_deletion Leaf = false
+is_deletion DeletedLeaf = true
+is_deletion Inner = false
+is_deletion DeletedInner = true
 
 -- whether it is that of an edit whose revision stands behind another
 abbrev pub is_passed : Mark → Bool

@@ -33,9 +33,9 @@ pub record Stem : Type 0 where
   pub body : List ℕ
 
 -- where a stem stands, if it does: on the stem of this number, at this place
-abbrev pub standing : Bool → ℕ → ℕ → Option Place
-standing false below at = None
-standing true below at = Some (record { stem = below; at = at })
+abbrev pub place_on_stem : Bool → ℕ → ℕ → Option Place
+place_on_stem false below at = None
+place_on_stem true below at = Some (record { stem = below; at = at })
 
 -- the revisions of a stem; none where there is no stem
 abbrev pub revisions_in : Option Stem → List Revision

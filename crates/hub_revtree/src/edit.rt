@@ -4,12 +4,12 @@ ghost use Rattle.std.specs.Prelude.{◌≡◌, ◌⊎◌, ◌≤◌, ◌<◌, �
 ghost use Rattle.std.specs.Prelude.{Some, None, Ok, Err, IfOk, IfErr, IfSome, IsTrue, OnOk};
 ghost use Rattle.std.specs.Result.{result_ok};
 ghost use Rattle.hex.specs.Hex.{encode_lower};
-ghost use Rattle.hub_model.specs.Draft.{HasNextRevision, extended as extended_in};
-ghost use Rattle.hub_model.specs.Draft.{generation_of, made, parent_of};
+ghost use Rattle.hub_model.specs.Draft.{HasNextRevision, extended_path as extended_in};
+ghost use Rattle.hub_model.specs.Draft.{generation_of, new_revision, parent_of};
 ghost use Rattle.hub_model.specs.Journal.{Edit, IsAcceptable, head_of};
 ghost use Rattle.hub_model.specs.Leaves.{leaves_of};
 ghost use Rattle.hub_model.specs.Path.{IsHistory};
-ghost use Rattle.hub_revtree.specs.Extend.{draft, extends, line_to};
+ghost use Rattle.hub_revtree.specs.Extend.{draft, edit_of_draft, line_to};
 ghost use Rattle.hub_revtree.specs.Tree.{IsRevTree, MakesReady, nameless};
 
 use crate::fault::EditFault;
@@ -27,7 +27,7 @@ fn next_rev(
     deleted: bool,
     body: &Body,
 ) -> Result<DigestRev, EditFault>
-    ensures ok { IfOk result (λ rev. rev ≡ made (draft id.now parent deleted body.now) parent) }
+    ensures ok { IfOk result (λ rev. rev ≡ new_revision (draft id.now parent deleted body.now) parent) }
     ensures below { OnOk result (generation_of parent < 65535) }
     ensures err { IfErr result
         (λ e. (e ≡ EditFault.NoMemory) ⊎ ((e ≡ EditFault.GenerationLimit) × (65535 ≤ generation_of parent))) }
@@ -183,11 +183,11 @@ impl RevTree {
         ensures edits { self.new.edits ≡ self.old.edits }
         ensures tree { IsRevTree self.new.edits }
         ensures ok { IfOk result
-            (λ ready. extends self.old.edits (draft id.now parent deleted body) ≡ Ok ready) }
+            (λ ready. edit_of_draft self.old.edits (draft id.now parent deleted body) ≡ Ok ready) }
         ensures acceptable { IfOk result (IsAcceptable self.old.edits) }
         ensures room { IfOk result (λ ready. length ready.path ≤ self.new.room) }
         ensures err { IfErr result (λ e.
-            (e ≡ EditFault.NoMemory) ⊎ (extends self.old.edits (draft id.now parent deleted body) ≡ Err e)) }
+            (e ≡ EditFault.NoMemory) ⊎ (edit_of_draft self.old.edits (draft id.now parent deleted body) ≡ Err e)) }
         ensures memory { result ≡ Err EditFault.NoMemory
             → HasNextRevision self.old.edits (draft [] parent deleted body) }
     {
@@ -214,10 +214,10 @@ impl RevTree {
         body: Body,
     ) -> Result<RevId, EditFault>
         ensures ok { IfOk result (λ rev.
-            (made : Edit) × (extends self.old.edits (draft id.now parent deleted body) ≡ Ok made)
+            (made : Edit) × (edit_of_draft self.old.edits (draft id.now parent deleted body) ≡ Ok made)
             × (head_of made ≡ Some rev) × (self.new.edits ≡ self.old.edits ++ made ∷ [])) }
         ensures err { IfErr result (λ e.
-            ((e ≡ EditFault.NoMemory) ⊎ (extends self.old.edits (draft id.now parent deleted body) ≡ Err e))
+            ((e ≡ EditFault.NoMemory) ⊎ (edit_of_draft self.old.edits (draft id.now parent deleted body) ≡ Err e))
             × (self.new.edits ≡ self.old.edits)) }
         ensures memory { result ≡ Err EditFault.NoMemory
             → HasNextRevision self.old.edits (draft [] parent deleted body) }

@@ -3,7 +3,7 @@
 ghost use Rattle.std.specs.Prelude.{◌≡◌, [], IfOk, OnErr, filter, find, nat_lt, option_map};
 ghost use Rattle.hub_model.specs.Journal.{IsKnown};
 ghost use Rattle.hub_model.specs.Leaves.{leaves_of, revisions_of};
-ghost use Rattle.hub_model.specs.Missing.{missing as missing_from, possible_ancestors as ancestors_from};
+ghost use Rattle.hub_model.specs.Missing.{unknown_revisions as missing_from, possible_ancestors as ancestors_from};
 ghost use Rattle.hub_model.specs.Walk.{is_head};
 ghost use Rattle.hub_revtree.specs.Extend.{path_to};
 

@@ -1,7 +1,7 @@
 //! What is noted of an edit in one byte.
 
 ghost use Rattle.std.specs.Prelude.{◌≡◌, false, true};
-ghost use Rattle.hub_revtree.specs.Mark.{deletes, is_passed};
+ghost use Rattle.hub_revtree.specs.Mark.{is_deletion, is_passed};
 
 /// Whether an edit deletes the document, and whether its revision is inner: it stands behind that of another
 /// edit by now.
@@ -16,7 +16,7 @@ pub(crate) enum Mark {
 impl Mark {
     /// That of an edit whose revision is a leaf.
     pub(crate) fn of_leaf(deleted: bool) -> Mark
-        ensures deletes { deletes result ≡ deleted }
+        ensures deletes { is_deletion result ≡ deleted }
         ensures inner { is_passed result ≡ false }
     {
         if deleted {
@@ -28,7 +28,7 @@ impl Mark {
 
     /// Whether the edit deletes the document.
     pub(crate) fn deleted(self) -> bool
-        ensures { result ≡ deletes self }
+        ensures { result ≡ is_deletion self }
     {
         match self {
             Mark::Leaf | Mark::Inner => false,
@@ -48,7 +48,7 @@ impl Mark {
 
     /// The mark once the revision is inner.
     pub(crate) fn passed(self) -> Mark
-        ensures deletes { deletes result ≡ deletes self }
+        ensures deletes { is_deletion result ≡ is_deletion self }
         ensures inner { is_passed result ≡ true }
     {
         match self {

@@ -8,7 +8,7 @@ ghost use Rattle.hub_model.specs.Path.{IsPath, names, is_first};
 ghost use Rattle.hub_model.specs.Revision.{Revision};
 ghost use Rattle.hub_revtree.specs.Common.{common as common_of};
 ghost use Rattle.hub_revtree.specs.Key.{HasKey};
-ghost use Rattle.hub_revtree.specs.Mark.{deletes, is_passed, with_note};
+ghost use Rattle.hub_revtree.specs.Mark.{is_deletion, is_passed, with_note};
 
 use crate::mark::Mark;
 use crate::run::Run;
@@ -62,21 +62,21 @@ pub(crate) struct Standing {
 const _: () = prove!(size_of::<Stem>() == 72);
 
 impl Model for Stem {
-    ghost use Rattle.hub_revtree.specs.Stem.{Stem, standing};
+    ghost use Rattle.hub_revtree.specs.Stem.{Stem, place_on_stem};
 
     ghost Value = { Stem };
 
     ghost use Rattle.std.specs.Prelude.{length, nat_lt};
     ghost use Rattle.hub_model.specs.Path.{IsPath};
-    ghost use Rattle.hub_revtree.specs.Mark.{deletes, is_passed};
+    ghost use Rattle.hub_revtree.specs.Mark.{is_deletion, is_passed};
 
     ghost view = { λ a. record {
       revisions = a.run;
-      parent = standing (nat_lt (length a.run) a.reach) a.below a.at;
+      parent = place_on_stem (nat_lt (length a.run) a.reach) a.below a.at;
       count = a.count;
       reach = a.reach;
       joins = a.joins;
-      deleted = deletes a.mark;
+      deleted = is_deletion a.mark;
       inner = is_passed a.mark;
       body = a.body;
     } };
@@ -149,7 +149,7 @@ impl Stem {
     /// Whether the edit deletes the document, and whether its newest revision is inner: it stands behind that
     /// of another stem by now.
     pub(crate) fn mark(&self) -> Mark
-        ensures deletes { deletes result ≡ self.now.deleted }
+        ensures deletes { is_deletion result ≡ self.now.deleted }
         ensures inner { is_passed result ≡ self.now.inner }
     {
         self.mark

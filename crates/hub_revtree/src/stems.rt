@@ -6,7 +6,7 @@ ghost use Rattle.std.specs.Prelude.{option_map, IsTrue, IfSome, IfNone, IfOk, On
 ghost use Rattle.std.specs.List.{list_all, list_any};
 ghost use Rattle.hex.specs.Hex.{encode_lower};
 ghost use Rattle.hub_model.specs.Revision.{Revision};
-ghost use Rattle.hub_model.specs.Path.{IsHistory, IsNext, IsPath, agrees as agrees_with, is_first, names};
+ghost use Rattle.hub_model.specs.Path.{IsHistory, IsNext, IsPath, is_consistent as agrees_with, is_first, names};
 ghost use Rattle.hub_model.specs.Walk.{behind_in as behind_of};
 ghost use Rattle.hub_revtree.specs.Branch.{edits_in};
 ghost use Rattle.hub_revtree.specs.Common.{last_in};

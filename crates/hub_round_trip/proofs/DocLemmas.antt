@@ -17,7 +17,7 @@ use Rattle.serde_json.specs.Read.{max_depth}
 use Rattle.serde_json.specs.Written.{members_have_float}
 use Rattle.serde_json.proofs.Nesting.{depth-read}
 use Rattle.hub_document.specs.BodyText.{is_hidden, plain, body_text}
-use Rattle.hub_document.specs.Histories.{rev_in, read_or, rev_of, falling, starting}
+use Rattle.hub_document.specs.Histories.{rev_in, read_or, rev_of, falling, limited_history}
 use Rattle.hub_document.specs.Histories.{history_in, is_head, if_head, alone, path_of}
 use Rattle.hub_document.specs.Ids.{id_of, if_id, is_id}
 use Rattle.hub_document.specs.Read.{or_fault, if_holds, history_of, with_path}
@@ -124,12 +124,12 @@ revs_of_falling n no_items revisions small h =
 revs_of_falling n (item d ds) revisions small h =
     revs_item n d ds revisions _ refl small h (λ rest. revs_of_falling (n - 1) ds rest (omega arith))
 
-revs_starting : (start : ℕ) (ids : Items) (revisions : List Revision) → starting start ids ≡ Some revisions
+revs_starting : (start : ℕ) (ids : Items) (revisions : List Revision) → limited_history start ids ≡ Some revisions
     → AllByRecursion IsRevision revisions
 revs_starting start no_items revisions h = absurd (cc)
 revs_starting start (item d ds) revisions h = from (ltb 0 start && ltb start (2 ^ 16)) refl h
   where
-    from : (t : Bool) → (ltb 0 start && ltb start (2 ^ 16)) ≡ t → starting start (item d ds) ≡ Some revisions
+    from : (t : Bool) → (ltb 0 start && ltb start (2 ^ 16)) ≡ t → limited_history start (item d ds) ≡ Some revisions
         → AllByRecursion IsRevision revisions
     from true fits h = revs_of_falling start (item d ds) revisions (grind (arith, nat_tests)) (rw fits at h)
     from false fits h =
@@ -139,11 +139,11 @@ revs_of_history : (content : Data) (revisions : List Revision) → history_in co
     → AllByRecursion IsRevision revisions
 revs_of_history content revisions h =
     option_and_then_some {P = AllByRecursion IsRevision revisions}
-    (λ start. option_and_then (starting start) (option_and_then as_array (get (codes "ids") content)))
+    (λ start. option_and_then (limited_history start) (option_and_then as_array (get (codes "ids") content)))
     (option_and_then as_u64 (option_and_then as_number (get (codes "start") content))) revisions h
     (λ start first more.
     option_and_then_some {P = AllByRecursion IsRevision revisions}
-    (starting start) (option_and_then as_array (get (codes "ids") content)) revisions more
+    (limited_history start) (option_and_then as_array (get (codes "ids") content)) revisions more
     (λ ids list read. revs_starting start ids revisions read))
 
 -- a history of revisions

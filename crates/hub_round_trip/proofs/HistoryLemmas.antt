@@ -17,7 +17,7 @@ use Rattle.serde_json.specs.Data.{unsigned, Data, number, array, object, no_memb
 use Rattle.serde_json.specs.Read.{of_json}
 use Rattle.serde_json.specs.Written.{outline, items_have_float}
 use Rattle.serde_json.proofs.Numbers.{number_of-decimal}
-use Rattle.hub_document.specs.Histories.{falling, starting, history_in, is_head}
+use Rattle.hub_document.specs.Histories.{falling, limited_history, history_in, is_head}
 use Rattle.hub_document.specs.RevisionText.{is_hash, with_hash}
 use Rattle.hub_document.proofs.PathLemmas.{FallsFrom}
 use Rattle.hub_model.proofs.Tests.{same_self}
@@ -120,7 +120,7 @@ falling_back n (revision ∷ path) h good =
     refl
 
 starting_back : (path : List Revision) → IsPath path → AllByRecursion IsRevision path
-    → starting (generation_of (parent_of path)) (hashes path) ≡ Some path
+    → limited_history (generation_of (parent_of path)) (hashes path) ≡ Some path
 starting_back [] h good = absurd h
 starting_back (revision ∷ path) h good =
     rw (lt-ltb _ _ good.0.from_one, lt-ltb _ _ good.0.below)

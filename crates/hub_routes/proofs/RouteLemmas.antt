@@ -7,7 +7,7 @@ use Rattle.std.specs.List.{before_first, after_first, position_or_len}
 use Rattle.std.specs.Str.{IsUtf8}
 use Rattle.std.proofs.lemmas.Grind.{common_steps}
 use Rattle.std.proofs.lemmas.Bool.Decides.{nat_tests}
-use Rattle.hub_http.specs.Stream.{Asked}
+use Rattle.hub_http.specs.Stream.{PlainRequest}
 use Rattle.hub_routes.specs.Paths.{path_of, name_part, id_part, HasPercent, NeedsRoomForKind}
 use Rattle.hub_routes.specs.Methods.{has_document}
 use Rattle.hub_routes.specs.Routes.{database_of, document_of, IsServed, IsBadId}
@@ -57,17 +57,17 @@ at_any_error (Ok x) P p = tt
 at_any_error (Err e) P p = p
 
 -- a request whose path has no room
-pub path_has_no_room : (asked : Asked) (r : Result Route RouteFault) → r ≡ Err NoMemory
+pub path_has_no_room : (asked : PlainRequest) (r : Result Route RouteFault) → r ≡ Err NoMemory
     → NeedsRoomForKind (path_of asked.target) → GoesTo asked r
 path_has_no_room asked r none room = rw none (kind room)
 
 -- a request whose name has no room
-pub name_has_no_room : (a : Asked) (k : Kind) (r : Result Route RouteFault) → r ≡ Err NoMemory → IsServed a k
+pub name_has_no_room : (a : PlainRequest) (k : Kind) (r : Result Route RouteFault) → r ≡ Err NoMemory → IsServed a k
     → HasPercent (name_part (path_of a.target)) → GoesTo a r
 name_has_no_room a k r none asked room = rw none (name k asked room)
 
 -- a request whose id has no room, or is refused
-pub id_refuses : (a : Asked) (k : Kind) (fault : RouteFault) → IsServed a k → IsUtf8 (database_of a)
+pub id_refuses : (a : PlainRequest) (k : Kind) (fault : RouteFault) → IsServed a k → IsUtf8 (database_of a)
     → ((fault ≡ NoMemory) × (has_document k ≡ true) × HasPercent (id_part (path_of a.target)))
     ⊎ ((fault ≡ BadId) × IsBadId k (document_of a)) → GoesTo a (Err fault)
 id_refuses a k fault asked d (inl (none, one, room)) = rw none (document k asked one d room)

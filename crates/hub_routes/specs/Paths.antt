@@ -41,9 +41,9 @@ abbrev pub is_local : List ℕ → Bool
 is_local id = starts_with (λ x y. x == y) id (codes "_local/") && nat_lt 7 (length id)
 
 -- a document is a local one where its id says so
-abbrev pub refined : Kind → List ℕ → Kind
-refined Document id = if is_local id then Local else Document
-refined kind id = kind
+abbrev pub kind_by_id : Kind → List ℕ → Kind
+kind_by_id Document id = if is_local id then Local else Document
+kind_by_id kind id = kind
 
 -- a byte stands outside ASCII: the table reads it escaped, and writing the escape takes room
 abbrev pub HasOtherBytes : List ℕ → Type 0
@@ -61,4 +61,4 @@ NeedsRoomForKind path =
 
 -- what a path names: the kind by the table, and the id
 abbrev pub kind_of : List ℕ → Option Kind
-kind_of path = option_map (λ kind. refined kind (id_of path)) (kind_at (ascii_path path))
+kind_of path = option_map (λ kind. kind_by_id kind (id_of path)) (kind_at (ascii_path path))

@@ -4,7 +4,7 @@ use Rattle.std.specs.Prelude.{◌≡◌, ◌⊎◌, ℕ, true, false, List, [], 
 use Rattle.std.specs.Prelude.{if◌then◌else◌}
 use Rattle.std.specs.Cow.{cow_str_bytes}
 use Rattle.std.specs.Str.{IsUtf8}
-use Rattle.hub_http.specs.Stream.{Asked}
+use Rattle.hub_http.specs.Stream.{PlainRequest}
 use Rattle.hub_routes.specs.Paths.{path_of, query_of, name_part, id_part, name_of, id_of, kind_of, HasPercent}
 use Rattle.hub_routes.specs.Paths.{NeedsRoomForKind}
 use Rattle.hub_routes.specs.Methods.{method_of, asked_of, has_document, takes_id, takes_body}
@@ -15,15 +15,15 @@ use Rattle.hub_routes.specs.declared.route.RouteFault.TheVariants.{NoMemory, Mis
 use Rattle.hub_routes.specs.declared.route.RouteFault.TheVariants.{BadName, BadId, LengthMissing}
 
 -- the name of the database that a request asks for
-abbrev pub database_of : Asked → List ℕ
+abbrev pub database_of : PlainRequest → List ℕ
 database_of asked = name_of (path_of asked.target)
 
 -- the id of the document that a request asks for
-abbrev pub document_of : Asked → List ℕ
+abbrev pub document_of : PlainRequest → List ℕ
 document_of asked = id_of (path_of asked.target)
 
 -- the path of a request is of this kind, which takes its method
-pub record IsServed (asked : Asked) (kind : Kind) : Type 0 where
+pub record IsServed (asked : PlainRequest) (kind : Kind) : Type 0 where
   pub path : kind_of (path_of asked.target) ≡ Some kind
   pub method : IsSome (asked_of kind (method_of asked.method))
 
@@ -37,14 +37,14 @@ IsBadId kind id = (has_document kind ≡ true) × ((¬ IsUtf8 id) ⊎ (takes_id 
 
 -- What may run out of memory: finding the kind of the path, and decoding a name, or the id of one document.
 -- A text without escapes is lent, and so is a query.
-pub data NeedsRoom (asked : Asked) : Type 0 where
+pub data NeedsRoom (asked : PlainRequest) : Type 0 where
   kind : NeedsRoomForKind (path_of asked.target) → NeedsRoom asked
   name : (k : Kind) → IsServed asked k → HasPercent (name_part (path_of asked.target)) → NeedsRoom asked
   document : (k : Kind) → IsServed asked k → has_document k ≡ true → IsUtf8 (database_of asked)
       → HasPercent (id_part (path_of asked.target)) → NeedsRoom asked
 
 -- this is the route of a request: what the table and the method say, with the parts of the request
-pub record IsRoute (a : Asked) (route : Route) : Type 0 where
+pub record IsRoute (a : PlainRequest) (route : Route) : Type 0 where
   pub kind : Kind
   pub path : kind_of (path_of a.target) ≡ Some kind
   pub asked : asked_of kind (method_of a.method) ≡ Some route.call
@@ -55,7 +55,7 @@ pub record IsRoute (a : Asked) (route : Route) : Type 0 where
   pub query : route.query.now ≡ query_of a.target
 
 -- where a request goes, or why nowhere
-abbrev pub GoesTo : Asked → Result Route RouteFault → Type 0
+abbrev pub GoesTo : PlainRequest → Result Route RouteFault → Type 0
 GoesTo asked (Ok route) = IsRoute asked route
 GoesTo asked (Err NoMemory) = NeedsRoom asked
 GoesTo asked (Err Missing) = kind_of (path_of asked.target) ≡ None

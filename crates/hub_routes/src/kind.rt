@@ -2,7 +2,7 @@
 
 ghost use Rattle.std.specs.Prelude.{◌≡◌, IfOk, OnOk};
 ghost use Rattle.hub_routes.specs.Table.{with_route, table};
-ghost use Rattle.hub_routes.specs.Paths.{refined};
+ghost use Rattle.hub_routes.specs.Paths.{kind_by_id};
 
 use crate::path::is_local;
 use matchit::Router;
@@ -66,7 +66,7 @@ pub fn table(alloc: Global) -> Result<Router<Kind>, AllocError>
 
 /// The kind of a path whose id has these bytes: a slash that was escaped tells kinds apart too.
 pub fn refined(kind: Kind, id: &[u8]) -> Kind
-    ensures { result ≡ refined kind id.now }
+    ensures { result ≡ kind_by_id kind id.now }
 {
     match kind {
         Kind::Document if is_local(id) => Kind::Local,

@@ -16,9 +16,9 @@ use Rattle.hub_document.specs.declared.doc.Doc.{Doc}
 use Rattle.hub_document.specs.declared.limits.Limits.{Limits}
 use Rattle.hub_document.specs.declared.local_doc.LocalDoc.{LocalDoc}
 use Rattle.hub_database.specs.Database.{Database, GivesUp}
-use Rattle.hub_database.specs.Edits.{stores_doc, writes}
+use Rattle.hub_database.specs.Edits.{stores_doc, docs_result}
 use Rattle.hub_database.specs.Hosting.{hosted_of}
-use Rattle.hub_database.specs.Locals.{written}
+use Rattle.hub_database.specs.Locals.{local_after_write}
 use Rattle.hub_database.specs.declared.batch.Batch.{Batch}
 use Rattle.hub_database.specs.declared.batch.DbFault.{DbFault}
 use Rattle.hub_database.specs.declared.batch.DbFault.TheVariants as db_fault
@@ -46,13 +46,13 @@ use Rattle.hub_replies.specs.Bulk.{batch_body}
 use Rattle.hub_service.specs.Bulk.{batch_if, batch_in, batch_of}
 use Rattle.hub_service.specs.Bulk as bulk
 use Rattle.hub_service.specs.Bulk.{faults_of, read_docs, readings, replies_of}
-use Rattle.hub_service.specs.Calls.{edits, keeps, puts_doc, says_batch}
-use Rattle.hub_service.specs.Calls.{says_edit, says_noted, stores}
+use Rattle.hub_service.specs.Calls.{edits, local_reply, puts_doc, says_batch}
+use Rattle.hub_service.specs.Calls.{says_edit, says_noted, batch_reply}
 use Rattle.hub_service.specs.Feeds.{BeginsRead, IsUnopened}
 use Rattle.hub_service.specs.Moments.{HasDatabase, IsEdited, IsFound, IsKept, IsLooked, IsRead, with_refusal}
-use Rattle.hub_service.specs.Moments.{IsStored, IsWritten, stands}
+use Rattle.hub_service.specs.Moments.{IsStored, IsWritten, said_unless_deleted}
 use Rattle.hub_service.specs.Refusals.{of_db_fault, of_note_fault, of_open_fault, of_param_fault}
-use Rattle.hub_service.specs.Said.{Said, Body, Refusing, IsSaid, IsWant, Says, Writing}
+use Rattle.hub_service.specs.Said.{CallAnswer, Body, Refusing, IsSaid, IsWant, Says, WriteAnswer}
 use Rattle.hub_service.specs.declared.response.Response.{Response}
 use Rattle.hub_service.specs.declared.response.Response.TheVariants as response
 
@@ -106,7 +106,7 @@ some_database =
 -- ---- what is said
 
 -- what is said is said, or memory was missing
-pub said_or_want : (said : Said) (r : Result Response Refusal) → IsSaid said r → Says r said ⊎ IsWant r
+pub said_or_want : (said : CallAnswer) (r : Result Response Refusal) → IsSaid said r → Says r said ⊎ IsWant r
 said_or_want (Body status body) r is = is
 said_or_want (Refusing refusal) r is = inl is
 
@@ -118,12 +118,12 @@ is_refused (Ok (response.Body status body)) refusal is = absurd is
 is_refused (Ok (response.Stream mode sent)) refusal is = absurd is
 
 -- what is said without a look is what any database says
-pub read_anyway : (says : Database → Said) (said : Said) (r : Result Response Refusal) → Says r said
+pub read_anyway : (says : Database → CallAnswer) (said : CallAnswer) (r : Result Response Refusal) → Says r said
     → ((db : Database) → said ≡ says db) → IsRead says r
 read_anyway says said r is same =
     inl (record { db = some_database; legal = tt; held = subst (Says r) (same some_database) is })
 
-pub written_anyway : (does : Database → Writing) (said : Said) (r : Result Response Refusal) → Says r said
+pub written_anyway : (does : Database → WriteAnswer) (said : CallAnswer) (r : Result Response Refusal) → Says r said
     → ((db : Database) → said ≡ (does db).said) → IsWritten does r
 written_anyway does said r is same =
     inl (record { db = some_database; legal = tt; held = subst (Says r) (same some_database) is })
@@ -131,7 +131,7 @@ written_anyway does said r is same =
 -- ---- reading
 
 -- what was found is said
-pub found_read : {A : Type 0} (found : Database → A → Type 0) (says : Database → Said) (a : A) (said : Said)
+pub found_read : {A : Type 0} (found : Database → A → Type 0) (says : Database → CallAnswer) (a : A) (said : CallAnswer)
     (r : Result Response Refusal) → IsFound found (Ok a) → IsSaid said r
     → ((db : Database) → found db a → said ≡ says db) → IsRead says r
 found_read found says a said r has is same = by (said_or_want said r is)
@@ -139,7 +139,7 @@ found_read found says a said r has is same = by (said_or_want said r is)
     by : Says r said ⊎ IsWant r → IsRead says r
     by (inr want) = inr want
     by (inl is) =
-        let standing : stands has.db (says has.db) ≡ says has.db =
+        let standing : said_unless_deleted has.db (says has.db) ≡ says has.db =
         ap (λ b. if b then Refusing Deleted else says has.db) has.held.0 in
         inl (record {
           db = has.db;
@@ -148,11 +148,11 @@ found_read found says a said r has is same = by (said_or_want said r is)
         })
 
 -- where nothing was found that is said
-pub unfound_read : {A : Type 0} (found : Database → A → Type 0) (says : Database → Said) (refusal : Refusal)
+pub unfound_read : {A : Type 0} (found : Database → A → Type 0) (says : Database → CallAnswer) (refusal : Refusal)
     → IsFound found (Err refusal) → IsRead says (Err refusal)
 unfound_read found says refusal (inl want) = inr (ap Err want)
 unfound_read found says refusal (inr is) =
-    let gone : stands is.1.db (says is.1.db) ≡ Refusing Deleted =
+    let gone : said_unless_deleted is.1.db (says is.1.db) ≡ Refusing Deleted =
     ap (λ b. if b then Refusing Deleted else says is.1.db) is.1.held in
     inl (record { db = is.1.db; legal = is.1.legal; held = subst (Says (Err refusal)) (sym gone) is.0 })
 
@@ -172,7 +172,7 @@ look_found {A} gives found a (inr is) finds =
     by : (given : Result A DbFault) → Ok a ≡ with_refusal given
         → IfOk given (λ a. (is.db.deleted ≡ false) × found is.db a) → IsFound found (Ok a)
     by (Ok b) same stands =
-        subst (IsFound found) (sym same) (record { db = is.db; legal = is.legal; held = stands })
+        subst (IsFound found) (sym same) (record { db = is.db; legal = is.legal; held = said_unless_deleted })
     by (Err e) same stands = absurd (cc)
 
 -- and where it gave nothing, the database was deleted, or memory was missing
@@ -231,7 +231,7 @@ pub stored_whole : (new_edits : Bool) (docs : List Doc) (given : Result Written 
     → IfOk given (λ w. IsStoredBy false 0 (record { parts = 0; count = 0 }) new_edits docs w.batch)
     → IfOk given (λ w. IsSome w.lapsed → HasStored w.batch.replies)
     → IfOk (with_refusal given) (IsStored new_edits docs)
-stored_whole new_edits docs (Ok written) stored lapsed = record { stored = stored; lapsed = lapsed }
+stored_whole new_edits docs (Ok local_after_write) stored lapsed = record { stored = stored; lapsed = lapsed }
 stored_whole new_edits docs (Err e) stored lapsed = tt
 
 -- an edit that was refused is answered as that
@@ -288,12 +288,12 @@ edit_said status doc edited r is said = edit_noted status doc edited edited.laps
 
 -- what was kept is said
 pub kept_read : (doc : LocalDoc) (count : ℕ) (r : Result Response Refusal) → IsKept doc (Ok count)
-    → ((db : Database) → count ≡ (written db.locals doc).count → IsSaid (keeps (written db.locals doc)) r)
-    → IsRead (λ db. keeps (written db.locals doc)) r
+    → ((db : Database) → count ≡ (local_after_write db.locals doc).count → IsSaid (local_reply (local_after_write db.locals doc)) r)
+    → IsRead (λ db. local_reply (local_after_write db.locals doc)) r
 kept_read doc count r (db, standing, is) says =
-    by (said_or_want (keeps (written db.locals doc)) r (says db is))
+    by (said_or_want (local_reply (local_after_write db.locals doc)) r (says db is))
   where
-    by : Says r (keeps (written db.locals doc)) ⊎ IsWant r → IsRead (λ db. keeps (written db.locals doc)) r
+    by : Says r (local_reply (local_after_write db.locals doc)) ⊎ IsWant r → IsRead (λ db. local_reply (local_after_write db.locals doc)) r
     by (inr want) = inr want
     by (inl said) =
         inl (record {
@@ -301,12 +301,12 @@ kept_read doc count r (db, standing, is) says =
           legal = tt;
           held =
               subst (Says r)
-              (sym (ap (λ b. if b then Refusing Deleted else keeps (written db.locals doc)) standing)) said;
+              (sym (ap (λ b. if b then Refusing Deleted else local_reply (local_after_write db.locals doc)) standing)) said;
         })
 
 -- a local document was kept, or it is told why not
 pub kept_or_not : (doc : LocalDoc) (given : Result ℕ DbFault)
-    → IfOk given (λ count. (db : Database) × (db.deleted ≡ false) × (count ≡ (written db.locals doc).count))
+    → IfOk given (λ count. (db : Database) × (db.deleted ≡ false) × (count ≡ (local_after_write db.locals doc).count))
     → IfErr given (λ e. (db : Database) × IsLocalFault db doc e) → IsKept doc (with_refusal given)
 kept_or_not doc (Ok count) kept fault = kept
 kept_or_not doc (Err e) kept (db, inl gone) = inr (inl (ap of_db_fault gone.1, (db, gone.0)))
@@ -316,10 +316,10 @@ kept_or_not doc (Err e) kept (db, inr (standing, inr full)) =
 
 -- a count that was told is that of a document that is kept
 pub kept_said : (db : Database) (doc : LocalDoc) (count : ℕ) (r : Result Response Refusal) → count < 2 ^ 64
-    → IsSaid (Body 201 (local_edit_body doc.id count)) r → count ≡ (written db.locals doc).count
-    → IsSaid (keeps (written db.locals doc)) r
+    → IsSaid (Body 201 (local_edit_body doc.id count)) r → count ≡ (local_after_write db.locals doc).count
+    → IsSaid (local_reply (local_after_write db.locals doc)) r
 kept_said db doc count r few said is =
-    let n = (written db.locals doc).count in
+    let n = (local_after_write db.locals doc).count in
     let some : nat_le (2 ^ 64) n ≡ false = lt-leb (2 ^ 64) n (subst (λ n. n < 2 ^ 64) is few) in
     subst (λ b. IsSaid (if b then Refusing SequenceFull else Body 201 (local_edit_body doc.id n)) r)
     (sym some)
@@ -327,7 +327,7 @@ kept_said db doc count r few said is =
 
 -- why nothing was kept is said
 pub unkept_read : (doc : LocalDoc) (refusal : Refusal) → IsKept doc (Err refusal)
-    → IsRead (λ db. keeps (written db.locals doc)) (Err refusal)
+    → IsRead (λ db. local_reply (local_after_write db.locals doc)) (Err refusal)
 unkept_read doc refusal (inl want) = inr (ap Err want)
 unkept_read doc refusal (inr (inl (gone, (db, deleted)))) =
     inl (record {
@@ -335,7 +335,7 @@ unkept_read doc refusal (inr (inl (gone, (db, deleted)))) =
       legal = tt;
       held =
           subst (Says (Err refusal))
-          (sym (ap (λ b. if b then Refusing Deleted else keeps (written db.locals doc)) deleted)) gone;
+          (sym (ap (λ b. if b then Refusing Deleted else local_reply (local_after_write db.locals doc)) deleted)) gone;
     })
 unkept_read doc refusal (inr (inr (full, (db, standing, many)))) =
     inl (record {
@@ -343,10 +343,10 @@ unkept_read doc refusal (inr (inr (full, (db, standing, many)))) =
       legal = tt;
       held =
           subst (Says (Err refusal))
-          (sym (ap (λ b. if b then Refusing Deleted else keeps (written db.locals doc)) standing
+          (sym (ap (λ b. if b then Refusing Deleted else local_reply (local_after_write db.locals doc)) standing
           ∙ ap (λ b. if b then Refusing SequenceFull
-          else Body 201 (local_edit_body doc.id (written db.locals doc).count))
-          (le-leb (2 ^ 64) (written db.locals doc).count many))) full;
+          else Body 201 (local_edit_body doc.id (local_after_write db.locals doc).count))
+          (le-leb (2 ^ 64) (local_after_write db.locals doc).count many))) full;
     })
 
 -- ---- what is looked at on the way
@@ -394,9 +394,9 @@ told_of is_such told (Err e) one such all = tt
 batch_outcomes : (new_edits : Bool) (docs : List Doc) (batch : Batch)
     → (w : IsStoredBy false 0 (record { parts = 0; count = 0 }) new_edits docs batch)
     → batch.stopped ≡ false
-    → batch.replies ≡ (writes new_edits w.db.deleted w.db.limits.journal w.db.journal docs).outcomes
+    → batch.replies ≡ (docs_result new_edits w.db.deleted w.db.limits.journal w.db.journal docs).outcomes
 batch_outcomes new_edits docs batch w goes =
-    w.replies ∙ ap (λ l. (writes new_edits w.db.deleted w.db.limits.journal w.db.journal l).outcomes)
+    w.replies ∙ ap (λ l. (docs_result new_edits w.db.deleted w.db.limits.journal w.db.journal l).outcomes)
     (ap (λ n. take n docs) (w.whole goes) ∙ take_whole docs)
 
 -- a batch that was written is what some database says
@@ -406,7 +406,7 @@ batch_written : (new_edits : Bool) (items : Items) (batch : Batch) (r : Result R
     → batch.stopped ≡ false
     → IsSaid (Body 201
     (batch_body items (replies_of new_edits (faults_of (readings new_edits items)) batch.replies))) r
-    → IsWritten (λ db. stores db (Ok (record { docs = items; new_edits = new_edits }))) r
+    → IsWritten (λ db. batch_reply db (Ok (record { docs = items; new_edits = new_edits }))) r
 batch_written new_edits items batch r w goes (inr want) = inr (inl want)
 batch_written new_edits items batch r w goes (inl is) =
     inl (record {
@@ -453,7 +453,7 @@ batch_lapsed : (new_edits : Bool) (items : Items) (batch : Batch) (fault : NoteF
     → IsStoredBy false 0 (record { parts = 0; count = 0 }) new_edits (read_docs (readings new_edits items))
     batch
     → HasStored batch.replies
-    → IsWritten (λ db. stores db (Ok (record { docs = items; new_edits = new_edits })))
+    → IsWritten (λ db. batch_reply db (Ok (record { docs = items; new_edits = new_edits })))
     (Err (of_note_fault fault))
 batch_lapsed new_edits items batch note_fault.NoMemory w some = inr (inl refl)
 batch_lapsed new_edits items batch note_fault.SequenceFull w some =
@@ -480,7 +480,7 @@ batch_stopped : (new_edits : Bool) (items : Items) (batch : Batch) (stopped : Bo
     → batch.stopped ≡ stopped
     → IsSaid (says_batch (record { docs = items; new_edits = new_edits })
     (faults_of (readings new_edits items)) stopped batch.replies) r
-    → IsWritten (λ db. stores db (Ok (record { docs = items; new_edits = new_edits }))) r
+    → IsWritten (λ db. batch_reply db (Ok (record { docs = items; new_edits = new_edits }))) r
 batch_stopped new_edits items batch true r w is said = inr (inl (is_refused r NoMemory said))
 batch_stopped new_edits items batch false r w is said = batch_written new_edits items batch r w is said
 
@@ -493,11 +493,11 @@ batch_noted : (new_edits : Bool) (items : Items) (batch : Batch) (lapsed : Optio
     → IsSaid (says_noted lapsed
     (says_batch (record { docs = items; new_edits = new_edits })
     (faults_of (readings new_edits items)) batch.stopped batch.replies)) r
-    → IsWritten (λ db. stores db (Ok (record { docs = items; new_edits = new_edits }))) r
+    → IsWritten (λ db. batch_reply db (Ok (record { docs = items; new_edits = new_edits }))) r
 batch_noted new_edits items batch None r w some is =
     batch_stopped new_edits items batch batch.stopped r w refl is
 batch_noted new_edits items batch (Some fault) r w some is =
-    subst (IsWritten (λ db. stores db (Ok (record { docs = items; new_edits = new_edits }))))
+    subst (IsWritten (λ db. batch_reply db (Ok (record { docs = items; new_edits = new_edits }))))
     (sym (is_refused r (of_note_fault fault) is))
     (batch_lapsed new_edits items batch fault w (some cc))
 
@@ -507,34 +507,34 @@ pub batch_said : (new_edits : Bool) (items : Items) (written : Written) (r : Res
     → IsSaid (says_noted written.lapsed
     (says_batch (record { docs = items; new_edits = new_edits })
     (faults_of (readings new_edits items)) written.batch.stopped written.batch.replies)) r
-    → IsWritten (λ db. stores db (Ok (record { docs = items; new_edits = new_edits }))) r
+    → IsWritten (λ db. batch_reply db (Ok (record { docs = items; new_edits = new_edits }))) r
 batch_said new_edits items written r stored is =
     batch_noted new_edits items written.batch written.lapsed r stored.stored stored.lapsed is
 
 -- a batch that was read is stored
 pub stored_as : (b : Result bulk.Batch Refusal) (batch : bulk.Batch) (r : Result Response Refusal)
     → b ≡ Ok batch
-    → IsWritten (λ db. stores db (Ok batch)) r → IsWritten (λ db. stores db b) r
-stored_as b batch r is w = subst (λ b. IsWritten (λ db. stores db b) r) (sym is) w
+    → IsWritten (λ db. batch_reply db (Ok batch)) r → IsWritten (λ db. batch_reply db b) r
+stored_as b batch r is w = subst (λ b. IsWritten (λ db. batch_reply db b) r) (sym is) w
 
 -- and its refusal is told without a look
 pub store_refused : (b : Result bulk.Batch Refusal) (refusal : Refusal) → b ≡ Err refusal
-    → IsWritten (λ db. stores db b) (Err refusal)
+    → IsWritten (λ db. batch_reply db b) (Err refusal)
 store_refused b refusal is =
-    written_anyway (λ db. stores db b) (Refusing refusal) (Err refusal) refl
-    (λ db. sym (ap (λ b. (stores db b).said) is))
+    written_anyway (λ db. batch_reply db b) (Refusing refusal) (Err refusal) refl
+    (λ db. sym (ap (λ b. (batch_reply db b).said) is))
 
 -- a body is the batch that its value is
 pub stored_of_body : (body : List ℕ) (r : Result Response Refusal) (content : Data)
     → json_of body ≡ Some content
-    → IsWritten (λ db. stores db (batch_of content)) r → IsWritten (λ db. stores db (batch_in body)) r
-stored_of_body body r content is w = subst (λ o. IsWritten (λ db. stores db (batch_if o)) r) (sym is) w
+    → IsWritten (λ db. batch_reply db (batch_of content)) r → IsWritten (λ db. batch_reply db (batch_in body)) r
+stored_of_body body r content is w = subst (λ o. IsWritten (λ db. batch_reply db (batch_if o)) r) (sym is) w
 
 -- and a body that has no value is told as that
 pub store_unread : (body : List ℕ) (fault : DocFault) (refusal : Refusal)
     → (fault ≡ doc_fault.NoMemory) ⊎ ((fault ≡ doc_fault.NotJson) × (json_of body ≡ None))
     → refusal ≡ of_doc_fault fault
-    → IsWritten (λ db. stores db (batch_in body)) (Err refusal)
+    → IsWritten (λ db. batch_reply db (batch_in body)) (Err refusal)
 store_unread body fault refusal (inl want) is = inr (inl (ap Err (is ∙ ap of_doc_fault want)))
 store_unread body fault refusal (inr (bad, none)) is =
     store_refused (batch_in body) refusal (ap batch_if none ∙ ap Err (sym (is ∙ ap of_doc_fault bad)))
@@ -542,12 +542,12 @@ store_unread body fault refusal (inr (bad, none)) is =
 -- ---- what a body asks for
 
 -- what a body asks for is read
-pub read_as : {A : Type 0} (says : Database → Result A DocFault → Said) (p : Result A DocFault) (a : A)
+pub read_as : {A : Type 0} (says : Database → Result A DocFault → CallAnswer) (p : Result A DocFault) (a : A)
     (r : Result Response Refusal) → p ≡ Ok a → IsRead (λ db. says db (Ok a)) r → IsRead (λ db. says db p) r
 read_as says p a r is given = subst (λ p. IsRead (λ db. says db p) r) (sym is) given
 
 -- and its fault is told without a look
-pub read_refused : {A : Type 0} (says : Database → Result A DocFault → Said)
+pub read_refused : {A : Type 0} (says : Database → Result A DocFault → CallAnswer)
     (p : Result A DocFault) (fault : DocFault)
     (refusal : Refusal) → ((db : Database) → says db (Err fault) ≡ Refusing (of_doc_fault fault))
     → (fault ≡ doc_fault.NoMemory) ⊎ (p ≡ Err fault) → refusal ≡ of_doc_fault fault

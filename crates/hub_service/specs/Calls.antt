@@ -5,7 +5,7 @@ use Rattle.std.specs.Prelude.{codes, Option, Some, None, Result, Ok, Err}
 use Rattle.hub_model.specs.Journal.{Edit}
 use Rattle.hub_model.specs.Revision.{Revision}
 use Rattle.hub_model.specs.Leaves.{leaves_of}
-use Rattle.hub_model.specs.Missing.{Asked, diffs}
+use Rattle.hub_model.specs.Missing.{RevisionsOfDoc, diffs}
 use Rattle.hub_model.specs.declared.outcomes.Outcome.{Outcome}
 use Rattle.hub_model.specs.declared.outcomes.Outcome.TheVariants.{Stored, Known, Refused}
 use Rattle.hub_document.specs.Asking.{asked_in, open_revs_in}
@@ -17,8 +17,8 @@ use Rattle.hub_document.specs.declared.local_doc.LocalDoc.{LocalDoc}
 use Rattle.hub_document.specs.declared.open_revs.OpenRevs.{OpenRevs}
 use Rattle.hub_document.specs.declared.open_revs.OpenRevs.TheVariants.{All, Listed}
 use Rattle.hub_database.specs.Database.{Database, Local}
-use Rattle.hub_database.specs.Edits.{makes_one, writes}
-use Rattle.hub_database.specs.Locals.{written}
+use Rattle.hub_database.specs.Edits.{one_draft_result, docs_result}
+use Rattle.hub_database.specs.Locals.{local_after_write}
 use Rattle.hub_database.specs.Reads.{info_of, lookup, open_revs}
 use Rattle.hub_database.specs.declared.answers.Lookup.{Lookup}
 use Rattle.hub_database.specs.declared.answers.Lookup.TheVariants.{Unknown, Deleted, Found}
@@ -35,21 +35,21 @@ use Rattle.hub_replies.specs.Bodies.{open_revs_body, diffs_body, commit_body}
 use Rattle.hub_replies.specs.Bulk.{batch_body}
 use Rattle.hub_service.specs.Bulk.{Batch, readings, read_docs, faults_of, replies_of}
 use Rattle.hub_service.specs.Refusals.{of_note_fault}
-use Rattle.hub_service.specs.Said.{Said, Body, Refusing, Writing, refuses_all}
+use Rattle.hub_service.specs.Said.{CallAnswer, Body, Refusing, WriteAnswer, refuses_all}
 use Rattle.hub_updates.specs.declared.state.NoteFault.{NoteFault}
 
 -- what a database of this name says of itself
-abbrev pub says_info : List ℕ → Database → Said
+abbrev pub says_info : List ℕ → Database → CallAnswer
 says_info name db = Body 200 (info_body name (info_of db.journal db.life))
 
 -- a commit has nothing to do
-abbrev pub says_commit : Said
+abbrev pub says_commit : CallAnswer
 says_commit = Body 201 commit_body
 
 -- ---- reading documents
 
 -- a document that was asked for
-abbrev pub says_found : Lookup → Said
+abbrev pub says_found : Lookup → CallAnswer
 says_found Unknown = Refusing Missing
 says_found Deleted = Refusing DocDeleted
 says_found (Found doc) = Body 200 (doc_body doc)
@@ -60,30 +60,30 @@ is_all All = true
 is_all (Listed asked) = false
 
 -- revisions that were asked for; where all leaves were and there is none, the document is unknown
-abbrev pub says_revs : Bool → List OpenRev → Said
+abbrev pub says_revs : Bool → List OpenRev → CallAnswer
 says_revs true [] = Refusing Missing
 says_revs true (rev ∷ revs) = Body 200 (open_revs_body (rev ∷ revs))
 says_revs false revs = Body 200 (open_revs_body revs)
 
 -- the revisions that a value of `open_revs` asks for
-abbrev pub gets_revs : List Edit → List ℕ → Bool → Option OpenRevs → Said
+abbrev pub gets_revs : List Edit → List ℕ → Bool → Option OpenRevs → CallAnswer
 gets_revs journal id revs None = Refusing BadRev
 gets_revs journal id revs (Some which) = says_revs (is_all which) (open_revs journal id which revs)
 
 -- a document, or some of its revisions; a revision is not asked for by `rev`
-abbrev pub gets_by : List Edit → List ℕ → Bool → Option (List ℕ) → Option (List ℕ) → Said
+abbrev pub gets_by : List Edit → List ℕ → Bool → Option (List ℕ) → Option (List ℕ) → CallAnswer
 gets_by journal id revs rev (Some text) = gets_revs journal id revs (open_revs_in text)
 gets_by journal id revs (Some rev) None = Refusing BadRev
 gets_by journal id revs None None = says_found (lookup journal id revs)
 
 -- a document, or some of its revisions, by what a query asks
-abbrev pub gets_doc : List Edit → List ℕ → DocAsked → Said
+abbrev pub gets_doc : List Edit → List ℕ → DocAsked → CallAnswer
 gets_doc journal id asked = gets_by journal id asked.revs asked.rev asked.open_revs
 
 -- ---- editing documents
 
 -- what came of storing an edit
-abbrev pub says_edit : ℕ → List ℕ → Outcome Revision → Said
+abbrev pub says_edit : ℕ → List ℕ → Outcome Revision → CallAnswer
 says_edit status id (Stored rev) = Body status (edit_body id rev)
 says_edit status id Known = Refusing Conflict
 says_edit status id (Refused fault) = Refusing (of_fault fault)
@@ -91,18 +91,18 @@ says_edit status id (Refused fault) = Refusing (of_fault fault)
 -- What a write is answered whose notice may have lapsed. That a notice lapsed is told before
 -- anything else: the stored edits stand, and have no note. A batch that stopped for memory behind a
 -- stored document, with a full log, is answered sequence_full.
-abbrev pub says_noted : Option NoteFault → Said → Said
+abbrev pub says_noted : Option NoteFault → CallAnswer → CallAnswer
 says_noted None said = said
 says_noted (Some fault) said = Refusing (of_note_fault fault)
 
 -- storing an edit whose revision is made here
-abbrev pub edits : ℕ → Database → Doc → Writing
+abbrev pub edits : ℕ → Database → Doc → WriteAnswer
 edits status db doc =
-    let outcome = (makes_one db.deleted db.limits.journal db.journal doc).outcome in
+    let outcome = (one_draft_result db.deleted db.limits.journal db.journal doc).outcome in
     record { said = says_edit status doc.id outcome; outcomes = outcome ∷ [] }
 
 -- putting a document, or the refusal of its fault
-abbrev pub puts_doc : Database → Result Doc DocFault → Writing
+abbrev pub puts_doc : Database → Result Doc DocFault → WriteAnswer
 puts_doc db (Err fault) = refuses_all (of_doc_fault fault)
 puts_doc db (Ok doc) = edits 201 db doc
 
@@ -116,43 +116,43 @@ winner_in db id = winner_of (leaves_of db.journal id)
 
 -- ---- local documents
 
-abbrev pub says_local : Option Local → Said
+abbrev pub says_local : Option Local → CallAnswer
 says_local None = Refusing Missing
 says_local (Some local) = Body 200 (local_doc_body local.id local.count local.body)
 
 -- keeping a local document, unless it was written too often
-abbrev pub keeps : Local → Said
-keeps local =
+abbrev pub local_reply : Local → CallAnswer
+local_reply local =
     if nat_le (2 ^ 64) local.count then Refusing SequenceFull else
     Body 201 (local_edit_body local.id local.count)
 
 -- putting a local document, or the refusal of its fault
-abbrev pub puts_local : Database → Result LocalDoc DocFault → Said
+abbrev pub puts_local : Database → Result LocalDoc DocFault → CallAnswer
 puts_local db (Err fault) = Refusing (of_doc_fault fault)
-puts_local db (Ok doc) = keeps (written db.locals doc)
+puts_local db (Ok doc) = local_reply (local_after_write db.locals doc)
 
 -- ---- replication
 
 -- which revisions are asked for by a body
-abbrev pub asked_by : List ℕ → Result (List Asked) DocFault
+abbrev pub asked_by : List ℕ → Result (List RevisionsOfDoc) DocFault
 asked_by body = or_fault (json_of body) doc.NotJson asked_in
 
 -- which of them are missing
-abbrev pub says_diffs : List Edit → Result (List Asked) DocFault → Said
+abbrev pub says_diffs : List Edit → Result (List RevisionsOfDoc) DocFault → CallAnswer
 says_diffs journal (Err fault) = Refusing (of_doc_fault fault)
 says_diffs journal (Ok asked) = Body 200 (diffs_body (diffs journal asked))
 
 -- the answer to a batch with these faults, of whose documents this became; where memory ran out at a document
 -- the answer is that
-abbrev pub says_batch : Batch → List (Option DocFault) → Bool → List (Outcome Revision) → Said
+abbrev pub says_batch : Batch → List (Option DocFault) → Bool → List (Outcome Revision) → CallAnswer
 says_batch batch faults stopped outcomes =
     if stopped then Refusing NoMemory
     else Body 201 (batch_body batch.docs (replies_of batch.new_edits faults outcomes))
 
 -- storing a batch, or the refusal of the whole
-abbrev pub stores : Database → Result Batch Refusal → Writing
-stores db (Err refusal) = refuses_all refusal
-stores db (Ok batch) =
+abbrev pub batch_reply : Database → Result Batch Refusal → WriteAnswer
+batch_reply db (Err refusal) = refuses_all refusal
+batch_reply db (Ok batch) =
     let read = readings batch.new_edits batch.docs in
-    let stored = writes batch.new_edits db.deleted db.limits.journal db.journal (read_docs read) in
+    let stored = docs_result batch.new_edits db.deleted db.limits.journal db.journal (read_docs read) in
     record { said = says_batch batch (faults_of read) false stored.outcomes; outcomes = stored.outcomes }

@@ -7,8 +7,8 @@ use Rattle.hub_model.specs.Journal.{IsLegal}
 use Rattle.hub_model.specs.declared.outcomes.Fault.{Fault}
 use Rattle.hub_model.specs.declared.outcomes.Outcome.TheVariants.{Stored, Refused}
 use Rattle.hub_database.specs.Database.{Database}
-use Rattle.hub_database.specs.Edits.{makes_one}
-use Rattle.hub_database.specs.Locals.{written}
+use Rattle.hub_database.specs.Edits.{one_draft_result}
+use Rattle.hub_database.specs.Locals.{local_after_write}
 use Rattle.hub_database.specs.declared.batch.DbFault.{DbFault}
 use Rattle.hub_databases.specs.declared.written.Edited.{Edited}
 use Rattle.hub_databases.specs.declared.written.Written.{Written}
@@ -18,7 +18,7 @@ use Rattle.hub_http.specs.declared.refusal.Refusal.TheVariants.{NoMemory, Delete
 use Rattle.hub_shared.specs.Handles.{IsStoredBy}
 use Rattle.hub_shared.specs.Stored.{HasStored}
 use Rattle.hub_service.specs.Refusals.{of_db_fault}
-use Rattle.hub_service.specs.Said.{Said, Refusing, Says, IsWant, Writing}
+use Rattle.hub_service.specs.Said.{CallAnswer, Refusing, Says, IsWant, WriteAnswer}
 use Rattle.hub_service.specs.declared.response.Response.{Response}
 
 -- this holds of some database, as one may lie under its lock
@@ -28,8 +28,8 @@ pub record HasDatabase (holds : Database → Type 0) : Type 0 where
   pub held : holds db
 
 -- a database that was deleted refuses a call that looks at it
-abbrev pub stands : Database → Said → Said
-stands db said = if db.deleted then Refusing Deleted else said
+abbrev pub said_unless_deleted : Database → CallAnswer → CallAnswer
+said_unless_deleted db said = if db.deleted then Refusing Deleted else said
 
 -- A look at some database found this. Where nothing was found, the database was deleted, or memory was
 -- missing. It says nothing of a later look: that may find a deleted database where this one found a
@@ -50,15 +50,15 @@ IsLooked {A} gives r = (r ≡ Err NoMemory)
     ⊎ HasDatabase (λ db. (given : Result A DbFault) × gives db given × (r ≡ with_refusal given))
 
 -- a call that reads was answered as some database says it, or memory was missing
-abbrev pub IsRead : (Database → Said) → Result Response Refusal → Type 0
-IsRead says r = HasDatabase (λ db. Says r (stands db (says db))) ⊎ IsWant r
+abbrev pub IsRead : (Database → CallAnswer) → Result Response Refusal → Type 0
+IsRead says r = HasDatabase (λ db. Says r (said_unless_deleted db (says db))) ⊎ IsWant r
 
 -- A call that writes was answered as some database says it, which then has what was written. Or
 -- memory was missing. Or a document was stored, and the log of updates was full, so that it has no
 -- note of the write. With a log of one note, that of the database's making, each put of a document
 -- is stored and answered 503 sequence_full. A batch of a known document stores nothing, and is
 -- answered 201.
-abbrev pub IsWritten : (Database → Writing) → Result Response Refusal → Type 0
+abbrev pub IsWritten : (Database → WriteAnswer) → Result Response Refusal → Type 0
 IsWritten does r = HasDatabase (λ db. Says r (does db).said)
     ⊎ (IsWant r ⊎ ((r ≡ Err SequenceFull) × HasDatabase (λ db. HasStored (does db).outcomes)))
 
@@ -66,10 +66,10 @@ IsWritten does r = HasDatabase (λ db. Says r (does db).said)
 -- database refuses it, or memory was missing.
 abbrev pub IsEdited : Doc → Result Edited Refusal → Type 0
 IsEdited doc (Ok edited) = HasDatabase (λ db.
-    (makes_one db.deleted db.limits.journal db.journal doc).outcome ≡ Stored edited.rev)
+    (one_draft_result db.deleted db.limits.journal db.journal doc).outcome ≡ Stored edited.rev)
 IsEdited doc (Err refusal) = (refusal ≡ NoMemory) ⊎ HasDatabase (λ db.
     (fault : Fault) × (refusal ≡ of_fault fault)
-    × ((makes_one db.deleted db.limits.journal db.journal doc).outcome ≡ Refused fault))
+    × ((one_draft_result db.deleted db.limits.journal db.journal doc).outcome ≡ Refused fault))
 
 -- What became of a batch that was stored in some database: the log of updates may have no note of it only
 -- where edits were stored. So for a batch of known documents alone no note is missing.
@@ -81,9 +81,9 @@ pub record IsStored (new_edits : Bool) (docs : List Doc) (written : Written) : T
 -- written; or it was deleted, or can't count on, or memory was missing. A document that was written twice
 -- before is told the count 3.
 abbrev pub IsKept : LocalDoc → Result ℕ Refusal → Type 0
-IsKept doc (Ok count) = (db : Database) × (db.deleted ≡ false) × (count ≡ (written db.locals doc).count)
+IsKept doc (Ok count) = (db : Database) × (db.deleted ≡ false) × (count ≡ (local_after_write db.locals doc).count)
 IsKept doc (Err e) =
     (e ≡ NoMemory)
     ⊎ (((e ≡ Deleted) × ((db : Database) × (db.deleted ≡ true)))
     ⊎ ((e ≡ SequenceFull)
-    × ((db : Database) × (db.deleted ≡ false) × (2 ^ 64 ≤ (written db.locals doc).count))))
+    × ((db : Database) × (db.deleted ≡ false) × (2 ^ 64 ≤ (local_after_write db.locals doc).count))))

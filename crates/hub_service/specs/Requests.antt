@@ -8,7 +8,7 @@ use Rattle.hub_document.specs.Put.{put_in}
 use Rattle.hub_database.specs.Locals.{local_of}
 use Rattle.hub_databases.specs.Kept.{AreNames, most_databases}
 use Rattle.hub_databases.specs.Names.{is_name}
-use Rattle.hub_http.specs.Stream.{Asked}
+use Rattle.hub_http.specs.Stream.{PlainRequest}
 use Rattle.hub_http.specs.declared.refusal.Refusal.{Refusal}
 use Rattle.hub_http.specs.declared.refusal.Refusal.TheVariants.{BadName, Exists, TooMany, Absent}
 use Rattle.hub_http.specs.declared.refusal.Refusal.TheVariants.{NoMemory, SequenceFull}
@@ -30,7 +30,7 @@ use Rattle.hub_session.specs.declared.service.Answer.TheVariants as answer
 use Rattle.hub_service.specs.Bulk.{batch_in}
 use Rattle.hub_service.specs.Calls.{says_info, says_commit, gets_doc, puts_doc}
 use Rattle.hub_service.specs.Calls.{says_local, puts_local, says_diffs}
-use Rattle.hub_service.specs.Calls.{asked_by, stores}
+use Rattle.hub_service.specs.Calls.{asked_by, batch_reply}
 use Rattle.hub_service.specs.Deletions.{IsDeletion}
 use Rattle.hub_service.specs.Feeds.{Begins, BeginsChanges, BeginsUpdates, life_of}
 use Rattle.hub_service.specs.Moments.{IsRead, IsWritten}
@@ -76,7 +76,7 @@ AnswersCall DbUpdates name id query body r = Begins BeginsUpdates query body r
 AnswersCall PutDatabase name id query body r = AtName name IsMade r
 AnswersCall DeleteDatabase name id query body r = AtName name IsRemoved r
 AnswersCall Info name id query body r = AtDatabase name (IsRead (λ db. says_info name db)) r
-AnswersCall BulkDocs name id query body r = AtDatabase name (IsWritten (λ db. stores db (batch_in body))) r
+AnswersCall BulkDocs name id query body r = AtDatabase name (IsWritten (λ db. batch_reply db (batch_in body))) r
 AnswersCall Changes name id query body r = AtDatabase name (Begins BeginsChanges query body) r
 AnswersCall RevsDiff name id query body r =
     AtDatabase name (IsRead (λ db. says_diffs db.journal (asked_by body))) r
@@ -107,7 +107,7 @@ IsSent (Ok (response.Stream mode sent)) a maybe_sent t =
 IsSent (Err e) a maybe_sent t = (a ≡ answer.Whole (Refused e)) × (t ≡ maybe_sent)
 
 -- from what is being sent, a request may be answered so, and leave this
-pub record Answers (maybe_sent : Option Sent) (asked : Asked) (answer : Answer)
+pub record Answers (maybe_sent : Option Sent) (asked : PlainRequest) (answer : Answer)
     (t : Option Sent) : Type 0 where
   pub route : Result Route RouteFault
   pub response : Result Response Refusal

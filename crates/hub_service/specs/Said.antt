@@ -8,13 +8,13 @@ use Rattle.hub_service.specs.declared.response.Response.{Response}
 use Rattle.hub_service.specs.declared.response.Response.TheVariants as response
 
 -- what a call is answered that begins no feed
-pub data Said : Type 0 where
-  Body : (status : ℕ) (body : List ℕ) → Said
-  Refusing : (refusal : Refusal) → Said
+pub data CallAnswer : Type 0 where
+  Body : (status : ℕ) (body : List ℕ) → CallAnswer
+  Refusing : (refusal : Refusal) → CallAnswer
 
 -- The response says this. One of status 200 with the bytes {} says Body 200 {}, and the error Missing says
 -- Refusing Missing. A response that begins a feed says neither.
-abbrev pub Says : Result Response Refusal → Said → Type 0
+abbrev pub Says : Result Response Refusal → CallAnswer → Type 0
 Says (Ok (response.Body status bytes)) (Body n body) = (status ≡ n) × (bytes.items ≡ body)
 Says (Err e) (Refusing refusal) = e ≡ refusal
 Says r said = ⊥
@@ -24,17 +24,17 @@ abbrev pub IsWant : Result Response Refusal → Type 0
 IsWant r = r ≡ Err NoMemory
 
 -- the response says this, and where it is a body memory may be missing for it: a refusal takes none
-abbrev pub IsSaid : Said → Result Response Refusal → Type 0
+abbrev pub IsSaid : CallAnswer → Result Response Refusal → Type 0
 IsSaid (Body status body) r = Says r (Body status body) ⊎ IsWant r
 IsSaid (Refusing refusal) r = Says r (Refusing refusal)
 
 -- ---- writing
 
 -- what a write is answered, and what became of its documents
-pub record Writing : Type 0 where
-  pub said : Said
+pub record WriteAnswer : Type 0 where
+  pub said : CallAnswer
   pub outcomes : List (Outcome Revision)
 
 -- a write that is refused as a whole
-abbrev pub refuses_all : Refusal → Writing
+abbrev pub refuses_all : Refusal → WriteAnswer
 refuses_all refusal = record { said = Refusing refusal; outcomes = [] }

@@ -6,7 +6,7 @@ ghost use Rattle.serde_json.specs.View.{view, items_view};
 ghost use Rattle.hub_replies.specs.Bulk.{batch_body};
 ghost use Rattle.hub_service.specs.Bulk.{batch_in, batch_of, faults_of, flag_of};
 ghost use Rattle.hub_service.specs.Bulk.{read_docs, readings, replies_of, reply_to};
-ghost use Rattle.hub_service.specs.Calls.{says_batch, says_noted, stores};
+ghost use Rattle.hub_service.specs.Calls.{says_batch, says_noted, batch_reply};
 ghost use Rattle.hub_service.specs.Moments.{IsWritten};
 ghost use Rattle.hub_service.specs.Said.{IsSaid};
 
@@ -148,7 +148,7 @@ fn store_elements<N: Wait>(
     elements: &[Value],
     new_edits: bool,
 ) -> Result<Response, Refusal>
-    ensures { IsWritten (λ db. stores db
+    ensures { IsWritten (λ db. batch_reply db
         (Ok (record { docs = items_view elements.now; new_edits = new_edits }))) result }
 {
     let Readings { docs, faults } = read_elements(context.alloc, elements, new_edits)?;
@@ -169,7 +169,7 @@ pub(crate) fn store<N: Wait>(
     db: &HubDb,
     body: &[u8],
 ) -> Result<Response, Refusal>
-    ensures { IsWritten (λ db. stores db (batch_in body.now)) result }
+    ensures { IsWritten (λ db. batch_reply db (batch_in body.now)) result }
 {
     let request = context.rooms.read(context.rt, body)?;
     let (docs, new_edits) = batch_of(&request)?;

@@ -1,10 +1,10 @@
 //! Local documents by their ids (CouchDB API reference, `/{db}/_local/{docid}`).
 
 ghost use Rattle.std.specs.Prelude.{option_map};
-ghost use Rattle.hub_database.specs.Locals.{local_of, written};
+ghost use Rattle.hub_database.specs.Locals.{local_of, local_after_write};
 ghost use Rattle.hub_document.specs.Local.{local_in};
 ghost use Rattle.hub_database.specs.Answers.{local_named};
-ghost use Rattle.hub_service.specs.Calls.{keeps, puts_local, says_local};
+ghost use Rattle.hub_service.specs.Calls.{local_reply, puts_local, says_local};
 ghost use Rattle.hub_service.specs.Moments.{IsRead};
 ghost use Rattle.hub_service.specs.Said.{IsSaid};
 
@@ -44,7 +44,7 @@ pub(crate) fn get<N: Wait>(
 
 // Keeps a local document. The answer is begun first, so that none is kept that is not answered.
 fn keep<N: Wait>(context: &Context<'_, N>, db: &HubDb, doc: LocalDoc) -> Result<Response, Refusal>
-    ensures { IsRead (λ db. keeps (written db.locals doc)) result }
+    ensures { IsRead (λ db. local_reply (local_after_write db.locals doc)) result }
 {
     let front = edit_front(context.alloc, doc.id.as_str())?;
     let count = context.local_put(db, doc)?;

@@ -8,7 +8,7 @@ use Rattle.hub_http.specs.declared.reply.Reply.{Reply}
 use Rattle.hub_http.specs.Chunks.{text_chunks}
 use Rattle.hub_http.specs.Items.{feed_head}
 use Rattle.hub_http.specs.Texts.{head_text, chunked_line, reply_text}
-use Rattle.hub_http.specs.Stream.{Asked}
+use Rattle.hub_http.specs.Stream.{PlainRequest}
 use Rattle.hub_model.specs.declared.feeds.Mode.{Mode}
 use Rattle.hub_session.specs.declared.service.Answer.TheVariants.{Whole, Stream}
 use Rattle.hub_session.specs.declared.closing.StreamEnd.{StreamEnd}
@@ -16,15 +16,15 @@ use Rattle.hub_session.specs.declared.closing.StreamEnd.TheVariants as stream
 use Rattle.hub_session.specs.declared.closing.Closing.{Closing}
 use Rattle.hub_session.specs.declared.closing.Closing.TheVariants.{Broken}
 use Rattle.hub_session.specs.Feeds.{IsFed, items_text, is_broken}
-use Rattle.hub_session.specs.Sessions.{Goes, HasAnswer, breaks, after_answer}
+use Rattle.hub_session.specs.Sessions.{Goes, HasAnswer, is_write_failure, after_answer}
 use Rattle.hub_session.specs.Sessions.{after_stream, after_whole, is_head, stream_head}
 use Rattle.hub_session.specs.Rules.{Rules, Moment, moment}
 
-pub breaks-after_answer : (close : Bool) → breaks (after_answer close) ≡ false
+pub breaks-after_answer : (close : Bool) → is_write_failure (after_answer close) ≡ false
 breaks-after_answer false = refl
 breaks-after_answer true = refl
 
-pub breaks-after_stream : (close : Bool) (end : StreamEnd) → breaks (after_stream close end) ≡ is_broken end
+pub breaks-after_stream : (close : Bool) (end : StreamEnd) → is_write_failure (after_stream close end) ≡ is_broken end
 breaks-after_stream close stream.Complete = breaks-after_answer close
 breaks-after_stream close stream.Stopped = refl
 breaks-after_stream close stream.NoMemory = refl
@@ -42,7 +42,7 @@ broken_stream close stream.Broken e = refl
 broken_stream close stream.Exhausted e = cc
 
 -- the service answered, and is at mid
-module _ {S : Type 0} (rules : Rules S) (asked : Asked) (before : Moment S) (mid : S) where
+module _ {S : Type 0} (rules : Rules S) (asked : PlainRequest) (before : Moment S) (mid : S) where
   pub told_whole : (reply : Reply) (head_only : Bool) (next : Option Closing) (new : Option (List ℕ))
       → rules.answers before.service asked (Whole reply) mid
       → head_only ≡ is_head asked → next ≡ after_answer asked.close
@@ -54,7 +54,7 @@ module _ {S : Type 0} (rules : Rules S) (asked : Asked) (before : Moment S) (mid
     goes = record { mid = mid; answered = a; goes = Goes.whole reply refl refl refl e };
     written =
         subst (λ b. Sends b before.written new (reply_text reply (is_head asked) asked.close))
-        (sym (ap breaks e ∙ breaks-after_answer asked.close))
+        (sym (ap is_write_failure e ∙ breaks-after_answer asked.close))
         (subst (λ b. Appends before.written new (reply_text reply b asked.close)) h sent);
   }
 

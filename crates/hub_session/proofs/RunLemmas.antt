@@ -11,7 +11,7 @@ use Rattle.hub_http.specs.Items.{feed_head}
 use Rattle.hub_http.specs.Texts.{head_text, chunked_line}
 use Rattle.hub_http.specs.declared.fault.HttpFault.{HttpFault}
 use Rattle.hub_http.specs.declared.fault.HttpFault.TheVariants as fault
-use Rattle.hub_http.specs.Stream.{Asked, Spells, Faults}
+use Rattle.hub_http.specs.Stream.{PlainRequest, Spells, Faults}
 use Rattle.hub_http.proofs.OfferLemmas.{spells_more}
 use Rattle.hub_http.proofs.RequestLemmas.{head_fault_more}
 use Rattle.hub_http.proofs.SendLemmas.{sends_after}
@@ -34,12 +34,12 @@ use Rattle.hub_session.specs.Feeds.{sent_text, is_broken as stream_breaks, rows_
 use Rattle.hub_session.specs.Items.{rows_after}
 use Rattle.hub_session.specs.Replies.{fault_text}
 use Rattle.hub_session.specs.Rules.{Rules, moment}
-use Rattle.hub_session.specs.Runs.{Run, new_run, offered_to, run_offered, with_offered, Seen, Steps}
+use Rattle.hub_session.specs.Runs.{Run, new_run, offered_to, run_offered, with_offered, SessionView, Steps}
 use Rattle.hub_session.specs.Runs.{IsOfEnd}
 use Rattle.hub_session.specs.Runs.{GivesUpAt, IsStepped, place_behind, IsBetween, IsWithin, HasDone, HasRun}
 use Rattle.hub_session.specs.Sessions.{Answers, Closes, Ending, Exchange, Goes, HasServed, IsServed}
-use Rattle.hub_session.specs.Sessions.{Session, Standing, after_answer, after_stream, breaks}
-use Rattle.hub_session.specs.Sessions.{exchange_text, is_broken, is_head, standing, stream_head}
+use Rattle.hub_session.specs.Sessions.{Session, SessionState, after_answer, after_stream, is_write_failure}
+use Rattle.hub_session.specs.Sessions.{exchange_text, is_broken, is_head, session_state, stream_head}
 use Rattle.hub_session.proofs.AnswerLemmas.{breaks-after_stream}
 use Rattle.hub_session.proofs.FeedLemmas.{items_text-append, rows_behind-push}
 use Rattle.hub_session.proofs.FeedLemmas.{rows_within, streamed_more, streamed_streams}
@@ -48,26 +48,26 @@ use Rattle.hub_session.proofs.SessionLemmas.{one_more, served_more, served_sessi
 -- ---- what is offered
 
 -- no more bytes came
-pub over_as : {S : Type 0} (over : Bool) (bytes : List ℕ) (x : Seen S) → over ≡ true
+pub over_as : {S : Type 0} (over : Bool) (bytes : List ℕ) (x : SessionView S) → over ≡ true
     → x ≡ offered_to over bytes x
 over_as true bytes x is = refl
 over_as false bytes x is = cc
 
 -- none says so
-pub ended_as : {S : Type 0} (over : Bool) (bytes : List ℕ) (x y : Seen S) → over ≡ false → bytes ≡ []
+pub ended_as : {S : Type 0} (over : Bool) (bytes : List ℕ) (x y : SessionView S) → over ≡ false → bytes ≡ []
     → y ≡ record x { over = true } → y ≡ offered_to over bytes x
 ended_as true bytes x y is none e = cc
 ended_as false [] x y is none e = e
 ended_as false (b ∷ bs) x y is none e = cc
 
-came_at : {S : Type 0} (over : Bool) (behind : List ℕ) (x y : Seen S) → over ≡ false → 0 < length behind
+came_at : {S : Type 0} (over : Bool) (behind : List ℕ) (x y : SessionView S) → over ≡ false → 0 < length behind
     → y ≡ record x { bytes = x.bytes ++ behind } → y ≡ offered_to over behind x
 came_at true behind x y is some e = cc
 came_at false [] x y is some e = absurd (omega (arith, some))
 came_at false (b ∷ bs) x y is some e = e
 
 -- some came
-pub came_as : {S : Type 0} (x : Seen S) (bytes : List ℕ) (over : Bool) (behind : List ℕ)
+pub came_as : {S : Type 0} (x : SessionView S) (bytes : List ℕ) (over : Bool) (behind : List ℕ)
     → x.over ≡ false → 0 < length behind → over ≡ false → bytes ≡ x.bytes ++ behind
     → record x { bytes = bytes; over = over } ≡ offered_to x.over behind x
 came_as x bytes over behind awaited some now e =
@@ -134,12 +134,12 @@ closes_stay bytes behind Cut text n k = k
 closes_stay bytes behind Exhausted text n k = k
 
 -- more bytes behind those of a standing
-abbrev with_behind : {S : Type 0} → Standing S → List ℕ → Standing S
-with_behind now behind = standing now.served (now.bytes ++ behind) now.service
+abbrev with_behind : {S : Type 0} → SessionState S → List ℕ → SessionState S
+with_behind now behind = session_state now.served (now.bytes ++ behind) now.service
 
 module _ {S : Type 0} (rules : Rules S) (behind : List ℕ) where
   -- exchanges
-  pub served_behind : (from : Standing S) (exchanges : List Exchange) (now : Standing S)
+  pub served_behind : (from : SessionState S) (exchanges : List Exchange) (now : SessionState S)
       → HasServed rules from exchanges now
       → HasServed rules (with_behind from behind) exchanges (with_behind now behind)
   served_behind from exchanges now HasServed.stands = HasServed.stands
@@ -148,7 +148,7 @@ module _ {S : Type 0} (rules : Rules S) (behind : List ℕ) where
       (served_behind _ _ now others)
 
   -- a session that closed, but not for the end of its input
-  pub session_behind : (from : Standing S) (exchanges : List Exchange) (ending : Ending S)
+  pub session_behind : (from : SessionState S) (exchanges : List Exchange) (ending : Ending S)
       → ¬ (IsOfEnd (Some ending.closing)) → Session rules from exchanges ending
       → Session rules (with_behind from behind) exchanges ending
   session_behind from exchanges ending n (Session.goes_on {x = x} rest mid spelt answers others) =
@@ -171,8 +171,8 @@ module _ {S : Type 0} (rules : Rules S) (start : S) (offered : List ℕ) where
     exchanges = d.exchanges;
     count = d.count;
     served =
-        served_behind rules behind (standing 0 offered start) d.exchanges
-        (standing d.count bytes service) d.served;
+        served_behind rules behind (session_state 0 offered start) d.exchanges
+        (session_state d.count bytes service) d.served;
     text_is = d.text_is;
   }
   done_offered bytes over service text behind (Within sending close) awaited d = record {
@@ -185,8 +185,8 @@ module _ {S : Type 0} (rules : Rules S) (start : S) (offered : List ℕ) where
     items = d.items;
     sent = d.sent;
     served =
-        served_behind rules behind (standing 0 offered start) d.exchanges
-        (standing d.count d.front d.mid) d.served;
+        served_behind rules behind (session_state 0 offered start) d.exchanges
+        (session_state d.count d.front d.mid) d.served;
     spelt = spells_more d.front d.asked bytes behind d.spelt;
     answered = d.answered;
     has_body = d.has_body;
@@ -204,7 +204,7 @@ module _ {S : Type 0} (rules : Rules S) (start : S) (offered : List ℕ) where
           last = s.last;
           mid = s.mid;
           goes =
-              session_behind rules behind (standing 0 offered start) s.exchanges
+              session_behind rules behind (session_state 0 offered start) s.exchanges
               (record { closing = closing; text = s.last; service = service }) not_end s.goes;
           whole = s.whole;
           written = s.written;
@@ -228,7 +228,7 @@ sends_grow false gone pending all more later s is = grows gone pending all more 
 sends_grow true gone pending all more later s is = (s.0, grows gone pending all (take s.0 more) later s.1 is)
 
 -- the text of an exchange that was answered by a stream
-stream_text : (asked : Asked) (mode : Mode) (life : ℕ) (items : List StreamItem) → is_head asked ≡ false
+stream_text : (asked : PlainRequest) (mode : Mode) (life : ℕ) (items : List StreamItem) → is_head asked ≡ false
     → exchange_text (record { asked = asked; answer = Stream mode life; items = items })
     ≡ stream_head asked.close mode ++ items_text mode life 0 items
 stream_text asked mode life items body =
@@ -267,9 +267,9 @@ module _ {S : Type 0} (rules : Rules S) (start : S) (offered : List ℕ) where
   -- an exchange behind others
   exchanged : (exchanges : List Exchange) (count : ℕ) (front : List ℕ) (mid : S) (exchange : Exchange)
       (next : Option Closing) (bytes : List ℕ) (over : Bool) (service : S) (text : List ℕ)
-      → HasServed rules (standing 0 offered start) exchanges (standing count front mid)
+      → HasServed rules (session_state 0 offered start) exchanges (session_state count front mid)
       → Spells front exchange.asked bytes → Answers rules mid exchange next service
-      → Sends (breaks next) (Some (flat_map exchange_text exchanges)) (Some text) (exchange_text exchange)
+      → Sends (is_write_failure next) (Some (flat_map exchange_text exchanges)) (Some text) (exchange_text exchange)
       → (IsOfEnd next → over ≡ true)
       → HasDone rules start offered bytes over service text (place_behind next)
   exchanged exchanges count front mid exchange None bytes over service text served spelt answers sent ended =
@@ -277,8 +277,8 @@ module _ {S : Type 0} (rules : Rules S) (start : S) (offered : List ℕ) where
         exchanges = exchanges ++ exchange ∷ [];
         count = count + 1;
         served =
-            served_more rules (standing 0 offered start) exchanges
-            (standing count front mid) exchange bytes service served spelt answers;
+            served_more rules (session_state 0 offered start) exchanges
+            (session_state count front mid) exchange bytes service served spelt answers;
         text_is = sent ∙ sym (one_more exchanges exchange);
       }
   exchanged exchanges count front mid exchange
@@ -289,9 +289,9 @@ module _ {S : Type 0} (rules : Rules S) (start : S) (offered : List ℕ) where
           exchanges = exchanges;
           last = exchange_text exchange;
           mid = Some (flat_map exchange_text exchanges);
-          goes = subst (λ l. Session rules (standing 0 offered start) l ending) (append-nil exchanges)
-              (served_session rules (standing 0 offered start) exchanges
-              (standing count front mid) [] ending served
+          goes = subst (λ l. Session rules (session_state 0 offered start) l ending) (append-nil exchanges)
+              (served_session rules (session_state 0 offered start) exchanges
+              (session_state count front mid) [] ending served
               (Session.closes_behind exchange bytes spelt answers refl));
           whole = refl;
           written = sent;
@@ -302,7 +302,7 @@ module _ {S : Type 0} (rules : Rules S) (start : S) (offered : List ℕ) where
   -- no request behind others
   closed_so : (exchanges : List Exchange) (count : ℕ) (front : List ℕ) (mid : S) (closing : Closing)
       (last bytes : List ℕ) (over : Bool) (service : S) (text : List ℕ)
-      → HasServed rules (standing 0 offered start) exchanges (standing count front mid)
+      → HasServed rules (session_state 0 offered start) exchanges (session_state count front mid)
       → Closes front closing last → service ≡ mid
       → Sends (is_broken closing) (Some (flat_map exchange_text exchanges)) (Some text) last
       → (IsOfEnd (Some closing) → over ≡ true)
@@ -313,9 +313,9 @@ module _ {S : Type 0} (rules : Rules S) (start : S) (offered : List ℕ) where
           exchanges = exchanges;
           last = last;
           mid = Some (flat_map exchange_text exchanges);
-          goes = subst (λ l. Session rules (standing 0 offered start) l ending) (append-nil exchanges)
-              (served_session rules (standing 0 offered start) exchanges
-              (standing count front mid) [] ending served
+          goes = subst (λ l. Session rules (session_state 0 offered start) l ending) (append-nil exchanges)
+              (served_session rules (session_state 0 offered start) exchanges
+              (session_state count front mid) [] ending served
               (Session.closes closes same));
           whole = refl;
           written = sent;
@@ -323,7 +323,7 @@ module _ {S : Type 0} (rules : Rules S) (start : S) (offered : List ℕ) where
         ended,
       )
 
-  pub done_exchanges : (old new : Seen S) (gone : List ℕ) (next : Option Closing)
+  pub done_exchanges : (old new : SessionView S) (gone : List ℕ) (next : Option Closing)
       → IsBetween rules start offered old.bytes old.service (gone ++ old.pending)
       → IsServed rules old.bytes next (Some new.bytes) (moment old.service (Some old.pending))
       (moment new.service (Some new.pending))
@@ -337,7 +337,7 @@ module _ {S : Type 0} (rules : Rules S) (start : S) (offered : List ℕ) where
       (subst (λ q. Spells old.bytes q a.rest) (sym a.answer.asked_is) a.spelt) in
       exchanged d.exchanges d.count old.bytes old.service x next new.bytes new.over new.service
       (gone ++ new.pending) d.served spelt a.answer.goes
-      (sends_grow (breaks next) gone old.pending (flat_map exchange_text d.exchanges)
+      (sends_grow (is_write_failure next) gone old.pending (flat_map exchange_text d.exchanges)
       (exchange_text x) new.pending a.answer.written d.text_is) over
   done_exchanges old new gone next d (IsServed.closed k) over =
       subst (λ n.
@@ -349,7 +349,7 @@ module _ {S : Type 0} (rules : Rules S) (start : S) (offered : List ℕ) where
       (flat_map exchange_text d.exchanges) k.text new.pending k.written d.text_is)
       (subst (λ n. IsOfEnd n → new.over ≡ true) k.next_is over))
 
-  pub done_begins : (old new : Seen S) (gone : List ℕ) (asked : Asked) (sending : Sending)
+  pub done_begins : (old new : SessionView S) (gone : List ℕ) (asked : PlainRequest) (sending : Sending)
       → IsBetween rules start offered old.bytes old.service (gone ++ old.pending)
       → sending.rows ≡ 0 → Spells old.bytes asked new.bytes
       → rules.answers old.service asked (Stream sending.mode sending.life) new.service → is_head asked ≡ false
@@ -377,7 +377,7 @@ module _ {S : Type 0} (rules : Rules S) (start : S) (offered : List ℕ) where
             ∙ ap (λ l. all ++ l) (sym (append-nil (stream_head asked.close sending.mode)));
       }
 
-  pub done_sends : (old new : Seen S) (gone : List ℕ) (sending : Sending) (rows : ℕ) (close : Bool)
+  pub done_sends : (old new : SessionView S) (gone : List ℕ) (sending : Sending) (rows : ℕ) (close : Bool)
       → IsWithin rules start offered old.bytes old.service (gone ++ old.pending) sending close
       → new.bytes ≡ old.bytes
       → IsStreamed rules sending.mode sending.life 0 sending.rows (Ok rows)
@@ -419,7 +419,7 @@ module _ {S : Type 0} (rules : Rules S) (start : S) (offered : List ℕ) where
             ∙ ap (λ l. all ++ l) (append_assoc head first last ∙ ap (λ l. head ++ l) more);
       }
 
-  pub done_ends : (old new : Seen S) (gone : List ℕ) (sending : Sending) (close : Bool) (end : StreamEnd)
+  pub done_ends : (old new : SessionView S) (gone : List ℕ) (sending : Sending) (close : Bool) (end : StreamEnd)
       → IsWithin rules start offered old.bytes old.service (gone ++ old.pending) sending close
       → new.bytes ≡ old.bytes
       → ((sent : ℕ) → sending.rows ≤ sent
@@ -468,7 +468,7 @@ module _ {S : Type 0} (rules : Rules S) (start : S) (offered : List ℕ) where
 -- ---- the session of all steps
 
 module _ {S : Type 0} (rules : Rules S) (run : Run S) where
-  steps_run : (old new : Seen S) (step : Step) → Steps rules old new step → HasRun rules run old
+  steps_run : (old new : SessionView S) (step : Step) → Steps rules old new step → HasRun rules run old
       → HasRun rules run new
   steps_run old new step (Steps.exchanges next p q s o over h) d =
       subst (HasDone rules run.start run.offered new.bytes new.over new.service (run.gone ++ new.pending))
@@ -496,10 +496,10 @@ module _ {S : Type 0} (rules : Rules S) (run : Run S) where
       (subst (HasDone rules run.start run.offered old.bytes old.over old.service (run.gone ++ old.pending))
       p d) bytes h)
 
-  same_run : (old new : Seen S) → new ≡ old → HasRun rules run old → HasRun rules run new
+  same_run : (old new : SessionView S) → new ≡ old → HasRun rules run old → HasRun rules run new
   same_run old new same d = subst (HasRun rules run) (sym same) d
 
-  pub stepped_run : (old new : Seen S) (step : Step) → IsStepped rules old step new → HasRun rules run old
+  pub stepped_run : (old new : SessionView S) (step : Step) → IsStepped rules old step new → HasRun rules run old
       → HasRun rules run new
   stepped_run old new Served h d = steps_run old new Served h d
   stepped_run old new (Ended closing) h d =
@@ -510,7 +510,7 @@ module _ {S : Type 0} (rules : Rules S) (run : Run S) where
 
   -- ---- what is done between steps
 
-  pub offered_run : (old new : Seen S) (behind : List ℕ) → old.over ≡ false
+  pub offered_run : (old new : SessionView S) (behind : List ℕ) → old.over ≡ false
       → new ≡ record old { bytes = old.bytes ++ behind } → HasRun rules run old
       → HasRun rules (with_offered run behind) new
   offered_run old new behind awaited e d =
@@ -519,7 +519,7 @@ module _ {S : Type 0} (rules : Rules S) (run : Run S) where
       (run.gone ++ old.pending) behind old.place awaited d)
 
   -- no more bytes come
-  ended_run : (old new : Seen S) → new ≡ record old { over = true } → HasRun rules run old
+  ended_run : (old new : SessionView S) → new ≡ record old { over = true } → HasRun rules run old
       → HasRun rules run new
   ended_run old new is d = subst (HasRun rules run) (sym is) (ended_at old.place d)
     where
@@ -530,7 +530,7 @@ module _ {S : Type 0} (rules : Rules S) (run : Run S) where
       ended_at (Within sending close) d = d
       ended_at (Closed closing) d = (d.0, λ end. refl)
 
-  offered_at : (over : Bool) (bytes : List ℕ) (old new : Seen S) → old.over ≡ over
+  offered_at : (over : Bool) (bytes : List ℕ) (old new : SessionView S) → old.over ≡ over
       → new ≡ offered_to over bytes old → HasRun rules run old → HasRun rules (run_offered over bytes run) new
   offered_at true bytes old new at is d = same_run old new is d
   offered_at false [] old new at is d =
@@ -540,12 +540,12 @@ module _ {S : Type 0} (rules : Rules S) (run : Run S) where
   offered_at false (b ∷ bs) old new at is d = offered_run old new (b ∷ bs) at is d
 
   -- bytes were offered
-  pub run_behind : (bytes : List ℕ) (old new : Seen S) → new ≡ offered_to old.over bytes old
+  pub run_behind : (bytes : List ℕ) (old new : SessionView S) → new ≡ offered_to old.over bytes old
       → HasRun rules run old → HasRun rules (run_offered old.over bytes run) new
   run_behind bytes old new is d = offered_at old.over bytes old new refl is d
 
   -- the other side is gone
-  pub given_up_between : (old : Seen S) → old.place ≡ Between → HasRun rules run old
+  pub given_up_between : (old : SessionView S) → old.place ≡ Between → HasRun rules run old
       → HasRun rules run (record old { place = Closed Broken })
   given_up_between old place d =
       let b : IsBetween rules run.start run.offered old.bytes old.service (run.gone ++ old.pending) =
@@ -556,7 +556,7 @@ module _ {S : Type 0} (rules : Rules S) (run : Run S) where
       (fault.IoFault, tt, refl) refl
       (0, b.text_is ∙ sym (append-nil (flat_map exchange_text b.exchanges))) (λ x. absurd x)
 
-  pub given_up_within : (sending : Sending) (close : Bool) (old : Seen S) (service : S)
+  pub given_up_within : (sending : Sending) (close : Bool) (old : SessionView S) (service : S)
       → old.place ≡ Within sending close → rules.drops old.service service → HasRun rules run old
       → HasRun rules run (record old { place = Closed Broken; service = service })
   given_up_within sending close old service place drops d =
@@ -569,7 +569,7 @@ module _ {S : Type 0} (rules : Rules S) (run : Run S) where
       (λ sent low. ([], Streams.breaks drops, (0, sym (append-nil old.pending))))
 
 -- a session was given up where more bytes came
-pub given_up_behind : {S : Type 0} (rules : Rules S) (run : Run S) (place : Place) (old new : Seen S)
+pub given_up_behind : {S : Type 0} (rules : Rules S) (run : Run S) (place : Place) (old new : SessionView S)
     (behind : List ℕ) → old.place ≡ place → old.over ≡ false → GivesUpAt place rules old new
     → HasRun rules run old → HasRun rules (with_offered run behind) new
 given_up_behind rules run Between old new behind place awaited is d =
@@ -597,11 +597,11 @@ on_ok (Ok x) P Q f p = f p
 on_ok (Err e) P Q f p = p
 
 -- a session begins
-pub begun_run : {S : Type 0} (rules : Rules S) (start : S) (x : Seen S) → x.place ≡ Between → x.bytes ≡ []
+pub begun_run : {S : Type 0} (rules : Rules S) (start : S) (x : SessionView S) → x.place ≡ Between → x.bytes ≡ []
     → x.service ≡ start → x.pending ≡ [] → HasRun rules (new_run start) x
 begun_run rules start x place none same empty =
-    let served : HasServed rules (standing 0 [] start) [] (standing 0 x.bytes x.service) =
-    subst (λ l. HasServed rules (standing 0 [] start) [] (standing 0 l x.service)) (sym none)
-    (subst (λ s. HasServed rules (standing 0 [] start) [] (standing 0 [] s)) (sym same) HasServed.stands) in
+    let served : HasServed rules (session_state 0 [] start) [] (session_state 0 x.bytes x.service) =
+    subst (λ l. HasServed rules (session_state 0 [] start) [] (session_state 0 l x.service)) (sym none)
+    (subst (λ s. HasServed rules (session_state 0 [] start) [] (session_state 0 [] s)) (sym same) HasServed.stands) in
     subst (HasDone rules start [] x.bytes x.over x.service x.pending) (sym place)
     (record { exchanges = []; count = 0; served = served; text_is = empty })

@@ -8,15 +8,15 @@ use Rattle.std.proofs.KnownBytes.{Appends-nil, Appends-trans}
 use Rattle.hub_http.specs.Counts.{Sends, last_count}
 use Rattle.hub_http.specs.declared.request.Request.{Request}
 use Rattle.hub_http.specs.declared.fault.HttpFault.{HttpFault}
-use Rattle.hub_http.specs.Stream.{Asked, asked_by, Spells, Leaves, Faults}
+use Rattle.hub_http.specs.Stream.{PlainRequest, asked_by, Spells, Leaves, Faults}
 use Rattle.hub_http.specs.declared.fault.HttpFault.TheVariants.{NoMemory, BadHead, HeadTooLong, BodyTooLong}
 use Rattle.hub_http.specs.declared.fault.HttpFault.TheVariants.{Version, Coding, Ended, IoFault}
 use Rattle.hub_session.specs.declared.closing.Closing.{Closing}
 use Rattle.hub_session.specs.declared.closing.Closing.TheVariants.{Finished, Fault, Broken, Exhausted}
 use Rattle.hub_session.specs.Replies.{fault_text}
 use Rattle.hub_session.specs.Rules.{Rules, Moment, moment}
-use Rattle.hub_session.specs.Sessions.{Answers, Exchange, exchange_text, Standing, Ending, Session, HasServed}
-use Rattle.hub_session.specs.Sessions.{IsSession, HasAnswer, IsServed, Closes, is_broken, standing}
+use Rattle.hub_session.specs.Sessions.{Answers, Exchange, exchange_text, SessionState, Ending, Session, HasServed}
+use Rattle.hub_session.specs.Sessions.{IsSession, HasAnswer, IsServed, Closes, is_broken, session_state}
 
 -- a fault of the next request is one that its bytes have
 ends_faulty : (b c : Option (List ℕ)) (fault : HttpFault) → IfSome b (λ bytes. Leaves bytes (Err fault) c)
@@ -81,8 +81,8 @@ module _ {S : Type 0} (rules : Rules S) (before : Moment S) where
   })
 
 -- what was served, and then the rest of the session, is the session
-pub served_session : {S : Type 0} (rules : Rules S) (from : Standing S) (first : List Exchange)
-    (now : Standing S) (more : List Exchange) (ending : Ending S)
+pub served_session : {S : Type 0} (rules : Rules S) (from : SessionState S) (first : List Exchange)
+    (now : SessionState S) (more : List Exchange) (ending : Ending S)
     → HasServed rules from first now → Session rules now more ending
     → Session rules from (first ++ more) ending
 served_session rules from first now more ending HasServed.stands h = h
@@ -90,11 +90,11 @@ served_session rules from first now more ending (HasServed.goes_on rest mid spel
     Session.goes_on rest mid spelt answers (served_session rules _ _ now more ending others h)
 
 -- one more request was answered
-pub served_more : {S : Type 0} (rules : Rules S) (from : Standing S) (first : List Exchange)
-    (now : Standing S) (exchange : Exchange) (rest : List ℕ) (mid : S)
+pub served_more : {S : Type 0} (rules : Rules S) (from : SessionState S) (first : List Exchange)
+    (now : SessionState S) (exchange : Exchange) (rest : List ℕ) (mid : S)
     → HasServed rules from first now → Spells now.bytes exchange.asked rest
     → Answers rules now.service exchange None mid
-    → HasServed rules from (first ++ exchange ∷ []) (standing (now.served + 1) rest mid)
+    → HasServed rules from (first ++ exchange ∷ []) (session_state (now.served + 1) rest mid)
 served_more rules from first now exchange rest mid HasServed.stands spelt answers =
     HasServed.goes_on rest mid spelt answers HasServed.stands
 served_more rules from first now exchange rest mid (HasServed.goes_on r m s a others) spelt answers =
@@ -106,7 +106,7 @@ pub record Served {S : Type 0} (rules : Rules S) (bytes : List ℕ) (before : Mo
   pub first : List Exchange
   pub rest : List ℕ
   pub left_is : left ≡ Some rest
-  pub goes : HasServed rules (standing 0 bytes before.service) first (standing served rest now.service)
+  pub goes : HasServed rules (session_state 0 bytes before.service) first (session_state served rest now.service)
   pub written : Appends before.written now.written (flat_map exchange_text first)
 
 pub served_none : {S : Type 0} (rules : Rules S) (now : Moment S) (b : Option (List ℕ))
@@ -130,7 +130,7 @@ one_more exchanges exchange =
 module _ {S : Type 0} (rules : Rules S) (bytes : List ℕ) (before : Moment S) (served : ℕ)
     (left : Option (List ℕ)) (now : Moment S) where
   -- the exchange of a request that the bytes begin with
-  begins_with : (rest : List ℕ) (asked : Asked) (after : List ℕ) (exchange : Exchange)
+  begins_with : (rest : List ℕ) (asked : PlainRequest) (after : List ℕ) (exchange : Exchange)
       → Spells rest asked after → exchange.asked ≡ asked → Spells rest exchange.asked after
   begins_with rest asked after exchange s e = subst (λ a. Spells rest a after) (sym e) s
 
@@ -144,8 +144,8 @@ module _ {S : Type 0} (rules : Rules S) (bytes : List ℕ) (before : Moment S) (
         rest = a.rest;
         left_is = a.left_is;
         goes =
-            served_more rules (standing 0 bytes before.service) w.first
-            (standing served w.rest now.service) x a.rest next.service w.goes
+            served_more rules (session_state 0 bytes before.service) w.first
+            (session_state served w.rest now.service) x a.rest next.service w.goes
             (begins_with w.rest a.asked a.rest x a.spelt a.answer.asked_is) a.answer.goes;
         written =
             subst (Appends before.written next.written) (sym (one_more w.first x))
@@ -155,7 +155,7 @@ module _ {S : Type 0} (rules : Rules S) (bytes : List ℕ) (before : Moment S) (
 
   ends_by : (w : Served rules bytes before served left now) (closing : Closing)
       (text : List ℕ) (after : Moment S)
-      → Session rules (standing served w.rest now.service) []
+      → Session rules (session_state served w.rest now.service) []
       (record { closing = closing; text = text; service = after.service })
       → Sends (is_broken closing) now.written after.written text
       → IsSession rules bytes closing before after
@@ -164,9 +164,9 @@ module _ {S : Type 0} (rules : Rules S) (bytes : List ℕ) (before : Moment S) (
     last = text;
     mid = now.written;
     goes =
-        subst (λ l. Session rules (standing 0 bytes before.service) l
+        subst (λ l. Session rules (session_state 0 bytes before.service) l
         (record { closing = closing; text = text; service = after.service })) (append-nil w.first)
-        (served_session rules (standing 0 bytes before.service) w.first (standing served w.rest now.service)
+        (served_session rules (session_state 0 bytes before.service) w.first (session_state served w.rest now.service)
         [] (record { closing = closing; text = text; service = after.service }) w.goes h);
     whole = w.written;
     written = p;

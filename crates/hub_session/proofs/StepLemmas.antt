@@ -10,7 +10,7 @@ use Rattle.hub_http.specs.declared.fault.HttpFault.{HttpFault}
 use Rattle.hub_http.specs.declared.fault.HttpFault.TheVariants.{NoMemory, BadHead, HeadTooLong, BodyTooLong}
 use Rattle.hub_http.specs.declared.fault.HttpFault.TheVariants.{Version, Coding, Ended, IoFault}
 use Rattle.hub_http.specs.Offers.{FaultsSoFar}
-use Rattle.hub_http.specs.Stream.{Asked, Spells, Faults}
+use Rattle.hub_http.specs.Stream.{PlainRequest, Spells, Faults}
 use Rattle.hub_session.specs.declared.closing.Closing.{Closing}
 use Rattle.hub_session.specs.declared.closing.Closing.TheVariants.{Finished, Fault, Broken}
 use Rattle.hub_session.specs.declared.closing.StreamEnd.{StreamEnd}
@@ -22,7 +22,7 @@ use Rattle.hub_session.specs.declared.machine.Step.TheVariants as step
 use Rattle.hub_session.specs.Feeds.{IsStreamed, Streams}
 use Rattle.hub_session.specs.Replies.{fault_text}
 use Rattle.hub_session.specs.Rules.{Rules, Moment}
-use Rattle.hub_session.specs.Runs.{HasRun, IsOfEnd, IsStepped, Run, Seen, Steps, TellsNoMemory}
+use Rattle.hub_session.specs.Runs.{HasRun, IsOfEnd, IsStepped, Run, SessionView, Steps, TellsNoMemory}
 use Rattle.hub_session.specs.Runs.{moment_of, place_behind, step_behind, with_offered}
 use Rattle.hub_session.specs.Sessions.{HasAnswer, IsServed, after_stream, is_broken}
 use Rattle.hub_session.proofs.RunLemmas.{not_end, offered_run, stepped_run}
@@ -35,17 +35,17 @@ step_broken (Some closing) e = let same : closing ≡ Broken = cc in ap (λ c. S
 
 module _ {S : Type 0} (rules : Rules S) where
   -- what came of a step that ended an answer
-  of_next : (old new : Seen S) (next : Option Closing) → Steps rules old new (step_behind next)
+  of_next : (old new : SessionView S) (next : Option Closing) → Steps rules old new (step_behind next)
       → IsStepped rules old (step_behind next) new
   of_next old new None h = h
   of_next old new (Some closing) h = inl h
 
-  by_next : (old new : Seen S) (next : Option Closing) (came : Step) → came ≡ step_behind next
+  by_next : (old new : SessionView S) (next : Option Closing) (came : Step) → came ≡ step_behind next
       → Steps rules old new (step_behind next) → IsStepped rules old came new
   by_next old new next came is h = subst (λ s. IsStepped rules old s new) (sym is) (of_next old new next h)
 
   -- the next request was answered whole
-  pub stepped_whole : (asked : Asked) (next : Option Closing) (old mid new : Seen S) (came : Step)
+  pub stepped_whole : (asked : PlainRequest) (next : Option Closing) (old mid new : SessionView S) (came : Step)
       → old.place ≡ Between → Spells old.bytes asked mid.bytes → mid.over ≡ old.over
       → HasAnswer rules asked next (moment_of old) (moment_of mid)
       → new ≡ record mid { place = place_behind next } → came ≡ step_behind next
@@ -59,7 +59,7 @@ module _ {S : Type 0} (rules : Rules S) where
       (record { asked = asked; rest = mid.bytes; spelt = spelt; left_is = refl; answer = h }))))
 
   -- the input ended between two requests
-  pub stepped_end : (old mid new : Seen S) (came : Step) → old.place ≡ Between → old.over ≡ true
+  pub stepped_end : (old mid new : SessionView S) (came : Step) → old.place ≡ Between → old.over ≡ true
       → old.bytes ≡ [] → mid.over ≡ old.over → mid.service ≡ old.service → mid.pending ≡ old.pending
       → new ≡ record mid { place = place_behind (Some Finished) } → came ≡ step_behind (Some Finished)
       → IsStepped rules old came new
@@ -110,7 +110,7 @@ closing_ends over bytes fault closing f (inr is) =
 
 module _ {S : Type 0} (rules : Rules S) where
   -- no request can be read, and the fault was told
-  pub stepped_fault : (fault : HttpFault) (closing : Closing) (old mid new : Seen S) (came : Step)
+  pub stepped_fault : (fault : HttpFault) (closing : Closing) (old mid new : SessionView S) (came : Step)
       → old.place ≡ Between → FaultsSoFar old.over old.bytes fault → mid.over ≡ old.over
       → mid.service ≡ old.service
       → (closing ≡ Fault fault) ⊎ (closing ≡ Broken)
@@ -133,7 +133,7 @@ module _ {S : Type 0} (rules : Rules S) where
 
   -- the stream ended
   pub stepped_ends : (sending : Sending) (close : Bool) (end : StreamEnd) (next : Option Closing)
-      (old mid new : Seen S) (came : Step)
+      (old mid new : SessionView S) (came : Step)
       → old.place ≡ Within sending close → next ≡ after_stream close end
       → mid.over ≡ old.over → mid.bytes ≡ old.bytes
       → ((sent : ℕ) → sending.rows ≤ sent
@@ -161,7 +161,7 @@ module _ {S : Type 0} (rules : Rules S) where
 some_behind : (bytes behind : List ℕ) → 0 < length behind → 0 < length (bytes ++ behind)
 some_behind bytes behind some = grind (arith, common_steps)
 
-module _ {S : Type 0} (rules : Rules S) (closing : Closing) (old new : Seen S) (pending : List ℕ) where
+module _ {S : Type 0} (rules : Rules S) (closing : Closing) (old new : SessionView S) (pending : List ℕ) where
   -- out of memory was told, and the place was set
   pub told_no_memory : (closing ≡ Fault NoMemory) ⊎ (closing ≡ Broken)
       → Sends (is_broken closing) (Some old.pending) (Some pending) (fault_text NoMemory)

@@ -1,13 +1,13 @@
 -- own: what a service may do, and where a connection stands.
 use Rattle.std.specs.Prelude.{◌≡◌, ℕ, Bool, false, true, List, None, Option}
-use Rattle.hub_http.specs.Stream.{Asked}
+use Rattle.hub_http.specs.Stream.{PlainRequest}
 use Rattle.hub_session.specs.StreamItem.{StreamItem}
 use Rattle.hub_session.specs.declared.service.Answer.{Answer}
 
 -- what a service may do, each from a state to the one that it leaves
 pub record Rules (S : Type 0) : Type 1 where
   -- answer this request so
-  pub answers : S → Asked → Answer → S → Type 0
+  pub answers : S → PlainRequest → Answer → S → Type 0
   -- go on with this item of its stream, or with none where the stream stops
   pub gives : S → Option StreamItem → S → Type 0
   -- give back what its stream holds

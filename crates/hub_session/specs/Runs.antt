@@ -3,10 +3,10 @@ use Rattle.std.specs.Prelude.{◌≡◌, ⊤, ◌<◌, ◌≤◌, ◌⊎◌, ℕ
 use Rattle.std.specs.Prelude.{Bool, true, false, length, take, IsSome, Option, Some}
 use Rattle.std.specs.Prelude.{None, Ok, Err}
 use Rattle.std.specs.List.{flat_map}
-use Rattle.hub_http.specs.Boxes.{came_to, faults_in, is_over, pending_in}
-use Rattle.hub_http.specs.Counts.{Rose}
+use Rattle.hub_http.specs.Boxes.{arrived_bytes, faults_in, is_over, pending_in}
+use Rattle.hub_http.specs.Counts.{HasGrown}
 use Rattle.hub_http.specs.Offers.{IsShort}
-use Rattle.hub_http.specs.Stream.{Asked, Spells}
+use Rattle.hub_http.specs.Stream.{PlainRequest, Spells}
 use Rattle.hub_http.specs.declared.fault.HttpFault.TheVariants as fault
 use Rattle.hub_session.specs.StreamItem.{StreamItem}
 use Rattle.hub_session.specs.declared.service.Answer.TheVariants.{Stream}
@@ -24,10 +24,10 @@ use Rattle.hub_session.specs.Feeds.{HasStreamed, IsStreamed, items_text, rows_be
 use Rattle.hub_session.specs.Replies.{fault_text}
 use Rattle.hub_session.specs.Rules.{Rules, Moment, moment}
 use Rattle.hub_session.specs.Sessions.{Exchange, HasServed, IsServed, IsSession, after_stream}
-use Rattle.hub_session.specs.Sessions.{exchange_text, is_head, standing, stream_head}
+use Rattle.hub_session.specs.Sessions.{exchange_text, is_head, session_state, stream_head}
 
 -- what a session shows
-pub record Seen (S : Type 0) : Type 0 where
+pub record SessionView (S : Type 0) : Type 0 where
   pub place : Place
   pub bytes : List ℕ  -- those that came and that no request took
   pub over : Bool  -- no more of them come
@@ -35,17 +35,17 @@ pub record Seen (S : Type 0) : Type 0 where
   pub pending : List ℕ  -- those that are to go
 
 -- what this session shows
-abbrev pub seen : {S : Type 0} → Session S → Seen S
-seen session = record {
+abbrev pub session_view : {S : Type 0} → Session S → SessionView S
+session_view session = record {
   place = session.place;
-  bytes = came_to session.inbox;
+  bytes = arrived_bytes session.inbox;
   over = is_over session.inbox;
   service = session.service;
   pending = pending_in session.outbox;
 }
 
 -- the moment of its connection, for which what is to go is written
-abbrev pub moment_of : {S : Type 0} → Seen S → Moment S
+abbrev pub moment_of : {S : Type 0} → SessionView S → Moment S
 moment_of x = moment x.service (Some x.pending)
 
 -- a session closes for the end of its input
@@ -68,14 +68,14 @@ step_behind (Some closing) = Ended closing
 
 -- What a session shows before and behind a step that did something. Over a GET of a document it is one
 -- exchange. Over one of a feed of two rows it is the head of the stream, then each row, and then its End.
-pub data Steps {S : Type 0} (rules : Rules S) (old new : Seen S) (step : Step) : Type 0 where
+pub data Steps {S : Type 0} (rules : Rules S) (old new : SessionView S) (step : Step) : Type 0 where
   -- the next request was answered whole, or there was none, and the session closed or goes on
   exchanges : (next : Option Closing) → old.place ≡ Between → new.place ≡ place_behind next
       → step ≡ step_behind next → new.over ≡ old.over → (IsOfEnd next → old.over ≡ true)
       → IsServed rules old.bytes next (Some new.bytes) (moment_of old) (moment_of new)
       → Steps rules old new step
   -- the next request was answered by a stream, and its head is to go
-  begins : (asked : Asked) (sending : Sending) → old.place ≡ Between → new.place ≡ Within sending asked.close
+  begins : (asked : PlainRequest) (sending : Sending) → old.place ≡ Between → new.place ≡ Within sending asked.close
       → step ≡ Served → new.over ≡ old.over → sending.rows ≡ 0 → Spells old.bytes asked new.bytes
       → rules.answers old.service asked (Stream sending.mode sending.life) new.service → is_head asked ≡ false
       → new.pending ≡ old.pending ++ stream_head asked.close sending.mode
@@ -98,7 +98,7 @@ pub data Steps {S : Type 0} (rules : Rules S) (old new : Seen S) (step : Step) :
 -- What a session shows before and behind a step, and what came of it. Where it waits nothing changed: for
 -- input where the bytes that came are no whole request and more may come, and for room where there are some
 -- to go.
-abbrev pub IsStepped : {S : Type 0} → Rules S → Seen S → Step → Seen S → Type 0
+abbrev pub IsStepped : {S : Type 0} → Rules S → SessionView S → Step → SessionView S → Type 0
 IsStepped rules old Served new = Steps rules old new Served
 IsStepped rules old (Ended closing) new =
     Steps rules old new (Ended closing) ⊎ ((old.place ≡ Closed closing) × (new ≡ old))
@@ -112,8 +112,8 @@ IsStepped rules old WantsNews new =
 -- closed it as Broken, its outbox found no memory meanwhile.
 abbrev pub IsStepFrom : {S : Type 0} → Place → Rules S → (old : Session S) → Step → (new : Session S) → Type 0
 IsStepFrom place rules old step new = old.place ≡ place
-    → IsStepped rules (seen old) step (seen new)
-    × (step ≡ Ended Broken → Rose (faults_in old.outbox) (faults_in new.outbox))
+    → IsStepped rules (session_view old) step (session_view new)
+    × (step ≡ Ended Broken → HasGrown (faults_in old.outbox) (faults_in new.outbox))
 
 -- ---- other closings
 
@@ -126,7 +126,7 @@ closing_at (Closed closing) = Some closing
 -- What a session shows before and behind a closing that tells out of memory. The refusal is to go behind what
 -- was, or where the outbox found no memory a front of the refusal. Nothing else changed. So where the end of
 -- an answer is to go, the refusal stands behind it.
-pub data TellsNoMemory {S : Type 0} (old new : Seen S) : Type 0 where
+pub data TellsNoMemory {S : Type 0} (old new : SessionView S) : Type 0 where
   -- all of it
   whole : new ≡ record old {
     place = Closed (Fault fault.NoMemory);
@@ -143,7 +143,7 @@ pub data TellsNoMemory {S : Type 0} (old new : Seen S) : Type 0 where
 -- What a session at this place shows before and behind a call that gives it up. Between two requests it
 -- closes as Broken. So does one that sends a stream, and its service gives back what the stream holds. One
 -- that closed stays as it is.
-abbrev pub GivesUpAt : {S : Type 0} → Place → Rules S → Seen S → Seen S → Type 0
+abbrev pub GivesUpAt : {S : Type 0} → Place → Rules S → SessionView S → SessionView S → Type 0
 GivesUpAt Between rules old new = new ≡ record old { place = Closed Broken }
 GivesUpAt (Within sending close) rules old new =
     rules.drops old.service new.service
@@ -177,7 +177,7 @@ pub record IsBetween {S : Type 0} (rules : Rules S) (start : S) (offered bytes :
     (text : List ℕ) : Type 0 where
   pub exchanges : List Exchange
   pub count : ℕ
-  pub served : HasServed rules (standing 0 offered start) exchanges (standing count bytes service)
+  pub served : HasServed rules (session_state 0 offered start) exchanges (session_state count bytes service)
   pub text_is : text ≡ flat_map exchange_text exchanges
 
 -- It has had whole exchanges, and took a request that was answered by a stream, of which these items were
@@ -189,10 +189,10 @@ pub record IsWithin {S : Type 0} (rules : Rules S) (start : S) (offered bytes : 
   pub front : List ℕ  -- the bytes that were left before the request
   pub mid : S  -- its service then
   pub begun : S  -- and as it answered
-  pub asked : Asked
+  pub asked : PlainRequest
   pub items : List StreamItem
   pub sent : ℕ  -- how many
-  pub served : HasServed rules (standing 0 offered start) exchanges (standing count front mid)
+  pub served : HasServed rules (session_state 0 offered start) exchanges (session_state count front mid)
   pub spelt : Spells front asked bytes
   pub answered : rules.answers mid asked (Stream sending.mode sending.life) begun
   pub has_body : is_head asked ≡ false
@@ -217,19 +217,19 @@ HasDone rules start offered bytes over service text (Closed closing) =
 -- A session has run so: what left its outbox and what is to go are, in order, what it wrote. Where two
 -- requests were offered and answered, and the first answer went with 3 bytes of the second, the others are to
 -- go.
-abbrev pub HasRun : {S : Type 0} → Rules S → Run S → Seen S → Type 0
+abbrev pub HasRun : {S : Type 0} → Rules S → Run S → SessionView S → Type 0
 HasRun rules run x =
     HasDone rules run.start run.offered x.bytes x.over x.service (run.gone ++ x.pending) x.place
 
 -- A session that had a run has this next one behind a call. Where 3 bytes were offered, it is the run before
 -- with these 3 offered.
-abbrev pub RunsOn : {S : Type 0} → Rules S → (Run S → Run S) → Seen S → Seen S → Type 0
+abbrev pub RunsOn : {S : Type 0} → Rules S → (Run S → Run S) → SessionView S → SessionView S → Type 0
 RunsOn rules next old new = (run : Run _) → HasRun rules run old → HasRun rules (next run) new
 
 -- What a session shows once these bytes were offered, where its input was over or not. They came behind the
 -- others; none says that no more come, and behind that nothing is taken. Where ab came and cd are offered,
 -- abcd came.
-abbrev pub offered_to : {S : Type 0} → (over : Bool) → List ℕ → Seen S → Seen S
+abbrev pub offered_to : {S : Type 0} → (over : Bool) → List ℕ → SessionView S → SessionView S
 offered_to true bytes x = x
 offered_to false [] x = record x { over = true }
 offered_to false (b ∷ bs) x = record x { bytes = x.bytes ++ b ∷ bs }
@@ -241,7 +241,7 @@ run_offered false bytes run = with_offered run bytes
 
 -- A session was given up: what it shows before and behind that, that it is closed then, and that it goes on
 -- to have the run that it had.
-pub record IsGivenUp {S : Type 0} (rules : Rules S) (old new : Seen S) : Type 0 where
+pub record IsGivenUp {S : Type 0} (rules : Rules S) (old new : SessionView S) : Type 0 where
   pub given_up : GivesUpAt old.place rules old new
   pub closed : IsSome (closing_at new.place)
   pub run : RunsOn rules (λ run. run) old new

@@ -10,7 +10,7 @@ use Rattle.hub_http.specs.Items.{feed_head}
 use Rattle.hub_http.specs.Texts.{head_text, chunked_line, reply_text}
 use Rattle.hub_http.specs.declared.reply.Reply.{Reply}
 use Rattle.hub_http.specs.declared.fault.HttpFault.{HttpFault}
-use Rattle.hub_http.specs.Stream.{Asked, Spells, Faults}
+use Rattle.hub_http.specs.Stream.{PlainRequest, Spells, Faults}
 use Rattle.hub_session.specs.StreamItem.{StreamItem}
 use Rattle.hub_session.specs.declared.service.Answer.{Answer}
 use Rattle.hub_session.specs.declared.service.Answer.TheVariants.{Whole, Stream}
@@ -27,13 +27,13 @@ use Rattle.hub_session.specs.Rules.{Rules, Moment}
 
 -- a request with its answer
 pub record Exchange : Type 0 where
-  pub asked : Asked
+  pub asked : PlainRequest
   pub answer : Answer
   -- those that were sent of a stream
   pub items : List StreamItem
 
 -- the answer has a head alone
-abbrev pub is_head : Asked → Bool
+abbrev pub is_head : PlainRequest → Bool
 is_head asked = bytes_eq asked.method (codes "HEAD")
 
 -- what a stream writes before its items: the head of its answer, and the chunk that begins its text
@@ -112,7 +112,7 @@ Closes bytes Broken text = (fault : HttpFault) × Faults bytes fault × (text �
 Closes bytes Exhausted text = ⊥
 
 -- where a session stands: how many requests it answered, the bytes that are to come, and its service's state
-pub record Standing (S : Type 0) : Type 0 where
+pub record SessionState (S : Type 0) : Type 0 where
   pub served : ℕ
   pub bytes : List ℕ
   pub service : S
@@ -127,35 +127,35 @@ pub record Ending (S : Type 0) : Type 0 where
 -- then ends so. Over two requests, of which the second asks to close, it has the exchange of the first, and
 -- ends Requested with the text of the second's answer. Over two that do not ask it has both exchanges, and
 -- ends Finished with no text.
-pub data Session {S : Type 0} (rules : Rules S) : Standing S → List Exchange → Ending S → Type 0 where
+pub data Session {S : Type 0} (rules : Rules S) : SessionState S → List Exchange → Ending S → Type 0 where
   -- a request is answered, and the session goes on behind it
-  goes_on : {now : Standing S} {x : Exchange} {xs : List Exchange} {ending : Ending S}
+  goes_on : {now : SessionState S} {x : Exchange} {xs : List Exchange} {ending : Ending S}
       (rest : List ℕ) (mid : S)
       → Spells now.bytes x.asked rest → Answers rules now.service x None mid
       → Session rules (record { served = now.served + 1; bytes = rest; service = mid }) xs ending
       → Session rules now (x ∷ xs) ending
   -- a request is answered, and the session closes behind it, with the text of its answer
-  closes_behind : {now : Standing S} {ending : Ending S} (x : Exchange) (rest : List ℕ)
+  closes_behind : {now : SessionState S} {ending : Ending S} (x : Exchange) (rest : List ℕ)
       → Spells now.bytes x.asked rest → Answers rules now.service x (Some ending.closing) ending.service
       → ending.text ≡ exchange_text x → Session rules now [] ending
   -- the bytes begin with no request
-  closes : {now : Standing S} {ending : Ending S} → Closes now.bytes ending.closing ending.text
+  closes : {now : SessionState S} {ending : Ending S} → Closes now.bytes ending.closing ending.text
       → ending.service ≡ now.service → Session rules now [] ending
   -- its requests can't be counted further
-  gives_up : {now : Standing S} {ending : Ending S} → last_count ≤ now.served → ending.closing ≡ Exhausted
+  gives_up : {now : SessionState S} {ending : Ending S} → last_count ≤ now.served → ending.closing ≡ Exhausted
       → ending.text ≡ [] → ending.service ≡ now.service → Session rules now [] ending
 
 -- a session stands there
-abbrev pub standing : {S : Type 0} → ℕ → List ℕ → S → Standing S
-standing served bytes service = record { served = served; bytes = bytes; service = service }
+abbrev pub session_state : {S : Type 0} → ℕ → List ℕ → S → SessionState S
+session_state served bytes service = record { served = served; bytes = bytes; service = service }
 
 -- From where it stood a session has had these exchanges, gone on behind each of them, and stands there then.
 -- Over two requests it has had no exchange, that of the first, or both.
-pub data HasServed {S : Type 0} (rules : Rules S) : Standing S → List Exchange → Standing S → Type 0 where
+pub data HasServed {S : Type 0} (rules : Rules S) : SessionState S → List Exchange → SessionState S → Type 0 where
   -- no request was answered
-  stands : {now : Standing S} → HasServed rules now [] now
+  stands : {now : SessionState S} → HasServed rules now [] now
   -- a request was answered, and then the others
-  goes_on : {now later : Standing S} {x : Exchange} {xs : List Exchange} (rest : List ℕ) (mid : S)
+  goes_on : {now later : SessionState S} {x : Exchange} {xs : List Exchange} (rest : List ℕ) (mid : S)
       → Spells now.bytes x.asked rest → Answers rules now.service x None mid
       → HasServed rules (record { served = now.served + 1; bytes = rest; service = mid }) xs later
       → HasServed rules now (x ∷ xs) later
@@ -193,22 +193,22 @@ pub record IsSession {S : Type 0} (rules : Rules S) (bytes : List ℕ) (closing 
   pub written : Sends (is_broken closing) mid after.written last
 
 -- whether the session closes since writing to the other side failed
-abbrev pub breaks : Option Closing → Bool
-breaks None = false
-breaks (Some closing) = is_broken closing
+abbrev pub is_write_failure : Option Closing → Bool
+is_write_failure None = false
+is_write_failure (Some closing) = is_broken closing
 
 -- this request was answered, and then the session closes so, or goes on: the text of the answer was written,
 -- or where that writing broke a front of it
-pub record HasAnswer {S : Type 0} (rules : Rules S) (asked : Asked) (next : Option Closing)
+pub record HasAnswer {S : Type 0} (rules : Rules S) (asked : PlainRequest) (next : Option Closing)
     (before after : Moment S) : Type 0 where
   pub exchange : Exchange
   pub asked_is : exchange.asked ≡ asked
   pub goes : Answers rules before.service exchange next after.service
-  pub written : Sends (breaks next) before.written after.written (exchange_text exchange)
+  pub written : Sends (is_write_failure next) before.written after.written (exchange_text exchange)
 
 -- The answer to this request was begun: all of it was written, and then the session closes so, or goes on; or
 -- it is a stream in this mode, of the life of this number, and all was written that stands before its items.
-abbrev pub HasBegun : {S : Type 0} → Rules S → Asked → Begun → Moment S → Moment S → Type 0
+abbrev pub HasBegun : {S : Type 0} → Rules S → PlainRequest → Begun → Moment S → Moment S → Type 0
 HasBegun rules asked (Answered next) before after = HasAnswer rules asked next before after
 HasBegun rules asked (Streaming mode life) before after =
     rules.answers before.service asked (Stream mode life) after.service × (is_head asked ≡ false)
@@ -217,7 +217,7 @@ HasBegun rules asked (Streaming mode life) before after =
 -- the bytes begin with a request, which was answered, and those behind it are left
 pub record IsAnswered {S : Type 0} (rules : Rules S) (bytes : List ℕ) (next : Option Closing)
     (left : Option (List ℕ)) (before after : Moment S) : Type 0 where
-  pub asked : Asked
+  pub asked : PlainRequest
   pub rest : List ℕ
   pub spelt : Spells bytes asked rest
   pub left_is : left ≡ Some rest

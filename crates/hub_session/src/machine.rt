@@ -1,10 +1,10 @@
 //! Sessions that are stepped.
 ghost use Rattle.std.specs.Prelude.{◌≡◌, ◌<◌, ◌⊎◌, [], false, length, IsSome, OnOk, OnErr};
-ghost use Rattle.hub_http.specs.Boxes.{Hands, came_to, faults_in, handed_of, is_over, pending_in};
-ghost use Rattle.hub_http.specs.Counts.{Rose};
+ghost use Rattle.hub_http.specs.Boxes.{Hands, arrived_bytes, faults_in, handed_of, is_over, pending_in};
+ghost use Rattle.hub_http.specs.Counts.{HasGrown};
 ghost use Rattle.hub_session.specs.Runs.{HasRun, IsGivenUp, IsStepFrom, IsStepped};
 ghost use Rattle.hub_session.specs.Runs.{RunsOn, TellsNoMemory, closing_at, new_run, offered_to};
-ghost use Rattle.hub_session.specs.Runs.{place_behind, run_offered, seen, step_behind, with_gone, with_offered};
+ghost use Rattle.hub_session.specs.Runs.{place_behind, run_offered, session_view, step_behind, with_gone, with_offered};
 
 use crate::answering::{Begun, after_stream, answer_fault, begin_answer};
 use crate::closing::{Closing, StreamEnd};
@@ -61,8 +61,8 @@ impl<S: Service> Session<S> {
     /// A session to which nothing was offered, with an empty outbox.
     pub fn new(alloc: Global, outbox: Outbox, service: S) -> Session<S>
         requires { pending_in outbox ≡ [] }
-        ensures run { HasRun S.rules (new_run service) (seen result) }
-        ensures open { (seen result).over ≡ false }
+        ensures run { HasRun S.rules (new_run service) (session_view result) }
+        ensures open { (session_view result).over ≡ false }
     {
         Session {
             alloc,
@@ -77,7 +77,7 @@ impl<S: Service> Session<S> {
     /// The session closes behind an answer, or is between two requests.
     fn go_behind(&mut self, next: Option<Closing>) -> Step
         ensures step { result ≡ step_behind next }
-        ensures shown { seen self.new ≡ record (seen self.old) { place = place_behind next } }
+        ensures shown { session_view self.new ≡ record (session_view self.old) { place = place_behind next } }
         ensures outbox { self.new.outbox ≡ self.old.outbox }
     {
         match next {
@@ -160,11 +160,11 @@ impl<S: Service> Session<S> {
     /// Where the outbox finds none all the same, the session closes as `Broken`, with a front of what was
     /// written last.
     pub fn step(&mut self) -> Step
-        ensures told { IsStepped S.rules (seen self.old) result (seen self.new) }
-        ensures run { RunsOn S.rules (λ run. run) (seen self.old) (seen self.new) }
+        ensures told { IsStepped S.rules (session_view self.old) result (session_view self.new) }
+        ensures run { RunsOn S.rules (λ run. run) (session_view self.old) (session_view self.new) }
         ensures broken { result ≡ Step.Ended Closing.Broken
-            → ((seen self.old).place ≡ Place.Closed Closing.Broken)
-            ⊎ Rose (faults_in self.old.outbox) (faults_in self.new.outbox) }
+            → ((session_view self.old).place ≡ Place.Closed Closing.Broken)
+            ⊎ HasGrown (faults_in self.old.outbox) (faults_in self.new.outbox) }
     {
         match self.place {
             Place::Between => self.take_request(),
@@ -177,11 +177,11 @@ impl<S: Service> Session<S> {
     /// that nothing is taken: such bytes would be no part of the session. An error changes nothing: the
     /// bytes may be offered again.
     pub fn offer(&mut self, bytes: &[u8]) -> Result<(), AllocError>
-        ensures ok { OnOk result (seen self.new
-            ≡ offered_to (seen self.old).over bytes.now (seen self.old)) }
-        ensures run { OnOk result (RunsOn S.rules (run_offered (seen self.old).over bytes.now)
-            (seen self.old) (seen self.new)) }
-        ensures err { OnErr result ((seen self.new ≡ seen self.old) × ((seen self.new).over ≡ false)) }
+        ensures ok { OnOk result (session_view self.new
+            ≡ offered_to (session_view self.old).over bytes.now (session_view self.old)) }
+        ensures run { OnOk result (RunsOn S.rules (run_offered (session_view self.old).over bytes.now)
+            (session_view self.old) (session_view self.new)) }
+        ensures err { OnErr result ((session_view self.new ≡ session_view self.old) × ((session_view self.new).over ≡ false)) }
     {
         if self.inbox.is_over() {
             return Ok(());
@@ -197,16 +197,16 @@ impl<S: Service> Session<S> {
     /// as to a request that found none, and closes. Where nothing else is to go, the outbox has room for
     /// that answer. At another place, and where there are no bytes, the session is given up.
     pub fn close_out_of_memory(&mut self, bytes: &[u8])
-        requires { (seen self.old).over ≡ false }
-        ensures told { (seen self.old).place ≡ Place.Between → 0 < length bytes.now
-            → TellsNoMemory (seen self.old) (seen self.new) }
-        ensures elsewhere { ((seen self.old).place ≡ Place.Between → bytes.now ≡ [])
-            → IsGivenUp S.rules (seen self.old) (seen self.new) }
-        ensures closed { IsSome (closing_at (seen self.new).place) }
-        ensures broken { (seen self.old).place ≡ Place.Between → 0 < length bytes.now
-            → (seen self.new).place ≡ Place.Closed Closing.Broken
-            → Rose (faults_in self.old.outbox) (faults_in self.new.outbox) }
-        ensures run { RunsOn S.rules (λ run. with_offered run bytes.now) (seen self.old) (seen self.new) }
+        requires { (session_view self.old).over ≡ false }
+        ensures told { (session_view self.old).place ≡ Place.Between → 0 < length bytes.now
+            → TellsNoMemory (session_view self.old) (session_view self.new) }
+        ensures elsewhere { ((session_view self.old).place ≡ Place.Between → bytes.now ≡ [])
+            → IsGivenUp S.rules (session_view self.old) (session_view self.new) }
+        ensures closed { IsSome (closing_at (session_view self.new).place) }
+        ensures broken { (session_view self.old).place ≡ Place.Between → 0 < length bytes.now
+            → (session_view self.new).place ≡ Place.Closed Closing.Broken
+            → HasGrown (faults_in self.old.outbox) (faults_in self.new.outbox) }
+        ensures run { RunsOn S.rules (λ run. with_offered run bytes.now) (session_view self.old) (session_view self.new) }
     {
         if bytes.is_empty() {
             return self.give_up();
@@ -222,12 +222,12 @@ impl<S: Service> Session<S> {
 
     /// Hands a front of what is to go to a writer, by one write, and keeps what it did not take.
     pub fn send_to<W: Write>(&mut self, writer: &mut W) -> Handed
-        ensures handed { Hands result (seen self.old).pending (seen self.new).pending
+        ensures handed { Hands result (session_view self.old).pending (session_view self.new).pending
             (W.contents writer.old) (W.contents writer.new) }
-        ensures shown { seen self.new
-            ≡ record (seen self.old) { pending = (seen self.new).pending } }
-        ensures run { RunsOn S.rules (λ run. with_gone run (handed_of result (seen self.old).pending))
-            (seen self.old) (seen self.new) }
+        ensures shown { session_view self.new
+            ≡ record (session_view self.old) { pending = (session_view self.new).pending } }
+        ensures run { RunsOn S.rules (λ run. with_gone run (handed_of result (session_view self.old).pending))
+            (session_view self.old) (session_view self.new) }
     {
         let handed = self.outbox.send_to(writer);
         // Where items of a stream were sent since the last one was waited for, more of them follow.
@@ -240,7 +240,7 @@ impl<S: Service> Session<S> {
     /// The other side is gone: a session that did not close does so as `Broken`, and its service gets back
     /// what a stream holds.
     pub fn give_up(&mut self)
-        ensures { IsGivenUp S.rules (seen self.old) (seen self.new) }
+        ensures { IsGivenUp S.rules (session_view self.old) (session_view self.new) }
     {
         match self.place {
             Place::Between => self.place = Place::Closed(Closing::Broken),
@@ -254,7 +254,7 @@ impl<S: Service> Session<S> {
 
     /// Why the session closed, if it did.
     pub fn closing(&self) -> Option<Closing>
-        ensures { result ≡ closing_at (seen self.now).place }
+        ensures { result ≡ closing_at (session_view self.now).place }
     {
         match self.place {
             Place::Between | Place::Within(..) => None,
@@ -264,15 +264,15 @@ impl<S: Service> Session<S> {
 
     /// What came of its input, and that no request took.
     pub fn inbox(&self) -> &Inbox
-        ensures bytes { came_to result.now ≡ (seen self.now).bytes }
-        ensures over { is_over result.now ≡ (seen self.now).over }
+        ensures bytes { arrived_bytes result.now ≡ (session_view self.now).bytes }
+        ensures over { is_over result.now ≡ (session_view self.now).over }
     {
         &self.inbox
     }
 
     /// What answers its requests.
     pub fn service(&self) -> &S
-        ensures { result.now ≡ (seen self.now).service }
+        ensures { result.now ≡ (session_view self.now).service }
     {
         &self.service
     }

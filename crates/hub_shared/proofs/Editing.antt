@@ -7,14 +7,14 @@ use Rattle.std.proofs.lemmas.List.Sums.{sum_by-cons}
 use Rattle.hub_document.specs.declared.doc.Doc.{Doc}
 use Rattle.hub_model.specs.Draft.{HasNextRevision}
 use Rattle.hub_model.specs.Journal.{Edit, IsLegal}
-use Rattle.hub_model.specs.Outcome.{Stores, StoresAll, refuses}
+use Rattle.hub_model.specs.Outcome.{Stores, StoresAll, refusal_result}
 use Rattle.hub_model.specs.Revision.{Revision}
 use Rattle.hub_model.specs.RightlyHanded.{ChangeItem}
 use Rattle.hub_model.specs.declared.outcomes.Fault.{Fault}
 use Rattle.hub_model.specs.declared.outcomes.Outcome.{Outcome}
 use Rattle.hub_model.specs.declared.outcomes.Outcome.TheVariants.{Stored, Known, Refused}
 use Rattle.hub_database.specs.Database.{Database}
-use Rattle.hub_database.specs.Edits.{IsBatch, StopsAt, draft_of, makes_one}
+use Rattle.hub_database.specs.Edits.{IsBatch, StopsAt, draft_of, one_draft_result}
 use Rattle.hub_database.specs.Handing.{IsFitting}
 use Rattle.hub_database.specs.Hosting.{hosted_of}
 use Rattle.hub_database.specs.declared.batch.Batch.{Batch}
@@ -34,10 +34,10 @@ use Rattle.hub_shared.proofs.Storing.{StoredAs, as_many, make_stored, senders_st
 -- what a database answers to one edit
 pub edit_answer : (kept : Type 0) (old : Database) (edits : List Edit) (doc : Doc)
     (r : Result Revision DbFault)
-    → IfOk r (λ rev. makes_one old.deleted old.limits.journal old.journal doc
+    → IfOk r (λ rev. one_draft_result old.deleted old.limits.journal old.journal doc
     ≡ record { outcome = Stored rev; journal = edits })
     → IfErr r (λ e. kept × ((e ≡ db_fault.NoMemory) ⊎ ((fault : Fault) × (e ≡ db_fault.Refused fault)
-    × (makes_one old.deleted old.limits.journal old.journal doc ≡ refuses old.journal fault))))
+    × (one_draft_result old.deleted old.limits.journal old.journal doc ≡ refusal_result old.journal fault))))
     → (r ≡ Err db_fault.NoMemory → (old.deleted ≡ false) × HasNextRevision old.journal (draft_of doc))
     → IsEditAnswer old doc r
 edit_answer kept old edits doc (Ok rev) made failed memory = ap (λ (stores : Stores). stores.outcome) made
@@ -49,7 +49,7 @@ edit_answer kept old edits doc (Err (db_fault.Refused fault)) made (stays, inr (
 
 -- an edit that was made stands behind the others
 made_behind : (deleted : Bool) (limit : ℕ) (journal other_journal : List Edit) (doc : Doc) (rev : Revision)
-    → makes_one deleted limit journal doc ≡ record { outcome = Stored rev; journal = other_journal }
+    → one_draft_result deleted limit journal doc ≡ record { outcome = Stored rev; journal = other_journal }
     → (edit : Edit) × (other_journal ≡ journal ++ edit ∷ [])
 made_behind true limit journal other_journal doc rev is =
     let outcome : Refused _ ≡ Stored rev = ap (λ (stores : Stores). stores.outcome) is in absurd (cc)
@@ -61,7 +61,7 @@ made_behind false limit journal other_journal doc rev is =
 
 -- so it is one more
 pub one_added : (old new : Database) (doc : Doc) (r : Result Revision DbFault)
-    → IfOk r (λ rev. makes_one old.deleted old.limits.journal old.journal doc
+    → IfOk r (λ rev. one_draft_result old.deleted old.limits.journal old.journal doc
     ≡ record { outcome = Stored rev; journal = new.journal })
     → IsLegal new.journal → length new.journal < 2 ^ 32 → new ≡ record old { journal = new.journal }
     → OnOk r (Adds 1 old new)

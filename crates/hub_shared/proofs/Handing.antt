@@ -4,14 +4,14 @@ use Rattle.std.specs.Prelude.{IfSome, option_and_then, position, get_or, slice_s
 use Rattle.std.proofs.lemmas.Option.{same_Some}
 use Rattle.hub_model.specs.Current.{Current}
 use Rattle.hub_model.specs.Entries.{entry_in, is_of}
-use Rattle.hub_model.specs.Feed.{Feed, Params, Due, DueRow, DueEnd, DueNothing, DueGone, due, after_nothing}
-use Rattle.hub_model.specs.Hand.{item_of}
+use Rattle.hub_model.specs.Feed.{Feed, Params, Due, DueRow, DueEnd, DueNothing, DueGone, next_due, after_nothing}
+use Rattle.hub_model.specs.Hand.{item_of_due}
 use Rattle.hub_model.specs.declared.feeds.Item.{Item}
 use Rattle.hub_model.proofs.Entries.{changed_here, entry_here, stays_here}
 use Rattle.hub_feed.specs.Hand.{HandsTo}
-use Rattle.hub_feed.specs.Host.{Hosted, with_feeds, answer_of, answered, behind_answer, behind_due, handed}
-use Rattle.hub_feed.specs.Host.{is_beat_due, item_due, item_for}
-use Rattle.hub_feed.specs.Next.{next_of}
+use Rattle.hub_feed.specs.Host.{Hosted, with_feeds, next_if_any, next_of_number, hosted_after_next, hosted_feed_after_due, hosted_after_hand}
+use Rattle.hub_feed.specs.Host.{is_beat_allowed_if_any, item_of_number, item_of_feed}
+use Rattle.hub_feed.specs.Next.{next_of_due}
 use Rattle.hub_feed.specs.declared.handed.Handed.{Handed}
 use Rattle.hub_feed.specs.declared.handed.Handed.TheVariants as did
 use Rattle.hub_feed.specs.declared.next.Next.{Next}
@@ -23,16 +23,16 @@ use Rattle.hub_shared.proofs.Sending.{Permits, Serves, may_give, gives, rests}
 
 -- what a feed gives is due to it
 given_due : {R : Type 0} (show : Current → R) (rows : List Current) (due : Due) (item : Item R)
-    → Give item ≡ next_of show rows due → item_of show rows due ≡ Some item
+    → Give item ≡ next_of_due show rows due → item_of_due show rows due ≡ Some item
 given_due show rows (DueRow row) item gives = cc
 given_due show rows (DueEnd last_seq) item gives = cc
 given_due show rows DueNothing item gives = absurd (cc)
 given_due show rows DueGone item gives = absurd (cc)
 
 pub given_by : {R : Type 0} (host : Hosted R) (feed : Option Feed) (item : Item R)
-    → Give item ≡ answer_of host feed → option_and_then (item_for host) feed ≡ Some item
+    → Give item ≡ next_if_any host feed → option_and_then (item_of_feed host) feed ≡ Some item
 given_by host None item gives = absurd (cc)
-given_by host (Some feed) item gives = given_due _ host.current (due host.current feed) item gives
+given_by host (Some feed) item gives = given_due _ host.current (next_due host.current feed) item gives
 
 module _ {S R K : Type 0} (label : K → Label) (sent : K → List (Item R)) (hosted : S → Hosted R)
     (with_hosted : S → Hosted R → S)
@@ -43,8 +43,8 @@ module _ {S R K : Type 0} (label : K → Label) (sent : K → List (Item R)) (ho
     (stays : (s : S) (h : Hosted R) (f : Feed) (items : List (Item R)) → fits s f items
     → fits (with_hosted s h) f items)
     (handed_fits : (s : S) (f : Feed) (items : List (Item R)) (item : Item R)
-    → item_for (hosted s) f ≡ Some item → fits s f items
-    → fits s (behind_due (hosted s) f) (items ++ item ∷ []))
+    → item_of_feed (hosted s) f ≡ Some item → fits s f items
+    → fits s (hosted_feed_after_due (hosted s) f) (items ++ item ∷ []))
     (state : S) (id : ℕ) (senders : List (ℕ × K))
     (serve : AreSendersOf label sent (fits state) (hosted state) senders) where
   -- what is due may be sent, by an outbox that takes what is right for its feed
@@ -52,8 +52,8 @@ module _ {S R K : Type 0} (label : K → Label) (sent : K → List (Item R)) (ho
       → ((k : K) (item : Item R)
       → Permits label sent hosted with_hosted fits right hosts rightly stays k (sent k ++ item ∷ [])
       → Takes k item) → (outbox : K) → entry_in id senders ≡ Some outbox
-      → IfSome (item_due (hosted state) id) (Takes outbox)
-  may_take Takes permits outbox is = from (item_due (hosted state) id) refl
+      → IfSome (item_of_number (hosted state) id) (Takes outbox)
+  may_take Takes permits outbox is = from (item_of_number (hosted state) id) refl
     where
       one : (item : Item R)
           → MaySend (Permits label sent hosted with_hosted fits right hosts rightly stays) sent senders id
@@ -65,7 +65,7 @@ module _ {S R K : Type 0} (label : K → Label) (sent : K → List (Item R)) (ho
           Permits label sent hosted with_hosted fits right hosts rightly stays own (sent own ++ item ∷ []))
           (same_Some may.0 outbox (sym may.1 ∙ is)) may.2)
 
-      from : (due : Option (Item R)) → item_due (hosted state) id ≡ due → IfSome due (Takes outbox)
+      from : (due : Option (Item R)) → item_of_number (hosted state) id ≡ due → IfSome due (Takes outbox)
       from None none = tt
       from (Some item) some =
           one item
@@ -73,31 +73,31 @@ module _ {S R K : Type 0} (label : K → Label) (sent : K → List (Item R)) (ho
           item serve some)
 
   -- where there is no sender there is no feed
-  pub no_feed : entry_in id senders ≡ None → Gone ≡ answered (hosted state) id
+  pub no_feed : entry_in id senders ≡ None → Gone ≡ next_of_number (hosted state) id
   no_feed none =
       from (entry_in id (hosted state).feeds)
       (subst (IsServed label sent (fits state) (entry_in id (hosted state).feeds)) none (serve.each id))
     where
-      from : (feed : Option Feed) → IsServed label sent (fits state) feed None → Gone ≡ answer_of
+      from : (feed : Option Feed) → IsServed label sent (fits state) feed None → Gone ≡ next_if_any
           (hosted state) feed
       from None served = refl
       from (Some feed) served = absurd served
 
   -- and no heartbeat is due
-  pub no_beat : entry_in id senders ≡ None → is_beat_due (entry_in id (hosted state).feeds) ≡ false
+  pub no_beat : entry_in id senders ≡ None → is_beat_allowed_if_any (entry_in id (hosted state).feeds) ≡ false
   no_beat none =
       from (entry_in id (hosted state).feeds)
       (subst (IsServed label sent (fits state) (entry_in id (hosted state).feeds)) none (serve.each id))
     where
-      from : (feed : Option Feed) → IsServed label sent (fits state) feed None → is_beat_due feed ≡ false
+      from : (feed : Option Feed) → IsServed label sent (fits state) feed None → is_beat_allowed_if_any feed ≡ false
       from None served = refl
       from (Some feed) served = absurd served
 
   abbrev given : S
-  given = with_hosted state (handed (hosted state) id)
+  given = with_hosted state (hosted_after_hand (hosted state) id)
 
   abbrev looked : S
-  looked = with_hosted state (behind_answer (hosted state) id Nothing)
+  looked = with_hosted state (hosted_after_next (hosted state) id Nothing)
 
   -- of the sender that stands here, after a hand of the host to it
   module _ (waiting_fits : (s : S) (f : Feed) (items : List (Item R)) → due (hosted s).current f ≡ DueNothing
@@ -125,7 +125,7 @@ module _ {S R K : Type 0} (label : K → Label) (sent : K → List (Item R)) (ho
     moved_to host own moves sends serve =
         subst (λ z. Serve z after) (sym moves) (subst (λ z. Serve host z) (sym sends) serve)
 
-    taken : (item : Item R) → Give item ≡ answered (hosted state) id → new ≡ given
+    taken : (item : Item R) → Give item ≡ next_of_number (hosted state) id → new ≡ given
         → sender ≡ behind entry.1 item → Serve new after
     taken item now moves pushed =
         moved_to given (sends behind id item senders) moves (put item pushed)
@@ -134,7 +134,7 @@ module _ {S R K : Type 0} (label : K → Label) (sent : K → List (Item R)) (ho
         sent_adds)
 
     -- the senders are again those of the feeds
-    pub serves_hand : (answer : Next R) → answer ≡ answered (hosted state) id → (answers : Handed)
+    pub serves_hand : (answer : Next R) → answer ≡ next_of_number (hosted state) id → (answers : Handed)
         → HandsTo behind refuses state given looked entry.1 answer answers new sender → Serve new after
     serves_hand (Give item) now did.Row hands = taken item now hands.1 hands.2
     serves_hand (Give item) now did.End hands = taken item now hands.1 hands.2

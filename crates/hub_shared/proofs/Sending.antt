@@ -6,18 +6,18 @@ use Rattle.std.proofs.lemmas.Option.{none-some}
 use Rattle.std.proofs.lemmas.Bool.{cases_Bool}
 use Rattle.std.proofs.Common.{inl, inr}
 use Rattle.hub_model.specs.Current.{Current}
-use Rattle.hub_model.specs.Entries.{entry_in, changed, without}
-use Rattle.hub_model.specs.Feed.{Feed, Params, Due, DueRow, DueEnd, DueNothing, DueGone, begin}
-use Rattle.hub_model.specs.Feed.{due, after_due, after_nothing, beat_due, expire, is_open, waits}
+use Rattle.hub_model.specs.Entries.{entry_in, with_change, without}
+use Rattle.hub_model.specs.Feed.{Feed, Params, Due, DueRow, DueEnd, DueNothing, DueGone, new_feed}
+use Rattle.hub_model.specs.Feed.{next_due, feed_after_due, after_nothing, is_beat_allowed, expired_feed, is_open, is_waiting_mode}
 use Rattle.hub_model.specs.declared.feeds.Item.{Item}
 use Rattle.hub_model.specs.declared.feeds.Item.TheVariants.{Beat}
 use Rattle.hub_model.proofs.Entries.{own_changed, other_changed, own_without}
 use Rattle.hub_model.proofs.Entries.{other_without, own_added, other_added}
 use Rattle.hub_params.specs.FeedModel.{params_in, params_of}
 use Rattle.hub_params.specs.declared.feed_params.FeedParams.{FeedParams}
-use Rattle.hub_feed.specs.Host.{Hosted, with_feeds, answer_of, answered, item_for, item_due, behind_due}
-use Rattle.hub_feed.specs.Host.{behind_answer, handed, expired, finished, opened, is_beat_due}
-use Rattle.hub_feed.specs.Next.{next_of}
+use Rattle.hub_feed.specs.Host.{Hosted, with_feeds, next_if_any, next_of_number, item_of_feed, item_of_number, hosted_feed_after_due}
+use Rattle.hub_feed.specs.Host.{hosted_after_next, hosted_after_hand, hosted_after_expiry, hosted_after_finish, hosted_after_opening, is_beat_allowed_if_any}
+use Rattle.hub_feed.specs.Next.{next_of_due}
 use Rattle.hub_feed.specs.declared.next.Next.TheVariants.{Nothing}
 use Rattle.hub_params.specs.FeedShown.{params_asked}
 use Rattle.hub_shared.specs.Label.{Label, label_of}
@@ -28,25 +28,25 @@ use Rattle.hub_shared.proofs.Serving.{served_still, stays_served}
 
 -- a step keeps what a feed was asked for, and where it began
 step_keeps : (feed : Feed) (due : Due) (len : ℕ)
-    → ((after_due feed due len).params ≡ feed.params) × ((after_due feed due len).since ≡ feed.since)
+    → ((feed_after_due feed due len).params ≡ feed.params) × ((feed_after_due feed due len).since ≡ feed.since)
 step_keeps feed (DueRow c) len = (refl, refl)
 step_keeps feed (DueEnd last_seq) len = (refl, refl)
 step_keeps feed DueNothing len = (refl, refl)
 step_keeps feed DueGone len = (refl, refl)
 
-expire_keeps : (feed : Feed) → ((expire feed).params ≡ feed.params) × ((expire feed).since ≡ feed.since)
-expire_keeps feed = elim (cases_Bool (is_open feed.status && waits feed.params.mode)) [
+expire_keeps : (feed : Feed) → ((expired_feed feed).params ≡ feed.params) × ((expired_feed feed).since ≡ feed.since)
+expire_keeps feed = elim (cases_Bool (is_open feed.status && is_waiting_mode feed.params.mode)) [
   | inl t ↦ rw t (refl, refl)
   | inr t ↦ rw t (refl, refl)
 ]
 
-beat_feed : (maybe_feed : Option Feed) → is_beat_due maybe_feed ≡ true → (feed : Feed)
-    × (maybe_feed ≡ Some feed) × (beat_due feed ≡ true)
+beat_feed : (maybe_feed : Option Feed) → is_beat_allowed_if_any maybe_feed ≡ true → (feed : Feed)
+    × (maybe_feed ≡ Some feed) × (is_beat_allowed feed ≡ true)
 beat_feed None e = absurd (cc)
 beat_feed (Some feed) e = (feed, refl, e)
 
 nothing_due : {R : Type 0} (show : Current → R) (rows : List Current) (due : Due)
-    → Nothing ≡ next_of show rows due → due ≡ DueNothing
+    → Nothing ≡ next_of_due show rows due → due ≡ DueNothing
 nothing_due show rows (DueRow c) e = absurd (cc)
 nothing_due show rows (DueEnd last_seq) e = absurd (cc)
 nothing_due show rows DueNothing e = refl
@@ -138,38 +138,38 @@ module _ {S R K : Type 0} (label : K → Label) (sent : K → List (Item R)) (ho
       (λ k. ((p ∙ sym i.asks) k, (b ∙ sym i.begins) k)) (rightly s other items h)
 
   due_feed : (h : Hosted R) (maybe_feed : Option Feed) (item : Item R)
-      → option_and_then (item_for h) maybe_feed ≡ Some item
-      → (feed : Feed) × (maybe_feed ≡ Some feed) × (item_for h feed ≡ Some item)
+      → option_and_then (item_of_feed h) maybe_feed ≡ Some item
+      → (feed : Feed) × (maybe_feed ≡ Some feed) × (item_of_feed h feed ≡ Some item)
   due_feed h None item e = absurd (none-some item e)
   due_feed h (Some feed) item e = (feed, refl, e)
 
   -- an item that is due may be sent, and its feed goes on
   module _
       (handed_fits : (s : S) (feed : Feed) (items : List (Item R)) (item : Item R)
-      → item_for (hosted s) feed ≡ Some item → fits s feed items
-      → fits s (behind_due (hosted s) feed) (items ++ item ∷ []))
+      → item_of_feed (hosted s) feed ≡ Some item → fits s feed items
+      → fits s (hosted_feed_after_due (hosted s) feed) (items ++ item ∷ []))
       (s : S) (id : ℕ) (senders : List (ℕ × K)) (item : Item R) (d : Serves s senders)
-      (is : item_due (hosted s) id ≡ Some item) where
+      (is : item_of_number (hosted s) id ≡ Some item) where
     pub may_give : MaySend Permits sent senders id item
     may_give =
         let at = due_feed (hosted s) (entry_in id (hosted s).feeds) item is in
         let feed = at.0 in
         let x = sender_of label sent (fits s) (entry_in id (hosted s).feeds) (entry_in id senders) feed at.1
         (d.each id) in
-        let keeps = step_keeps feed (due (hosted s).current feed) (hosted s).length in (
+        let keeps = step_keeps feed (next_due (hosted s).current feed) (hosted s).length in (
           x.0,
           x.1,
-          allowed s feed (behind_due (hosted s) feed) x.0 (sent x.0 ++ item ∷ []) keeps.0 keeps.1 x.2
+          allowed s feed (hosted_feed_after_due (hosted s) feed) x.0 (sent x.0 ++ item ∷ []) keeps.0 keeps.1 x.2
               (handed_fits s feed (sent x.0) item at.2 x.2.list),
         )
 
     pub gives : (behind : K → Item R → K) → ((k : K) (item : Item R) → label (behind k item) ≡ label k)
         → ((k : K) (item : Item R) → sent (behind k item) ≡ sent k ++ item ∷ [])
-        → Serves (with_hosted s (handed (hosted s) id)) (sends behind id item senders)
+        → Serves (with_hosted s (hosted_after_hand (hosted s) id)) (sends behind id item senders)
     gives behind label_stays sent_adds =
         let h = hosted s in
-        let change : Feed → Feed = behind_due h in
-        let feeds = changed id change h.feeds in
+        let change : Feed → Feed = hosted_feed_after_due h in
+        let feeds = with_change id change h.feeds in
         let new = moved s feeds h.next_feed in
         let at = due_feed h (entry_in id h.feeds) item is in
         let feed = at.0 in
@@ -177,7 +177,7 @@ module _ {S R K : Type 0} (label : K → Label) (sent : K → List (Item R)) (ho
         sender_of label sent (fits s) (entry_in id h.feeds) (entry_in id senders) feed at.1 (d.each id) in
         let mine =
         sender_behind label sent behind label_stays sent_adds (fits s) (fits new) feed (change feed) x.0 item
-        (step_keeps feed (due h.current feed) h.length)
+        (step_keeps feed (next_due h.current feed) h.length)
         (stays s (with_feeds h feeds h.next_feed) (change feed) (sent x.0 ++ item ∷ [])
         (handed_fits s feed (sent x.0) item at.2 x.2.list)) x.2 in
         let both =
@@ -192,10 +192,10 @@ module _ {S R K : Type 0} (label : K → Label) (sent : K → List (Item R)) (ho
 
   -- so may a heartbeat
   module _
-      (beat_fits : (s : S) (feed : Feed) (items : List (Item R)) → beat_due feed ≡ true → fits s feed items
+      (beat_fits : (s : S) (feed : Feed) (items : List (Item R)) → is_beat_allowed feed ≡ true → fits s feed items
       → fits s feed (items ++ Beat ∷ []))
       (s : S) (id : ℕ) (senders : List (ℕ × K)) (d : Serves s senders)
-      (is : is_beat_due (entry_in id (hosted s).feeds) ≡ true) where
+      (is : is_beat_allowed_if_any (entry_in id (hosted s).feeds) ≡ true) where
     pub may_beat : MaySend Permits sent senders id Beat
     may_beat =
         let at = beat_feed (entry_in id (hosted s).feeds) is in
@@ -234,10 +234,10 @@ module _ {S R K : Type 0} (label : K → Label) (sent : K → List (Item R)) (ho
         → ((feed : Feed) → ((change feed).params ≡ feed.params) × ((change feed).since ≡ feed.since))
         → ((feed : Feed) (items : List (Item R)) → entry_in id (hosted s).feeds ≡ Some feed
         → fits s feed items → fits s (change feed) items)
-        → Serves (moved s (changed id change (hosted s).feeds) (hosted s).next_feed) senders
+        → Serves (moved s (with_change id change (hosted s).feeds) (hosted s).next_feed) senders
     changes change keeps fit =
         let h = hosted s in
-        let feeds = changed id change h.feeds in
+        let feeds = with_change id change h.feeds in
         let new = moved s feeds h.next_feed in
         let one = one_changes label sent (fits new) change (entry_in id h.feeds) (entry_in id senders)
         (λ feed x is holds. let mine = mine_of feed x is holds in record {
@@ -264,23 +264,23 @@ module _ {S R K : Type 0} (label : K → Label) (sent : K → List (Item R)) (ho
 
     -- its time is over
     pub expires : ((s : S) (feed : Feed) (items : List (Item R)) → fits s feed items
-        → fits s (expire feed) items) → Serves (with_hosted s (expired (hosted s) id)) senders
-    expires expired_fits = changes expire expire_keeps (λ feed items is fit. expired_fits s feed items fit)
+        → fits s (expired_feed feed) items) → Serves (with_hosted s (hosted_after_expiry (hosted s) id)) senders
+    expires expired_fits = changes expired_feed expire_keeps (λ feed items is fit. expired_fits s feed items fit)
 
     -- it was found to have nothing to hand
-    pub rests : ((s : S) (feed : Feed) (items : List (Item R)) → due (hosted s).current feed ≡ DueNothing
+    pub rests : ((s : S) (feed : Feed) (items : List (Item R)) → next_due (hosted s).current feed ≡ DueNothing
         → fits s feed items → fits s (after_nothing feed (hosted s).length) items)
-        → Nothing ≡ answered (hosted s) id
-        → Serves (with_hosted s (behind_answer (hosted s) id Nothing)) senders
+        → Nothing ≡ next_of_number (hosted s) id
+        → Serves (with_hosted s (hosted_after_next (hosted s) id Nothing)) senders
     rests waiting_fits nothing =
         changes (λ feed. after_nothing feed (hosted s).length) (λ feed. (refl, refl))
         (λ feed items is fit. waiting_fits s feed items
-        (nothing_due _ (hosted s).current (due (hosted s).current feed)
-        (nothing ∙ ap (answer_of (hosted s)) is))
+        (nothing_due _ (hosted s).current (next_due (hosted s).current feed)
+        (nothing ∙ ap (next_if_any (hosted s)) is))
         fit)
 
     -- it is finished, and its sender is gone
-    pub finishes : Serves (with_hosted s (finished (hosted s) id)) (without id senders)
+    pub finishes : Serves (with_hosted s (hosted_after_finish (hosted s) id)) (without id senders)
     finishes =
         let h = hosted s in
         let feeds = without id h.feeds in
@@ -291,21 +291,21 @@ module _ {S R K : Type 0} (label : K → Label) (sent : K → List (Item R)) (ho
 
   -- the label of a feed that begins now allows that nothing was sent
   pub nothing_allowed : (s : S) (params : FeedParams)
-      → ((p : Params) → fits s (begin p (hosted s).length (hosted s).life) [])
+      → ((p : Params) → fits s (new_feed p (hosted s).length (hosted s).life) [])
       → Allows (label_of (params_asked params) (hosted s)) []
   nothing_allowed s params begins =
-      rightly s (begin (params_of params) (hosted s).length (hosted s).life) [] (begins (params_of params))
+      rightly s (new_feed (params_of params) (hosted s).length (hosted s).life) [] (begins (params_of params))
 
   -- it comes, with its outbox at the end, which was sent nothing
   pub comes : (s : S) (params : FeedParams) (x : K) (senders : List (ℕ × K))
       → label x ≡ label_of (params_asked params) (hosted s) → sent x ≡ []
-      → ((p : Params) → fits s (begin p (hosted s).length (hosted s).life) [])
+      → ((p : Params) → fits s (new_feed p (hosted s).length (hosted s).life) [])
       → entry_in (hosted s).next_feed (hosted s).feeds ≡ None → Serves s senders
-      → Serves (with_hosted s (opened (hosted s) (params_of params)))
+      → Serves (with_hosted s (hosted_after_opening (hosted s) (params_of params)))
       (senders ++ ((hosted s).next_feed, x) ∷ [])
   comes s params x senders labelled nothing begins fresh d =
       let h = hosted s in
-      let feed = begin (params_of params) h.length h.life in
+      let feed = new_feed (params_of params) h.length h.life in
       let feeds = h.feeds ++ (h.next_feed, feed) ∷ [] in
       let new = moved s feeds (h.next_feed + 1) in
       let mine : IsSenderOf label sent (fits new) feed x = record {
@@ -325,7 +325,7 @@ module _ {S R K : Type 0} (label : K → Label) (sent : K → List (Item R)) (ho
   -- an outbox changes, of which the label stays and what it was sent
   pub still : (s : S) (id : ℕ) (senders : List (ℕ × K)) (change : K → K)
       → ((k : K) → (label (change k) ≡ label k) × (sent (change k) ≡ sent k)) → Serves s senders
-      → Serves s (changed id change senders)
+      → Serves s (with_change id change senders)
   still s id senders change same d =
       sender_changes label sent (fits s) (fits s) (λ g items fit. fit) id (hosted s) (hosted s)
       (λ q n. refl) senders change refl d

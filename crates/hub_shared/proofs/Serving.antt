@@ -4,7 +4,7 @@ use Rattle.std.proofs.Common.{subst, ◌⊎◌, inl, inr, Option, Some, None, op
 use Rattle.std.specs.Prelude.{All}
 use Rattle.std.proofs.lemmas.Bool.{cases_eq}
 use Rattle.std.proofs.lemmas.Option.{none-some, same_Some}
-use Rattle.hub_model.specs.Entries.{entry_in, changed, without}
+use Rattle.hub_model.specs.Entries.{entry_in, with_change, without}
 use Rattle.hub_model.specs.Feed.{Feed}
 use Rattle.hub_model.specs.declared.feeds.Item.{Item}
 use Rattle.hub_model.proofs.Entries.{own_changed, other_changed, own_without, other_without, own_added}
@@ -65,14 +65,14 @@ module _ {R K : Type 0} (label : K → Label) (sent : K → List (Item R))
     pub sender_changes : (senders : List (ℕ × K)) (change : K → K) → new.next_feed ≡ old.next_feed
         → AreSendersOf label sent old_fits old senders
         → IsServed label sent new_fits (entry_in id new.feeds) (option_map change (entry_in id senders))
-        → AreSendersOf label sent new_fits new (changed id change senders)
+        → AreSendersOf label sent new_fits new (with_change id change senders)
     sender_changes senders change next d mine = record {
       rising = rising_changed id change senders d.rising;
       given =
-          subst (λ (n : ℕ). All (λ (p : ℕ × K). p.0 < n) (changed id change senders)) (sym next)
+          subst (λ (n : ℕ). All (λ (p : ℕ × K). p.0 < n) (with_change id change senders)) (sym next)
           (below_changed id change old.next_feed senders d.given);
       each =
-          served senders (changed id change senders) d
+          served senders (with_change id change senders) d
           (subst (IsServed label sent new_fits (entry_in id new.feeds)) (sym (own_changed id change senders))
           mine) (λ q n. other_changed id change q n senders);
     }
@@ -150,7 +150,7 @@ pub senders_still : {R K : Type 0} (label : K → Label) (sent : K → List (Ite
     (change : K → K)
     → ((k : K) → (label (change k) ≡ label k) × (sent (change k) ≡ sent k))
     → AreSendersOf label sent fits host senders
-    → AreSendersOf label sent fits host (changed id change senders)
+    → AreSendersOf label sent fits host (with_change id change senders)
 senders_still label sent fits host id senders change same served =
     sender_changes label sent fits fits (λ feed items fit. fit) id host host (λ q n. refl) senders change refl
     served (served_still label sent fits change same (entry_in id host.feeds) (entry_in id senders)

@@ -5,13 +5,13 @@ use Rattle.std.proofs.Common.{length-append, Option, Some, None, nat_eq, nat_le,
 use Rattle.std.specs.Prelude.{All, slice_get, unwrap_or, if◌then◌else◌}
 use Rattle.std.proofs.lemmas.Bool.{cases_Bool, and_parts}
 use Rattle.std.proofs.lemmas.List.{append-nil}
-use Rattle.hub_model.specs.Draft.{Draft, makes, makes_on, extended, made, parent_of, generation_of}
+use Rattle.hub_model.specs.Draft.{Draft, draft_result, draft_result_on, extended_path, new_revision, parent_of, generation_of}
 use Rattle.hub_model.specs.Draft as draft
 use Rattle.hub_model.specs.Entries.{entry_in}
 use Rattle.hub_model.specs.Feed.{Feed, end, is_open}
 use Rattle.hub_model.specs.Journal.{Edit, IsLegal, head_of, is_known, is_head_known, is_acceptable}
 use Rattle.hub_model.specs.Leaves.{leaves_of}
-use Rattle.hub_model.specs.Outcome.{Stores, StoresAll, adds, merges, stores_all}
+use Rattle.hub_model.specs.Outcome.{Stores, StoresAll, addition_result, merge_result, stores_all}
 use Rattle.hub_model.specs.Path.{is_history}
 use Rattle.hub_model.specs.Revision.{Revision}
 use Rattle.hub_model.specs.RightlyHanded.{ChangeItem, Fits}
@@ -21,9 +21,9 @@ use Rattle.hub_model.specs.declared.outcomes.Outcome.TheVariants.{Stored, Known,
 use Rattle.hub_model.proofs.Fitting.{fits_grows, fits_close}
 use Rattle.hub_document.specs.declared.doc.Doc.{Doc}
 use Rattle.hub_database.specs.Database.{Database}
-use Rattle.hub_database.specs.Edits.{stores_doc, draft_of, edit_of, writes}
-use Rattle.hub_database.specs.Feeds.{deleted}
-use Rattle.hub_feed.specs.Feeds.{ended}
+use Rattle.hub_database.specs.Edits.{stores_doc, draft_of, edit_of, docs_result}
+use Rattle.hub_database.specs.Feeds.{deleted_database}
+use Rattle.hub_feed.specs.Feeds.{ended_entry}
 use Rattle.hub_database.specs.Handing.{IsFitting}
 use Rattle.hub_database.specs.Hosting.{hosted_of}
 use Rattle.hub_shared.specs.Label.{Label}
@@ -42,7 +42,7 @@ StoredAs journal id (Refused f) other_journal = other_journal ≡ journal
 
 adds_stored : (limit : ℕ) (journal : List Edit) (edit : Edit) (revision : Revision)
     → head_of edit ≡ Some revision
-    → StoredAs journal edit.id (adds limit journal edit).outcome (adds limit journal edit).journal
+    → StoredAs journal edit.id (addition_result limit journal edit).outcome (addition_result limit journal edit).journal
 adds_stored limit journal edit revision is =
     elim (cases_Bool (nat_le limit (length journal))) [
       | inl t ↦ rw t refl
@@ -69,7 +69,7 @@ stored_if journal id true stores other p q = p refl
 stored_if journal id false stores other p q = q refl
 
 merge_stored : (limit : ℕ) (journal : List Edit) (edit : Edit)
-    → StoredAs journal edit.id (merges limit journal edit).outcome (merges limit journal edit).journal
+    → StoredAs journal edit.id (merge_result limit journal edit).outcome (merge_result limit journal edit).journal
 merge_stored limit journal edit =
     stored_if journal edit.id (is_head_known journal edit.id edit.path) _ _ (λ t. refl)
     (λ t. stored_if journal edit.id (is_acceptable journal edit) _ _
@@ -77,16 +77,16 @@ merge_stored limit journal edit =
     (λ u. refl))
 
 pub make_stored : (limit : ℕ) (journal : List Edit) (d : Draft)
-    → StoredAs journal d.id (makes limit journal d).outcome (makes limit journal d).journal
-make_stored limit journal d = from (extended journal d.id (leaves_of journal d.id) d.rev)
+    → StoredAs journal d.id (draft_result limit journal d).outcome (draft_result limit journal d).journal
+make_stored limit journal d = from (extended_path journal d.id (leaves_of journal d.id) d.rev)
   where
     from : (o : Option (List Revision))
-        → StoredAs journal d.id (makes_on limit journal d o).outcome (makes_on limit journal d o).journal
+        → StoredAs journal d.id (draft_result_on limit journal d o).outcome (draft_result_on limit journal d o).journal
     from None = refl
     from (Some path) =
         stored_if journal d.id (nat_le 65535 (generation_of (parent_of path))) _ _ (λ t. refl)
-        (λ t. stored_if journal d.id (is_known journal d.id (made d (parent_of path))) _ _ (λ u. refl)
-        (λ u. adds_stored limit journal (draft.edit_of d path) (made d (parent_of path)) refl))
+        (λ t. stored_if journal d.id (is_known journal d.id (new_revision d (parent_of path))) _ _ (λ u. refl)
+        (λ u. adds_stored limit journal (draft.edit_of d path) (new_revision d (parent_of path)) refl))
 
 doc_stored : (new_edits : Bool) (limit : ℕ) (journal : List Edit) (doc : Doc)
     → StoredAs journal doc.id (stores_doc new_edits limit journal doc).outcome
@@ -149,7 +149,7 @@ receipts_take n (doc ∷ docs) (o ∷ os) =
 -- the receipts of a write are those of the edits that it added
 pub writes_added : (new_edits gone : Bool) (limit : ℕ) (journal other_journal : List Edit) (docs : List Doc)
     (os : List (Outcome Revision))
-    → writes new_edits gone limit journal (take (length os) docs) ≡ record
+    → docs_result new_edits gone limit journal (take (length os) docs) ≡ record
     { outcomes = os; journal = other_journal }
     → AreAdded journal other_journal (receipts_from (length journal) (ids_of docs) os)
 writes_added new_edits gone limit journal other_journal docs os is =
@@ -164,13 +164,13 @@ writes_added new_edits gone limit journal other_journal docs os is =
 -- so are those that were made of copies of the ids
 pub receipts_added : (new_edits gone : Bool) (limit : ℕ) (journal other_journal : List Edit) (docs : List Doc)
     (os : List (Outcome Revision))
-    → writes new_edits gone limit journal (take (length os) docs) ≡ record
+    → docs_result new_edits gone limit journal (take (length os) docs) ≡ record
     { outcomes = os; journal = other_journal }
     → (n : ℕ) (ids : List (List ℕ)) (replies : List (Outcome Revision)) (receipts : List Receipt)
     → n ≡ length journal → ids ≡ ids_of docs → replies ≡ os → receipts ≡ receipts_from n ids replies
     → AreAdded journal other_journal receipts
 receipts_added new_edits gone limit journal other_journal docs os is n ids replies receipts e f g made =
-    subst (λ r. AreAdded journal other_journal r) (sym (made ∙ (λ k. receipts_from (e k) (f k) (g k))))
+    subst (λ r. AreAdded journal other_journal r) (sym (new_revision ∙ (λ k. receipts_from (e k) (f k) (g k))))
     (writes_added new_edits gone limit journal other_journal docs os is)
 
 -- as many
@@ -192,7 +192,7 @@ abbrev FitsIn : Database → Feed → List ChangeItem → Type 0
 FitsIn db feed items = IsFitting db.journal feed items
 
 entry_ended : (n : ℕ) (feeds : List (ℕ × Feed))
-    → entry_in n (map ended feeds) ≡ option_map end (entry_in n feeds)
+    → entry_in n (map ended_entry feeds) ≡ option_map end (entry_in n feeds)
 entry_ended n [] = refl
 entry_ended n (p ∷ feeds) =
     elim (cases_Bool (nat_eq p.0 n)) [ inl t ↦ rw t refl | inr t ↦ rw t (entry_ended n feeds) ]
@@ -228,17 +228,17 @@ module _ {K : Type 0} (label : K → Label) (sent : K → List ChangeItem) where
   -- every open feed is to end
   pub senders_end : (old : Database) (senders : List (ℕ × K))
       → AreSendersOf label sent (FitsIn old) (hosted_of old) senders
-      → AreSendersOf label sent (FitsIn (deleted old)) (hosted_of (deleted old)) senders
+      → AreSendersOf label sent (FitsIn (deleted_database old)) (hosted_of (deleted_database old)) senders
   senders_end old senders d = record {
     rising = d.rising;
     given = d.given;
     each =
-        λ n. subst (λ maybe_feed. IsServed label sent (FitsIn (deleted old)) maybe_feed (entry_in n senders))
+        λ n. subst (λ maybe_feed. IsServed label sent (FitsIn (deleted_database old)) maybe_feed (entry_in n senders))
         (sym (entry_ended n old.feeds)) (ends (entry_in n old.feeds) (entry_in n senders) (d.each n));
   }
     where
       ends : (maybe_feed : Option Feed) (s : Option (K)) → IsServed label sent (FitsIn old) maybe_feed s
-          → IsServed label sent (FitsIn (deleted old)) (option_map end maybe_feed) s
+          → IsServed label sent (FitsIn (deleted_database old)) (option_map end maybe_feed) s
       ends None None i = tt
       ends None (Some s) i = absurd i
       ends (Some f) None i = absurd i

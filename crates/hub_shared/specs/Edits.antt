@@ -5,7 +5,7 @@ use Rattle.hub_document.specs.declared.doc.Doc.{Doc}
 use Rattle.hub_model.specs.Revision.{Revision}
 use Rattle.hub_model.specs.declared.outcomes.Outcome.TheVariants as outcome
 use Rattle.hub_database.specs.Database.{Database}
-use Rattle.hub_database.specs.Edits.{NeedsRoom, makes_one}
+use Rattle.hub_database.specs.Edits.{NeedsRoom, one_draft_result}
 use Rattle.hub_database.specs.declared.batch.DbFault.{DbFault}
 use Rattle.hub_database.specs.declared.batch.DbFault.TheVariants.{NoMemory, Refused}
 
@@ -14,7 +14,7 @@ use Rattle.hub_database.specs.declared.batch.DbFault.TheVariants.{NoMemory, Refu
 -- always answered as a conflict.
 abbrev pub IsEditAnswer : Database → Doc → Result Revision DbFault → Type 0
 IsEditAnswer db doc (Ok rev) =
-    (makes_one db.deleted db.limits.journal db.journal doc).outcome ≡ outcome.Stored rev
+    (one_draft_result db.deleted db.limits.journal db.journal doc).outcome ≡ outcome.Stored rev
 IsEditAnswer db doc (Err (Refused fault)) =
-    (makes_one db.deleted db.limits.journal db.journal doc).outcome ≡ outcome.Refused fault
+    (one_draft_result db.deleted db.limits.journal db.journal doc).outcome ≡ outcome.Refused fault
 IsEditAnswer db doc (Err NoMemory) = (db.deleted ≡ false) × NeedsRoom true db.journal doc

@@ -3,7 +3,7 @@ use Rattle.std.specs.Prelude.{◌≡◌, ℕ, List, [], ◌∷◌, ◌++◌, Opt
 use Rattle.hub_model.specs.Entries.{entry_in}
 use Rattle.hub_model.specs.Feed.{Params}
 use Rattle.hub_model.specs.declared.feeds.Item.{Item}
-use Rattle.hub_feed.specs.Host.{Hosted, refuses}
+use Rattle.hub_feed.specs.Host.{Hosted, opening_refusal}
 use Rattle.hub_lane.specs.Ends.{IsAllowedBeginning, LaneId, ReceiverState}
 use Rattle.hub_params.specs.FeedModel.{params_in}
 use Rattle.hub_params.specs.FeedParams.{FeedAsked}
@@ -43,7 +43,7 @@ module _ {R : Type 0} where
   -- The host opened the feed, of which this was asked. The host refused none, no feed of it had the number,
   -- the label tells where a feed begins that is opened then, and nothing was taken yet.
   pub record IsOpened (h : Hosted R) (asked : FeedAsked) (feed : FeedState R) : Type 0 where
-    pub free : refuses h ≡ None
+    pub free : opening_refusal h ≡ None
     pub fresh : entry_in feed.number h.feeds ≡ None
     pub next : feed.number ≡ h.next_feed
     pub label : feed.label ≡ label_of asked h

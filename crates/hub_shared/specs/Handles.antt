@@ -8,7 +8,7 @@ use Rattle.hub_model.specs.declared.feeds.Since.{Since}
 use Rattle.hub_model.specs.declared.feeds.Since.TheVariants.{Now, Plain, Tagged}
 use Rattle.hub_document.specs.declared.doc.Doc.{Doc}
 use Rattle.hub_database.specs.Database.{Database}
-use Rattle.hub_database.specs.Edits.{StopsAt, writes}
+use Rattle.hub_database.specs.Edits.{StopsAt, docs_result}
 use Rattle.hub_database.specs.declared.batch.Batch.{Batch}
 use Rattle.hub_database.specs.declared.batch.DbFault.{DbFault}
 use Rattle.hub_shared.specs.Edits.{IsEditAnswer}
@@ -65,12 +65,12 @@ module _ (counts : Bool) (all_parts : ℕ) (state : HandleState) where
   pub record IsStoredBy (new_edits : Bool) (docs : List Doc) (batch : Batch) : Type 0 where
     pub db : Database
     pub found : IsFoundBy counts all_parts state db
-    pub replies : batch.replies ≡ (writes new_edits db.deleted db.limits.journal db.journal
+    pub replies : batch.replies ≡ (docs_result new_edits db.deleted db.limits.journal db.journal
         (take (length batch.replies) docs)).outcomes
     pub whole : batch.stopped ≡ false → length batch.replies ≡ length docs
     pub stopped : IsTrue batch.stopped → length batch.replies < length docs
     pub stops : IsTrue batch.stopped → StopsAt new_edits db.deleted
-        (writes new_edits db.deleted db.limits.journal db.journal (take (length batch.replies) docs)).journal
+        (docs_result new_edits db.deleted db.limits.journal db.journal (take (length batch.replies) docs)).journal
         (length batch.replies) docs
 
   -- what became of a write: of its documents, and the receipts of those that were stored

@@ -3,7 +3,7 @@ use Rattle.std.specs.Prelude.{◌≡◌, ◌⊎◌, ◌<◌, ◌≤◌, ◌^◌,
 use Rattle.hub_model.specs.declared.outcomes.Fault.TheVariants as fault
 use Rattle.hub_document.specs.declared.local_doc.LocalDoc.{LocalDoc}
 use Rattle.hub_database.specs.Database.{Database}
-use Rattle.hub_database.specs.Locals.{written}
+use Rattle.hub_database.specs.Locals.{local_after_write}
 use Rattle.hub_database.specs.declared.batch.DbFault.{DbFault}
 use Rattle.hub_database.specs.declared.batch.DbFault.TheVariants.{NoMemory, Refused}
 
@@ -12,5 +12,5 @@ use Rattle.hub_database.specs.declared.batch.DbFault.TheVariants.{NoMemory, Refu
 abbrev pub IsLocalFault : Database → LocalDoc → DbFault → Type 0
 IsLocalFault db doc e =
     ((db.deleted ≡ true) × (e ≡ Refused fault.Deleted))
-    ⊎ ((db.deleted ≡ false) × (((e ≡ NoMemory) × ((written db.locals doc).count < 2 ^ 64))
-    ⊎ ((e ≡ Refused fault.SequenceFull) × (2 ^ 64 ≤ (written db.locals doc).count))))
+    ⊎ ((db.deleted ≡ false) × (((e ≡ NoMemory) × ((local_after_write db.locals doc).count < 2 ^ 64))
+    ⊎ ((e ≡ Refused fault.SequenceFull) × (2 ^ 64 ≤ (local_after_write db.locals doc).count))))

@@ -5,7 +5,7 @@ use Rattle.hub_model.specs.Feed.{Feed}
 use Rattle.hub_model.specs.declared.feeds.Item.{Item}
 use Rattle.hub_model.specs.declared.feeds.Item.TheVariants.{Beat}
 use Rattle.hub_params.specs.FeedModel.{params_in}
-use Rattle.hub_feed.specs.Host.{Hosted, behind_answer}
+use Rattle.hub_feed.specs.Host.{Hosted, hosted_after_next}
 use Rattle.hub_feed.specs.Host as host
 use Rattle.hub_feed.specs.Hand.{handed_as}
 use Rattle.hub_feed.specs.declared.handed.Handed.{Handed}
@@ -64,7 +64,7 @@ module _ {S R K : Type 0} (hosted : S → Hosted R) (with_hosted : S → Hosted 
     -- the feed of this number handed the item that was due, and its outbox was sent that
     abbrev pub handed_on : LockedState S K → ℕ → Item R → LockedState S K
     handed_on l number item =
-        record (stepped l (λ h. host.handed h number)) { senders = sends behind number item l.senders }
+        record (stepped l (λ h. host.hosted_after_hand h number)) { senders = sends behind number item l.senders }
 
     -- What one hand does, of the feed of this number that answers so, where `refuses` says what is told of an
     -- outbox that gave an item back. An item that is due is sent, and the feed goes on behind it; or it is
@@ -82,7 +82,7 @@ module _ {S R K : Type 0} (hosted : S → Hosted R) (with_hosted : S → Hosted 
     Hands refuses (next.Give item) l number handed.Nothing new = ⊥
     Hands refuses (next.Give item) l number handed.Gone new = ⊥
     Hands refuses next.Nothing l number answer new =
-        (answer ≡ handed.Nothing) × (new ≡ stepped l (λ h. behind_answer h number next.Nothing))
+        (answer ≡ handed.Nothing) × (new ≡ stepped l (λ h. hosted_after_next h number next.Nothing))
     Hands refuses next.Gone l number answer new = (answer ≡ handed.Gone) × (new ≡ l)
 
 -- What one beat does, where one is due or not. One that is due is sent, and the feed stays; or it is

@@ -4,7 +4,7 @@ use Rattle.hub_model.specs.Entries.{entry_in}
 use Rattle.hub_params.specs.FeedModel.{params_of}
 use Rattle.hub_params.specs.FeedShown.{params_asked}
 use Rattle.hub_params.specs.declared.feed_params.FeedParams.{FeedParams}
-use Rattle.hub_feed.specs.Host.{Hosted, opened, refuses}
+use Rattle.hub_feed.specs.Host.{Hosted, hosted_after_opening, opening_refusal}
 use Rattle.hub_shared.specs.Label.{Label, label_of}
 use Rattle.hub_shared.specs.Locked.{LockedState}
 
@@ -17,7 +17,7 @@ module _ {S R K T : Type 0} (hosted : S → Hosted R) (with_hosted : S → Hoste
   begun l end params =
       let h = hosted l.state in
       record l {
-        state = with_hosted l.state (opened h (params_of params));
+        state = with_hosted l.state (hosted_after_opening h (params_of params));
         senders = l.senders ++ (h.next_feed, made end (label_of (params_asked params) h) l.lane) ∷ [];
       }
 
@@ -25,7 +25,7 @@ module _ {S R K T : Type 0} (hosted : S → Hosted R) (with_hosted : S → Hoste
   -- refused none, no feed of it had the number, and the label tells where a feed begins that is opened then.
   pub record Begins (params : FeedParams) (l : LockedState S K) (number : ℕ) (end : T)
       (new : LockedState S K) : Type 0 where
-    pub free : refuses (hosted l.state) ≡ None
+    pub free : opening_refusal (hosted l.state) ≡ None
     pub fresh : entry_in number (hosted l.state).feeds ≡ None
     pub next : number ≡ (hosted l.state).next_feed
     pub taker : takes end (label_of (params_asked params) (hosted l.state))

@@ -1,13 +1,13 @@
 -- The outboxes of feeds, by the numbers of the feeds (own).
 use Rattle.std.specs.Prelude.{◌≡◌, ℕ, List, Some}
-use Rattle.hub_model.specs.Entries.{entry_in, changed}
+use Rattle.hub_model.specs.Entries.{entry_in, with_change}
 use Rattle.hub_feed.specs.Hand.{MayTake}
 
 module _ {K I : Type 0} where
   -- The outboxes once that of this number was sent an item, where `behind` says what one is then. Of the
   -- outboxes of feeds 3 and 5, where 5 is sent an item, that of 3 is as it was.
   abbrev pub sends : (K → I → K) → ℕ → I → List (ℕ × K) → List (ℕ × K)
-  sends behind number item outboxes = changed number (λ k. behind k item) outboxes
+  sends behind number item outboxes = with_change number (λ k. behind k item) outboxes
 
   -- there is an outbox of this number, and it allows the item behind what it was sent
   abbrev pub MaySend : (K → List I → Type 0) → (K → List I) → List (ℕ × K) → ℕ → I → Type 0

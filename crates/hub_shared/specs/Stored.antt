@@ -8,7 +8,7 @@ use Rattle.hub_model.specs.declared.outcomes.Outcome.{Outcome}
 use Rattle.hub_model.specs.declared.outcomes.Outcome.TheVariants.{Stored, Known, Refused}
 use Rattle.hub_document.specs.declared.doc.Doc.{Doc}
 use Rattle.hub_database.specs.Database.{Database}
-use Rattle.hub_database.specs.Edits.{StopsAt, writes}
+use Rattle.hub_database.specs.Edits.{StopsAt, docs_result}
 use Rattle.hub_database.specs.declared.batch.Batch.{Batch}
 use Rattle.hub_database.specs.declared.batch.DbFault.{DbFault}
 use Rattle.hub_database.specs.declared.batch.DbFault.TheVariants.{NoMemory}
@@ -51,7 +51,7 @@ pub record Adds (count : ℕ) (old new : Database) : Type 0 where
 pub record StoresBatch (new_edits : Bool) (docs : List Doc) (old : Database) (batch : Batch)
     (new : Database) : Type 0 where
   -- each reply is what becomes of its document behind those before it, and the journal has what was stored
-  pub replies : writes new_edits old.deleted old.limits.journal old.journal (take (length batch.replies) docs)
+  pub replies : docs_result new_edits old.deleted old.limits.journal old.journal (take (length batch.replies) docs)
       ≡ record { outcomes = batch.replies; journal = new.journal }
   -- without a stop each document has its reply
   pub whole : batch.stopped ≡ false → length batch.replies ≡ length docs

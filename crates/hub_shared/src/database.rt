@@ -1,8 +1,8 @@
 //! A database that lies under a lock.
 
 ghost use Rattle.std.specs.Prelude.{◌≡◌, ◌<◌, ◌^◌, true, false, ℕ, length, Some, IfOk, IfErr, OnOk};
-ghost use Rattle.hub_database.specs.Feeds.{deleted};
-ghost use Rattle.hub_database.specs.Locals.{put_local, written};
+ghost use Rattle.hub_database.specs.Feeds.{deleted_database};
+ghost use Rattle.hub_database.specs.Locals.{put_local, local_after_write};
 ghost use Rattle.hub_model.specs.Entries.{entry_in};
 ghost use Rattle.hub_model.specs.Feed.{Feed};
 ghost use Rattle.hub_model.specs.Journal.{IsLegal};
@@ -53,10 +53,10 @@ impl<C: Count, K: Outbox<DbState>> Locked<DbState, C, K> {
     /// Stores a local document, as `DbState::local_put`: feeds do not show it.
     pub fn local_put(&mut self, doc: LocalDoc) -> Result<u64, DbFault>
         ensures ok { IfOk result (λ count. (self.old.state.deleted ≡ false)
-            × (count ≡ (written self.old.state.locals doc).count)
+            × (count ≡ (local_after_write self.old.state.locals doc).count)
             × (self.new ≡ record self.old {
               state = record self.old.state {
-                locals = put_local (written self.old.state.locals doc) self.old.state.locals;
+                locals = put_local (local_after_write self.old.state.locals doc) self.old.state.locals;
               };
             })) }
         ensures err { IfErr result (λ e. (self.new ≡ self.old) × IsLocalFault self.old.state doc e) }
@@ -68,7 +68,7 @@ impl<C: Count, K: Outbox<DbState>> Locked<DbState, C, K> {
     /// end. It takes no memory, and costs a step for each feed.
     pub fn delete(&mut self) -> Result<(), DbFault>
         ensures ok { OnOk result ((self.old.state.deleted ≡ false)
-            × (self.new ≡ record self.old { state = deleted self.old.state })) }
+            × (self.new ≡ record self.old { state = deleted_database self.old.state })) }
         ensures err { IfErr result (λ e. (self.old.state.deleted ≡ true)
             × (e ≡ DbFault.Refused Deleted) × (self.new ≡ self.old)) }
     {

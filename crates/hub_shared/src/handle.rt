@@ -7,7 +7,7 @@ ghost use Rattle.hub_model.specs.declared.outcomes.Fault.TheVariants.{Deleted, S
 ghost use Rattle.hub_params.specs.FeedShown.{params_asked};
 ghost use Rattle.hub_database.specs.Database.{Database, GivesUp};
 ghost use Rattle.hub_database.specs.Hosting.{hosted_of};
-ghost use Rattle.hub_database.specs.Locals.{written};
+ghost use Rattle.hub_database.specs.Locals.{local_after_write};
 ghost use Rattle.hub_feed.specs.Host.{opening_fault};
 ghost use Rattle.hub_shared.specs.Feeds.{IsOpened};
 ghost use Rattle.hub_database.specs.Receipts.{IsAudit};
@@ -176,7 +176,7 @@ impl<C: Count> Handle<C> {
     /// count, 2^64 - 1. It costs the wait for the lock, and what `DbState::local_put` does.
     pub fn local_put<R: Wait>(&mut self, rt: &R, doc: LocalDoc) -> Result<u64, DbFault>
         ensures ok { IfOk result (λ count. (db : Database) × (db.deleted ≡ false)
-            × (count ≡ (written db.locals doc).count)) }
+            × (count ≡ (local_after_write db.locals doc).count)) }
         ensures once { IfOk result (λ count. 0 < count) }
         ensures err { IfErr result (λ e. (db : Database) × IsLocalFault db doc e) }
         ensures faults { IfErr result (λ e. (e ≡ DbFault.NoMemory) ⊎ ((e ≡ DbFault.Refused Deleted)

@@ -2,9 +2,9 @@
 
 ghost use Rattle.std.specs.Prelude.{◌≡◌, ◌<◌, [], Some, None, option_and_then};
 ghost use Rattle.std.specs.Prelude.{IfErr, IfNone, IfOk, IfSome, IsSome, OnErr, OnOk, length};
-ghost use Rattle.hub_model.specs.Entries.{entry_in, changed, without};
-ghost use Rattle.hub_model.specs.Feed.{Feed, Params, begin};
-ghost use Rattle.hub_feed.specs.Host.{answered, due_to, expired, finished, is_beat_due};
+ghost use Rattle.hub_model.specs.Entries.{entry_in, with_change, without};
+ghost use Rattle.hub_model.specs.Feed.{Feed, Params, new_feed};
+ghost use Rattle.hub_feed.specs.Host.{next_of_number, due_of_number, hosted_after_expiry, hosted_after_finish, is_beat_allowed_if_any};
 ghost use Rattle.hub_feed.specs.Host.{opening_fault};
 ghost use Rattle.hub_feed.specs.Next.{IsRowDue};
 ghost use Rattle.hub_params.specs.FeedShown.{params_asked};
@@ -110,7 +110,7 @@ impl<S: HostView, C: Count> Locked<S, C> {
     /// constant time where the last hand was for the same feed.
     pub fn make_room(&mut self, feed: FeedId) -> Result<(), AllocError>
         ensures ok { OnOk result (self.new ≡ record self.old {
-          senders = changed feed.number (with_room self.old.lane) self.old.senders;
+          senders = with_change feed.number (with_room self.old.lane) self.old.senders;
         }) }
         ensures err { OnErr result (self.new ≡ self.old) }
     {
@@ -131,10 +131,10 @@ impl<S: HostView, C: Count> Locked<S, C> {
         ensures count { IfSome result (λ count. count
             ≡ length (waiting_of (entry_in feed.number self.old.senders))) }
         ensures over { IfSome result (λ _. self.new ≡ record self.old {
-          senders = changed feed.number handed_over self.old.senders;
+          senders = with_change feed.number handed_over self.old.senders;
         }) }
         ensures held_up { IfNone result (self.new ≡ record self.old {
-          senders = changed feed.number (with_room 0) self.old.senders;
+          senders = with_change feed.number (with_room 0) self.old.senders;
         }) }
         ensures full { IfNone result (IfSome (entry_in feed.number self.old.senders)
             (IsHeldUp (R.refuses rt.now))) }
@@ -226,7 +226,7 @@ impl<S: FeedHost, C: Count, K: Outbox<S>> Locked<S, C, K> {
     /// A feed's time without an item is over: an open feed that waits is ending. It takes no memory,
     /// and costs what the host's `expire` does.
     pub fn expire(&mut self, feed: FeedId)
-        ensures { self.new ≡ stepped S.hosted S.with_hosted self.old (λ h. expired h feed.number) }
+        ensures { self.new ≡ stepped S.hosted S.with_hosted self.old (λ h. hosted_after_expiry h feed.number) }
     {
         self.state.expire(feed);
     }
@@ -240,7 +240,7 @@ impl<S: FeedHost, C: Count, K: Outbox<S>> Locked<S, C, K> {
             × (entry_in feed.number (S.hosted self.old.state).feeds ≡ Some f)
             × IsSenderOf K.label K.items (S.fits self.old.state) f s) }
         ensures step { self.new
-            ≡ record (stepped S.hosted S.with_hosted self.old (λ h. finished h feed.number)) {
+            ≡ record (stepped S.hosted S.with_hosted self.old (λ h. hosted_after_finish h feed.number)) {
               senders = without feed.number self.old.senders;
             } }
     {
@@ -259,7 +259,7 @@ impl<S: FeedHost, C: Count, K: TwoEnded<S>> Locked<S, C, K> {
         ensures taker { IfOk result (λ ends. K.takes ends.1
             (label_of (params_asked params.now) (S.hosted self.now.state))) }
         ensures begins { (p : Params) → S.fits self.now.state
-            (begin p (S.hosted self.now.state).length (S.hosted self.now.state).life) [] }
+            (new_feed p (S.hosted self.now.state).length (S.hosted self.now.state).life) [] }
     {
         let life = self.state.life();
         let since = params.since.within(self.state.length(), life);
@@ -310,9 +310,9 @@ impl<S: FeedHost, C: Count, K: Receives<S>> Locked<S, C, K> {
         feed: FeedId,
     ) -> Result<Handed, AllocError>
         ensures ok { IfOk result (λ handed. Hands S.hosted S.with_hosted K.behind (P.refuses handle.now)
-            (answered (S.hosted self.old.state) feed.number) self.old feed.number handed self.new) }
+            (next_of_number (S.hosted self.old.state) feed.number) self.old feed.number handed self.new) }
         ensures err { OnErr result ((self.new ≡ self.old)
-            × IsRowDue (due_to (S.hosted self.old.state) feed.number)) }
+            × IsRowDue (due_of_number (S.hosted self.old.state) feed.number)) }
     {
         let Some(at) = place_near(self.subscribers.as_slice(), self.near, feed.number) else {
             return Ok(Handed::Gone);
@@ -327,7 +327,7 @@ impl<S: FeedHost, C: Count, K: Receives<S>> Locked<S, C, K> {
     /// `beat_due` does, a search among the outboxes, and a push.
     pub fn beat<P: Pushes<K, Item<S::Row>>>(&mut self, handle: &P, feed: FeedId) -> Handed
         ensures { Beats K.behind (P.refuses handle.now)
-            (is_beat_due (entry_in feed.number (S.hosted self.old.state).feeds))
+            (is_beat_allowed_if_any (entry_in feed.number (S.hosted self.old.state).feeds))
             self.old feed.number result self.new }
     {
         let Some(at) = place_near(self.subscribers.as_slice(), self.near, feed.number) else {
@@ -359,7 +359,7 @@ impl<S: FeedHost, C: Count, K: Shelf<S>> Locked<S, C, K> {
     pub fn take(&mut self, feed: FeedId) -> Option<Item<S::Row>>
         ensures item { result ≡ option_and_then K.front (entry_in feed.number self.old.senders) }
         ensures rest { self.new
-            ≡ record self.old { senders = changed feed.number K.without_front self.old.senders } }
+            ≡ record self.old { senders = with_change feed.number K.without_front self.old.senders } }
     {
         let at = place_of(self.subscribers.as_slice(), feed.number)?;
         let entry = &mut self.subscribers[at];

@@ -9,7 +9,7 @@ use Rattle.std.specs.Str.{bytes_eq}
 use Rattle.std.proofs.lemmas.List.{length-map, length-set, map-append, map-set}
 use Rattle.std.proofs.lemmas.Option.{same_Some, none-some, slice_get-map, slice_get_within, slice_get_past}
 use Rattle.hub_index.specs.Indexed.{IsIndexed, id_in}
-use Rattle.hub_index.specs.Rows.{seq_of, moved}
+use Rattle.hub_index.specs.Rows.{seq_of, rows_after_move}
 use Rattle.hub_index.proofs.IndexedLemmas.{indexed_more, rows_within}
 use Rattle.hub_index.proofs.ListLemmas.{at_place, get_push, get_push_other, get_set, get_set_other}
 use Rattle.hub_index.proofs.ListLemmas.{maps_agree}
@@ -19,7 +19,7 @@ use Rattle.hub_model.specs.declared.updates.UpdateKind.{UpdateKind}
 use Rattle.hub_model.specs.declared.updates.UpdateKind.TheVariants.{Created, Updated, Deleted}
 use Rattle.hub_model.proofs.Lists.{same_number, same_text}
 use Rattle.hub_updates.specs.declared.log.Pair.{Pair}
-use Rattle.hub_updates.specs.Kept.{IsKept, ids_of, note_at, notes_of, pair_of, raised}
+use Rattle.hub_updates.specs.Kept.{IsKept, ids_of, note_at, notes_of, pair_of, ids_with_sequence}
 
 -- what a list with one more has at a place
 get_pushed : {A : Type 0} (xs : List A) (v w : A) (i : ℕ) → slice_get (xs ++ v ∷ []) i ≡ Some w
@@ -32,7 +32,7 @@ get_pushed (x ∷ xs) v w (suc i) e = get_pushed xs v w i e
 -- the pairs, once the latest sequence of one is written over
 pub pair_raised : (pairs : List Pair) (k seq : ℕ) (pair : Pair) → k < length pairs
     → pair ≡ get_or pairs k pair
-    → ids_of (slice_set pairs k (record pair { latest = seq })) ≡ raised k seq (ids_of pairs)
+    → ids_of (slice_set pairs k (record pair { latest = seq })) ≡ ids_with_sequence k seq (ids_of pairs)
 pair_raised pairs k seq pair low is =
     let there : slice_get (ids_of pairs) k ≡ Some (string_bytes pair.id, pair.latest) =
     slice_get-map pair_of pairs k ∙ ap (option_map pair_of) (at_place pairs k pair low is) in
@@ -103,14 +103,14 @@ module _ (numbers : List ℕ → Option ℕ) (ids : List (List ℕ × ℕ)) (ent
     edits_more = ap edits_of_log notes_more ∙ map-append edit_of (notes_of ids entries) (n ∷ [])
 
     rows_more : IsIndexed (slice_get ids') (edits_of_log (notes_of ids' (entries ++ k ∷ [])))
-        (moved index k seq)
-    rows_more = subst (λ J. IsIndexed (slice_get ids') J (moved index k seq)) (sym edits_more)
+        (rows_after_move index k seq)
+    rows_more = subst (λ J. IsIndexed (slice_get ids') J (rows_after_move index k seq)) (sym edits_more)
         (indexed_more (slice_get ids) (edits_of_log (notes_of ids entries)) index kept.rows (edit_of n) k seq
         (omega (arith, last, length-map (notes_of ids entries) edit_of, length-map entries (note_at ids)))
         was apart (slice_get ids') at other)
 
     -- and the log goes on to be kept
-    pub kept_more : IsKept numbers' ids' (entries ++ k ∷ []) (moved index k seq)
+    pub kept_more : IsKept numbers' ids' (entries ++ k ∷ []) (rows_after_move index k seq)
     kept_more =
         record {
           found = found';
@@ -183,27 +183,27 @@ module _ (numbers : List ℕ → Option ℕ) (ids : List (List ℕ × ℕ)) (ent
     known_only : (j : ℕ) → numbers (id_of n) ≡ Some j → j ≡ k
     known_only j e = same_Some j k (sym e ∙ known)
 
-    known_at : slice_get (raised k seq ids) k ≡ Some (id_of n, seq)
+    known_at : slice_get (ids_with_sequence k seq ids) k ≡ Some (id_of n, seq)
     known_at = let f = kept.found (id_of n) k known in
         get_set ids k (id_in (slice_get ids k), seq) (slice_get_within ids k f.0 f.1)
         ∙ ap (λ (q : List ℕ). Some (q, seq)) (ap id_in f.1 ∙ f.2)
 
-    known_few : length (raised k seq ids) ≤ length entries + 1
+    known_few : length (ids_with_sequence k seq ids) ≤ length entries + 1
     known_few = omega (arith, kept.fewer, length-set ids k (id_in (slice_get ids k), seq))
 
-    pub notes_raised : notes_of (raised k seq ids) (entries ++ k ∷ []) ≡ notes_of ids entries ++ n ∷ []
+    pub notes_raised : notes_of (ids_with_sequence k seq ids) (entries ++ k ∷ []) ≡ notes_of ids entries ++ n ∷ []
     notes_raised =
-        notes_more n k seq last known_was known_only numbers (raised k seq ids) known_at
+        notes_more n k seq last known_was known_only numbers (ids_with_sequence k seq ids) known_at
         (get_set_other ids k (id_in (slice_get ids k), seq)) known (λ q ne. refl) known_few
 
-    pub kept_raised : IsKept numbers (raised k seq ids) (entries ++ k ∷ []) (moved index k seq)
+    pub kept_raised : IsKept numbers (ids_with_sequence k seq ids) (entries ++ k ∷ []) (rows_after_move index k seq)
     kept_raised =
-        kept_more n k seq last known_was known_only numbers (raised k seq ids) known_at
+        kept_more n k seq last known_was known_only numbers (ids_with_sequence k seq ids) known_at
         (get_set_other ids k (id_in (slice_get ids k), seq)) known (λ q ne. refl) known_few
 
     -- whatever shows so
     pub raised_so : (ids' : List (List ℕ × ℕ)) (entries' : List ℕ) (index' : List (ℕ × ℕ))
-        → ids' ≡ raised k seq ids → entries' ≡ entries ++ k ∷ [] → index' ≡ moved index k seq
+        → ids' ≡ ids_with_sequence k seq ids → entries' ≡ entries ++ k ∷ [] → index' ≡ rows_after_move index k seq
         → IsKept numbers ids' entries' index' × (notes_of ids' entries' ≡ notes_of ids entries ++ n ∷ [])
     raised_so ids' entries' index' is es rows = rw (is, es, rows) (kept_raised, notes_raised)
 
@@ -237,7 +237,7 @@ module _ (numbers : List ℕ → Option ℕ) (ids : List (List ℕ × ℕ)) (ent
         (get_push ids (id_of n, seq)) (get_push_other ids (id_of n, seq)) new_this new_rest new_few
 
     pub kept_added : IsKept numbers' (ids ++ (id_of n, seq) ∷ []) (entries ++ length ids ∷ [])
-        (moved index (length ids) seq)
+        (rows_after_move index (length ids) seq)
     kept_added =
         kept_more n (length ids) seq last new_was new_only numbers' (ids ++ (id_of n, seq) ∷ [])
         (get_push ids (id_of n, seq)) (get_push_other ids (id_of n, seq)) new_this new_rest new_few
@@ -247,7 +247,7 @@ module _ (numbers : List ℕ → Option ℕ) (ids : List (List ℕ × ℕ)) (ent
       → numbers id ≡ None → (k : ℕ) → k ≡ length ids
       → (numbers' : List ℕ → Option ℕ) (ids' : List (List ℕ × ℕ)) (entries' : List ℕ) (index' : List (ℕ × ℕ))
       → ((q : List ℕ) → numbers' q ≡ update bytes_eq numbers id (Some k) q)
-      → ids' ≡ ids ++ (id, seq) ∷ [] → entries' ≡ entries ++ k ∷ [] → index' ≡ moved index k seq
+      → ids' ≡ ids ++ (id, seq) ∷ [] → entries' ≡ entries ++ k ∷ [] → index' ≡ rows_after_move index k seq
       → IsKept numbers' ids' entries' index' × (notes_of ids' entries' ≡ notes_of ids entries ++ note ∷ [])
   added_so note seq last id named new k first numbers' ids' entries' index' given is es rows =
       let none : numbers (id_of note) ≡ None = ap numbers (sym named) ∙ new in
@@ -258,6 +258,6 @@ module _ (numbers : List ℕ → Option ℕ) (ids : List (List ℕ × ℕ)) (ent
       rw (
         is ∙ ap (λ i. ids ++ (i, seq) ∷ []) named,
         es ∙ ap (λ j. entries ++ j ∷ []) first,
-        rows ∙ ap (λ j. moved index j seq) first,
+        rows ∙ ap (λ j. rows_after_move index j seq) first,
       )
       (kept_added note seq last none numbers' given', notes_added note seq last none numbers' given')

@@ -4,8 +4,8 @@ use Rattle.std.specs.Prelude.{◌≡◌, List, [], ◌∷◌, ◌++◌, length, 
 use Rattle.std.proofs.Common.{subst}
 use Rattle.std.proofs.lemmas.List.{length-map}
 use Rattle.hub_model.specs.Current.{current}
-use Rattle.hub_model.specs.Feed.{Feed, DueNothing, after_due, after_nothing, due}
-use Rattle.hub_model.specs.Hand.{due_item}
+use Rattle.hub_model.specs.Feed.{Feed, DueNothing, feed_after_due, after_nothing, next_due}
+use Rattle.hub_model.specs.Hand.{next_item}
 use Rattle.hub_model.specs.Journal.{Edit}
 use Rattle.hub_model.specs.RowKind.{update_rows}
 use Rattle.hub_model.specs.Updates.{Note, UpdateRow, edit_of, edits_of_log}
@@ -16,16 +16,16 @@ use Rattle.hub_updates.specs.Log.{AreOfLog, IsFitting}
 module _ (notes : List Note) (feed : Feed) (items : List (Item UpdateRow))
     (fitting : IsFitting notes feed items) where
   -- behind the item that is due
-  pub fits_given : (item : Item UpdateRow) → due_item update_rows (edits_of_log notes) feed ≡ Some item
-      → let next : Feed = after_due feed (due (current (edits_of_log notes)) feed) (length notes) in
+  pub fits_given : (item : Item UpdateRow) → next_item update_rows (edits_of_log notes) feed ≡ Some item
+      → let next : Feed = feed_after_due feed (next_due (current (edits_of_log notes)) feed) (length notes) in
       IsFitting notes next (items ++ item ∷ [])
   fits_given item is =
       let J : List Edit = edits_of_log notes in
-      subst (λ n. IsFitting notes (after_due feed (due (current J) feed) n) (items ++ item ∷ []))
+      subst (λ n. IsFitting notes (feed_after_due feed (next_due (current J) feed) n) (items ++ item ∷ []))
       (length-map notes edit_of) (fitting_handed update_rows AreOfLog J feed items fitting item is)
 
   -- behind nothing to hand
-  pub fits_waiting : due (current (edits_of_log notes)) feed ≡ DueNothing
+  pub fits_waiting : next_due (current (edits_of_log notes)) feed ≡ DueNothing
       → IsFitting notes (after_nothing feed (length notes)) items
   fits_waiting is =
       subst (λ n. IsFitting notes (after_nothing feed n) items) (length-map notes edit_of)

@@ -15,8 +15,8 @@ abbrev pub ids_of : List Pair → List (List ℕ × ℕ)
 ids_of pairs = map pair_of pairs
 
 -- the same, where the latest note of the pair of this number is at this sequence
-abbrev pub raised : ℕ → ℕ → List (List ℕ × ℕ) → List (List ℕ × ℕ)
-raised number seq ids = slice_set ids number (id_in (slice_get ids number), seq)
+abbrev pub ids_with_sequence : ℕ → ℕ → List (List ℕ × ℕ) → List (List ℕ × ℕ)
+ids_with_sequence number seq ids = slice_set ids number (id_in (slice_get ids number), seq)
 
 -- the note that the pair of this number stands for
 abbrev pub note_at : List (List ℕ × ℕ) → ℕ → Note

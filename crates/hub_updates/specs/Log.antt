@@ -19,7 +19,7 @@ pub record Updates : Type 0 where
   pub life : ℕ  -- the number of its life
 
 -- what its feeds follow: what happened, and the number of its life
-pub record Noted : Type 0 where
+pub record LogContents : Type 0 where
   pub notes : List Note
   pub life : ℕ
 

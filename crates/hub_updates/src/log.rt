@@ -6,8 +6,8 @@ ghost use Rattle.std.specs.Prelude.{MatchResult};
 ghost use Rattle.std.specs.BTreeMap.{get_by_text};
 ghost use Rattle.std.specs.Map.{update};
 ghost use Rattle.std.specs.Str.{bytes_eq};
-ghost use Rattle.hub_index.specs.Rows.{seq_of, moved};
-ghost use Rattle.hub_updates.specs.Kept.{IsNext, ids_of, raised};
+ghost use Rattle.hub_index.specs.Rows.{seq_of, rows_after_move};
+ghost use Rattle.hub_updates.specs.Kept.{IsNext, ids_of, ids_with_sequence};
 
 use crate::notice::Notice;
 use hub_index::{PageIndex, SeqIndex};
@@ -43,9 +43,9 @@ pub(crate) struct Log {
 impl Model for Log {
     ghost use Rattle.std.specs.BTreeMap.{get_by_text};
     ghost use Rattle.hub_updates.specs.Kept.{IsKept, ids_of, notes_of};
-    ghost use Rattle.hub_updates.specs.Log.{Noted};
+    ghost use Rattle.hub_updates.specs.Log.{LogContents};
 
-    ghost Value = { Noted };
+    ghost Value = { LogContents };
 
     ghost view = { λ a. record { notes = notes_of (ids_of a.pairs.items) a.notes.items; life = a.life } };
 
@@ -70,8 +70,8 @@ fn raise(
     requires own { seq_of number index.old
         ≡ option_map (λ p. p.1) (slice_get (ids_of pairs.old.items) number) }
     requires next { IsNext index.old seq }
-    ensures pairs { OnOk result (ids_of pairs.new.items ≡ raised number seq (ids_of pairs.old.items)) }
-    ensures index { OnOk result (index.new ≡ moved index.old number seq) }
+    ensures pairs { OnOk result (ids_of pairs.new.items ≡ ids_with_sequence number seq (ids_of pairs.old.items)) }
+    ensures index { OnOk result (index.new ≡ rows_after_move index.old number seq) }
     ensures err { OnErr result ((ids_of pairs.new.items ≡ ids_of pairs.old.items)
         × (index.new ≡ index.old)) }
 {
@@ -100,7 +100,7 @@ fn add(
         (ids_of pairs.new.items ≡ ids_of pairs.old.items ++ (string_bytes id, seq) ∷ []) }
     ensures numbers { IfOk result (λ number. (q : List ℕ) → get_by_text numbers.new q
         ≡ update bytes_eq (get_by_text numbers.old) (string_bytes id) (Some number) q) }
-    ensures index { IfOk result (λ number. index.new ≡ moved index.old number seq) }
+    ensures index { IfOk result (λ number. index.new ≡ rows_after_move index.old number seq) }
     ensures err { OnErr result ((ids_of pairs.new.items ≡ ids_of pairs.old.items)
         × ((q : List ℕ) → get_by_text numbers.new q ≡ get_by_text numbers.old q)
         × (index.new ≡ index.old)) }

@@ -1,6 +1,6 @@
 //! Sessions as a worker drives them.
 
-ghost use Rattle.hub_session.specs.Runs.{HasRun, Run, seen};
+ghost use Rattle.hub_session.specs.Runs.{HasRun, Run, session_view};
 
 use hub_http::{Handed, Outbox};
 use hub_session::{Service, Session};
@@ -13,7 +13,7 @@ use std::alloc::{AllocError, Global};
 #[derive(Drop)]
 pub(crate) struct Driven<S: Service> {
     pub(crate) session: Session<S>,
-    ghost has_run: { ∥ ((run : Run S) × HasRun S.rules run (seen session)) ∥₁ },
+    ghost has_run: { ∥ ((run : Run S) × HasRun S.rules run (session_view session)) ∥₁ },
 }
 
 impl<S: Service> Driven<S> {

@@ -5,15 +5,15 @@ use Rattle.std.specs.Prelude.{slice_get, nat_lt}
 use Rattle.hub_database.specs.Edits.{edit_of, draft_of}
 use Rattle.hub_model.specs.Current.{current, pending}
 use Rattle.hub_model.specs.Feed.{Params, Feed, Due, DueRow, DueEnd, DueNothing, DueGone, after_row, after_end}
-use Rattle.hub_model.specs.Feed.{after_nothing, beat_due}
-use Rattle.hub_model.specs.Hand.{due_in}
+use Rattle.hub_model.specs.Feed.{after_nothing, is_beat_allowed}
+use Rattle.hub_model.specs.Hand.{journal_due}
 use Rattle.hub_model.specs.RightlyHanded.{ChangeItem}
 use Rattle.hub_model.specs.Row.{row_of}
 use Rattle.hub_model.specs.declared.feeds.Item.TheVariants.{Row, Beat, End}
 use Rattle.hub_params.specs.FeedModel.{params_of}
 use Rattle.hub_world.specs.Step.{whole_batch}
 use Rattle.hub_world.specs.World.{World, Subscription, has_no_room, subscription, with_subscription, lane_of}
-use Rattle.hub_world.specs.World.{merged, drafted, with_feed, pushed, expired, took, finished, ended}
+use Rattle.hub_world.specs.World.{merges_result, drafts_result, with_feed, subscription_after_push, world_after_expiry, world_after_take, world_after_finish, ended_subscription}
 use Rattle.hub_world.specs.declared.event.Event.{Event}
 use Rattle.hub_world.specs.declared.event.Event.TheVariants.{Write, Interactive, Begin, Hand, Heartbeat}
 use Rattle.hub_world.specs.declared.event.Event.TheVariants.{Expire, Take, Finish, Delete}
@@ -34,7 +34,7 @@ answer_with reply world = record { reply = reply; world = world }
 abbrev pub push : World → ℕ → Subscription → Feed → ChangeItem → Answer
 push world f subscription feed item =
     if nat_lt (length subscription.lane) world.limits.lane
-    then answer_with (Pushed item) (with_subscription world f (pushed subscription feed item))
+    then answer_with (Pushed item) (with_subscription world f (subscription_after_push subscription feed item))
     else answer_with Full world
 
 -- of a Hand to a feed to which this is due
@@ -53,13 +53,13 @@ hand_due world f subscription DueGone = answer_with Gone world
 -- of a Hand to feed f
 abbrev pub hand : World → ℕ → Option Subscription → Answer
 hand world f None = answer_with Gone world
-hand world f (Some subscription) = hand_due world f subscription (due_in world.journal subscription.feed)
+hand world f (Some subscription) = hand_due world f subscription (journal_due world.journal subscription.feed)
 
 -- of a Heartbeat to feed f
 abbrev pub beat : World → ℕ → Option Subscription → Answer
 beat world f None = answer_with Nothing world
 beat world f (Some subscription) =
-    if beat_due subscription.feed then push world f subscription subscription.feed Beat else
+    if is_beat_allowed subscription.feed then push world f subscription subscription.feed Beat else
     answer_with Nothing world
 
 -- of a Begin
@@ -72,24 +72,24 @@ opened world params =
 -- what an event answers, and the world after it
 abbrev pub answer : World → Event → Answer
 answer world (Write docs) =
-    answer_with (Outcomes (whole_batch (merged world (map edit_of docs)).outcomes))
-    (record world { journal = (merged world (map edit_of docs)).journal })
+    answer_with (Outcomes (whole_batch (merges_result world (map edit_of docs)).outcomes))
+    (record world { journal = (merges_result world (map edit_of docs)).journal })
 answer world (Interactive docs) =
-    answer_with (Outcomes (whole_batch (drafted world (map draft_of docs)).outcomes))
-    (record world { journal = (drafted world (map draft_of docs)).journal })
+    answer_with (Outcomes (whole_batch (drafts_result world (map draft_of docs)).outcomes))
+    (record world { journal = (drafts_result world (map draft_of docs)).journal })
 answer world (Begin params) = opened world (params_of params)
 answer world (Hand feed) = hand world feed.number (subscription world feed.number)
 answer world (Heartbeat feed) = beat world feed.number (subscription world feed.number)
-answer world (Expire feed) = answer_with Nothing (expired (subscription world feed.number) feed.number world)
+answer world (Expire feed) = answer_with Nothing (world_after_expiry (subscription world feed.number) feed.number world)
 answer world (Take feed) =
     answer_with (Took (slice_get (lane_of (subscription world feed.number)) 0))
-    (took (subscription world feed.number) feed.number world)
+    (world_after_take (subscription world feed.number) feed.number world)
 answer world (Finish feed) =
     answer_with (Left (lane_of (subscription world feed.number)))
-    (finished (subscription world feed.number) feed.number world)
+    (world_after_finish (subscription world feed.number) feed.number world)
 answer world Delete =
     if world.deleted then answer_with DatabaseDeleted world
-    else answer_with Nothing (record world { deleted = true; feeds = map ended world.feeds })
+    else answer_with Nothing (record world { deleted = true; feeds = map ended_subscription world.feeds })
 
 -- the replies to events, one after the other
 abbrev pub replies_to : World → List Event → List Reply

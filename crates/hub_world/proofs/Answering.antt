@@ -3,18 +3,18 @@ use Rattle.std.proofs.Common.{◌≡◌, ℕ, ◌≤◌, List, [], ◌∷◌, le
 use Rattle.std.specs.Prelude.{Option, Some, None, nat_lt}
 use Rattle.std.proofs.lemmas.Bool.{cases_Bool, ltb-true, ltb-false, lt-ltb, le-ltb}
 use Rattle.std.proofs.lemmas.Option.{same_Some, none-some}
-use Rattle.hub_feed.specs.Host.{due_of, is_beat_due}
+use Rattle.hub_feed.specs.Host.{due_if_any, is_beat_allowed_if_any}
 use Rattle.hub_feed.specs.declared.host.FeedId.{FeedId}
 use Rattle.hub_model.specs.Current.{current}
 use Rattle.hub_model.specs.Feed.{Feed, Due, DueRow, DueEnd, DueNothing}
-use Rattle.hub_model.specs.Feed.{DueGone, after_due, after_row, after_end, beat_due}
-use Rattle.hub_model.specs.Hand.{due_in, item_of, change_due}
+use Rattle.hub_model.specs.Feed.{DueGone, feed_after_due, after_row, after_end, is_beat_allowed}
+use Rattle.hub_model.specs.Hand.{journal_due, item_of_due, next_change}
 use Rattle.hub_model.specs.RightlyHanded.{ChangeItem}
 use Rattle.hub_model.specs.Row.{row_of}
 use Rattle.hub_params.specs.FeedModel.{params_of}
 use Rattle.hub_params.specs.declared.feed_params.FeedParams.{FeedParams}
 use Rattle.hub_world.specs.World.{Limits, World, Subscription, empty, has_no_room, subscription}
-use Rattle.hub_world.specs.World.{with_feed, with_subscription, pushed, feed_of}
+use Rattle.hub_world.specs.World.{with_feed, with_subscription, subscription_after_push, feed_of}
 use Rattle.hub_world.specs.declared.event.Event.{Event}
 use Rattle.hub_world.specs.declared.event.Event.TheVariants.{Write, Interactive, Begin, Hand, Heartbeat}
 use Rattle.hub_world.specs.declared.event.Event.TheVariants.{Expire, Take, Finish, Delete}
@@ -24,15 +24,15 @@ use Rattle.hub_world.specs.declared.reply.Reply.TheVariants.{Pushed, Full, Nothi
 use Rattle.hub_world.specs.Step.{Step, Run}
 use Rattle.hub_world.proofs.Answer.{Answer, answer_with, push, hand_due, hand}
 use Rattle.hub_world.proofs.Answer.{beat, opened, answer, replies_to, after}
-use Rattle.hub_world.specs.Handed.{handed, taken}
+use Rattle.hub_world.specs.Handed.{items_handed, items_taken}
 use Rattle.hub_world.specs.Laws.{IsAnswered, IsOnlyAnswer, RunsOnce}
 use Rattle.hub_world.specs.Worked.{HasReplies, HasHanded, HasTaken}
 
 -- Hand
 push_steps : (world : World) (id : FeedId) (s : Subscription) (feed : Feed) (item : ChangeItem)
     → subscription world id.number ≡ Some s
-    → after_due s.feed (due_in world.journal s.feed) (length world.journal) ≡ feed
-    → change_due world.journal s.feed ≡ Some item
+    → feed_after_due s.feed (journal_due world.journal s.feed) (length world.journal) ≡ feed
+    → next_change world.journal s.feed ≡ Some item
     → Step world (Hand id) (push world id.number s feed item).reply (push world id.number s feed item).world
 push_steps world id s feed item e p i =
     elim (cases_Bool (nat_lt (length s.lane) world.limits.lane)) [
@@ -41,7 +41,7 @@ push_steps world id s feed item e p i =
             s,
             e,
             i,
-            (ltb-true _ _ t, ap (λ (x : Feed). with_subscription world id.number (pushed s x item)) (sym p)),
+            (ltb-true _ _ t, ap (λ (x : Feed). with_subscription world id.number (subscription_after_push s x item)) (sym p)),
           )
       | inr t ↦ rw t (s, e, (item, i), ltb-false _ _ t, refl)
     ]
@@ -49,42 +49,42 @@ push_steps world id s feed item e p i =
 -- the item that is made of what is due
 abbrev item_at : World → Subscription → Due → Option ChangeItem
 item_at world subscription due =
-    item_of (row_of world.journal subscription.feed.params.style subscription.feed.params.include_docs)
+    item_of_due (row_of world.journal subscription.feed.params.style subscription.feed.params.include_docs)
     (current world.journal) due
 
 due_steps : (world : World) (id : FeedId) (s : Subscription) (due : Due)
-    → subscription world id.number ≡ Some s → due_in world.journal s.feed ≡ due
+    → subscription world id.number ≡ Some s → journal_due world.journal s.feed ≡ due
     → Step world (Hand id) (hand_due world id.number s due).reply (hand_due world id.number s due).world
 due_steps world id s (DueRow c) e q =
-    push_steps world id s _ _ e (ap (λ (due : Due). after_due s.feed due (length world.journal)) q)
+    push_steps world id s _ _ e (ap (λ (due : Due). feed_after_due s.feed due (length world.journal)) q)
     (ap (item_at world s) q)
 due_steps world id s (DueEnd last) e q =
-    push_steps world id s _ _ e (ap (λ (due : Due). after_due s.feed due (length world.journal)) q)
+    push_steps world id s _ _ e (ap (λ (due : Due). feed_after_due s.feed due (length world.journal)) q)
     (ap (item_at world s) q)
 due_steps world id s DueNothing e q = (s, e, q, refl)
-due_steps world id s DueGone e q = (ap (λ o. due_of (current world.journal) (feed_of o)) e ∙ q, refl)
+due_steps world id s DueGone e q = (ap (λ o. due_if_any (current world.journal) (feed_of o)) e ∙ q, refl)
 
 hand_steps : (world : World) (id : FeedId) (maybe_subscription : Option Subscription)
     → subscription world id.number ≡ maybe_subscription
     → Step world (Hand id) (hand world id.number maybe_subscription).reply
     (hand world id.number maybe_subscription).world
 hand_steps world id None e =
-    (ap (λ maybe_subscription. due_of (current world.journal) (feed_of maybe_subscription)) e, refl)
-hand_steps world id (Some s) e = due_steps world id s (due_in world.journal s.feed) e refl
+    (ap (λ maybe_subscription. due_if_any (current world.journal) (feed_of maybe_subscription)) e, refl)
+hand_steps world id (Some s) e = due_steps world id s (journal_due world.journal s.feed) e refl
 
 -- Heartbeat
 beat_steps : (world : World) (id : FeedId) (maybe_subscription : Option Subscription)
     → subscription world id.number ≡ maybe_subscription
     → Step world (Heartbeat id) (beat world id.number maybe_subscription).reply
     (beat world id.number maybe_subscription).world
-beat_steps world id None e = (ap (λ maybe_subscription. is_beat_due (feed_of maybe_subscription)) e, refl)
+beat_steps world id None e = (ap (λ maybe_subscription. is_beat_allowed_if_any (feed_of maybe_subscription)) e, refl)
 beat_steps world id (Some s) e =
-    elim (cases_Bool (beat_due s.feed)) [
+    elim (cases_Bool (is_beat_allowed s.feed)) [
       | inl t ↦ rw t (elim (cases_Bool (nat_lt (length s.lane) world.limits.lane)) [
         | inl u ↦ rw u (s, e, t, refl, (ltb-true _ _ u, refl))
         | inr u ↦ rw u (s, e, t, ltb-false _ _ u, refl)
       ])
-      | inr t ↦ rw t (ap (λ maybe_subscription. is_beat_due (feed_of maybe_subscription)) e ∙ t, refl)
+      | inr t ↦ rw t (ap (λ maybe_subscription. is_beat_allowed_if_any (feed_of maybe_subscription)) e ∙ t, refl)
     ]
 
 begin_steps : (world : World) (params : FeedParams)
@@ -127,7 +127,7 @@ is_answered answered event =
 item_pushes : (world : World) (f : ℕ) (subscription : Subscription) (due : Due) (item : ChangeItem)
     → item_at world subscription due ≡ Some item
     → hand_due world f subscription due ≡ push world f subscription
-    (after_due subscription.feed due (length world.journal)) item
+    (feed_after_due subscription.feed due (length world.journal)) item
 item_pushes world f subscription (DueRow c) item i =
     ap (push world f subscription (after_row subscription.feed c.seq (length world.journal)))
     (same_Some _ item i)
@@ -144,13 +144,13 @@ due_full world f subscription due item i l =
     item_pushes world f subscription due item i ∙ rw (le-ltb _ _ l) refl
 
 gone_answer : (world : World) (f : ℕ) (maybe_subscription : Option Subscription)
-    → due_of (current world.journal) (feed_of maybe_subscription) ≡ DueGone
+    → due_if_any (current world.journal) (feed_of maybe_subscription) ≡ DueGone
     → hand world f maybe_subscription ≡ answer_with Gone world
 gone_answer world f None e = refl
 gone_answer world f (Some subscription) e = ap (hand_due world f subscription) e
 
 still_answer : (world : World) (f : ℕ) (maybe_subscription : Option Subscription)
-    → is_beat_due (feed_of maybe_subscription) ≡ false
+    → is_beat_allowed_if_any (feed_of maybe_subscription) ≡ false
     → beat world f maybe_subscription ≡ answer_with Nothing world
 still_answer world f None e = refl
 still_answer world f (Some subscription) e = rw e
@@ -182,7 +182,7 @@ answers_so world new (Hand f) (Pushed item) m =
     from_same (hand world f.number (subscription world f.number))
     (answer_with (Pushed item)
     (with_subscription world f.number
-    (pushed m.0 (after_due m.0.feed (due_in world.journal m.0.feed) (length world.journal)) item)))
+    (subscription_after_push m.0 (feed_after_due m.0.feed (journal_due world.journal m.0.feed) (length world.journal)) item)))
     _ new (ap (hand world f.number) m.1
     ∙ (item_pushes world f.number m.0 _ item m.2 ∙ rw (lt-ltb _ _ m.3.0) refl))
     refl m.3.1
@@ -199,7 +199,7 @@ answers_so world new (Hand f) Gone m =
 answers_so world new (Hand f) _ m = absurd m
 answers_so world new (Heartbeat f) (Pushed item) m =
     from_same (beat world f.number (subscription world f.number))
-    (answer_with (Pushed item) (with_subscription world f.number (pushed m.0 m.0.feed item))) _ new
+    (answer_with (Pushed item) (with_subscription world f.number (subscription_after_push m.0 m.0.feed item))) _ new
     (ap (beat world f.number) m.1 ∙ rw (m.2, m.3) (rw (lt-ltb _ _ m.4.0) refl)) refl m.4.1
 answers_so world new (Heartbeat f) Full m =
     from_same (beat world f.number (subscription world f.number)) (answer_with Full world) _ new
@@ -277,7 +277,7 @@ has_replies limits events replies e = record {
 }
 
 pub has_handed : (limits : Limits) (events : List Event) (number : ℕ) (items : List ChangeItem)
-    → handed number events (replies_to (empty limits) events) ≡ items → HasHanded limits events number items
+    → items_handed number events (replies_to (empty limits) events) ≡ items → HasHanded limits events number items
 has_handed limits events number items e = record {
   replies = replies_to (empty limits) events;
   has_replies = has_replies limits events (replies_to (empty limits) events) refl;
@@ -285,7 +285,7 @@ has_handed limits events number items e = record {
 }
 
 pub has_taken : (limits : Limits) (events : List Event) (number : ℕ) (items : List ChangeItem)
-    → taken number events (replies_to (empty limits) events) ≡ items → HasTaken limits events number items
+    → items_taken number events (replies_to (empty limits) events) ≡ items → HasTaken limits events number items
 has_taken limits events number items e = record {
   replies = replies_to (empty limits) events;
   has_replies = has_replies limits events (replies_to (empty limits) events) refl;

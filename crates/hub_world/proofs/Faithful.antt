@@ -9,8 +9,8 @@ use Rattle.std.proofs.lemmas.List.Elements.{Contains-append_left, Contains-appen
 use Rattle.std.proofs.lemmas.Option.{same_Some, none-some}
 use Rattle.hub_model.specs.Current.{Current, current}
 use Rattle.hub_model.specs.Feed.{Feed, Due, DueRow, DueEnd, DueNothing, DueGone}
-use Rattle.hub_model.specs.Filter.{passes}
-use Rattle.hub_model.specs.Hand.{due_in, item_of, change_due}
+use Rattle.hub_model.specs.Filter.{is_passing}
+use Rattle.hub_model.specs.Hand.{journal_due, item_of_due, next_change}
 use Rattle.hub_model.specs.Journal.{Edit}
 use Rattle.hub_model.specs.Row.{ChangeRow, IsRow, row_of}
 use Rattle.hub_model.specs.RightlyHanded.{ChangeItem, rows_of, EndsAt, IsRowOf, RightlyHanded}
@@ -18,7 +18,7 @@ use Rattle.hub_model.specs.RowKind.{change_rows}
 use Rattle.hub_model.specs.declared.feeds.Item.TheVariants.{Row, Beat, End}
 use Rattle.hub_world.specs.World.{Limits, World, Subscription, subscription, empty}
 use Rattle.hub_world.specs.Step.{Step, Run, journal_at}
-use Rattle.hub_world.specs.Handed.{IsStepAt, handed, handed_by}
+use Rattle.hub_world.specs.Handed.{IsStepAt, items_handed, handed_by}
 use Rattle.hub_world.specs.Laws.{IsRight}
 use Rattle.hub_world.specs.Headline.{IsFaithful, AreRight, Headline}
 use Rattle.hub_world.specs.declared.event.Event.{Event}
@@ -89,7 +89,7 @@ row_document journal feed row c r p s =
 
 -- what a step hands was made of the journal of that step
 due_seen : (journal : List Edit) (feed : Feed) (due : Due) (row : ChangeRow)
-    → item_of (row_of journal feed.params.style feed.params.include_docs) (current journal) due ≡ Some
+    → item_of_due (row_of journal feed.params.style feed.params.include_docs) (current journal) due ≡ Some
     (Row row) → row.seen ≡ length journal
 due_seen journal feed (DueRow c) row e =
     let same : Row (row_of journal feed.params.style feed.params.include_docs c) ≡ Row row = same_Some _ _ e
@@ -101,11 +101,11 @@ due_seen journal feed DueNothing row e = absurd (none-some _ e)
 due_seen journal feed DueGone row e = absurd (none-some _ e)
 
 item_seen : (journal : List Edit) (feed : Feed) (item : ChangeItem) (row : ChangeRow) (b : Bool)
-    → change_due journal feed ≡ Some item → Contains (rows_of (if b then item ∷ [] else [])) row
+    → next_change journal feed ≡ Some item → Contains (rows_of (if b then item ∷ [] else [])) row
     → row.seen ≡ length journal
 item_seen journal feed (Row r) row true e c = elim (contains_cases r row [] c) [
-  | inl s ↦ due_seen journal feed (due_in journal feed) row
-      (subst (λ (x : ChangeRow). change_due journal feed ≡ Some (Row x)) s e)
+  | inl s ↦ due_seen journal feed (journal_due journal feed) row
+      (subst (λ (x : ChangeRow). next_change journal feed ≡ Some (Row x)) s e)
   | inr d ↦ absurd (contains_none row d)
 ]
 item_seen journal feed Beat row true e c = absurd (contains_none row c)
@@ -130,7 +130,7 @@ step_seen old _ _ new f row m c = absurd (contains_none row c)
 rows_in : (f place : ℕ) (events : List Event) (replies : List Reply) (event : Event) (reply : Reply)
     (row : ChangeRow)
     → IsStepAt events replies place event reply → Contains (rows_of (handed_by f event reply)) row
-    → Contains (rows_of (handed f events replies)) row
+    → Contains (rows_of (items_handed f events replies)) row
 rows_in f place [] replies event reply row at c = absurd (none-some _ at.0)
 rows_in f place (e ∷ events) [] event reply row at c = absurd (none-some _ at.1)
 rows_in f zero (e ∷ events) (r ∷ replies) event reply row at c =
@@ -138,13 +138,13 @@ rows_in f zero (e ∷ events) (r ∷ replies) event reply row at c =
     ap (λ (x : Event). handed_by f x reply) (sym (same_Some _ _ at.0))
     ∙ ap (handed_by f e) (sym (same_Some _ _ at.1)) in
     subst (λ (rows : List ChangeRow). Contains rows row)
-    (sym (rows_of-append (handed_by f e r) (handed f events replies)))
-    (Contains-append_left (rows_of (handed_by f e r)) (rows_of (handed f events replies)) row
+    (sym (rows_of-append (handed_by f e r) (items_handed f events replies)))
+    (Contains-append_left (rows_of (handed_by f e r)) (rows_of (items_handed f events replies)) row
     (subst (λ (items : List ChangeItem). Contains (rows_of items) row) here c))
 rows_in f (suc place) (e ∷ events) (r ∷ replies) event reply row at c =
     subst (λ (rows : List ChangeRow). Contains rows row)
-    (sym (rows_of-append (handed_by f e r) (handed f events replies)))
-    (Contains-append_right (rows_of (handed_by f e r)) (rows_of (handed f events replies)) row
+    (sym (rows_of-append (handed_by f e r) (items_handed f events replies)))
+    (Contains-append_right (rows_of (handed_by f e r)) (rows_of (items_handed f events replies)) row
     (rows_in f place events replies event reply row at c))
 
 -- The step at a place of a run: the world before it has the journal of that place, and the run adds to that.
@@ -189,7 +189,7 @@ journal_left old (event ∷ events) (reply ∷ replies) new run =
 -- each row is current at its step
 current_at : (old : World) (events : List Event) (replies : List Reply) (new : World)
     (run : Run old events replies new) (f : ℕ) (feed : Feed)
-    → RightlyHanded change_rows new.journal feed (handed f events replies)
+    → RightlyHanded change_rows new.journal feed (items_handed f events replies)
     → (place : ℕ) (event : Event) (reply : Reply) → IsStepAt events replies place event reply
     → All (IsRow (journal_at old events replies new run place) feed.params.style feed.params.include_docs)
     (rows_of (handed_by f event reply))
@@ -211,10 +211,10 @@ current_at old events replies new run f feed right place event reply at = all_fr
 -- what a run handed is rightly handed
 rightly : (limits : Limits) (events : List Event) (replies : List Reply) (world : World)
     → Run (empty limits) events replies world → (f : ℕ) (s : Subscription) → subscription world f ≡ Some s
-    → RightlyHanded change_rows world.journal s.feed (handed f events replies)
+    → RightlyHanded change_rows world.journal s.feed (items_handed f events replies)
 rightly limits events replies world run f s e =
     subst (λ (maybe_subscription : Option Subscription).
-    IsRight world.journal maybe_subscription (handed f events replies)) e
+    IsRight world.journal maybe_subscription (items_handed f events replies)) e
     (hands_rightly limits events replies world f run)
 
 -- the replies of a run are faithful by its own journals
@@ -222,7 +222,7 @@ own_faithful : (limits : Limits) (events : List Event) (replies : List Reply) (w
     (run : Run (empty limits) events replies world) (f : ℕ) (s : Subscription) → subscription world f ≡ Some s
     → IsFaithful (journal_at (empty limits) events replies world run) events replies f s.feed
 own_faithful limits events replies world run f s e =
-    let items = handed f events replies in
+    let items = items_handed f events replies in
     let right = rightly limits events replies world run f s e in
     record {
       prefix = takes_in_order limits events replies world f run;
@@ -231,7 +231,7 @@ own_faithful limits events replies world run f s e =
       passing =
           All-weaker (IsRowOf change_rows world.journal s.feed) _
           (λ row r.
-          subst (λ (x : ChangeRow). IsTrue (passes s.feed.params.filter x.id)) (sym r.shown.2) r.shown.3)
+          subst (λ (x : ChangeRow). IsTrue (is_passing s.feed.params.filter x.id)) (sym r.shown.2) r.shown.3)
           (rows_of items) right.rows;
       below = λ last n c.
           let at = ends_place s.feed.place items last n right.ends c in
@@ -267,5 +267,5 @@ pub handed_right : (limits : Limits) (events : List Event) (replies : List Reply
 handed_right limits events replies world run own own_world own_run f s e =
     let same =
     (only_run (empty limits) own_world world events own replies own_run run).0 in
-    subst (λ (told : List Reply). RightlyHanded change_rows own_world.journal s.feed (handed f events told))
+    subst (λ (told : List Reply). RightlyHanded change_rows own_world.journal s.feed (items_handed f events told))
     (sym same) (rightly limits events own own_world own_run f s e)

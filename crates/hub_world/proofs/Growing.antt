@@ -8,7 +8,7 @@ use Rattle.hub_database.specs.Hosting.{hosted_of}
 use Rattle.hub_model.specs.Current.{current}
 use Rattle.hub_model.specs.Entries.{entry_in}
 use Rattle.hub_model.specs.Feed.{Feed}
-use Rattle.hub_model.specs.Hand.{due_in}
+use Rattle.hub_model.specs.Hand.{journal_due}
 use Rattle.hub_model.specs.Journal.{Edit}
 use Rattle.hub_params.specs.declared.feed_params.FeedParams.{FeedParams}
 use Rattle.hub_world.specs.Core.{Core, Shows}
@@ -20,22 +20,22 @@ use Rattle.hub_world.proofs.Standing.{feed_found}
 use Rattle.hub_world.proofs.Stepping.{begin_leads}
 
 -- a row is due
-pub row_grows : (core : Core) (id : FeedId) → IsRowDue (feeds.due_to (hosted_of core.db) id.number)
+pub row_grows : (core : Core) (id : FeedId) → IsRowDue (feeds.due_of_number (hosted_of core.db) id.number)
     → (world : World) → Shows core world → NeedsMemory world (Hand id)
 row_grows core id due world h = from (entry_in id.number core.db.feeds) refl due
   where
     from : (maybe_feed : Option Feed) → entry_in id.number core.db.feeds ≡ maybe_feed
-        → IsRowDue (feeds.due_of (current core.db.journal) maybe_feed)
+        → IsRowDue (feeds.due_if_any (current core.db.journal) maybe_feed)
         → NeedsMemory world (Hand id)
     from None is due = absurd due
     from (Some feed) is due =
         let s = feed_found core world id.number feed h is in
-        let same : due_in world.journal s.0.feed ≡ due_in core.db.journal feed =
-        ap (λ (journal : List Edit). due_in journal s.0.feed) h.journal ∙ ap (due_in core.db.journal) s.2 in
+        let same : journal_due world.journal s.0.feed ≡ journal_due core.db.journal feed =
+        ap (λ (journal : List Edit). journal_due journal s.0.feed) h.journal ∙ ap (journal_due core.db.journal) s.2 in
         rw s.1 (subst IsRowDue (sym same) due)
 
 -- a feed is opened
-pub begin_grows : (core : Core) (params : FeedParams) → feeds.refuses (hosted_of core.db) ≡ None
+pub begin_grows : (core : Core) (params : FeedParams) → feeds.opening_refusal (hosted_of core.db) ≡ None
     → (world : World) → Shows core world → NeedsMemory world (Begin params)
 begin_grows core params free world h =
     let m = (begin_leads core params (record { number = core.db.next_feed }) refl free world h).1 in

@@ -6,10 +6,10 @@ use Rattle.std.specs.Prelude.{if◌then◌else◌}
 use Rattle.std.proofs.lemmas.Bool.{cases_Bool}
 use Rattle.std.proofs.lemmas.List.Elements.{All-filter, All-map, All-push}
 use Rattle.std.proofs.lemmas.Option.{none-some, same_Some}
-use Rattle.hub_model.specs.Entries.{entry_in, changed, is_of, without}
+use Rattle.hub_model.specs.Entries.{entry_in, with_change, is_of, without}
 use Rattle.hub_model.specs.RightlyHanded.{ChangeItem}
 use Rattle.hub_world.specs.Core.{held_entry}
-use Rattle.hub_world.specs.Lane.{Lanes, back, front, held}
+use Rattle.hub_world.specs.Lane.{Lanes, back, front, lane_items}
 use Rattle.hub_world.specs.PlainList.{ListState, held_of, last}
 use Rattle.hub_world.specs.PlainList as list
 
@@ -53,7 +53,7 @@ front_held number lists =
     from (Some state) = refl
 
 pub all_held : (number : ℕ) (lists : Lists)
-    → held number (map held_entry lists) ≡ held_of (entry_in number lists)
+    → lane_items number (map held_entry lists) ≡ held_of (entry_in number lists)
 all_held number lists =
     ap (λ (o : Option (List ChangeItem)). unwrap_or o []) (entry_held number lists)
     ∙ from (entry_in number lists)
@@ -66,17 +66,17 @@ all_held number lists =
 -- a list changes
 pub changed_held : (number : ℕ) (change : ListState → ListState) (refill : List ChangeItem → List ChangeItem)
     → ((state : ListState) → (change state).held ≡ refill state.held) → (lists : Lists)
-    → map held_entry (changed number change lists) ≡ changed number refill (map held_entry lists)
+    → map held_entry (with_change number change lists) ≡ with_change number refill (map held_entry lists)
 changed_held number change refill same [] = refl
 changed_held number change refill same (p ∷ lists) =
     from (nat_eq p.0 number) (changed_held number change refill same lists)
   where
     from : (b : Bool)
-        → map held_entry (changed number change lists) ≡ changed number refill (map held_entry lists)
+        → map held_entry (with_change number change lists) ≡ with_change number refill (map held_entry lists)
         → ◌≡◌ {A = Lanes}
-        (held_entry (if b then (p.0, change p.1) else p) ∷ map held_entry (changed number change lists))
+        (held_entry (if b then (p.0, change p.1) else p) ∷ map held_entry (with_change number change lists))
         ((if b then (p.0, refill p.1.held) else (p.0, p.1.held))
-        ∷ changed number refill (map held_entry lists))
+        ∷ with_change number refill (map held_entry lists))
     from true e = λ i. (p.0, same p.1 i) ∷ e i
     from false e = λ i. (p.0, p.1.held) ∷ e i
 
@@ -117,7 +117,7 @@ module _ (capacity : ℕ) where
   -- and so once one changes, goes or comes
   pub fits_changed : (number : ℕ) (change : ListState → ListState)
       → ((state : ListState) → (change state).capacity ≡ state.capacity) → (lists : Lists) → All Fits lists
-      → All Fits (changed number change lists)
+      → All Fits (with_change number change lists)
   fits_changed number change same lists fits =
       All-map Fits (λ (p : ℕ × ListState). if is_of number p then (p.0, change p.1) else p) lists
       (λ i d low. from (is_of number (get_or lists i d)) (get_or lists i d) (fits i d low))

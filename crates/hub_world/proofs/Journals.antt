@@ -3,12 +3,12 @@ use Rattle.std.proofs.Common.{◌≡◌, ℕ, List, [], ◌∷◌, map, sym, ◌
 use Rattle.std.specs.Prelude.{Option, Some, None}
 use Rattle.std.proofs.lemmas.List.{append-nil}
 use Rattle.hub_database.specs.Edits.{edit_of, draft_of}
-use Rattle.hub_model.specs.Draft.{makes}
+use Rattle.hub_model.specs.Draft.{draft_result}
 use Rattle.hub_model.specs.Journal.{Edit, IsLegal}
-use Rattle.hub_model.specs.Outcome.{merges}
+use Rattle.hub_model.specs.Outcome.{merge_result}
 use Rattle.hub_world.specs.Laws.{StaysLegal}
 use Rattle.hub_world.specs.World.{World, Subscription, empty, subscription}
-use Rattle.hub_world.specs.World.{merged, drafted, expired, took, finished}
+use Rattle.hub_world.specs.World.{merges_result, drafts_result, world_after_expiry, world_after_take, world_after_finish}
 use Rattle.hub_world.specs.declared.event.Event.{Event}
 use Rattle.hub_world.specs.declared.event.Event.TheVariants.{Write, Interactive, Begin, Hand, Heartbeat}
 use Rattle.hub_world.specs.declared.event.Event.TheVariants.{Expire, Take, Finish, Delete}
@@ -21,22 +21,22 @@ use Rattle.hub_model.proofs.Writes.{all_legal, merges_legal, makes_legal}
 
 -- the journal after an event
 abbrev journal_after : World → Event → List Edit
-journal_after world (Write docs) = (merged world (map edit_of docs)).journal
-journal_after world (Interactive docs) = (drafted world (map draft_of docs)).journal
+journal_after world (Write docs) = (merges_result world (map edit_of docs)).journal
+journal_after world (Interactive docs) = (drafts_result world (map draft_of docs)).journal
 journal_after world _ = world.journal
 
 journal_expired : (maybe_subscription : Option Subscription) (f : ℕ) (world : World)
-    → (expired maybe_subscription f world).journal ≡ world.journal
+    → (world_after_expiry maybe_subscription f world).journal ≡ world.journal
 journal_expired None f world = refl
 journal_expired (Some subscription) f world = refl
 
 journal_took : (maybe_subscription : Option Subscription) (f : ℕ) (world : World)
-    → (took maybe_subscription f world).journal ≡ world.journal
+    → (world_after_take maybe_subscription f world).journal ≡ world.journal
 journal_took None f world = refl
 journal_took (Some subscription) f world = refl
 
 journal_finished : (maybe_subscription : Option Subscription) (f : ℕ) (world : World)
-    → (finished maybe_subscription f world).journal ≡ world.journal
+    → (world_after_finish maybe_subscription f world).journal ≡ world.journal
 journal_finished None f world = refl
 journal_finished (Some subscription) f world = refl
 
@@ -89,11 +89,11 @@ module _ (P : List Edit → Type 0)
 
 legal_after : (world : World) (event : Event) → IsLegal world.journal → IsLegal (journal_after world event)
 legal_after world (Write docs) h =
-    all_legal (merges world.limits.journal) (merges_legal world.limits.journal) world.deleted world.journal
+    all_legal (merge_result world.limits.journal) (merges_legal world.limits.journal) world.deleted world.journal
     (map edit_of docs)
     h
 legal_after world (Interactive docs) h =
-    all_legal (makes world.limits.journal) (makes_legal world.limits.journal) world.deleted world.journal
+    all_legal (draft_result world.limits.journal) (makes_legal world.limits.journal) world.deleted world.journal
     (map draft_of docs)
     h
 legal_after world _ h = h
@@ -106,11 +106,11 @@ adds_after : (journal : List Edit) (world : World) (event : Event) → Adds jour
     → Adds journal (journal_after world event)
 adds_after journal world (Write docs) a =
     adds_both journal world.journal _ a
-    (all_add (merges world.limits.journal) (merge_adds world.limits.journal) world.deleted world.journal
+    (all_add (merge_result world.limits.journal) (merge_adds world.limits.journal) world.deleted world.journal
     (map edit_of docs))
 adds_after journal world (Interactive docs) a =
     adds_both journal world.journal _ a
-    (all_add (makes world.limits.journal) (make_adds world.limits.journal) world.deleted world.journal
+    (all_add (draft_result world.limits.journal) (make_adds world.limits.journal) world.deleted world.journal
     (map draft_of docs))
 adds_after journal world _ a = a
 

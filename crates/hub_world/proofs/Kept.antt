@@ -9,17 +9,17 @@ use Rattle.std.proofs.lemmas.List.{append-nil}
 use Rattle.hub_model.proofs.Adds.{merge_adds, make_adds, all_add}
 use Rattle.hub_database.specs.Edits.{edit_of, draft_of}
 use Rattle.hub_feed.specs.declared.host.FeedId.{FeedId}
-use Rattle.hub_model.specs.Draft.{makes}
-use Rattle.hub_model.specs.Feed.{Params, DueNothing, begin, after_due}
-use Rattle.hub_model.specs.Feed.{after_nothing, beat_due, expire, finish}
-use Rattle.hub_model.specs.Hand.{due_in, change_due}
+use Rattle.hub_model.specs.Draft.{draft_result}
+use Rattle.hub_model.specs.Feed.{Params, DueNothing, new_feed, feed_after_due}
+use Rattle.hub_model.specs.Feed.{after_nothing, is_beat_allowed, expired_feed, finished_feed}
+use Rattle.hub_model.specs.Hand.{journal_due, next_change}
 use Rattle.hub_model.specs.declared.feeds.Item.TheVariants.{Beat}
 use Rattle.hub_model.specs.Journal.{Edit}
-use Rattle.hub_model.specs.Outcome.{merges}
+use Rattle.hub_model.specs.Outcome.{merge_result}
 use Rattle.hub_model.specs.RightlyHanded.{ChangeItem}
 use Rattle.hub_params.specs.FeedModel.{params_of}
-use Rattle.hub_world.specs.World.{World, Subscription, subscription, lane_of, merged}
-use Rattle.hub_world.specs.World.{drafted, pushed, expired, took, finished, ended}
+use Rattle.hub_world.specs.World.{World, Subscription, subscription, lane_of, merges_result}
+use Rattle.hub_world.specs.World.{drafts_result, subscription_after_push, world_after_expiry, world_after_take, world_after_finish, ended_subscription}
 use Rattle.hub_world.specs.declared.event.Event.{Event}
 use Rattle.hub_world.specs.declared.event.Event.TheVariants.{Write, Interactive, Begin, Hand, Heartbeat}
 use Rattle.hub_world.specs.declared.event.Event.TheVariants.{Expire, Take, Finish, Delete}
@@ -27,32 +27,32 @@ use Rattle.hub_world.specs.declared.reply.Reply.{Reply}
 use Rattle.hub_world.specs.declared.reply.Reply.TheVariants.{Outcomes, Opened, TooManyFeeds, DatabaseDeleted}
 use Rattle.hub_world.specs.declared.reply.Reply.TheVariants.{Pushed, Full, Nothing, Gone, Took, Left}
 use Rattle.hub_world.specs.Step.{Step, Run}
-use Rattle.hub_world.specs.Handed.{handed_by, taken_by, handed, taken}
+use Rattle.hub_world.specs.Handed.{handed_by, taken_by, items_handed, items_taken}
 
 -- what may happen to a subscription subscription, whose list of handed items is h and of taken ones t
 pub record IsKept (Q : List Edit → Subscription → List ChangeItem → List ChangeItem → Type 0) : Type 0 where
   pub grows : (journal edits : List Edit) (subscription : Subscription) (h t : List ChangeItem)
       → Q journal subscription h t → Q (journal ++ edits) subscription h t
   pub begins : (journal : List Edit) (params : Params) (life : ℕ)
-      → Q journal (record { feed = begin params (length journal) life; lane = [] }) [] []
+      → Q journal (record { feed = new_feed params (length journal) life; lane = [] }) [] []
   pub hands : (journal : List Edit) (subscription : Subscription) (h t : List ChangeItem) (item : ChangeItem)
-      → change_due journal subscription.feed ≡ Some item → Q journal subscription h t
-      → Q journal (pushed subscription
-      (after_due subscription.feed (due_in journal subscription.feed) (length journal)) item)
+      → next_change journal subscription.feed ≡ Some item → Q journal subscription h t
+      → Q journal (subscription_after_push subscription
+      (feed_after_due subscription.feed (journal_due journal subscription.feed) (length journal)) item)
       (h ++ item ∷ []) t
   pub beats : (journal : List Edit) (subscription : Subscription) (h t : List ChangeItem)
-      → beat_due subscription.feed ≡ true → Q journal subscription h t
-      → Q journal (pushed subscription subscription.feed Beat) (h ++ Beat ∷ []) t
+      → is_beat_allowed subscription.feed ≡ true → Q journal subscription h t
+      → Q journal (subscription_after_push subscription subscription.feed Beat) (h ++ Beat ∷ []) t
   pub waits : (journal : List Edit) (subscription : Subscription) (h t : List ChangeItem)
-      → due_in journal subscription.feed ≡ DueNothing
+      → journal_due journal subscription.feed ≡ DueNothing
       → Q journal subscription h t
       → Q journal (record subscription { feed = after_nothing subscription.feed (length journal) }) h t
   pub expires : (journal : List Edit) (subscription : Subscription) (h t : List ChangeItem)
-      → Q journal subscription h t → Q journal (record subscription { feed = expire subscription.feed }) h t
+      → Q journal subscription h t → Q journal (record subscription { feed = expired_feed subscription.feed }) h t
   pub ends : (journal : List Edit) (subscription : Subscription) (h t : List ChangeItem)
-      → Q journal subscription h t → Q journal (ended subscription) h t
+      → Q journal subscription h t → Q journal (ended_subscription subscription) h t
   pub finishes : (journal : List Edit) (subscription : Subscription) (h t : List ChangeItem)
-      → Q journal subscription h t → Q journal (record { feed = finish subscription.feed; lane = [] }) h t
+      → Q journal subscription h t → Q journal (record { feed = finished_feed subscription.feed; lane = [] }) h t
   pub takes : (journal : List Edit) (subscription : Subscription) (h t : List ChangeItem) (item : ChangeItem)
       (items : List ChangeItem)
       → subscription.lane ≡ item ∷ items → Q journal subscription h t
@@ -156,10 +156,10 @@ module _ (Q : List Edit → Subscription → List ChangeItem → List ChangeItem
   opens : (journal : List Edit) (subscriptions : List Subscription) (params : Params) (life g : ℕ)
       (items others : List ChangeItem) → In Q journal (slice_get subscriptions g) items others
       → In Q journal
-      (slice_get (subscriptions ++ record { feed = begin params (length journal) life; lane = [] } ∷ []) g)
+      (slice_get (subscriptions ++ record { feed = new_feed params (length journal) life; lane = [] } ∷ []) g)
       (items ++ []) (others ++ [])
   opens journal subscriptions params life g items others i =
-      elim (get_push subscriptions (record { feed = begin params (length journal) life; lane = [] }) g) [
+      elim (get_push subscriptions (record { feed = new_feed params (length journal) life; lane = [] }) g) [
         | inl e ↦ subst (λ o. In Q journal o (items ++ []) (others ++ [])) (sym e)
             (stays journal (slice_get subscriptions g) items others i)
         | inr e ↦ let none : In Q journal None items others =
@@ -171,34 +171,34 @@ module _ (Q : List Edit → Subscription → List ChangeItem → List ChangeItem
   -- every open feed is closed
   closes : (journal : List Edit) (subscriptions : List Subscription) (g : ℕ) (items others : List ChangeItem)
       → In Q journal (slice_get subscriptions g) items others
-      → In Q journal (slice_get (map ended subscriptions) g) (items ++ []) (others ++ [])
+      → In Q journal (slice_get (map ended_subscription subscriptions) g) (items ++ []) (others ++ [])
   closes journal subscriptions g items others i =
       subst (λ maybe_subscription. In Q journal maybe_subscription (items ++ []) (others ++ []))
-      (sym (slice_get-map ended subscriptions g)) (each (slice_get subscriptions g) i)
+      (sym (slice_get-map ended_subscription subscriptions g)) (each (slice_get subscriptions g) i)
     where
       each : (maybe_subscription : Option Subscription) → In Q journal maybe_subscription items others
-          → In Q journal (option_map ended maybe_subscription) (items ++ []) (others ++ [])
+          → In Q journal (option_map ended_subscription maybe_subscription) (items ++ []) (others ++ [])
       each None j = (append-nil items ∙ j.0, append-nil others ∙ j.1)
       each (Some s) j = simp append-nil (k.ends journal s items others j)
 
   expires_at : (world : World) (f g : ℕ) (maybe_subscription : Option Subscription)
       (items others : List ChangeItem)
       → subscription world f ≡ maybe_subscription → In Q world.journal (subscription world g) items others
-      → In Q (expired maybe_subscription f world).journal
-      (subscription (expired maybe_subscription f world) g) (items ++ []) (others ++ [])
+      → In Q (world_after_expiry maybe_subscription f world).journal
+      (subscription (world_after_expiry maybe_subscription f world) g) (items ++ []) (others ++ [])
   expires_at world f g None items others e i = stays world.journal (subscription world g) items others i
   expires_at world f g (Some s) items others e i =
-      turns world.journal world.feeds f g s (record s { feed = expire s.feed }) items others e
+      turns world.journal world.feeds f g s (record s { feed = expired_feed s.feed }) items others e
       (k.expires world.journal s items others) i
 
   finishes_at : (world : World) (f g : ℕ) (maybe_subscription : Option Subscription)
       (items others : List ChangeItem)
       → subscription world f ≡ maybe_subscription → In Q world.journal (subscription world g) items others
-      → In Q (finished maybe_subscription f world).journal
-      (subscription (finished maybe_subscription f world) g) (items ++ []) (others ++ [])
+      → In Q (world_after_finish maybe_subscription f world).journal
+      (subscription (world_after_finish maybe_subscription f world) g) (items ++ []) (others ++ [])
   finishes_at world f g None items others e i = stays world.journal (subscription world g) items others i
   finishes_at world f g (Some s) items others e i =
-      turns world.journal world.feeds f g s (record { feed = finish s.feed; lane = [] }) items others e
+      turns world.journal world.feeds f g s (record { feed = finished_feed s.feed; lane = [] }) items others e
       (k.finishes world.journal s items others) i
 
   takes_from : (world : World) (feed : FeedId) (g : ℕ) (s : Subscription) (lane : List ChangeItem)
@@ -229,8 +229,8 @@ module _ (Q : List Edit → Subscription → List ChangeItem → List ChangeItem
       (items others : List ChangeItem)
       → subscription world feed.number ≡ maybe_subscription
       → In Q world.journal (subscription world g) items others →
-      In Q (took maybe_subscription feed.number world).journal
-      (subscription (took maybe_subscription feed.number world) g) (items ++ [])
+      In Q (world_after_take maybe_subscription feed.number world).journal
+      (subscription (world_after_take maybe_subscription feed.number world) g) (items ++ [])
       (others ++ taken_by g (Take feed) (Took (slice_get (lane_of maybe_subscription) 0)))
   takes_at world feed g None items others e i = stays world.journal (subscription world g) items others i
   takes_at world feed g (Some s) items others e i = takes_from world feed g s s.lane items others refl e i
@@ -257,14 +257,14 @@ module _ (Q : List Edit → Subscription → List ChangeItem → List ChangeItem
   step_keeps old (Write docs) (Outcomes batch) new g h t m i =
       let edits = map edit_of docs in
       rw m.1
-      (more_edits old.journal (merged old edits).journal (subscription old g) h t
-      (all_add (merges old.limits.journal) (merge_adds old.limits.journal) old.deleted old.journal edits) i)
+      (more_edits old.journal (merges_result old edits).journal (subscription old g) h t
+      (all_add (merge_result old.limits.journal) (merge_adds old.limits.journal) old.deleted old.journal edits) i)
   step_keeps old (Write docs) _ new g h t m i = absurd m
   step_keeps old (Interactive docs) (Outcomes batch) new g h t m i =
       let drafts = map draft_of docs in
       rw m.1
-      (more_edits old.journal (drafted old drafts).journal (subscription old g) h t
-      (all_add (makes old.limits.journal) (make_adds old.limits.journal) old.deleted old.journal drafts) i)
+      (more_edits old.journal (drafts_result old drafts).journal (subscription old g) h t
+      (all_add (draft_result old.limits.journal) (make_adds old.limits.journal) old.deleted old.journal drafts) i)
   step_keeps old (Interactive docs) _ new g h t m i = absurd m
   step_keeps old (Begin params) (Opened f) new g h t m i =
       rw m.3 (opens old.journal old.feeds (params_of params) old.life g h t i)
@@ -304,15 +304,15 @@ module _ (Q : List Edit → Subscription → List ChangeItem → List ChangeItem
   pub run_keeps : (old : World) (events : List Event) (replies : List Reply) (new : World)
       (g : ℕ) (items others : List ChangeItem)
       → Run old events replies new → In Q old.journal (subscription old g) items others →
-      In Q new.journal (subscription new g) (items ++ handed g events replies)
-      (others ++ taken g events replies)
+      In Q new.journal (subscription new g) (items ++ items_handed g events replies)
+      (others ++ items_taken g events replies)
   run_keeps old [] [] new g items others r i = rw r (stays old.journal (subscription old g) items others i)
   run_keeps old [] (reply ∷ replies) new g items others r i = absurd r
   run_keeps old (event ∷ events) [] new g items others r i = absurd r
   run_keeps old (event ∷ events) (reply ∷ replies) new g items others r i =
       rw (
-        ← append_assoc items (handed_by g event reply) (handed g events replies),
-        ← append_assoc others (taken_by g event reply) (taken g events replies),
+        ← append_assoc items (handed_by g event reply) (items_handed g events replies),
+        ← append_assoc others (taken_by g event reply) (items_taken g events replies),
       )
       (run_keeps r.0 events replies new g (items ++ handed_by g event reply)
       (others ++ taken_by g event reply) r.2

@@ -4,10 +4,10 @@ use Rattle.std.specs.Prelude.{Option, Some, option_map, option_and_then, slice_g
 use Rattle.std.proofs.lemmas.List.{length_push}
 use Rattle.std.proofs.lemmas.Option.{slice_get_read}
 use Rattle.std.proofs.Math.Seq.{get_or-append_seam}
-use Rattle.hub_model.specs.Entries.{entry_in, changed}
+use Rattle.hub_model.specs.Entries.{entry_in, with_change}
 use Rattle.hub_model.specs.RightlyHanded.{ChangeItem}
 use Rattle.hub_model.proofs.Entries.{own_changed}
-use Rattle.hub_world.specs.Lane.{Lanes, back, held}
+use Rattle.hub_world.specs.Lane.{Lanes, back, lane_items}
 
 -- it is the last
 last_is : (items : List ChangeItem) (item : ChangeItem)
@@ -21,11 +21,11 @@ last_is items item =
 
 pub pushed_back : (number : ℕ) (item : ChangeItem) (lanes : Lanes) (items : List ChangeItem)
     → entry_in number lanes ≡ Some items
-    → (back number (changed number (λ (xs : List ChangeItem). xs ++ item ∷ []) lanes) ≡ Some item)
-    × (length (held number (changed number (λ (xs : List ChangeItem). xs ++ item ∷ []) lanes))
-    ≡ length (held number lanes) + 1)
+    → (back number (with_change number (λ (xs : List ChangeItem). xs ++ item ∷ []) lanes) ≡ Some item)
+    × (length (lane_items number (with_change number (λ (xs : List ChangeItem). xs ++ item ∷ []) lanes))
+    ≡ length (lane_items number lanes) + 1)
 pushed_back number item lanes items is =
-    let entry : entry_in number (changed number (λ (xs : List ChangeItem). xs ++ item ∷ []) lanes)
+    let entry : entry_in number (with_change number (λ (xs : List ChangeItem). xs ++ item ∷ []) lanes)
     ≡ Some (items ++ item ∷ []) =
     own_changed number (λ (xs : List ChangeItem). xs ++ item ∷ []) lanes
     ∙ ap (option_map (λ (xs : List ChangeItem). xs ++ item ∷ [])) is in (

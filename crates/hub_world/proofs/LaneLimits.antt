@@ -5,11 +5,11 @@ use Rattle.std.specs.Prelude.{Option, Some, None, slice_get, slice_set, option_m
 use Rattle.std.proofs.lemmas.Bool.{cases_eq}
 use Rattle.std.proofs.lemmas.Option.{same_Some, none-some, slice_get-map}
 use Rattle.std.proofs.lemmas.List.{length_push, length-drop}
-use Rattle.hub_model.specs.Feed.{Feed, begin, expire, finish}
+use Rattle.hub_model.specs.Feed.{Feed, new_feed, expired_feed, finished_feed}
 use Rattle.hub_model.specs.RightlyHanded.{ChangeItem}
 use Rattle.hub_params.specs.FeedModel.{params_of}
 use Rattle.hub_world.specs.World.{World, Subscription, subscription, with_subscription}
-use Rattle.hub_world.specs.World.{empty, pushed, expired, took, finished, ended}
+use Rattle.hub_world.specs.World.{empty, subscription_after_push, world_after_expiry, world_after_take, world_after_finish, ended_subscription}
 use Rattle.hub_world.specs.declared.event.Event.{Event}
 use Rattle.hub_world.specs.declared.event.Event.TheVariants.{Write, Interactive, Begin, Hand, Heartbeat}
 use Rattle.hub_world.specs.declared.event.Event.TheVariants.{Expire, Take, Finish, Delete}
@@ -57,38 +57,38 @@ opened_limited n feeds feed all g u there =
     ]
 
 -- every open feed is closed
-ended_limited : (n : ℕ) (feeds : List Subscription) → AreLimited n feeds → AreLimited n (map ended feeds)
+ended_limited : (n : ℕ) (feeds : List Subscription) → AreLimited n feeds → AreLimited n (map ended_subscription feeds)
 ended_limited n feeds all g u there =
-    from (slice_get feeds g) refl (sym (slice_get-map ended feeds g) ∙ there)
+    from (slice_get feeds g) refl (sym (slice_get-map ended_subscription feeds g) ∙ there)
   where
     from : (maybe_subscription : Option Subscription) → slice_get feeds g ≡ maybe_subscription
-        → option_map ended maybe_subscription ≡ Some u → length u.lane ≤ n
+        → option_map ended_subscription maybe_subscription ≡ Some u → length u.lane ≤ n
     from None is e = absurd (none-some _ e)
     from (Some s) is e =
         subst (λ (subscription : Subscription). length subscription.lane ≤ n) (same_Some _ _ e) (all g s is)
 
 expired_limited : (n f : ℕ) (world : World) (maybe_subscription : Option Subscription)
     → subscription world f ≡ maybe_subscription → HasLimit n world
-    → HasLimit n (expired maybe_subscription f world)
+    → HasLimit n (world_after_expiry maybe_subscription f world)
 expired_limited n f world None is h = h
 expired_limited n f world (Some s) is h = record {
   limit = h.limit;
-  lanes = changed_limited n world.feeds f s (record s { feed = expire s.feed }) is (h.lanes f s is) h.lanes;
+  lanes = changed_limited n world.feeds f s (record s { feed = expired_feed s.feed }) is (h.lanes f s is) h.lanes;
 }
 
 finished_limited : (n f : ℕ) (world : World) (maybe_subscription : Option Subscription)
     → subscription world f ≡ maybe_subscription → HasLimit n world
-    → HasLimit n (finished maybe_subscription f world)
+    → HasLimit n (world_after_finish maybe_subscription f world)
 finished_limited n f world None is h = h
 finished_limited n f world (Some s) is h = record {
   limit = h.limit;
   lanes =
-      changed_limited n world.feeds f s (record { feed = finish s.feed; lane = [] }) is (omega arith) h.lanes;
+      changed_limited n world.feeds f s (record { feed = finished_feed s.feed; lane = [] }) is (omega arith) h.lanes;
 }
 
 taken_limited : (n f : ℕ) (world : World) (maybe_subscription : Option Subscription)
     → subscription world f ≡ maybe_subscription → HasLimit n world
-    → HasLimit n (took maybe_subscription f world)
+    → HasLimit n (world_after_take maybe_subscription f world)
 taken_limited n f world None is h = h
 taken_limited n f world (Some s) is h =
     let below : length s.lane ≤ n = h.lanes f s is in
@@ -102,12 +102,12 @@ taken_limited n f world (Some s) is h =
 -- an item goes into a lane that has room
 pushed_limited : (n f : ℕ) (world : World) (s : Subscription) (feed : Feed) (item : ChangeItem)
     → subscription world f ≡ Some s → length s.lane + 1 ≤ world.limits.lane → HasLimit n world
-    → HasLimit n (with_subscription world f (pushed s feed item))
+    → HasLimit n (with_subscription world f (subscription_after_push s feed item))
 pushed_limited n f world s feed item is room h =
     record {
       limit = h.limit;
       lanes =
-          changed_limited n world.feeds f s (pushed s feed item) is
+          changed_limited n world.feeds f s (subscription_after_push s feed item) is
           (omega (arith, room, h.limit, length_push s.lane item)) h.lanes;
     }
 
@@ -123,7 +123,7 @@ step_limited n old (Begin params) (Opened f) new m h =
     rw m.3
     (record {
       limit = h.limit;
-      lanes = opened_limited n old.feeds (begin (params_of params) (length old.journal) old.life) h.lanes;
+      lanes = opened_limited n old.feeds (new_feed (params_of params) (length old.journal) old.life) h.lanes;
     })
 step_limited n old (Begin params) DatabaseDeleted new m h = rw m.1 h
 step_limited n old (Begin params) TooManyFeeds new m h = rw m.2 h

@@ -5,8 +5,8 @@ use Rattle.std.specs.Prelude.{Option, Some, None}
 use Rattle.std.proofs.lemmas.List.{append-nil}
 use Rattle.std.proofs.lemmas.Option.{none-some}
 use Rattle.std.proofs.lemmas.Bool.{cases_Bool, and_parts}
-use Rattle.hub_model.specs.Feed.{Status, Open, Ending, Ended, Finished, Feed, is_open, waits, expire, end}
-use Rattle.hub_model.specs.Hand.{change_due}
+use Rattle.hub_model.specs.Feed.{Status, Open, Ending, Ended, Finished, Feed, is_open, is_waiting_mode, expired_feed, end}
+use Rattle.hub_model.specs.Hand.{next_change}
 use Rattle.hub_model.specs.declared.feeds.Item.TheVariants.{Beat}
 use Rattle.hub_model.specs.Journal.{Edit}
 use Rattle.hub_model.specs.RightlyHanded.{ChangeItem, Fits}
@@ -16,7 +16,7 @@ use Rattle.hub_world.specs.World.{Limits, World, Subscription, subscription, emp
 use Rattle.hub_world.specs.declared.event.Event.{Event}
 use Rattle.hub_world.specs.declared.reply.Reply.{Reply}
 use Rattle.hub_world.specs.Step.{Run}
-use Rattle.hub_world.specs.Handed.{handed, taken, IsPrefixOf}
+use Rattle.hub_world.specs.Handed.{items_handed, items_taken, IsPrefixOf}
 use Rattle.hub_model.proofs.Fitting.{fits_grows, fits_begin, fits_handed, fits_beat}
 use Rattle.hub_model.proofs.Fitting.{fits_nothing, fits_expire, fits_close, fits_finish}
 use Rattle.hub_world.proofs.StandingLists.{open_stands}
@@ -33,7 +33,7 @@ fitting_kept = record {
   begins = λ J params life. fits_begin change_rows J params life;
   hands = λ J s h t item d q. fits_handed change_rows J s.feed h item d q;
   beats = λ J s h t d q. fits_beat change_rows J s.feed h d q;
-  waits = λ J s h t d q. fits_nothing change_rows J s.feed h d q;
+  is_waiting_mode = λ J s h t d q. fits_nothing change_rows J s.feed h d q;
   expires = λ J s h t q. fits_expire change_rows J s.feed h q;
   ends = λ J s h t q. fits_close change_rows J s.feed h q;
   finishes = λ J s h t q. fits_finish change_rows J s.feed h q;
@@ -68,7 +68,7 @@ record Told (journal : List Edit) (subscription : Subscription)
 
 -- a feed that has something due isn't finished
 due_unfinished : (journal : List Edit) (subscription : Subscription) (item : ChangeItem)
-    → change_due journal subscription.feed ≡ Some item → is_finished subscription.feed.status ≡ false
+    → next_change journal subscription.feed ≡ Some item → is_finished subscription.feed.status ≡ false
 due_unfinished journal subscription item i = from subscription.feed.status refl
   where
     from : (st : Status) → subscription.feed.status ≡ st → is_finished subscription.feed.status ≡ false
@@ -77,9 +77,9 @@ due_unfinished journal subscription item i = from subscription.feed.status refl
     from Ended e = ap is_finished e
     from Finished e = absurd (none-some item (rw e at i))
 
-expire_unfinished : (feed : Feed) → is_finished (expire feed).status ≡ false → is_finished feed.status ≡ false
+expire_unfinished : (feed : Feed) → is_finished (expired_feed feed).status ≡ false → is_finished feed.status ≡ false
 expire_unfinished feed h =
-    elim (cases_Bool (is_open feed.status && waits feed.params.mode)) [
+    elim (cases_Bool (is_open feed.status && is_waiting_mode feed.params.mode)) [
       | inl t ↦ open_stands feed.status (and_parts _ _ t).0
       | inr t ↦ let h' = rw t at h in h'
     ]
@@ -125,7 +125,7 @@ told_kept = record {
         goes_in t s.lane q.dropped h Beat (q.none (open_stands s.feed.status (and_parts _ _ d).0)) q.in_order;
     none = λ e. refl;
   };
-  waits = λ J s h t d q. record {
+  is_waiting_mode = λ J s h t d q. record {
     fits = fits_nothing change_rows J s.feed h d q.fits;
     dropped = q.dropped;
     in_order = q.in_order;
@@ -161,7 +161,7 @@ told_kept = record {
 
 told : (limits : Limits) (events : List Event) (replies : List Reply) (world : World) (f : ℕ)
     → Run (empty limits) events replies world
-    → In Told world.journal (subscription world f) (handed f events replies) (taken f events replies)
+    → In Told world.journal (subscription world f) (items_handed f events replies) (items_taken f events replies)
 told limits events replies world f r =
     run_keeps Told told_kept (empty limits) events replies world f [] [] r (refl, refl)
 
@@ -169,8 +169,8 @@ pub takes_in_order : TakesInOrder
 takes_in_order limits events replies w f r = from (subscription w f) (told limits events replies w f r)
   where
     from : (maybe_subscription : Option Subscription)
-        → In Told w.journal maybe_subscription (handed f events replies) (taken f events replies)
-        → IsPrefixOf (taken f events replies) (handed f events replies)
+        → In Told w.journal maybe_subscription (items_handed f events replies) (items_taken f events replies)
+        → IsPrefixOf (items_taken f events replies) (items_handed f events replies)
     from None i = ([], append-nil _ ∙ (i.1 ∙ sym i.0))
     from (Some s) i = (s.lane ++ i.dropped, i.in_order)
 
@@ -178,16 +178,16 @@ pub hands_rightly : HandsRightly
 hands_rightly limits events replies w f r = from (subscription w f) (told limits events replies w f r)
   where
     from : (maybe_subscription : Option Subscription)
-        → In Told w.journal maybe_subscription (handed f events replies) (taken f events replies)
-        → IsRight w.journal maybe_subscription (handed f events replies)
+        → In Told w.journal maybe_subscription (items_handed f events replies) (items_taken f events replies)
+        → IsRight w.journal maybe_subscription (items_handed f events replies)
     from None i = i.0
     from (Some s) i = i.fits.right
 
 pub holds_the_rest : HoldsTheRest
 holds_the_rest limits events replies w f s r e n =
     let i =
-    subst (λ o. In Told w.journal o (handed f events replies) (taken f events replies)) e
+    subst (λ o. In Told w.journal o (items_handed f events replies) (items_taken f events replies)) e
     (told limits events replies w f r) in
-    ap (λ (items : List ChangeItem). taken f events replies ++ items)
+    ap (λ (items : List ChangeItem). items_taken f events replies ++ items)
     (sym (append-nil s.lane) ∙ ap (λ (items : List ChangeItem). s.lane ++ items) (sym (i.none n)))
     ∙ i.in_order

@@ -3,7 +3,7 @@ use Rattle.std.proofs.Common.{◌≡◌, ◌∙◌, ℕ, ◌+◌, ◌≤◌, Lis
 use Rattle.std.proofs.Common.{refl, sym, ap, subst, arith, ◌⊎◌, inl, inr}
 use Rattle.std.specs.Prelude.{Option, Some, None, All, option_and_then, unwrap_or, drop}
 use Rattle.std.specs.Prelude.{if◌then◌else◌, ⊤}
-use Rattle.hub_model.specs.Entries.{entry_in, changed, without}
+use Rattle.hub_model.specs.Entries.{entry_in, with_change, without}
 use Rattle.hub_model.specs.Row.{ChangeRow}
 use Rattle.hub_model.specs.RightlyHanded.{ChangeItem}
 use Rattle.hub_model.specs.declared.feeds.Item.TheVariants.{Beat}
@@ -27,7 +27,7 @@ use Rattle.hub_shared.proofs.Handing.{given_by}
 use Rattle.hub_world.specs.Applied.{last_reply, whole_reply}
 use Rattle.hub_world.specs.Core.{IsWorld, Shows, core_of, held_entry}
 use Rattle.hub_world.specs.Growth.{MayFail}
-use Rattle.hub_world.specs.Lane.{back, front, held, without_front}
+use Rattle.hub_world.specs.Lane.{back, front, lane_items, without_front}
 use Rattle.hub_world.specs.PlainList.{ListState, behind, held_of, last, new_list}
 use Rattle.hub_world.specs.PlainList as list
 use Rattle.hub_world.specs.World.{World}
@@ -65,9 +65,9 @@ leads_world old new event reply of leads lists =
 -- a list that refuses is a lane that is full
 is_full : (program : Program) (number : ℕ) (state : ListState) → IsWorld program
     → entry_in number program.senders ≡ Some state → state.capacity ≤ length state.held
-    → program.state.limits.lane ≤ length (held number (map held_entry program.senders))
+    → program.state.limits.lane ≤ length (lane_items number (map held_entry program.senders))
 is_full program number state of is full =
-    let all : length (held number (map held_entry program.senders)) ≡ length state.held =
+    let all : length (lane_items number (map held_entry program.senders)) ≡ length state.held =
     ap length (all_held number program.senders ∙ ap held_of is) in
     omega (arith, full, all, fits_entry program.lane number state program.senders of.room is, of.lane)
 
@@ -78,9 +78,9 @@ module _ (program : Program) (number : ℕ) where
   no_list none = back_held number program.senders ∙ rw none refl
 
   pub no_list_within : entry_in number program.senders ≡ None
-      → length (held number (core_of program).lanes) ≤ program.state.limits.lane
+      → length (lane_items number (core_of program).lanes) ≤ program.state.limits.lane
   no_list_within none =
-      let all : length (held number (map held_entry program.senders)) ≡ 0 =
+      let all : length (lane_items number (map held_entry program.senders)) ≡ 0 =
       ap length (all_held number program.senders ∙ ap held_of none) in
       omega (arith, all)
 
@@ -89,9 +89,9 @@ module _ (program : Program) (number : ℕ) where
     list_back = back_held number program.senders ∙ rw is refl
 
     pub list_within : IsWorld program → length k.held ≤ k.capacity
-        → length (held number (core_of program).lanes) ≤ program.state.limits.lane
+        → length (lane_items number (core_of program).lanes) ≤ program.state.limits.lane
     list_within of within =
-        let all : length (held number (map held_entry program.senders)) ≡ length k.held =
+        let all : length (lane_items number (map held_entry program.senders)) ≡ length k.held =
         ap length (all_held number program.senders ∙ ap held_of is) in
         omega (arith, within, all, fits_entry program.lane number k program.senders of.room is, of.lane)
 
@@ -111,15 +111,15 @@ has_handed told (inr is) = subst HasHanded (sym is) tt
 
 -- one more item lies in the lane of this number
 module _ (program : Program) (number : ℕ) (item : ChangeItem) where
-  pub sent_held : map held_entry (changed number (λ (state : ListState). behind state item) program.senders)
-      ≡ changed number (λ (items : List ChangeItem). items ++ item ∷ []) (map held_entry program.senders)
+  pub sent_held : map held_entry (with_change number (λ (state : ListState). behind state item) program.senders)
+      ≡ with_change number (λ (items : List ChangeItem). items ++ item ∷ []) (map held_entry program.senders)
   sent_held =
       changed_held number (λ (state : ListState). behind state item)
       (λ (items : List ChangeItem). items ++ item ∷ [])
       (λ state. refl) program.senders
 
   pub sent_fits : All (Fits program.lane) program.senders
-      → All (Fits program.lane) (changed number (λ (state : ListState). behind state item) program.senders)
+      → All (Fits program.lane) (with_change number (λ (state : ListState). behind state item) program.senders)
   sent_fits =
       fits_changed program.lane number (λ (state : ListState). behind state item)
       (λ state. refl) program.senders
@@ -130,7 +130,7 @@ module _ (program new : Program) (id : FeedId) (of : IsWorld program) where
   Handing next done = Hands hosted_of with_hosted behind Refuses next program id.number done new
 
   abbrev answer : Next ChangeRow
-  answer = feeds.answered (hosted_of program.state) id.number
+  answer = feeds.next_of_number (hosted_of program.state) id.number
 
   -- the hand answers so
   abbrev pub told_as : Handed → Type 0
@@ -139,11 +139,11 @@ module _ (program new : Program) (id : FeedId) (of : IsWorld program) where
   -- an item was due, and was handed
   abbrev pub IsGiven : ChangeItem → Type 0
   IsGiven item =
-      (feeds.item_due (hosted_of program.state) id.number ≡ Some item)
+      (feeds.item_of_number (hosted_of program.state) id.number ≡ Some item)
       × (new ≡ handed_on hosted_of with_hosted behind program id.number item)
 
   due_now : (item : ChangeItem) → next.Give item ≡ answer
-      → feeds.item_due (hosted_of program.state) id.number ≡ Some item
+      → feeds.item_of_number (hosted_of program.state) id.number ≡ Some item
   due_now item gives = given_by (hosted_of program.state) (entry_in id.number program.state.feeds) item gives
 
   pub given : (told : Handed) → HasHanded told → Handing answer told → (item : ChangeItem) × IsGiven item
@@ -161,7 +161,7 @@ module _ (program new : Program) (id : FeedId) (of : IsWorld program) where
 
   module _ (item : ChangeItem) (gives : IsGiven item) where
     given_lanes : (core_of new).lanes
-        ≡ changed id.number (λ (items : List ChangeItem). items ++ item ∷ []) (core_of program).lanes
+        ≡ with_change id.number (λ (items : List ChangeItem). items ++ item ∷ []) (core_of program).lanes
     given_lanes = ap (λ (q : Program). (core_of q).lanes) gives.1 ∙ sent_held program id.number item
 
     found : (items : List ChangeItem) × (entry_in id.number (core_of program).lanes ≡ Some items)
@@ -173,13 +173,13 @@ module _ (program new : Program) (id : FeedId) (of : IsWorld program) where
         (pushed_back id.number item (core_of program).lanes found.0 found.1).0
 
     given_core : record {
-      db = with_hosted program.state (feeds.handed (hosted_of program.state) id.number);
-      lanes = changed id.number (λ (items : List ChangeItem). items ++ item ∷ []) (core_of program).lanes;
+      db = with_hosted program.state (feeds.hosted_after_hand (hosted_of program.state) id.number);
+      lanes = with_change id.number (λ (items : List ChangeItem). items ++ item ∷ []) (core_of program).lanes;
     } ≡ core_of new
     given_core =
         sym (ap core_of gives.1
         ∙ ap (λ ls. record {
-          db = with_hosted program.state (feeds.handed (hosted_of program.state) id.number);
+          db = with_hosted program.state (feeds.hosted_after_hand (hosted_of program.state) id.number);
           lanes = ls;
         }) (sent_held program id.number item))
 
@@ -199,13 +199,13 @@ module _ (program new : Program) (id : FeedId) (of : IsWorld program) where
 
     -- where there is room for it this is a step
     pub given_leads : (said : Reply) → said ≡ last_reply (back id.number (core_of new).lanes)
-        → length (held id.number (core_of new).lanes) ≤ new.state.limits.lane
+        → length (lane_items id.number (core_of new).lanes) ≤ new.state.limits.lane
         → Leads (core_of program) (event.Hand id) (whole_reply said) (core_of new)
     given_leads said last within =
         let lanes = pushed_back id.number item (core_of program).lanes found.0 found.1 in
-        let grown : length (held id.number (core_of new).lanes)
-        ≡ length (held id.number (core_of program).lanes) + 1 =
-        ap (λ ls. length (held id.number ls)) given_lanes ∙ lanes.1 in
+        let grown : length (lane_items id.number (core_of new).lanes)
+        ≡ length (lane_items id.number (core_of program).lanes) + 1 =
+        ap (λ ls. length (lane_items id.number ls)) given_lanes ∙ lanes.1 in
         let limit : new.state.limits.lane ≡ program.state.limits.lane =
         ap (λ (q : Program). q.state.limits.lane) gives.1 in
         subst (λ x. Leads (core_of program) (event.Hand id) (whole_reply x) (core_of new))
@@ -256,14 +256,14 @@ module _ (program new : Program) (id : FeedId) (of : IsWorld program) where
 -- ---- heartbeats
 
 module _ (program new : Program) (id : FeedId) (of : IsWorld program)
-    (due : feeds.is_beat_due (entry_in id.number program.state.feeds) ≡ true) where
+    (due : feeds.is_beat_allowed_if_any (entry_in id.number program.state.feeds) ≡ true) where
   abbrev pub Beating : Handed → Type 0
   Beating done = Beats {S = Database} behind Refuses true program id.number done new
 
   -- as the beat is told
   pub as_due : (told : Handed)
       → Beats {S = Database} behind Refuses
-      (feeds.is_beat_due (entry_in id.number program.state.feeds)) program id.number
+      (feeds.is_beat_allowed_if_any (entry_in id.number program.state.feeds)) program id.number
       told new
       → Beating told
   as_due told = subst (λ (b : Bool). Beats {S = Database} behind Refuses b program id.number told new) due
@@ -278,7 +278,7 @@ module _ (program new : Program) (id : FeedId) (of : IsWorld program)
   -- a heartbeat that was not refused is in the lane
   pub beat_sent : (told : Handed) → (told ≡ did.Full → ⊥) → Beating told
       → new ≡ record program {
-        senders = changed id.number (λ (k : ListState). behind k Beat) program.senders;
+        senders = with_change id.number (λ (k : ListState). behind k Beat) program.senders;
       }
   beat_sent did.Full refused beats = absurd (refused refl)
   beat_sent did.Nothing refused beats = beats
@@ -287,11 +287,11 @@ module _ (program new : Program) (id : FeedId) (of : IsWorld program)
   beat_sent did.Gone refused beats = absurd beats
 
   module _ (sent : new ≡ record program {
-    senders = changed id.number (λ (k : ListState). behind k Beat) program.senders;
+    senders = with_change id.number (λ (k : ListState). behind k Beat) program.senders;
   })
     where
       beat_lanes : (core_of new).lanes
-          ≡ changed id.number (λ (items : List ChangeItem). items ++ Beat ∷ []) (core_of program).lanes
+          ≡ with_change id.number (λ (items : List ChangeItem). items ++ Beat ∷ []) (core_of program).lanes
       beat_lanes = ap (λ (q : Program). (core_of q).lanes) sent ∙ sent_held program id.number Beat
 
       beat_found : (items : List ChangeItem) × (entry_in id.number (core_of program).lanes ≡ Some items)
@@ -304,7 +304,7 @@ module _ (program new : Program) (id : FeedId) (of : IsWorld program)
 
       beat_core : record {
         db = program.state;
-        lanes = changed id.number (λ (items : List ChangeItem). items ++ Beat ∷ []) (core_of program).lanes;
+        lanes = with_change id.number (λ (items : List ChangeItem). items ++ Beat ∷ []) (core_of program).lanes;
       } ≡ core_of new
       beat_core =
           sym (ap core_of sent ∙ ap (λ ls. record { db = program.state; lanes = ls })
@@ -324,13 +324,13 @@ module _ (program new : Program) (id : FeedId) (of : IsWorld program)
           }
 
       pub beat_leads : (said : Reply) → said ≡ last_reply (back id.number (core_of new).lanes)
-          → length (held id.number (core_of new).lanes) ≤ new.state.limits.lane
+          → length (lane_items id.number (core_of new).lanes) ≤ new.state.limits.lane
           → Leads (core_of program) (event.Heartbeat id) (whole_reply said) (core_of new)
       beat_leads said last within =
           let lanes = pushed_back id.number Beat (core_of program).lanes beat_found.0 beat_found.1 in
-          let grown : length (held id.number (core_of new).lanes)
-          ≡ length (held id.number (core_of program).lanes) + 1 =
-          ap (λ ls. length (held id.number ls)) beat_lanes ∙ lanes.1 in
+          let grown : length (lane_items id.number (core_of new).lanes)
+          ≡ length (lane_items id.number (core_of program).lanes) + 1 =
+          ap (λ ls. length (lane_items id.number ls)) beat_lanes ∙ lanes.1 in
           let limit : new.state.limits.lane ≡ program.state.limits.lane =
           ap (λ (q : Program). q.state.limits.lane) sent in
           subst (λ x. Leads (core_of program) (event.Heartbeat id) (whole_reply x) (core_of new))
@@ -356,7 +356,7 @@ module _ (old new : Program) (params : FeedParams) (id : FeedId) (of : IsWorld o
   pub begun_leads : Leads (core_of old) (event.Begin params) (reply.Opened id) (core_of new)
   begun_leads =
       let k = new_list (label_of (params_asked params) (hosted_of old.state)) old.lane in
-      let db = with_hosted old.state (feeds.opened (hosted_of old.state) (params_of params)) in
+      let db = with_hosted old.state (feeds.hosted_after_opening (hosted_of old.state) (params_of params)) in
       subst (λ c. Leads (core_of old) (event.Begin params) (reply.Opened id) c)
       (sym (ap core_of begun.step
       ∙ ap (λ lanes. record { db = db; lanes = lanes }) (added_held old.state.next_feed k old.senders)))
@@ -416,7 +416,7 @@ told_memory program params is =
 
 module _ (old new : Program) (id : FeedId) (of : IsWorld old) where
   -- a take
-  module _ (rest : new ≡ record old { senders = changed id.number list.without_front old.senders }) where
+  module _ (rest : new ≡ record old { senders = with_change id.number list.without_front old.senders }) where
     pub took_leads : (item : Option ChangeItem)
         → item ≡ option_and_then list.front (entry_in id.number old.senders)
         → Leads (core_of old) (event.Take id) (reply.Took item) (core_of new)
@@ -439,13 +439,13 @@ module _ (old new : Program) (id : FeedId) (of : IsWorld old) where
 
   -- an end of a feed
   module _
-      (step : new ≡ record (stepped hosted_of with_hosted old (λ h. feeds.finished h id.number)) {
+      (step : new ≡ record (stepped hosted_of with_hosted old (λ h. feeds.hosted_after_finish h id.number)) {
         senders = without id.number old.senders;
       }) where
     pub left_leads : (items : List ChangeItem) → items ≡ held_of (entry_in id.number old.senders)
         → Leads (core_of old) (event.Finish id) (reply.Left items) (core_of new)
     left_leads items is =
-        let db = with_hosted old.state (feeds.finished (hosted_of old.state) id.number) in
+        let db = with_hosted old.state (feeds.hosted_after_finish (hosted_of old.state) id.number) in
         let core : core_of new
         ≡ record { db = db; lanes = without id.number (map held_entry old.senders) } =
         ap core_of step
@@ -453,7 +453,7 @@ module _ (old new : Program) (id : FeedId) (of : IsWorld old) where
         subst (λ r. Leads (core_of old) (event.Finish id) (reply.Left r) (core_of new))
         (all_held id.number old.senders ∙ sym is)
         (subst (λ c. Leads (core_of old) (event.Finish id)
-        (reply.Left (held id.number (map held_entry old.senders))) c) (sym core)
+        (reply.Left (lane_items id.number (map held_entry old.senders))) c) (sym core)
         (finish_leads (core_of old) id))
 
     pub left_lists : HasLists new

@@ -6,7 +6,7 @@ use Rattle.std.proofs.Math.Seq.{take-length}
 use Rattle.hub_document.specs.declared.limits.Limits as hub
 use Rattle.hub_document.specs.declared.doc.Doc.{Doc}
 use Rattle.hub_database.specs.declared.batch.Batch.{Batch}
-use Rattle.hub_world.specs.Applied.{CoreStep, happened, whole_reply, is_stopped, Answers, Applies}
+use Rattle.hub_world.specs.Applied.{CoreStep, event_as_applied, whole_reply, is_stopped, Answers, Applies}
 use Rattle.hub_world.specs.Core.{Core, Shows, limits_of}
 use Rattle.hub_world.specs.Step.{Step, Run, whole_batch}
 use Rattle.hub_world.specs.World.{World, empty}
@@ -35,7 +35,7 @@ whole_docs : (docs : List Doc) (n : ℕ) → n ≡ length docs → take n docs �
 whole_docs docs n e = ap (λ (k : ℕ). take k docs) e ∙ take-length docs
 
 happened_whole : (old new : Core) (e : Event) (r : Reply) → Answers old e r new → is_stopped r ≡ false
-    → happened e r ≡ e
+    → event_as_applied e r ≡ e
 happened_whole old new (event.Write docs) (reply.Outcomes batch) a s =
     ap event.Write (whole_docs docs (length batch.replies) (a.whole s))
 happened_whole old new (event.Write docs) _ a s = refl
@@ -73,7 +73,7 @@ applied_whole old new event reply applies answers whole w h =
     let s = applies w h in (
       s.0,
       subst (λ (x : Event). Step w x reply s.0) (happened_whole old new event reply answers whole)
-          (subst (λ (x : Reply). Step w (happened event reply) x s.0) (replied_whole reply whole) s.1),
+          (subst (λ (x : Reply). Step w (event_as_applied event reply) x s.0) (replied_whole reply whole) s.1),
       s.2,
     )
 

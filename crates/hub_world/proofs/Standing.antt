@@ -7,33 +7,33 @@ use Rattle.std.proofs.lemmas.List.{length-set, length_push, length-map}
 use Rattle.std.proofs.lemmas.List.Elements.{All-map, All-push, All-set}
 use Rattle.std.proofs.lemmas.Option.{none-some, same_Some, slice_get_within, get_or_from_slice_get}
 use Rattle.hub_database.proofs.ListLemmas.{set_back}
-use Rattle.hub_database.specs.Feeds.{deleted}
+use Rattle.hub_database.specs.Feeds.{deleted_database}
 use Rattle.hub_database.specs.Hosting.{hosted_of, with_hosted}
-use Rattle.hub_feed.specs.Host.{opened, is_full}
+use Rattle.hub_feed.specs.Host.{hosted_after_opening, is_full}
 use Rattle.hub_model.specs.Feed.{Feed, Params, Status, Open, Ending, Ended}
-use Rattle.hub_model.specs.Feed.{Finished, begin, is_open, waits, finish}
+use Rattle.hub_model.specs.Feed.{Finished, new_feed, is_open, is_waiting_mode, finished_feed}
 use Rattle.hub_model.specs.Journal.{Edit}
 use Rattle.hub_model.specs.RightlyHanded.{ChangeItem}
 use Rattle.hub_world.specs.Core.{Core, Shows, IsEmptied}
-use Rattle.hub_model.specs.Entries.{entry_in, changed, is_of, without}
+use Rattle.hub_model.specs.Entries.{entry_in, with_change, is_of, without}
 use Rattle.hub_model.proofs.Entries.{without_absent}
-use Rattle.hub_feed.specs.Feeds.{ended as ended_entry}
+use Rattle.hub_feed.specs.Feeds.{ended_subscription as ended_entry}
 use Rattle.hub_world.specs.Lane.{Lanes}
 use Rattle.hub_world.specs.World.{World, Subscription, is_finished, open_feeds, has_no_room, subscription}
-use Rattle.hub_world.specs.World.{with_subscription, lane_of, with_feed, expired, took, finished, ended}
+use Rattle.hub_world.specs.World.{with_subscription, lane_of, with_feed, world_after_expiry, world_after_take, world_after_finish, ended_subscription}
 pub use Rattle.hub_model.proofs.Entries.{changed_absent}
 use Rattle.hub_world.proofs.StandingLists.{shown, seen, looked, turned, left_out, added}
 use Rattle.hub_world.proofs.StandingLists.{counted, ended_stands, all_ended}
 
 -- an entry that stays changes nothing
 pub changed_same : {A : Type 0} (number : ℕ) (entries : List (ℕ × A))
-    → changed number (λ a. a) entries ≡ entries
+    → with_change number (λ a. a) entries ≡ entries
 changed_same number [] = refl
 changed_same {A = A} number (p ∷ entries) = from (is_of number p) (changed_same number entries)
   where
-    from : (b : Bool) → changed number (λ a. a) entries ≡ entries
+    from : (b : Bool) → with_change number (λ a. a) entries ≡ entries
         → ◌≡◌ {A = List (ℕ × A)}
-        ((if b then (p.0, p.1) else p) ∷ changed number (λ a. a) entries) (p ∷ entries)
+        ((if b then (p.0, p.1) else p) ∷ with_change number (λ a. a) entries) (p ∷ entries)
     from true e = ap (λ (ps : List (ℕ × A)). p ∷ ps) e
     from false e = ap (λ (ps : List (ℕ × A)). p ∷ ps) e
 
@@ -46,8 +46,8 @@ IsGone (Some subscription) = is_finished subscription.feed.status ≡ true
 abbrev pub with_entry : Core → ℕ → (Feed → Feed) → (List ChangeItem → List ChangeItem) → Core
 with_entry core f change refill =
     record {
-      db = record core.db { feeds = changed f change core.db.feeds };
-      lanes = changed f refill core.lanes;
+      db = record core.db { feeds = with_change f change core.db.feeds };
+      lanes = with_change f refill core.lanes;
     }
 
 -- what the core has of a feed
@@ -110,14 +110,14 @@ entry_changed core world f φ ψ s new sh i stands stands' feed lane = record {
   limits = sh.limits;
   life = sh.life;
   journal = sh.journal;
-  deleted = sh.deleted;
+  deleted_database = sh.deleted;
   given = length-set world.feeds f new ∙ sh.given;
   feeds =
       turned (λ s. s.feed) 0 f f world.feeds φ s new (omega arith) i stands stands' feed
-      ∙ ap (changed f φ) sh.feeds;
+      ∙ ap (with_change f φ) sh.feeds;
   lanes =
       turned (λ s. s.lane) 0 f f world.feeds ψ s new (omega arith) i stands stands' lane
-      ∙ ap (changed f ψ) sh.lanes;
+      ∙ ap (with_change f ψ) sh.lanes;
   emptied = All-set IsEmptied world.feeds f new (λ t. absurd (both_ways _ stands' t)) sh.emptied;
 }
 
@@ -128,7 +128,7 @@ journal_changed core world journal sh = record {
   limits = sh.limits;
   life = sh.life;
   journal = refl;
-  deleted = sh.deleted;
+  deleted_database = sh.deleted;
   given = sh.given;
   feeds = sh.feeds;
   lanes = sh.lanes;
@@ -147,18 +147,18 @@ room_shown core world sh =
 -- one feed more
 pub feed_opened : (core : Core) (world : World) (params : Params) → Shows core world
     → Shows (record {
-      db = with_hosted core.db (opened (hosted_of core.db) params);
+      db = with_hosted core.db (hosted_after_opening (hosted_of core.db) params);
       lanes = core.lanes ++ (core.db.next_feed, []) ∷ [];
     }) (with_feed world params)
 feed_opened core world params sh =
-    let new : Subscription = record { feed = begin params (length world.journal) world.life; lane = [] } in
-    let begun : new.feed ≡ begin params (length core.db.journal) core.db.life =
-    ap₂ (λ (journal : List Edit) (life : ℕ). begin params (length journal) life) sh.journal sh.life in
+    let new : Subscription = record { feed = new_feed params (length world.journal) world.life; lane = [] } in
+    let begun : new.feed ≡ new_feed params (length core.db.journal) core.db.life =
+    ap₂ (λ (journal : List Edit) (life : ℕ). new_feed params (length journal) life) sh.journal sh.life in
     record {
       limits = sh.limits;
       life = sh.life;
       journal = sh.journal;
-      deleted = sh.deleted;
+      deleted_database = sh.deleted;
       given = omega (arith, length_push world.feeds new, sh.given);
       feeds =
           added (λ s. s.feed) 0 core.db.next_feed world.feeds new (omega (arith, sh.given)) refl
@@ -172,7 +172,7 @@ feed_opened core world params sh =
 -- the subscriber of a feed is gone
 pub feed_finished : (core : Core) (world : World) (f : ℕ) → Shows core world
     → Shows (record { db = record core.db { feeds = without f core.db.feeds }; lanes = without f core.lanes })
-    (finished (subscription world f) f world)
+    (world_after_finish (subscription world f) f world)
 feed_finished core world f sh =
     from (subscription world f) refl (feed_seen core world f sh) (lane_seen core world f sh)
   where
@@ -183,24 +183,24 @@ feed_finished core world f sh =
           db = record core.db { feeds = without f core.db.feeds };
           lanes = without f core.lanes;
         })
-        (finished maybe_subscription f world)
+        (world_after_finish maybe_subscription f world)
     from None q e l = record {
       limits = sh.limits;
       life = sh.life;
       journal = sh.journal;
-      deleted = sh.deleted;
+      deleted_database = sh.deleted;
       given = sh.given;
       feeds = sh.feeds ∙ sym (without_absent f core.db.feeds e);
       lanes = sh.lanes ∙ sym (without_absent f core.lanes l);
       emptied = sh.emptied;
     }
     from (Some s) q e l =
-        let new : Subscription = record { feed = finish s.feed; lane = [] } in
+        let new : Subscription = record { feed = finished_feed s.feed; lane = [] } in
         record {
           limits = sh.limits;
           life = sh.life;
           journal = sh.journal;
-          deleted = sh.deleted;
+          deleted_database = sh.deleted;
           given = length-set world.feeds f new ∙ sh.given;
           feeds =
               left_out (λ s. s.feed) 0 f f world.feeds s new (omega arith) q refl ∙ ap (without f) sh.feeds;
@@ -211,20 +211,20 @@ feed_finished core world f sh =
 
 -- the database is deleted
 pub feeds_deleted : (core : Core) (world : World) → Shows core world
-    → Shows (record core { db = deleted core.db })
-    (record world { deleted = true; feeds = map ended world.feeds })
+    → Shows (record core { db = deleted_database core.db })
+    (record world { deleted = true; feeds = map ended_subscription world.feeds })
 feeds_deleted core world sh = record {
   limits = sh.limits;
   life = sh.life;
   journal = sh.journal;
-  deleted = refl;
-  given = length-map world.feeds ended ∙ sh.given;
+  deleted_database = refl;
+  given = length-map world.feeds ended_subscription ∙ sh.given;
   feeds = all_ended (λ s. s.feed) 0 world.feeds ended_entry (λ m s. refl) ∙ ap (map ended_entry) sh.feeds;
   lanes =
       all_ended (λ s. s.lane) 0 world.feeds (λ p. p) (λ m s. refl)
       ∙ (map-id (shown (λ s. s.lane) 0 world.feeds) ∙ sh.lanes);
   emptied =
-      All-map IsEmptied ended world.feeds
+      All-map IsEmptied ended_subscription world.feeds
       (λ k d l. λ t. sh.emptied k d l (sym (ended_stands (get_or world.feeds k d)) ∙ t));
 }
 
@@ -237,25 +237,25 @@ over Finished t = refl
 
 -- the time of a gone feed
 pub gone_expires : (core : Core) (world : World) (f : ℕ) → Shows core world → IsGone (subscription world f)
-    → expired (subscription world f) f world ≡ world
+    → world_after_expiry (subscription world f) f world ≡ world
 gone_expires core world f sh gone = from (subscription world f) refl gone
   where
     from : (maybe_subscription : Option Subscription) → subscription world f ≡ maybe_subscription
-        → IsGone maybe_subscription → expired maybe_subscription f world ≡ world
+        → IsGone maybe_subscription → world_after_expiry maybe_subscription f world ≡ world
     from None q t = refl
     from (Some s) q t =
-        rw (and_left (is_open s.feed.status) (waits s.feed.params.mode) (over s.feed.status t))
+        rw (and_left (is_open s.feed.status) (is_waiting_mode s.feed.params.mode) (over s.feed.status t))
         (ap (λ (subscriptions : List Subscription). record world { feeds = subscriptions })
         (set_back world.feeds f s q))
 
 -- and the front of its lane
 pub gone_takes : (core : Core) (world : World) (f : ℕ) → Shows core world → IsGone (subscription world f)
-    → (lane_of (subscription world f) ≡ []) × (took (subscription world f) f world ≡ world)
+    → (lane_of (subscription world f) ≡ []) × (world_after_take (subscription world f) f world ≡ world)
 gone_takes core world f sh gone = from (subscription world f) refl gone
   where
     from : (maybe_subscription : Option Subscription) → subscription world f ≡ maybe_subscription
         → IsGone maybe_subscription → (lane_of maybe_subscription ≡ [])
-        × (took maybe_subscription f world ≡ world)
+        × (world_after_take maybe_subscription f world ≡ world)
     from None q t = (refl, refl)
     from (Some s) q t =
         let none : s.lane ≡ [] =

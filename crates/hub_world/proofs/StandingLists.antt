@@ -6,14 +6,14 @@ use Rattle.std.proofs.lemmas.Bool.{cases_Bool, eq-eqb, ne_eqb}
 use Rattle.std.proofs.lemmas.Option.{none-some, same_Some}
 use Rattle.std.proofs.lemmas.List.Sums.{sum_by-cons}
 use Rattle.hub_model.specs.Feed.{Status, Open, Ending, Ended, Finished, is_open}
-use Rattle.hub_world.specs.Core.{standing_from}
-use Rattle.hub_model.specs.Entries.{entry_in, changed, without}
+use Rattle.hub_world.specs.Core.{unfinished_from}
+use Rattle.hub_model.specs.Entries.{entry_in, with_change, without}
 use Rattle.hub_model.proofs.Entries.{changed_absent, without_absent}
-use Rattle.hub_world.specs.World.{Subscription, is_finished, ended}
+use Rattle.hub_world.specs.World.{Subscription, is_finished, ended_subscription}
 
 -- this part of the feeds that are not finished, by their numbers from n
 abbrev pub shown : {A : Type 0} → (Subscription → A) → ℕ → List Subscription → List (ℕ × A)
-shown part n subscriptions = map (λ p. (p.0, part p.1)) (standing_from n subscriptions)
+shown part n subscriptions = map (λ p. (p.0, part p.1)) (unfinished_from n subscriptions)
 
 -- and that of one, if it is such a feed
 abbrev pub seen : {A : Type 0} → (Subscription → A) → Option Subscription → Option A
@@ -26,8 +26,8 @@ module _ {A : Type 0} (part : Subscription → A) where
   abbrev entries : Bool → ℕ → Subscription → List Subscription → List (ℕ × A)
   entries b n subscription subscriptions =
       map (λ p. (p.0, part p.1))
-      (if b then standing_from (n + 1) subscriptions else (n, subscription)
-      ∷ standing_from (n + 1) subscriptions)
+      (if b then unfinished_from (n + 1) subscriptions else (n, subscription)
+      ∷ unfinished_from (n + 1) subscriptions)
 
   -- there is no number below the first
   pub none_below : (n g : ℕ) (subscriptions : List Subscription) → g < n
@@ -68,11 +68,11 @@ module _ {A : Type 0} (part : Subscription → A) where
       → slice_get subscriptions k ≡ Some subscription → is_finished subscription.feed.status ≡ false
       → is_finished new.feed.status ≡ false
       → change (part subscription) ≡ part new
-      → shown part n (slice_set subscriptions k new) ≡ changed g change (shown part n subscriptions)
+      → shown part n (slice_set subscriptions k new) ≡ with_change g change (shown part n subscriptions)
   turned n k g [] change subscription new h i stands stands' e = absurd (none-some subscription i)
   turned n zero g (other ∷ subscriptions) change subscription new h i stands stands' e =
       let same : other ≡ subscription = same_Some other subscription i in
-      let rest : changed g change (shown part (n + 1) subscriptions) ≡ shown part (n + 1) subscriptions =
+      let rest : with_change g change (shown part (n + 1) subscriptions) ≡ shown part (n + 1) subscriptions =
       changed_absent g change (shown part (n + 1) subscriptions)
       (none_below (n + 1) g subscriptions (omega arith)) in
       rw (same, stands, stands', eq-eqb n g (omega arith), e, rest) refl
@@ -80,9 +80,9 @@ module _ {A : Type 0} (part : Subscription → A) where
       from (is_finished other.feed.status)
       (turned (n + 1) k g subscriptions change subscription new (omega arith) i stands stands' e)
     where
-      from : (b : Bool) → shown part (n + 1) (slice_set subscriptions k new) ≡ changed g change
+      from : (b : Bool) → shown part (n + 1) (slice_set subscriptions k new) ≡ with_change g change
           (shown part (n + 1) subscriptions)
-          → entries b n other (slice_set subscriptions k new) ≡ changed g change
+          → entries b n other (slice_set subscriptions k new) ≡ with_change g change
           (entries b n other subscriptions)
       from true r = r
       from false r = rw (ne_eqb n g (omega arith)) (ap (λ (ps : List (ℕ × A)). (n, part other) ∷ ps) r)
@@ -154,7 +154,7 @@ open_stands Finished t = sym t
 
 -- the end of its database makes no feed a finished one, and no finished one another
 pub ended_stands : (subscription : Subscription)
-    → is_finished (ended subscription).feed.status ≡ is_finished subscription.feed.status
+    → is_finished (ended_subscription subscription).feed.status ≡ is_finished subscription.feed.status
 ended_stands subscription =
     elim (cases_Bool (is_open subscription.feed.status)) [
       | inl t ↦ rw t (sym (open_stands subscription.feed.status t))
@@ -165,20 +165,20 @@ module _ {A : Type 0} (part : Subscription → A) where
   -- every feed ends
   pub all_ended : (n : ℕ) (subscriptions : List Subscription) (change : ℕ × A → ℕ × A)
       → ((m : ℕ) (subscription : Subscription)
-      → (m, part (ended subscription)) ≡ change (m, part subscription))
-      → shown part n (map ended subscriptions) ≡ map change (shown part n subscriptions)
+      → (m, part (ended_subscription subscription)) ≡ change (m, part subscription))
+      → shown part n (map ended_subscription subscriptions) ≡ map change (shown part n subscriptions)
   all_ended n [] change e = refl
   all_ended n (subscription ∷ subscriptions) change e =
       rw (ended_stands subscription)
       (from (is_finished subscription.feed.status) (all_ended (n + 1) subscriptions change e))
     where
-      from : (b : Bool) → shown part (n + 1) (map ended subscriptions) ≡ map change
+      from : (b : Bool) → shown part (n + 1) (map ended_subscription subscriptions) ≡ map change
           (shown part (n + 1) subscriptions) → map (λ p. (p.0, part p.1))
-          (if b then standing_from (n + 1) (map ended subscriptions)
-          else (n, ended subscription) ∷ standing_from (n + 1) (map ended subscriptions))
+          (if b then unfinished_from (n + 1) (map ended_subscription subscriptions)
+          else (n, ended_subscription subscription) ∷ unfinished_from (n + 1) (map ended_subscription subscriptions))
           ≡ map change
           (map (λ p. (p.0, part p.1))
-          (if b then standing_from (n + 1) subscriptions else (n, subscription)
-          ∷ standing_from (n + 1) subscriptions))
+          (if b then unfinished_from (n + 1) subscriptions else (n, subscription)
+          ∷ unfinished_from (n + 1) subscriptions))
       from true r = r
       from false r = rw (e n subscription) (ap (λ (ps : List (ℕ × A)). change (n, part subscription) ∷ ps) r)

@@ -6,12 +6,12 @@ use Rattle.std.specs.Prelude.{drop, take, unwrap_or, option_and_then, if◌then�
 use Rattle.std.proofs.lemmas.Option.{none-some}
 use Rattle.hub_model.specs.Current.{Current, current}
 use Rattle.hub_model.specs.Feed.{Feed, Status, Open, Ending, Ended, Finished, Due}
-use Rattle.hub_model.specs.Feed.{DueRow, DueEnd, DueNothing, DueGone, due_at, after_due}
-use Rattle.hub_model.specs.Feed.{after_nothing, status_after, is_open, waits, expire, beat_due}
-use Rattle.hub_model.specs.Hand.{change_due, due_in}
+use Rattle.hub_model.specs.Feed.{DueRow, DueEnd, DueNothing, DueGone, due_by_status, feed_after_due}
+use Rattle.hub_model.specs.Feed.{after_nothing, status_after, is_open, is_waiting_mode, expired_feed, is_beat_allowed}
+use Rattle.hub_model.specs.Hand.{next_change, journal_due}
 use Rattle.hub_model.specs.Journal.{Edit}
-use Rattle.hub_model.specs.Outcome.{Stores, StoresAll, merges, stores_all}
-use Rattle.hub_model.specs.Draft.{makes}
+use Rattle.hub_model.specs.Outcome.{Stores, StoresAll, merge_result, stores_all}
+use Rattle.hub_model.specs.Draft.{draft_result}
 use Rattle.hub_model.specs.Revision.{Revision}
 use Rattle.hub_model.specs.RightlyHanded.{ChangeItem}
 use Rattle.hub_model.specs.Row.{ChangeRow, row_of}
@@ -21,13 +21,13 @@ use Rattle.hub_model.specs.declared.outcomes.Outcome.TheVariants as outcome
 use Rattle.hub_model.specs.declared.outcomes.Fault.TheVariants as fault
 use Rattle.hub_document.specs.declared.doc.Doc.{Doc}
 use Rattle.hub_feed.specs.Host as feeds
-use Rattle.hub_feed.specs.Next.{next_of}
+use Rattle.hub_feed.specs.Next.{next_of_due}
 use Rattle.hub_feed.specs.declared.host.FeedId.{FeedId}
 use Rattle.hub_feed.specs.declared.next.Next.{Next}
 use Rattle.hub_feed.specs.declared.next.Next.TheVariants as next
 use Rattle.hub_feed.specs.declared.host.OpenFault.TheVariants as open_fault
-use Rattle.hub_database.specs.Edits.{edit_of, draft_of, writes}
-use Rattle.hub_database.specs.Feeds.{deleted}
+use Rattle.hub_database.specs.Edits.{edit_of, draft_of, docs_result}
+use Rattle.hub_database.specs.Feeds.{deleted_database}
 use Rattle.hub_database.specs.Hosting.{hosted_of, with_hosted}
 use Rattle.hub_database.specs.declared.batch.Batch.{Batch}
 use Rattle.hub_params.specs.FeedModel.{params_of}
@@ -35,17 +35,17 @@ use Rattle.hub_params.specs.declared.feed_params.FeedParams.{FeedParams}
 use Rattle.hub_world.specs.Applied.{Answers, Applies, CoreStep, IsAnsweredFor, write_of}
 use Rattle.hub_world.specs.Core.{Core, Shows}
 use Rattle.hub_world.specs.Growth.{MayFail}
-use Rattle.hub_model.specs.Entries.{entry_in, changed, without}
+use Rattle.hub_model.specs.Entries.{entry_in, with_change, without}
 use Rattle.hub_world.specs.declared.event.Event.{Event}
 use Rattle.hub_world.specs.declared.event.Event.TheVariants.{Write, Interactive, Begin, Hand, Heartbeat}
 use Rattle.hub_world.specs.declared.event.Event.TheVariants.{Expire, Take, Finish, Delete}
 use Rattle.hub_world.specs.declared.reply.Reply.{Reply}
 use Rattle.hub_world.specs.declared.reply.Reply.TheVariants.{Outcomes, Opened, TooManyFeeds}
 use Rattle.hub_world.specs.declared.reply.Reply.TheVariants.{Pushed, Full, Nothing, Gone, Took, Left}
-use Rattle.hub_world.specs.Lane.{front, without_front, held}
+use Rattle.hub_world.specs.Lane.{front, without_front, lane_items}
 use Rattle.hub_world.specs.Step.{Step, whole_batch}
 use Rattle.hub_world.specs.World.{World, Limits, Subscription, subscription, with_subscription}
-use Rattle.hub_world.specs.World.{is_finished, feed_of, lane_of, merged, drafted, pushed, expired, took}
+use Rattle.hub_world.specs.World.{is_finished, feed_of, lane_of, merges_result, drafts_result, subscription_after_push, world_after_expiry, world_after_take}
 use Rattle.hub_world.proofs.Standing.{IsGone, feed_found, feed_gone, entry_changed, changed_same}
 use Rattle.hub_world.proofs.Standing.{changed_absent, feed_finished, feed_opened, room_shown}
 use Rattle.hub_world.proofs.Standing.{feeds_deleted, journal_changed, gone_expires, gone_takes}
@@ -69,14 +69,14 @@ stores_map store f false journal (x ∷ xs) =
     (stores_map store f false (store journal (f x)).journal xs)
 
 write_leads : (core : Core) (docs : List Doc) (outcomes : List (Outcome Revision)) (journal : List Edit)
-    → writes false core.db.deleted core.db.limits.journal core.db.journal docs
+    → docs_result false core.db.deleted core.db.limits.journal core.db.journal docs
     ≡ record { outcomes = outcomes; journal = journal }
     → Leads core (Write docs) (Outcomes (whole_batch outcomes))
     (record core { db = record core.db { journal = journal } })
 write_leads core docs outcomes journal e w h =
-    let same : merged w (map edit_of docs) ≡ record { outcomes = outcomes; journal = journal } =
+    let same : merges_result w (map edit_of docs) ≡ record { outcomes = outcomes; journal = journal } =
     rw (h.limits, h.journal, h.deleted)
-    (sym (stores_map (merges core.db.limits.journal) edit_of core.db.deleted core.db.journal docs) ∙ e) in (
+    (sym (stores_map (merge_result core.db.limits.journal) edit_of core.db.deleted core.db.journal docs) ∙ e) in (
       record w { journal = journal },
       (
         ap (λ (s : StoresAll). whole_batch s.outcomes) (sym same),
@@ -86,14 +86,14 @@ write_leads core docs outcomes journal e w h =
     )
 
 make_leads : (core : Core) (docs : List Doc) (outcomes : List (Outcome Revision)) (journal : List Edit)
-    → writes true core.db.deleted core.db.limits.journal core.db.journal docs
+    → docs_result true core.db.deleted core.db.limits.journal core.db.journal docs
     ≡ record { outcomes = outcomes; journal = journal }
     → Leads core (Interactive docs) (Outcomes (whole_batch outcomes))
     (record core { db = record core.db { journal = journal } })
 make_leads core docs outcomes journal e w h =
-    let same : drafted w (map draft_of docs) ≡ record { outcomes = outcomes; journal = journal } =
+    let same : drafts_result w (map draft_of docs) ≡ record { outcomes = outcomes; journal = journal } =
     rw (h.limits, h.journal, h.deleted)
-    (sym (stores_map (makes core.db.limits.journal) draft_of core.db.deleted core.db.journal docs) ∙ e) in (
+    (sym (stores_map (draft_result core.db.limits.journal) draft_of core.db.deleted core.db.journal docs) ∙ e) in (
       record w { journal = journal },
       (
         ap (λ (s : StoresAll). whole_batch s.outcomes) (sym same),
@@ -105,7 +105,7 @@ make_leads core docs outcomes journal e w h =
 -- documents of either kind
 pub stored_leads : (new_edits : Bool) (core : Core) (docs : List Doc) (outcomes : List (Outcome Revision))
     (journal : List Edit)
-    → writes new_edits core.db.deleted core.db.limits.journal core.db.journal docs
+    → docs_result new_edits core.db.deleted core.db.limits.journal core.db.journal docs
     ≡ record { outcomes = outcomes; journal = journal }
     → Leads core (write_of new_edits docs) (Outcomes (whole_batch outcomes))
     (record core { db = record core.db { journal = journal } })
@@ -139,10 +139,10 @@ refused false true e = absurd (none-some _ (sym e))
 refused false false e = (refl, refl)
 
 pub begin_leads : (core : Core) (params : FeedParams) (id : FeedId) → id.number ≡ core.db.next_feed
-    → feeds.refuses (hosted_of core.db) ≡ None
+    → feeds.opening_refusal (hosted_of core.db) ≡ None
     → Leads core (Begin params) (Opened id)
     (record {
-      db = with_hosted core.db (feeds.opened (hosted_of core.db) (params_of params));
+      db = with_hosted core.db (feeds.hosted_after_opening (hosted_of core.db) (params_of params));
       lanes = core.lanes ++ (core.db.next_feed, []) ∷ [];
     })
 begin_leads core params id named e w h =
@@ -161,23 +161,23 @@ told_full false true e = (refl, refl)
 told_full false false e = absurd (none-some _ e)
 
 pub begin_full : (core : Core) (params : FeedParams)
-    → feeds.refuses (hosted_of core.db) ≡ Some open_fault.TooManyFeeds
+    → feeds.opening_refusal (hosted_of core.db) ≡ Some open_fault.TooManyFeeds
     → Leads core (Begin params) TooManyFeeds core
 begin_full core params e w h =
     let t = told_full core.db.deleted (feeds.is_full (hosted_of core.db)) e in
     (w, (h.deleted ∙ t.0, sym (room_shown core w h) ∙ t.1, refl), h)
 
 pub finish_leads : (core : Core) (id : FeedId)
-    → Leads core (Finish id) (Left (held id.number core.lanes))
+    → Leads core (Finish id) (Left (lane_items id.number core.lanes))
     (record {
-      db = with_hosted core.db (feeds.finished (hosted_of core.db) id.number);
+      db = with_hosted core.db (feeds.hosted_after_finish (hosted_of core.db) id.number);
       lanes = without id.number core.lanes;
     })
 finish_leads core id w h =
     (_, (held_lane (entry_in id.number core.db.feeds) refl, refl), feed_finished core w id.number h)
   where
     held_lane : (maybe_feed : Option Feed) → entry_in id.number core.db.feeds ≡ maybe_feed
-        → held id.number core.lanes ≡ lane_of (subscription w id.number)
+        → lane_items id.number core.lanes ≡ lane_of (subscription w id.number)
     held_lane None e =
         let g = feed_gone core w id.number h e in
         ap (λ (x : Option (List ChangeItem)). unwrap_or x []) g.1 ∙ sym (gone_takes core w id.number h g.0).0
@@ -186,7 +186,7 @@ finish_leads core id w h =
         ap (λ (x : Option (List ChangeItem)). unwrap_or x []) s.4 ∙ ap lane_of (sym s.1)
 
 pub delete_leads : (core : Core) → core.db.deleted ≡ false
-    → Leads core Delete Nothing (record core { db = deleted core.db })
+    → Leads core Delete Nothing (record core { db = deleted_database core.db })
 delete_leads core e w h = (_, (h.deleted ∙ e, refl), feeds_deleted core w h)
 
 -- ---- what is due
@@ -201,7 +201,7 @@ stays_open (Some limit) rows = from (nat_le limit rows)
 
 -- a feed that goes on is not finished
 goes_on : (feed : Feed) (due : Due) (len : ℕ) → is_finished feed.status ≡ false
-    → is_finished (after_due feed due len).status ≡ false
+    → is_finished (feed_after_due feed due len).status ≡ false
 goes_on feed (DueRow c) len u = stays_open feed.params.limit _
 goes_on feed (DueEnd last_seq) len u = refl
 goes_on feed DueNothing len u = u
@@ -209,68 +209,68 @@ goes_on feed DueGone len u = u
 
 -- the feed that has something due
 pub due_feed : (journal : List Edit) (maybe_feed : Option Feed) (item : ChangeItem)
-    → option_and_then (change_due journal) maybe_feed ≡ Some item → (feed : Feed) × (maybe_feed ≡ Some feed)
-    × (change_due journal feed ≡ Some item)
+    → option_and_then (next_change journal) maybe_feed ≡ Some item → (feed : Feed) × (maybe_feed ≡ Some feed)
+    × (next_change journal feed ≡ Some item)
 due_feed journal None item e = absurd (none-some item e)
 due_feed journal (Some feed) item e = (feed, refl, e)
 
-module _ (core : Core) (f : ℕ) (item : ChangeItem) (ready : feeds.item_due (hosted_of core.db) f ≡ Some item)
+module _ (core : Core) (f : ℕ) (item : ChangeItem) (ready : feeds.item_of_number (hosted_of core.db) f ≡ Some item)
     (world : World) (h : Shows core world) where
   abbrev pub found : (feed : Feed) × (entry_in f core.db.feeds ≡ Some feed) ×
-      (change_due core.db.journal feed ≡ Some item)
+      (next_change core.db.journal feed ≡ Some item)
   found = due_feed core.db.journal (entry_in f core.db.feeds) item ready
 
   abbrev pub at : (s : Subscription) × (subscription world f ≡ Some s) × (s.feed ≡ found.0)
       × (is_finished s.feed.status ≡ false) × (entry_in f core.lanes ≡ Some s.lane)
   at = feed_found core world f found.0 h found.1
 
-  due_here : change_due world.journal at.0.feed ≡ Some item
+  due_here : next_change world.journal at.0.feed ≡ Some item
   due_here =
-      ap (λ (journal : List Edit). change_due journal at.0.feed) h.journal
-      ∙ (ap (change_due core.db.journal) at.2 ∙ found.2)
+      ap (λ (journal : List Edit). next_change journal at.0.feed) h.journal
+      ∙ (ap (next_change core.db.journal) at.2 ∙ found.2)
 
 lane_limit : (core : Core) (world : World) → Shows core world → world.limits.lane ≡ core.db.limits.lane
 lane_limit core world h = ap (λ (limits : Limits). limits.lane) h.limits
 
 -- the lane to whose feed it is due
-pub due_lane : (core : Core) (f : ℕ) (item : ChangeItem) → feeds.item_due (hosted_of core.db) f ≡ Some item
+pub due_lane : (core : Core) (f : ℕ) (item : ChangeItem) → feeds.item_of_number (hosted_of core.db) f ≡ Some item
     → (world : World) → Shows core world → (items : List ChangeItem) × (entry_in f core.lanes ≡ Some items)
 due_lane core f item ready world h = let s = at core f item ready world h in (s.0.lane, s.4)
 
 -- what a lane holds that is found
 held_is : (core : Core) (f : ℕ) (items : List ChangeItem) → entry_in f core.lanes ≡ Some items
-    → length (held f core.lanes) ≡ length items
+    → length (lane_items f core.lanes) ≡ length items
 held_is core f items is = ap (λ (o : Option (List ChangeItem)). length (unwrap_or o [])) is
 
 -- a feed with its lane once the item that was due to it was handed
 abbrev pub handed_over : World → Subscription → ChangeItem → Subscription
 handed_over world subscription item =
-    pushed subscription (after_due subscription.feed (due_in world.journal subscription.feed)
+    subscription_after_push subscription (feed_after_due subscription.feed (journal_due world.journal subscription.feed)
     (length world.journal)) item
 
 -- the world once an item was handed
 pub hand_shows : (core : Core) (id : FeedId) (item : ChangeItem)
-    (ready : feeds.item_due (hosted_of core.db) id.number ≡ Some item) (world : World) (h : Shows core world)
+    (ready : feeds.item_of_number (hosted_of core.db) id.number ≡ Some item) (world : World) (h : Shows core world)
     → Shows (record {
-      db = with_hosted core.db (feeds.handed (hosted_of core.db) id.number);
-      lanes = changed id.number (λ items. items ++ item ∷ []) core.lanes;
+      db = with_hosted core.db (feeds.hosted_after_hand (hosted_of core.db) id.number);
+      lanes = with_change id.number (λ items. items ++ item ∷ []) core.lanes;
     }) (with_subscription world id.number (handed_over world (at core id.number item ready world h).0 item))
 hand_shows core id item ready world h =
     let s = at core id.number item ready world h in
     entry_changed core world id.number
-    (λ g. after_due g (due_in core.db.journal g) (length core.db.journal)) (λ items. items ++ item ∷ []) s.0
+    (λ g. feed_after_due g (journal_due core.db.journal g) (length core.db.journal)) (λ items. items ++ item ∷ []) s.0
     (handed_over world s.0 item) h s.1 s.3
-    (goes_on s.0.feed (due_in world.journal s.0.feed) (length world.journal) s.3)
-    (ap (λ (journal : List Edit). after_due s.0.feed (due_in journal s.0.feed) (length journal))
+    (goes_on s.0.feed (journal_due world.journal s.0.feed) (length world.journal) s.3)
+    (ap (λ (journal : List Edit). feed_after_due s.0.feed (journal_due journal s.0.feed) (length journal))
     (sym h.journal)) refl
 
 pub hand_pushed : (core : Core) (id : FeedId) (item : ChangeItem)
-    → feeds.item_due (hosted_of core.db) id.number ≡ Some item
-    → length (held id.number core.lanes) < core.db.limits.lane
+    → feeds.item_of_number (hosted_of core.db) id.number ≡ Some item
+    → length (lane_items id.number core.lanes) < core.db.limits.lane
     → Leads core (Hand id) (Pushed item)
     (record {
-      db = with_hosted core.db (feeds.handed (hosted_of core.db) id.number);
-      lanes = changed id.number (λ items. items ++ item ∷ []) core.lanes;
+      db = with_hosted core.db (feeds.hosted_after_hand (hosted_of core.db) id.number);
+      lanes = with_change id.number (λ items. items ++ item ∷ []) core.lanes;
     })
 hand_pushed core id item ready room w h =
     let s = at core id.number item ready w h in
@@ -286,8 +286,8 @@ hand_pushed core id item ready room w h =
     )
 
 pub hand_full : (core : Core) (id : FeedId) (item : ChangeItem)
-    → feeds.item_due (hosted_of core.db) id.number ≡ Some item
-    → core.db.limits.lane ≤ length (held id.number core.lanes) → Leads core (Hand id) Full core
+    → feeds.item_of_number (hosted_of core.db) id.number ≡ Some item
+    → core.db.limits.lane ≤ length (lane_items id.number core.lanes) → Leads core (Hand id) Full core
 hand_full core id item ready full w h =
     let s = at core id.number item ready w h in
     let holds = held_is core id.number s.0.lane s.4 in (
@@ -304,24 +304,24 @@ hand_full core id item ready full w h =
 
 -- what answers Nothing has nothing due
 due_nothing : (show : Current → ChangeRow) (rows : List Current) (due : Due)
-    → next_of show rows due ≡ next.Nothing → due ≡ DueNothing
+    → next_of_due show rows due ≡ next.Nothing → due ≡ DueNothing
 due_nothing show rows (DueRow c) e = absurd (cc)
 due_nothing show rows (DueEnd last_seq) e = absurd (cc)
 due_nothing show rows DueNothing e = refl
 due_nothing show rows DueGone e = absurd (cc)
 
-due_gone : (show : Current → ChangeRow) (rows : List Current) (due : Due) → next_of show rows due ≡ next.Gone
+due_gone : (show : Current → ChangeRow) (rows : List Current) (due : Due) → next_of_due show rows due ≡ next.Gone
     → due ≡ DueGone
 due_gone show rows (DueRow c) e = absurd (cc)
 due_gone show rows (DueEnd last_seq) e = absurd (cc)
 due_gone show rows DueNothing e = absurd (cc)
 due_gone show rows DueGone e = refl
 
-pub hand_nothing : (core : Core) (id : FeedId) → next.Nothing ≡ feeds.answered (hosted_of core.db) id.number
+pub hand_nothing : (core : Core) (id : FeedId) → next.Nothing ≡ feeds.next_of_number (hosted_of core.db) id.number
     → Leads core (Hand id) Nothing
     (record core {
       db = with_hosted core.db
-          (feeds.behind_answer (hosted_of core.db) id.number next.Nothing);
+          (feeds.hosted_after_next (hosted_of core.db) id.number next.Nothing);
     })
 hand_nothing core id e w h = from (entry_in id.number core.db.feeds) refl
   where
@@ -330,21 +330,21 @@ hand_nothing core id e w h = from (entry_in id.number core.db.feeds) refl
         × Shows
         (record core {
           db = with_hosted core.db
-              (feeds.behind_answer (hosted_of core.db) id.number next.Nothing);
+              (feeds.hosted_after_next (hosted_of core.db) id.number next.Nothing);
         }) new
-    from None q = absurd (nothing_gone (e ∙ ap (feeds.answer_of (hosted_of core.db)) q))
+    from None q = absurd (nothing_gone (e ∙ ap (feeds.next_if_any (hosted_of core.db)) q))
       where
         nothing_gone : ◌≡◌ {A = Next ChangeRow} next.Nothing next.Gone → ⊥
         nothing_gone x = cc
     from (Some feed) q =
         let s = feed_found core w id.number feed h q in
-        let none : due_in core.db.journal feed ≡ DueNothing =
+        let none : journal_due core.db.journal feed ≡ DueNothing =
         due_nothing (row_of core.db.journal feed.params.style feed.params.include_docs)
         (current core.db.journal)
-        (due_in core.db.journal feed) (sym (e ∙ ap (feeds.answer_of (hosted_of core.db)) q)) in
-        let here : due_in w.journal s.0.feed ≡ DueNothing =
-        ap (λ (journal : List Edit). due_in journal s.0.feed) h.journal
-        ∙ (ap (due_in core.db.journal) s.2 ∙ none) in
+        (journal_due core.db.journal feed) (sym (e ∙ ap (feeds.next_if_any (hosted_of core.db)) q)) in
+        let here : journal_due w.journal s.0.feed ≡ DueNothing =
+        ap (λ (journal : List Edit). journal_due journal s.0.feed) h.journal
+        ∙ (ap (journal_due core.db.journal) s.2 ∙ none) in
         let shown =
         entry_changed core w id.number (λ g. after_nothing g (length core.db.journal))
         (λ items. items) s.0 (record s.0 { feed = after_nothing s.0.feed (length w.journal) }) h s.1 s.3 s.3
@@ -352,7 +352,7 @@ hand_nothing core id e w h = from (entry_in id.number core.db.feeds) refl
           _,
           (s.0, s.1, here, refl),
           subst (λ ls. Shows (record {
-            db = with_hosted core.db (feeds.behind_answer (hosted_of core.db) id.number next.Nothing);
+            db = with_hosted core.db (feeds.hosted_after_next (hosted_of core.db) id.number next.Nothing);
             lanes = ls;
           })
               (with_subscription w id.number
@@ -362,30 +362,30 @@ hand_nothing core id e w h = from (entry_in id.number core.db.feeds) refl
 
 -- to a feed that is gone nothing is due, and no heartbeat
 gone_due : (world : World) (maybe_subscription : Option Subscription) → IsGone maybe_subscription
-    → feeds.due_of (current world.journal) (feed_of maybe_subscription) ≡ DueGone
+    → feeds.due_if_any (current world.journal) (feed_of maybe_subscription) ≡ DueGone
 gone_due world None g = refl
 gone_due world (Some subscription) g = from subscription.feed.status g
   where
     from : (status : Status) → is_finished status ≡ true
-        → due_at status (current world.journal) subscription.feed ≡ DueGone
+        → due_by_status status (current world.journal) subscription.feed ≡ DueGone
     from Open u = absurd (cc)
     from Ending u = absurd (cc)
     from Ended u = absurd (cc)
     from Finished u = refl
 
 gone_still : (maybe_subscription : Option Subscription) → IsGone maybe_subscription
-    → feeds.is_beat_due (feed_of maybe_subscription) ≡ false
+    → feeds.is_beat_allowed_if_any (feed_of maybe_subscription) ≡ false
 gone_still None g = refl
 gone_still (Some subscription) g = from subscription.feed.status refl g
   where
     from : (status : Status) → subscription.feed.status ≡ status → is_finished status ≡ true
-        → beat_due subscription.feed ≡ false
+        → is_beat_allowed subscription.feed ≡ false
     from Open q u = absurd (cc)
     from Ending q u = absurd (cc)
     from Ended q u = absurd (cc)
     from Finished q u = rw q refl
 
-pub hand_gone : (core : Core) (id : FeedId) → next.Gone ≡ feeds.answered (hosted_of core.db) id.number
+pub hand_gone : (core : Core) (id : FeedId) → next.Gone ≡ feeds.next_of_number (hosted_of core.db) id.number
     → Leads core (Hand id) Gone core
 hand_gone core id e w h = from (entry_in id.number core.db.feeds) refl
   where
@@ -394,14 +394,14 @@ hand_gone core id e w h = from (entry_in id.number core.db.feeds) refl
     from None q = (w, (gone_due w (subscription w id.number) (feed_gone core w id.number h q).0, refl), h)
     from (Some feed) q =
         let s = feed_found core w id.number feed h q in
-        let gone : due_in core.db.journal feed ≡ DueGone =
+        let gone : journal_due core.db.journal feed ≡ DueGone =
         due_gone (row_of core.db.journal feed.params.style feed.params.include_docs) (current core.db.journal)
-        (due_in core.db.journal feed) (sym (e ∙ ap (feeds.answer_of (hosted_of core.db)) q)) in (
+        (journal_due core.db.journal feed) (sym (e ∙ ap (feeds.next_if_any (hosted_of core.db)) q)) in (
           w,
           (
-            ap (λ maybe_feed. feeds.due_of (current w.journal) (feed_of maybe_feed)) s.1
-                ∙ (ap (λ (journal : List Edit). due_in journal s.0.feed) h.journal
-                ∙ (ap (due_in core.db.journal) s.2 ∙ gone)),
+            ap (λ maybe_feed. feeds.due_if_any (current w.journal) (feed_of maybe_feed)) s.1
+                ∙ (ap (λ (journal : List Edit). journal_due journal s.0.feed) h.journal
+                ∙ (ap (journal_due core.db.journal) s.2 ∙ gone)),
             refl,
           ),
           h,
@@ -409,13 +409,13 @@ hand_gone core id e w h = from (entry_in id.number core.db.feeds) refl
 
 -- ---- heartbeats
 
-pub beating : (maybe_feed : Option Feed) → feeds.is_beat_due maybe_feed ≡ true → (feed : Feed)
-    × (maybe_feed ≡ Some feed) × (beat_due feed ≡ true)
+pub beating : (maybe_feed : Option Feed) → feeds.is_beat_allowed_if_any maybe_feed ≡ true → (feed : Feed)
+    × (maybe_feed ≡ Some feed) × (is_beat_allowed feed ≡ true)
 beating None e = absurd (cc)
 beating (Some feed) e = (feed, refl, e)
 
 -- the lane of its feed
-pub beat_lane : (core : Core) (f : ℕ) → feeds.is_beat_due (entry_in f core.db.feeds) ≡ true → (world : World)
+pub beat_lane : (core : Core) (f : ℕ) → feeds.is_beat_allowed_if_any (entry_in f core.db.feeds) ≡ true → (world : World)
     → Shows core world → (items : List ChangeItem) × (entry_in f core.lanes ≡ Some items)
 beat_lane core f beats world h =
     let b = beating (entry_in f core.db.feeds) beats in
@@ -423,38 +423,38 @@ beat_lane core f beats world h =
     (s.0.lane, s.4)
 
 -- the feed that it is due to
-abbrev pub beaten : (core : Core) (f : ℕ) → feeds.is_beat_due (entry_in f core.db.feeds) ≡ true
+abbrev pub beaten : (core : Core) (f : ℕ) → feeds.is_beat_allowed_if_any (entry_in f core.db.feeds) ≡ true
     → (world : World) → Shows core world
-    → (s : Subscription) × (subscription world f ≡ Some s) × (beat_due s.feed ≡ true)
+    → (s : Subscription) × (subscription world f ≡ Some s) × (is_beat_allowed s.feed ≡ true)
     × (is_finished s.feed.status ≡ false) × (entry_in f core.lanes ≡ Some s.lane)
 beaten core f beats world h =
     let b = beating (entry_in f core.db.feeds) beats in
     let s = feed_found core world f b.0 h b.1 in
-    (s.0, s.1, ap beat_due s.2 ∙ b.2, s.3, s.4)
+    (s.0, s.1, ap is_beat_allowed s.2 ∙ b.2, s.3, s.4)
 
 -- the world once it was handed
 pub beat_shows : (core : Core) (id : FeedId)
-    (beats : feeds.is_beat_due (entry_in id.number core.db.feeds) ≡ true)
+    (beats : feeds.is_beat_allowed_if_any (entry_in id.number core.db.feeds) ≡ true)
     (world : World) (h : Shows core world)
-    → Shows (record core { lanes = changed id.number (λ items. items ++ Beat ∷ []) core.lanes })
+    → Shows (record core { lanes = with_change id.number (λ items. items ++ Beat ∷ []) core.lanes })
     (with_subscription world id.number
-    (pushed (beaten core id.number beats world h).0 (beaten core id.number beats world h).0.feed Beat))
+    (subscription_after_push (beaten core id.number beats world h).0 (beaten core id.number beats world h).0.feed Beat))
 beat_shows core id beats world h =
     let s = beaten core id.number beats world h in
     let shown =
     entry_changed core world id.number (λ g. g) (λ items. items ++ Beat ∷ []) s.0
-    (pushed s.0 s.0.feed Beat) h s.1 s.3 s.3 refl refl in
+    (subscription_after_push s.0 s.0.feed Beat) h s.1 s.3 s.3 refl refl in
     subst (λ fs. Shows (record {
       db = record core.db { feeds = fs };
-      lanes = changed id.number (λ items. items ++ Beat ∷ []) core.lanes;
+      lanes = with_change id.number (λ items. items ++ Beat ∷ []) core.lanes;
     })
-    (with_subscription world id.number (pushed s.0 s.0.feed Beat)))
+    (with_subscription world id.number (subscription_after_push s.0 s.0.feed Beat)))
     (changed_same id.number core.db.feeds) shown
 
-pub beat_pushed : (core : Core) (id : FeedId) → feeds.is_beat_due (entry_in id.number core.db.feeds) ≡ true
-    → length (held id.number core.lanes) < core.db.limits.lane
+pub beat_pushed : (core : Core) (id : FeedId) → feeds.is_beat_allowed_if_any (entry_in id.number core.db.feeds) ≡ true
+    → length (lane_items id.number core.lanes) < core.db.limits.lane
     → Leads core (Heartbeat id) (Pushed Beat)
-    (record core { lanes = changed id.number (λ items. items ++ Beat ∷ []) core.lanes })
+    (record core { lanes = with_change id.number (λ items. items ++ Beat ∷ []) core.lanes })
 beat_pushed core id beats room w h =
     let s = beaten core id.number beats w h in
     let holds = held_is core id.number s.0.lane s.4 in (
@@ -463,15 +463,15 @@ beat_pushed core id beats room w h =
       beat_shows core id beats w h,
     )
 
-pub beat_full : (core : Core) (id : FeedId) → feeds.is_beat_due (entry_in id.number core.db.feeds) ≡ true
-    → core.db.limits.lane ≤ length (held id.number core.lanes) → Leads core (Heartbeat id) Full core
+pub beat_full : (core : Core) (id : FeedId) → feeds.is_beat_allowed_if_any (entry_in id.number core.db.feeds) ≡ true
+    → core.db.limits.lane ≤ length (lane_items id.number core.lanes) → Leads core (Heartbeat id) Full core
 beat_full core id beats full w h =
     let b = beating (entry_in id.number core.db.feeds) beats in
     let s = feed_found core w id.number b.0 h b.1 in
     let holds = held_is core id.number s.0.lane s.4 in
-    (w, (s.0, s.1, ap beat_due s.2 ∙ b.2, omega (arith, full, holds, lane_limit core w h), refl), h)
+    (w, (s.0, s.1, ap is_beat_allowed s.2 ∙ b.2, omega (arith, full, holds, lane_limit core w h), refl), h)
 
-pub beat_nothing : (core : Core) (id : FeedId) → feeds.is_beat_due (entry_in id.number core.db.feeds) ≡ false
+pub beat_nothing : (core : Core) (id : FeedId) → feeds.is_beat_allowed_if_any (entry_in id.number core.db.feeds) ≡ false
     → Leads core (Heartbeat id) Nothing core
 beat_nothing core id e w h = from (entry_in id.number core.db.feeds) refl
   where
@@ -482,8 +482,8 @@ beat_nothing core id e w h = from (entry_in id.number core.db.feeds) refl
         let s = feed_found core w id.number feed h q in (
           w,
           (
-            ap (λ maybe_feed. feeds.is_beat_due (feed_of maybe_feed)) s.1
-                ∙ (ap beat_due s.2 ∙ (ap feeds.is_beat_due (sym q) ∙ e)),
+            ap (λ maybe_feed. feeds.is_beat_allowed_if_any (feed_of maybe_feed)) s.1
+                ∙ (ap is_beat_allowed s.2 ∙ (ap feeds.is_beat_allowed_if_any (sym q) ∙ e)),
             refl,
           ),
           h,
@@ -491,8 +491,8 @@ beat_nothing core id e w h = from (entry_in id.number core.db.feeds) refl
 
 -- ---- expiry and takes
 
-expire_on : (feed : Feed) → is_finished feed.status ≡ false → is_finished (expire feed).status ≡ false
-expire_on feed u = from (is_open feed.status && waits feed.params.mode)
+expire_on : (feed : Feed) → is_finished feed.status ≡ false → is_finished (expired_feed feed).status ≡ false
+expire_on feed u = from (is_open feed.status && is_waiting_mode feed.params.mode)
   where
     from : (b : Bool) → is_finished (if b then record feed { status = Ending } else feed).status ≡ false
     from true = refl
@@ -500,29 +500,29 @@ expire_on feed u = from (is_open feed.status && waits feed.params.mode)
 
 pub expire_leads : (core : Core) (id : FeedId)
     → Leads core (Expire id) Nothing
-    (record core { db = with_hosted core.db (feeds.expired (hosted_of core.db) id.number) })
+    (record core { db = with_hosted core.db (feeds.hosted_after_expiry (hosted_of core.db) id.number) })
 expire_leads core id w h = from (entry_in id.number core.db.feeds) refl
   where
     from : (maybe_feed : Option Feed) → entry_in id.number core.db.feeds ≡ maybe_feed
         → (new : World) × Step w (Expire id) Nothing new
-        × Shows (record core { db = with_hosted core.db (feeds.expired (hosted_of core.db) id.number) }) new
+        × Shows (record core { db = with_hosted core.db (feeds.hosted_after_expiry (hosted_of core.db) id.number) }) new
     from None q = (
       w,
       sym (gone_expires core w id.number h (feed_gone core w id.number h q).0),
       subst (λ fs. Shows (record { db = record core.db { feeds = fs }; lanes = core.lanes }) w)
-          (sym (changed_absent id.number expire core.db.feeds q)) h,
+          (sym (changed_absent id.number expired_feed core.db.feeds q)) h,
     )
     from (Some feed) q =
         let s = feed_found core w id.number feed h q in
         let shown =
-        entry_changed core w id.number expire (λ items. items) s.0
-        (record s.0 { feed = expire s.0.feed }) h s.1 s.3
+        entry_changed core w id.number expired_feed (λ items. items) s.0
+        (record s.0 { feed = expired_feed s.0.feed }) h s.1 s.3
         (expire_on s.0.feed s.3) refl refl in (
           _,
-          ap (λ maybe_feed. expired maybe_feed id.number w) (sym s.1),
+          ap (λ maybe_feed. world_after_expiry maybe_feed id.number w) (sym s.1),
           subst (λ ls. Shows
-              (record { db = with_hosted core.db (feeds.expired (hosted_of core.db) id.number); lanes = ls })
-              (with_subscription w id.number (record s.0 { feed = expire s.0.feed })))
+              (record { db = with_hosted core.db (feeds.hosted_after_expiry (hosted_of core.db) id.number); lanes = ls })
+              (with_subscription w id.number (record s.0 { feed = expired_feed s.0.feed })))
               (changed_same id.number core.lanes) shown,
         )
 
@@ -555,7 +555,7 @@ take_leads core id w h = from (entry_in id.number core.db.feeds) refl
           (
             ap (option_and_then (λ (items : List ChangeItem). slice_get items 0)) s.4
                 ∙ ap (λ maybe_feed. slice_get (lane_of maybe_feed) 0) (sym s.1),
-            ap (λ maybe_feed. took maybe_feed id.number w) (sym s.1),
+            ap (λ maybe_feed. world_after_take maybe_feed id.number w) (sym s.1),
           ),
           subst (λ fs. Shows
               (record { db = record core.db { feeds = fs }; lanes = without_front id.number core.lanes })

@@ -32,10 +32,10 @@ write_of true docs = Interactive docs
 -- the event as it took place, given its reply: of a batch that stopped, the write of the documents before
 -- the stop. Of a write of five documents whose batch stopped after three replies it is the write of the
 -- first three.
-abbrev pub happened : Event → Reply → Event
-happened (Write docs) (Outcomes batch) = Write (take (length batch.replies) docs)
-happened (Interactive docs) (Outcomes batch) = Interactive (take (length batch.replies) docs)
-happened event reply = event
+abbrev pub event_as_applied : Event → Reply → Event
+event_as_applied (Write docs) (Outcomes batch) = Write (take (length batch.replies) docs)
+event_as_applied (Interactive docs) (Outcomes batch) = Interactive (take (length batch.replies) docs)
+event_as_applied event reply = event
 
 -- the reply to what took place: of a batch that stopped, the one that has its outcomes and did not stop
 abbrev pub whole_reply : Reply → Reply
@@ -66,4 +66,4 @@ CoreStep old event reply new =
 
 -- what took place of the event, as its reply tells, leads from the old core to the new one
 abbrev pub Applies : Core → Event → Reply → Core → Type 0
-Applies old event reply new = CoreStep old (happened event reply) (whole_reply reply) new
+Applies old event reply new = CoreStep old (event_as_applied event reply) (whole_reply reply) new

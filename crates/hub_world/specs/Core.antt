@@ -28,15 +28,15 @@ limits_of limits = record { journal = limits.journal; feeds = limits.feeds; lane
 
 -- of feeds numbered from n, those that are not finished, with their numbers. Of three feeds numbered from 4,
 -- of which the second is finished, they are (4, the first) and (6, the third).
-abbrev pub standing_from : ℕ → List Subscription → List (ℕ × Subscription)
-standing_from n [] = []
-standing_from n (subscription ∷ subscriptions) =
-    if is_finished subscription.feed.status then standing_from (n + 1) subscriptions else (n, subscription)
-    ∷ standing_from (n + 1) subscriptions
+abbrev pub unfinished_from : ℕ → List Subscription → List (ℕ × Subscription)
+unfinished_from n [] = []
+unfinished_from n (subscription ∷ subscriptions) =
+    if is_finished subscription.feed.status then unfinished_from (n + 1) subscriptions else (n, subscription)
+    ∷ unfinished_from (n + 1) subscriptions
 
 -- the feeds of a world that are not finished, with their numbers
-abbrev pub standing : World → List (ℕ × Subscription)
-standing world = standing_from 0 world.feeds
+abbrev pub unfinished_feeds : World → List (ℕ × Subscription)
+unfinished_feeds world = unfinished_from 0 world.feeds
 
 -- the feed of a numbered subscription, with its number
 abbrev pub feed_entry : ℕ × Subscription → ℕ × Feed
@@ -58,8 +58,8 @@ pub record Shows (core : Core) (world : World) : Type 0 where
   pub journal : world.journal ≡ core.db.journal
   pub deleted : world.deleted ≡ core.db.deleted
   pub given : length world.feeds ≡ core.db.next_feed
-  pub feeds : map feed_entry (standing world) ≡ core.db.feeds
-  pub lanes : map lane_entry (standing world) ≡ core.lanes
+  pub feeds : map feed_entry (unfinished_feeds world) ≡ core.db.feeds
+  pub lanes : map lane_entry (unfinished_feeds world) ≡ core.lanes
   pub emptied : All IsEmptied world.feeds
 
 -- What lies under a lock shows some world, and each of its lanes holds as many items as its limits say. With

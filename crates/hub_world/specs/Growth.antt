@@ -1,6 +1,6 @@
 -- Which events take memory, so that they may find none (own).
 use Rattle.std.specs.Prelude.{◌≡◌, ◌<◌, length, false}
-use Rattle.hub_feed.specs.Host.{due_of}
+use Rattle.hub_feed.specs.Host.{due_if_any}
 use Rattle.hub_feed.specs.Next.{IsRowDue}
 use Rattle.hub_model.specs.Current.{current}
 use Rattle.hub_world.specs.Core.{Core, Shows}
@@ -18,7 +18,7 @@ NeedsMemory world (Write docs) = 0 < length docs
 NeedsMemory world (Interactive docs) = 0 < length docs
 NeedsMemory world (Begin params) = (world.deleted ≡ false) × (has_no_room world ≡ false)
 NeedsMemory world (Hand feed) =
-    IsRowDue (due_of (current world.journal) (feed_of (subscription world feed.number)))
+    IsRowDue (due_if_any (current world.journal) (feed_of (subscription world feed.number)))
 NeedsMemory world (Heartbeat feed) = ⊥
 NeedsMemory world (Expire feed) = ⊥
 NeedsMemory world (Take feed) = ⊥

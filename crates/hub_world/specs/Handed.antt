@@ -26,16 +26,16 @@ taken_by number _ _ = []
 
 -- what the steps of a run put into that lane, in order. In the run of `left_early` feed 0 handed the
 -- rows 6, 7 and 8 (proved: `TakesAFront`).
-abbrev pub handed : ℕ → List Event → List Reply → List ChangeItem
-handed number (event ∷ events) (reply ∷ replies) =
-    handed_by number event reply ++ handed number events replies
-handed number _ _ = []
+abbrev pub items_handed : ℕ → List Event → List Reply → List ChangeItem
+items_handed number (event ∷ events) (reply ∷ replies) =
+    handed_by number event reply ++ items_handed number events replies
+items_handed number _ _ = []
 
 -- What the steps of a run took from that lane, in order. In the run of `left_early` that was row 6
 -- alone, since the feed was finished then (proved: `TakesAFront`).
-abbrev pub taken : ℕ → List Event → List Reply → List ChangeItem
-taken number (event ∷ events) (reply ∷ replies) = taken_by number event reply ++ taken number events replies
-taken number _ _ = []
+abbrev pub items_taken : ℕ → List Event → List Reply → List ChangeItem
+items_taken number (event ∷ events) (reply ∷ replies) = taken_by number event reply ++ items_taken number events replies
+items_taken number _ _ = []
 
 -- the second list begins with the first. Row 6, or nothing, is a prefix of the rows 6, 7 and 8; row 7 is
 -- none.

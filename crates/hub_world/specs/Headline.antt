@@ -3,7 +3,7 @@ use Rattle.std.specs.Prelude.{◌≡◌, ℕ, ◌<◌, ◌≤◌, List, [], ◌�
 use Rattle.std.specs.Prelude.{Contains, IsTrue, Some}
 use Rattle.hub_model.specs.Current.{Current, current}
 use Rattle.hub_model.specs.Feed.{Feed}
-use Rattle.hub_model.specs.Filter.{passes}
+use Rattle.hub_model.specs.Filter.{is_passing}
 use Rattle.hub_model.specs.Journal.{Edit}
 use Rattle.hub_model.specs.Row.{ChangeRow, IsRow}
 use Rattle.hub_model.specs.RightlyHanded.{ChangeItem, RightlyHanded, rows_of}
@@ -11,7 +11,7 @@ use Rattle.hub_model.specs.RowKind.{change_rows}
 use Rattle.hub_model.specs.declared.feeds.Item.TheVariants.{End}
 use Rattle.hub_world.specs.World.{Limits, World, Subscription, subscription, empty}
 use Rattle.hub_world.specs.Step.{Run, journal_at}
-use Rattle.hub_world.specs.Handed.{IsStepAt, handed, handed_by, taken, IsPrefixOf}
+use Rattle.hub_world.specs.Handed.{IsStepAt, items_handed, handed_by, items_taken, IsPrefixOf}
 use Rattle.hub_world.specs.declared.event.Event.{Event}
 use Rattle.hub_world.specs.declared.reply.Reply.{Reply}
 
@@ -25,27 +25,27 @@ use Rattle.hub_world.specs.declared.reply.Reply.{Reply}
 pub record IsFaithful (journals : ℕ → List Edit) (events : List Event) (replies : List Reply) (number : ℕ)
     (feed : Feed) : Type 0 where
   -- what the connection has taken is a prefix of what the feed handed out
-  pub prefix : IsPrefixOf (taken number events replies) (handed number events replies)
+  pub prefix : IsPrefixOf (items_taken number events replies) (items_handed number events replies)
   -- rows in strictly rising sequence
   pub rising : AllPairs (λ (row later : ChangeRow). row.seq < later.seq)
-      (rows_of (handed number events replies))
+      (rows_of (items_handed number events replies))
   -- each its document's current row at its step
   pub at_step : (place : ℕ) (event : Event) (reply : Reply) → IsStepAt events replies place event reply
       → All (IsRow (journals place) feed.params.style feed.params.include_docs)
       (rows_of (handed_by number event reply))
   -- each passing the filter
-  pub passing : All (λ (row : ChangeRow). IsTrue (passes feed.params.filter row.id))
-      (rows_of (handed number events replies))
+  pub passing : All (λ (row : ChangeRow). IsTrue (is_passing feed.params.filter row.id))
+      (rows_of (items_handed number events replies))
   -- none above last_seq
-  pub below : (last_seq pending : ℕ) → Contains (handed number events replies) (End last_seq pending)
-      → All (λ (row : ChangeRow). row.seq ≤ last_seq) (rows_of (handed number events replies))
+  pub below : (last_seq pending : ℕ) → Contains (items_handed number events replies) (End last_seq pending)
+      → All (λ (row : ChangeRow). row.seq ≤ last_seq) (rows_of (items_handed number events replies))
   -- nothing after the end
   pub last : (before later : List ChangeItem) (last_seq pending : ℕ)
-      → handed number events replies ≡ before ++ End last_seq pending ∷ later → later ≡ []
+      → items_handed number events replies ≡ before ++ End last_seq pending ∷ later → later ≡ []
   -- and every current passing row between since and the feed's place among them
   pub whole : (entry : Current) → Contains (current (journals (length events))) entry
-      → IsTrue (passes feed.params.filter entry.id) → feed.since < entry.seq → entry.seq ≤ feed.place →
-      (row : ChangeRow) × Contains (rows_of (handed number events replies)) row × (row.seq ≡ entry.seq)
+      → IsTrue (is_passing feed.params.filter entry.id) → feed.since < entry.seq → entry.seq ≤ feed.place →
+      (row : ChangeRow) × Contains (rows_of (items_handed number events replies)) row × (row.seq ≡ entry.seq)
       × (row.id ≡ entry.id)
 
 -- These replies to these events are faithful to each feed of a new database. The journals and the feed are
@@ -67,7 +67,7 @@ AreRight limits events replies =
     (own : List Reply) (world : World) → Run (empty limits) events own world
     → (number : ℕ) (found : Subscription)
     → subscription world number ≡ Some found →
-    RightlyHanded change_rows world.journal found.feed (handed number events replies)
+    RightlyHanded change_rows world.journal found.feed (items_handed number events replies)
 
 -- the replies of every run are faithful
 abbrev pub Headline : Type 0

@@ -1,7 +1,7 @@
 -- Lanes by the numbers of their feeds (own).
 use Rattle.std.specs.Prelude.{ℕ, ◌-◌, List, [], length, drop, slice_get, unwrap_or, Option, option_and_then}
 use Rattle.hub_model.specs.RightlyHanded.{ChangeItem}
-use Rattle.hub_model.specs.Entries.{changed, entry_in, AreRising}
+use Rattle.hub_model.specs.Entries.{with_change, entry_in, AreRising}
 
 -- the lanes of a core
 abbrev pub Lanes : Type 0
@@ -17,12 +17,12 @@ front number lanes = option_and_then (λ items. slice_get items 0) (entry_in num
 
 -- the lanes, the front of this one taken
 abbrev pub without_front : ℕ → Lanes → Lanes
-without_front number lanes = changed number (drop 1) lanes
+without_front number lanes = with_change number (drop 1) lanes
 
 -- the item at the back of the lane of this number, if there is one: of x and y it is y
 abbrev pub back : ℕ → Lanes → Option ChangeItem
 back number lanes = option_and_then (λ items. slice_get items (length items - 1)) (entry_in number lanes)
 
 -- the items in the lane of this number; none where there is no such lane
-abbrev pub held : ℕ → Lanes → List ChangeItem
-held number lanes = unwrap_or (entry_in number lanes) []
+abbrev pub lane_items : ℕ → Lanes → List ChangeItem
+lane_items number lanes = unwrap_or (entry_in number lanes) []

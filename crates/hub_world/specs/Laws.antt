@@ -5,7 +5,7 @@ use Rattle.hub_model.specs.RightlyHanded.{ChangeItem, RightlyHanded, Fits}
 use Rattle.hub_model.specs.RowKind.{change_rows}
 use Rattle.hub_world.specs.World.{Limits, World, Subscription, subscription, empty, is_finished}
 use Rattle.hub_world.specs.Step.{Step, Run}
-use Rattle.hub_world.specs.Handed.{handed, handed_by, taken, IsPrefixOf}
+use Rattle.hub_world.specs.Handed.{items_handed, handed_by, items_taken, IsPrefixOf}
 use Rattle.hub_world.specs.declared.event.Event.{Event}
 use Rattle.hub_world.specs.declared.reply.Reply.{Reply}
 
@@ -53,13 +53,13 @@ KeepsFitting = (old new : World) (event : Event) (reply : Reply) (number : ℕ) 
 abbrev pub HandsRightly : Type 0
 HandsRightly = (limits : Limits) (events : List Event) (replies : List Reply) (world : World) (number : ℕ) →
     Run (empty limits) events replies world
-    → IsRight world.journal (subscription world number) (handed number events replies)
+    → IsRight world.journal (subscription world number) (items_handed number events replies)
 
 -- what was taken from a feed is a prefix of what it handed
 abbrev pub TakesInOrder : Type 0
 TakesInOrder = (limits : Limits) (events : List Event) (replies : List Reply) (world : World) (number : ℕ) →
     Run (empty limits) events replies world
-    → IsPrefixOf (taken number events replies) (handed number events replies)
+    → IsPrefixOf (items_taken number events replies) (items_handed number events replies)
 
 -- of a feed that is not finished, what was taken and then what its lane holds is what it handed. Where the
 -- rows 6, 7 and 8 were handed and row 6 was taken, its lane holds the rows 7 and 8.
@@ -69,7 +69,7 @@ HoldsTheRest =
     (found : Subscription) →
     Run (empty limits) events replies world → subscription world number ≡ Some found
     → is_finished found.feed.status ≡ false
-    → taken number events replies ++ found.lane ≡ handed number events replies
+    → items_taken number events replies ++ found.lane ≡ items_handed number events replies
 
 -- a lane never holds more items than the limit says
 abbrev pub LanesAreLimited : Type 0

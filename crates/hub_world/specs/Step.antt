@@ -3,10 +3,10 @@ use Rattle.std.specs.Prelude.{◌≡◌, ◌≤◌, ℕ, zero, suc, List, [], �
 use Rattle.std.specs.Prelude.{slice_get}
 use Rattle.hub_database.specs.Edits.{edit_of, draft_of}
 use Rattle.hub_database.specs.declared.batch.Batch.{Batch}
-use Rattle.hub_feed.specs.Host.{due_of, is_beat_due}
+use Rattle.hub_feed.specs.Host.{due_if_any, is_beat_allowed_if_any}
 use Rattle.hub_model.specs.Current.{current}
-use Rattle.hub_model.specs.Feed.{DueNothing, DueGone, after_due, after_nothing, beat_due}
-use Rattle.hub_model.specs.Hand.{due_in, change_due}
+use Rattle.hub_model.specs.Feed.{DueNothing, DueGone, feed_after_due, after_nothing, is_beat_allowed}
+use Rattle.hub_model.specs.Hand.{journal_due, next_change}
 use Rattle.hub_model.specs.Journal.{Edit}
 use Rattle.hub_model.specs.Revision.{Revision}
 use Rattle.hub_model.specs.RightlyHanded.{ChangeItem}
@@ -14,7 +14,7 @@ use Rattle.hub_model.specs.declared.feeds.Item.TheVariants.{Beat}
 use Rattle.hub_model.specs.declared.outcomes.Outcome.{Outcome}
 use Rattle.hub_params.specs.FeedModel.{params_of}
 use Rattle.hub_world.specs.World.{World, Subscription, has_no_room, subscription, with_subscription, feed_of}
-use Rattle.hub_world.specs.World.{lane_of, merged, drafted, with_feed, Pushes, expired, took, finished, ended}
+use Rattle.hub_world.specs.World.{lane_of, merges_result, drafts_result, with_feed, Pushes, world_after_expiry, world_after_take, world_after_finish, ended_subscription}
 use Rattle.hub_world.specs.declared.event.Event.{Event}
 use Rattle.hub_world.specs.declared.event.Event.TheVariants.{Write, Interactive, Begin, Hand, Heartbeat}
 use Rattle.hub_world.specs.declared.event.Event.TheVariants.{Expire, Take, Finish, Delete}
@@ -31,12 +31,12 @@ whole_batch outcomes = record { replies = outcomes; stopped = false }
 -- Took row 1, a Hand has Pushed row 3 (proved: `LaneFills`).
 abbrev pub Step : World → Event → Reply → World → Type 0
 Step old (Write docs) (Outcomes batch) new =
-    (batch ≡ whole_batch (merged old (map edit_of docs)).outcomes)
-    × (new ≡ record old { journal = (merged old (map edit_of docs)).journal })
+    (batch ≡ whole_batch (merges_result old (map edit_of docs)).outcomes)
+    × (new ≡ record old { journal = (merges_result old (map edit_of docs)).journal })
 Step old (Write docs) _ new = ⊥
 Step old (Interactive docs) (Outcomes batch) new =
-    (batch ≡ whole_batch (drafted old (map draft_of docs)).outcomes)
-    × (new ≡ record old { journal = (drafted old (map draft_of docs)).journal })
+    (batch ≡ whole_batch (drafts_result old (map draft_of docs)).outcomes)
+    × (new ≡ record old { journal = (drafts_result old (map draft_of docs)).journal })
 Step old (Interactive docs) _ new = ⊥
 Step old (Begin params) (Opened feed) new =
     (old.deleted ≡ false) × (has_no_room old ≡ false) × (feed.number ≡ length old.feeds)
@@ -46,45 +46,45 @@ Step old (Begin params) TooManyFeeds new = (old.deleted ≡ false) × (has_no_ro
 Step old (Begin params) _ new = ⊥
 Step old (Hand feed) (Pushed item) new =
     (found : Subscription) × (subscription old feed.number ≡ Some found)
-    × (change_due old.journal found.feed ≡ Some item)
+    × (next_change old.journal found.feed ≡ Some item)
     × Pushes old feed.number found
-    (after_due found.feed (due_in old.journal found.feed) (length old.journal)) item new
+    (feed_after_due found.feed (journal_due old.journal found.feed) (length old.journal)) item new
 Step old (Hand feed) Full new =
     (found : Subscription) × (subscription old feed.number ≡ Some found)
-    × ((item : ChangeItem) × (change_due old.journal found.feed ≡ Some item))
+    × ((item : ChangeItem) × (next_change old.journal found.feed ≡ Some item))
     × (old.limits.lane ≤ length found.lane)
     × (new ≡ old)
 Step old (Hand feed) Nothing new =
     (found : Subscription) × (subscription old feed.number ≡ Some found)
-    × (due_in old.journal found.feed ≡ DueNothing)
+    × (journal_due old.journal found.feed ≡ DueNothing)
     × (new
     ≡ with_subscription old feed.number
     (record found { feed = after_nothing found.feed (length old.journal) }))
 Step old (Hand feed) Gone new =
-    (due_of (current old.journal) (feed_of (subscription old feed.number)) ≡ DueGone) × (new ≡ old)
+    (due_if_any (current old.journal) (feed_of (subscription old feed.number)) ≡ DueGone) × (new ≡ old)
 Step old (Hand feed) _ new = ⊥
 Step old (Heartbeat feed) (Pushed item) new =
-    (found : Subscription) × (subscription old feed.number ≡ Some found) × (beat_due found.feed ≡ true)
+    (found : Subscription) × (subscription old feed.number ≡ Some found) × (is_beat_allowed found.feed ≡ true)
     × (item ≡ Beat)
     × Pushes old feed.number found found.feed item new
 Step old (Heartbeat feed) Full new =
-    (found : Subscription) × (subscription old feed.number ≡ Some found) × (beat_due found.feed ≡ true)
+    (found : Subscription) × (subscription old feed.number ≡ Some found) × (is_beat_allowed found.feed ≡ true)
     × (old.limits.lane ≤ length found.lane) × (new ≡ old)
 Step old (Heartbeat feed) Nothing new =
-    (is_beat_due (feed_of (subscription old feed.number)) ≡ false) × (new ≡ old)
+    (is_beat_allowed_if_any (feed_of (subscription old feed.number)) ≡ false) × (new ≡ old)
 Step old (Heartbeat feed) _ new = ⊥
-Step old (Expire feed) Nothing new = new ≡ expired (subscription old feed.number) feed.number old
+Step old (Expire feed) Nothing new = new ≡ world_after_expiry (subscription old feed.number) feed.number old
 Step old (Expire feed) _ new = ⊥
 Step old (Take feed) (Took item) new =
     (item ≡ slice_get (lane_of (subscription old feed.number)) 0)
-    × (new ≡ took (subscription old feed.number) feed.number old)
+    × (new ≡ world_after_take (subscription old feed.number) feed.number old)
 Step old (Take feed) _ new = ⊥
 Step old (Finish feed) (Left items) new =
     (items ≡ lane_of (subscription old feed.number))
-    × (new ≡ finished (subscription old feed.number) feed.number old)
+    × (new ≡ world_after_finish (subscription old feed.number) feed.number old)
 Step old (Finish feed) _ new = ⊥
 Step old Delete Nothing new =
-    (old.deleted ≡ false) × (new ≡ record old { deleted = true; feeds = map ended old.feeds })
+    (old.deleted ≡ false) × (new ≡ record old { deleted = true; feeds = map ended_subscription old.feeds })
 Step old Delete DatabaseDeleted new = (old.deleted ≡ true) × (new ≡ old)
 Step old Delete _ new = ⊥
 

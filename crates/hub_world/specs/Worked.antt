@@ -21,7 +21,7 @@ use Rattle.hub_model.specs.declared.outcomes.Outcome.TheVariants.{Stored, Known,
 use Rattle.hub_params.specs.declared.feed_params.FeedParams.{FeedParams}
 use Rattle.hub_world.specs.World.{Limits, World, empty}
 use Rattle.hub_world.specs.Step.{Run, whole_batch}
-use Rattle.hub_world.specs.Handed.{handed, taken}
+use Rattle.hub_world.specs.Handed.{items_handed, items_taken}
 use Rattle.hub_world.specs.declared.event.Event.{Event}
 use Rattle.hub_world.specs.declared.event.Event.TheVariants.{Write, Interactive, Begin, Hand, Heartbeat}
 use Rattle.hub_world.specs.declared.event.Event.TheVariants.{Expire, Take, Finish, Delete}
@@ -39,18 +39,18 @@ pub record HasHanded (limits : Limits) (events : List Event) (number : ℕ) (ite
     Type 0 where
   pub replies : List Reply
   pub has_replies : HasReplies limits events replies
-  pub items_are : handed number events replies ≡ items
+  pub items_are : items_handed number events replies ≡ items
 
 -- and these are taken from it
 pub record HasTaken (limits : Limits) (events : List Event) (number : ℕ) (items : List ChangeItem) :
     Type 0 where
   pub replies : List Reply
   pub has_replies : HasReplies limits events replies
-  pub items_are : taken number events replies ≡ items
+  pub items_are : items_taken number events replies ≡ items
 
 -- room for one feed, and for two items in its lane
-abbrev pub narrow : Limits
-narrow = record { journal = 100; feeds = 1; lane = 2 }
+abbrev pub narrow_limits : Limits
+narrow_limits = record { journal = 100; feeds = 1; lane = 2 }
 
 -- room for all that these runs do
 abbrev pub roomy : Limits
@@ -66,16 +66,16 @@ document edit =
     record { id = edit.id; rev = None; path = Some edit.path; deleted = edit.deleted; body = edit.body }
 
 -- the documents of these edits come
-abbrev pub writing : List Edit → Event
-writing edits = Write (map document edits)
+abbrev pub write_event : List Edit → Event
+write_event edits = Write (map document edits)
 
 -- the reply to a batch
 abbrev pub outcomes : List (Outcome Revision) → Reply
 outcomes list = Outcomes (whole_batch list)
 
 -- what a feed asks for that shows winners alone, without documents and heartbeats
-abbrev pub asks : Mode → Since → Option ℕ → Filter → FeedParams
-asks mode since limit filter =
+abbrev pub main_only_params : Mode → Since → Option ℕ → Filter → FeedParams
+main_only_params mode since limit filter =
     record {
       mode = mode;
       since = since;
@@ -104,8 +104,8 @@ second id = doc id (rev 2 (codes "b") ∷ rev 1 (codes "a") ∷ [])
 -- a, b, then a again: b at 2, a at 3, and nothing at 1
 abbrev pub AgainIsLater : Type 0
 AgainIsLater =
-    HasReplies roomy (writing (first (codes "a") ∷ first (codes "b") ∷ second (codes "a") ∷ [])
-    ∷ Begin (asks Normal (Plain 0) None All) ∷ Hand (feed 0) ∷ Hand (feed 0) ∷ Hand (feed 0) ∷ Hand (feed 0)
+    HasReplies roomy (write_event (first (codes "a") ∷ first (codes "b") ∷ second (codes "a") ∷ [])
+    ∷ Begin (main_only_params Normal (Plain 0) None All) ∷ Hand (feed 0) ∷ Hand (feed 0) ∷ Hand (feed 0) ∷ Hand (feed 0)
     ∷ [])
     (outcomes (Stored (rev 1 (codes "a")) ∷ Stored (rev 1 (codes "a")) ∷ Stored (rev 2 (codes "b")) ∷ [])
     ∷ Opened (feed 0) ∷ Pushed (row 2 (codes "b") (rev 1 (codes "a")) 3)
@@ -125,9 +125,9 @@ three_leaves =
     ∷ []
 
 -- a feed of this style hands out two rows of them, with documents
-abbrev pub showing : Style → List Event
-showing style =
-    writing three_leaves
+abbrev pub style_events : Style → List Event
+style_events style =
+    write_event three_leaves
     ∷ Begin (record {
       mode = Continuous;
       since = Plain 0;
@@ -155,8 +155,8 @@ shown_row changes =
 -- main_only lists the winner, all_docs every leaf, best first
 abbrev pub StylesList : Type 0
 StylesList =
-    HasHanded roomy (showing MainOnly) 0 (shown_row (rev 2 (codes "a") ∷ []) ∷ [])
-    × HasHanded roomy (showing AllDocs) 0
+    HasHanded roomy (style_events MainOnly) 0 (shown_row (rev 2 (codes "a") ∷ []) ∷ [])
+    × HasHanded roomy (style_events AllDocs) 0
     (shown_row (rev 2 (codes "a") ∷ rev 1 (codes "z") ∷ rev 2 (codes "b") ∷ []) ∷ [])
 
 -- eight documents, whose ids are one byte
@@ -168,8 +168,8 @@ eight =
 -- a normal feed on them; after its third row those at 3 and 5 are written again, and so lie above its bound
 abbrev pub BoundHolds : Type 0
 BoundHolds =
-    HasHanded roomy (writing eight ∷ Begin (asks Normal (Plain 0) None All) ∷ Hand (feed 0) ∷ Hand (feed 0)
-    ∷ Hand (feed 0) ∷ writing (second (3 ∷ []) ∷ second (5 ∷ []) ∷ []) ∷ Hand (feed 0) ∷ Hand (feed 0)
+    HasHanded roomy (write_event eight ∷ Begin (main_only_params Normal (Plain 0) None All) ∷ Hand (feed 0) ∷ Hand (feed 0)
+    ∷ Hand (feed 0) ∷ write_event (second (3 ∷ []) ∷ second (5 ∷ []) ∷ []) ∷ Hand (feed 0) ∷ Hand (feed 0)
     ∷ Hand (feed 0) ∷ Hand (feed 0) ∷ Hand (feed 0) ∷ []) 0
     (row 1 (1 ∷ []) (rev 1 (codes "a")) 8 ∷ row 2 (2 ∷ []) (rev 1 (codes "a")) 8
     ∷ row 3 (3 ∷ []) (rev 1 (codes "a")) 8
@@ -179,7 +179,7 @@ BoundHolds =
 -- on a database of three documents, with a narrow lane, the events behind their write have these replies
 abbrev pub HasThree : List Event → List Reply → Type 0
 HasThree events replies =
-    HasReplies narrow (writing (first (1 ∷ []) ∷ first (2 ∷ []) ∷ first (3 ∷ []) ∷ []) ∷ events)
+    HasReplies narrow_limits (write_event (first (1 ∷ []) ∷ first (2 ∷ []) ∷ first (3 ∷ []) ∷ []) ∷ events)
     (outcomes (Stored (rev 1 (codes "a")) ∷ Stored (rev 1 (codes "a")) ∷ Stored (rev 1 (codes "a")) ∷ [])
     ∷ replies)
 
@@ -190,7 +190,7 @@ third seq = row seq (seq ∷ []) (rev 1 (codes "a")) 3
 -- a lane of two takes a third item only once one was taken
 abbrev pub LaneFills : Type 0
 LaneFills =
-    HasThree (Begin (asks Continuous (Plain 0) None All) ∷ Hand (feed 0) ∷ Hand (feed 0) ∷ Hand (feed 0)
+    HasThree (Begin (main_only_params Continuous (Plain 0) None All) ∷ Hand (feed 0) ∷ Hand (feed 0) ∷ Hand (feed 0)
     ∷ Take (feed 0) ∷ Hand (feed 0) ∷ [])
     (Opened (feed 0) ∷ Pushed (third 1) ∷ Pushed (third 2) ∷ Full ∷ Took (Some (third 1))
     ∷ Pushed (third 3) ∷ [])
@@ -199,15 +199,15 @@ LaneFills =
 -- with the first
 abbrev pub LivesCount : Type 0
 LivesCount =
-    HasThree (Begin (asks Normal (Tagged 2 1) None All) ∷ Hand (feed 0) ∷ Hand (feed 0) ∷ [])
+    HasThree (Begin (main_only_params Normal (Tagged 2 1) None All) ∷ Hand (feed 0) ∷ Hand (feed 0) ∷ [])
     (Opened (feed 0) ∷ Pushed (third 3) ∷ Pushed (End 3 0) ∷ [])
-    × HasThree (Begin (asks Normal (Tagged 2 7) None All) ∷ Hand (feed 0) ∷ [])
+    × HasThree (Begin (main_only_params Normal (Tagged 2 7) None All) ∷ Hand (feed 0) ∷ [])
     (Opened (feed 0) ∷ Pushed (third 1) ∷ [])
 
 -- a feed hands out three rows, and is finished when one was taken
 abbrev pub left_early : List Event
 left_early =
-    writing eight ∷ Begin (asks Normal (Plain 5) None All) ∷ Hand (feed 0) ∷ Hand (feed 0) ∷ Take (feed 0)
+    write_event eight ∷ Begin (main_only_params Normal (Plain 5) None All) ∷ Hand (feed 0) ∷ Hand (feed 0) ∷ Take (feed 0)
     ∷ Hand (feed 0) ∷ Finish (feed 0) ∷ Take (feed 0) ∷ []
 
 -- what is in the lane of a finished feed is never taken
@@ -221,38 +221,38 @@ TakesAFront =
 -- a longpoll feed for design documents waits for one, and then ends
 abbrev pub LongpollWaits : Type 0
 LongpollWaits =
-    HasThree (Begin (asks Longpoll (Plain 0) None Design) ∷ Hand (feed 0)
-    ∷ writing (first (codes "_design/x") ∷ []) ∷ Hand (feed 0) ∷ Hand (feed 0) ∷ Hand (feed 0) ∷ [])
+    HasThree (Begin (main_only_params Longpoll (Plain 0) None Design) ∷ Hand (feed 0)
+    ∷ write_event (first (codes "_design/x") ∷ []) ∷ Hand (feed 0) ∷ Hand (feed 0) ∷ Hand (feed 0) ∷ [])
     (Opened (feed 0) ∷ Nothing ∷ outcomes (Stored (rev 1 (codes "a")) ∷ [])
     ∷ Pushed (row 4 (codes "_design/x") (rev 1 (codes "a")) 4) ∷ Pushed (End 4 0) ∷ Gone ∷ [])
 
 -- and where its time is over it ends at its place; a normal feed's time is never over
 abbrev pub TimeEnds : Type 0
 TimeEnds =
-    HasThree (Begin (asks Longpoll (Plain 0) None Design) ∷ Hand (feed 0) ∷ Expire (feed 0) ∷ Hand (feed 0)
+    HasThree (Begin (main_only_params Longpoll (Plain 0) None Design) ∷ Hand (feed 0) ∷ Expire (feed 0) ∷ Hand (feed 0)
     ∷ []) (Opened (feed 0) ∷ Nothing ∷ Nothing ∷ Pushed (End 3 0) ∷ [])
-    × HasThree (Begin (asks Normal (Plain 0) None All) ∷ Expire (feed 0) ∷ Hand (feed 0) ∷ [])
+    × HasThree (Begin (main_only_params Normal (Plain 0) None All) ∷ Expire (feed 0) ∷ Hand (feed 0) ∷ [])
     (Opened (feed 0) ∷ Nothing ∷ Pushed (third 1) ∷ [])
 
 -- what is known, what contradicts, and a draft on no leaf change nothing
 abbrev pub WritesAnswer : Type 0
 WritesAnswer =
-    HasReplies roomy (writing (second (codes "b") ∷ []) ∷ writing (second (codes "b") ∷ [])
-    ∷ writing (doc (codes "b") (rev 3 (codes "w") ∷ rev 2 (codes "b") ∷ rev 1 (codes "q") ∷ []) ∷ [])
+    HasReplies roomy (write_event (second (codes "b") ∷ []) ∷ write_event (second (codes "b") ∷ [])
+    ∷ write_event (doc (codes "b") (rev 3 (codes "w") ∷ rev 2 (codes "b") ∷ rev 1 (codes "q") ∷ []) ∷ [])
     ∷ Interactive (record {
       id = codes "b";
       rev = Some (rev 1 (codes "a"));
       path = None;
       deleted = false;
       body = codes "{}";
-    } ∷ []) ∷ Begin (asks Normal Now None All) ∷ Hand (feed 0) ∷ [])
+    } ∷ []) ∷ Begin (main_only_params Normal Now None All) ∷ Hand (feed 0) ∷ [])
     (outcomes (Stored (rev 2 (codes "b")) ∷ []) ∷ outcomes (Known ∷ [])
     ∷ outcomes (Refused Contradicts ∷ []) ∷ outcomes (Refused Conflict ∷ []) ∷ Opened (feed 0)
     ∷ Pushed (End 1 0) ∷ [])
 
 -- a feed that asks for a heartbeat
 abbrev pub asks_beats : Mode → FeedParams
-asks_beats mode = record (asks mode (Plain 0) None All) { heartbeat = Some 60000 }
+asks_beats mode = record (main_only_params mode (Plain 0) None All) { heartbeat = Some 60000 }
 
 -- a feed that waits hands heartbeats where it asks for them, while its lane has room
 abbrev pub BeatsAreAsked : Type 0
@@ -262,26 +262,26 @@ BeatsAreAsked =
     (Opened (feed 0) ∷ Pushed Beat ∷ Pushed Beat ∷ Full ∷ Full ∷ Left (Beat ∷ Beat ∷ []) ∷ Took None ∷ Gone
     ∷ [])
     × HasThree (Begin (asks_beats Normal) ∷ Heartbeat (feed 0) ∷ []) (Opened (feed 0) ∷ Nothing ∷ [])
-    × HasThree (Begin (asks Continuous (Plain 0) None All) ∷ Heartbeat (feed 0) ∷ Heartbeat (feed 7) ∷ [])
+    × HasThree (Begin (main_only_params Continuous (Plain 0) None All) ∷ Heartbeat (feed 0) ∷ Heartbeat (feed 7) ∷ [])
     (Opened (feed 0) ∷ Nothing ∷ Nothing ∷ [])
 
 -- a deleted database ends its feeds, and takes nothing more
 abbrev pub DeletionEnds : Type 0
 DeletionEnds =
-    HasThree (Begin (asks Continuous (Plain 1) None All) ∷ Hand (feed 0) ∷ Delete ∷ Hand (feed 0)
-    ∷ Hand (feed 0) ∷ Delete ∷ Begin (asks Normal Now None All) ∷ writing (first (codes "a") ∷ []) ∷ [])
+    HasThree (Begin (main_only_params Continuous (Plain 1) None All) ∷ Hand (feed 0) ∷ Delete ∷ Hand (feed 0)
+    ∷ Hand (feed 0) ∷ Delete ∷ Begin (main_only_params Normal Now None All) ∷ write_event (first (codes "a") ∷ []) ∷ [])
     (Opened (feed 0) ∷ Pushed (third 2) ∷ Nothing ∷ Pushed (End 2 1) ∷ Gone ∷ DatabaseDeleted
     ∷ DatabaseDeleted ∷ outcomes (Refused Deleted ∷ []) ∷ [])
 
 -- the limit counts what passes, and 0 acts as 1
 abbrev pub LimitCountsRows : Type 0
 LimitCountsRows =
-    HasThree (Begin (asks Normal (Plain 0) (Some 0) (DocIds ((3 ∷ []) ∷ (2 ∷ []) ∷ []))) ∷ Hand (feed 0)
+    HasThree (Begin (main_only_params Normal (Plain 0) (Some 0) (DocIds ((3 ∷ []) ∷ (2 ∷ []) ∷ []))) ∷ Hand (feed 0)
     ∷ Hand (feed 0) ∷ []) (Opened (feed 0) ∷ Pushed (third 2) ∷ Pushed (End 2 1) ∷ [])
 
 -- one feed more than there may be is refused until one is finished; no number is given twice
 abbrev pub FeedsAreCounted : Type 0
 FeedsAreCounted =
-    HasThree (Begin (asks Continuous Now None All) ∷ Begin (asks Continuous Now None All) ∷ Finish (feed 0)
-    ∷ Begin (asks Continuous Now None All) ∷ [])
+    HasThree (Begin (main_only_params Continuous Now None All) ∷ Begin (main_only_params Continuous Now None All) ∷ Finish (feed 0)
+    ∷ Begin (main_only_params Continuous Now None All) ∷ [])
     (Opened (feed 0) ∷ TooManyFeeds ∷ Left [] ∷ Opened (feed 1) ∷ [])

@@ -3,11 +3,11 @@
 use Rattle.std.specs.Prelude.{◌≡◌, ℕ, ◌<◌, ◌-◌, ◌^◌, ◌||◌, nat_le, List, [], ◌∷◌, ◌++◌, length, drop, Bool}
 use Rattle.std.specs.Prelude.{true, false, not, Option, Some, None, option_map, slice_get, slice_set}
 use Rattle.std.specs.Prelude.{count_by}
-use Rattle.hub_model.specs.Draft.{Draft, makes}
-use Rattle.hub_model.specs.Feed.{Params, Status, Open, Ending, Ended, Finished, Feed, begin, expire, end}
-use Rattle.hub_model.specs.Feed.{finish}
+use Rattle.hub_model.specs.Draft.{Draft, draft_result}
+use Rattle.hub_model.specs.Feed.{Params, Status, Open, Ending, Ended, Finished, Feed, new_feed, expired_feed, end}
+use Rattle.hub_model.specs.Feed.{finished_feed}
 use Rattle.hub_model.specs.Journal.{Edit}
-use Rattle.hub_model.specs.Outcome.{StoresAll, stores_all, merges}
+use Rattle.hub_model.specs.Outcome.{StoresAll, stores_all, merge_result}
 use Rattle.hub_model.specs.RightlyHanded.{ChangeItem}
 
 -- how much there may be at most
@@ -68,51 +68,51 @@ lane_of None = []
 lane_of (Some subscription) = subscription.lane
 
 -- what writing these edits with their histories answers, and the journal after it
-abbrev pub merged : World → List Edit → StoresAll
-merged world edits = stores_all (merges world.limits.journal) world.deleted world.journal edits
+abbrev pub merges_result : World → List Edit → StoresAll
+merges_result world edits = stores_all (merge_result world.limits.journal) world.deleted world.journal edits
 
 -- what writing these drafts answers, and the journal after it
-abbrev pub drafted : World → List Draft → StoresAll
-drafted world drafts = stores_all (makes world.limits.journal) world.deleted world.journal drafts
+abbrev pub drafts_result : World → List Draft → StoresAll
+drafts_result world drafts = stores_all (draft_result world.limits.journal) world.deleted world.journal drafts
 
 -- the world with one feed more, which has an empty lane
 abbrev pub with_feed : World → Params → World
 with_feed world params =
     record world {
       feeds = world.feeds
-          ++ record { feed = begin params (length world.journal) world.life; lane = [] } ∷ [];
+          ++ record { feed = new_feed params (length world.journal) world.life; lane = [] } ∷ [];
     }
 
 -- the feed with its lane once the item went into it, and the feed went on so
-abbrev pub pushed : Subscription → Feed → ChangeItem → Subscription
-pushed subscription feed item = record { feed = feed; lane = subscription.lane ++ item ∷ [] }
+abbrev pub subscription_after_push : Subscription → Feed → ChangeItem → Subscription
+subscription_after_push subscription feed item = record { feed = feed; lane = subscription.lane ++ item ∷ [] }
 
 -- there is room in the lane of f, and new is the world with the item in it. Where a lane holds 2 items at
 -- most, and has row 1 and row 2, there is no room for row 3 (proved: `LaneFills`).
 abbrev pub Pushes : World → ℕ → Subscription → Feed → ChangeItem → World → Type 0
 Pushes old f subscription feed item new =
     (length subscription.lane < old.limits.lane)
-    × (new ≡ with_subscription old f (pushed subscription feed item))
+    × (new ≡ with_subscription old f (subscription_after_push subscription feed item))
 
 -- the world once the time of feed f is over; without such a feed it stays as it is
-abbrev pub expired : Option Subscription → ℕ → World → World
-expired None f world = world
-expired (Some subscription) f world =
-    with_subscription world f (record subscription { feed = expire subscription.feed })
+abbrev pub world_after_expiry : Option Subscription → ℕ → World → World
+world_after_expiry None f world = world
+world_after_expiry (Some subscription) f world =
+    with_subscription world f (record subscription { feed = expired_feed subscription.feed })
 
 -- the world once the front item of feed f's lane is taken: of row 1 and row 2 there row 2 stays
-abbrev pub took : Option Subscription → ℕ → World → World
-took None f world = world
-took (Some subscription) f world =
+abbrev pub world_after_take : Option Subscription → ℕ → World → World
+world_after_take None f world = world
+world_after_take (Some subscription) f world =
     with_subscription world f (record subscription { lane = drop 1 subscription.lane })
 
 -- The world once the subscriber of feed f is gone: the feed is finished, and its lane is empty. So the
 -- heartbeats that were in the lane are never taken (proved: `BeatsAreAsked`).
-abbrev pub finished : Option Subscription → ℕ → World → World
-finished None f world = world
-finished (Some subscription) f world =
-    with_subscription world f (record { feed = finish subscription.feed; lane = [] })
+abbrev pub world_after_finish : Option Subscription → ℕ → World → World
+world_after_finish None f world = world
+world_after_finish (Some subscription) f world =
+    with_subscription world f (record { feed = finished_feed subscription.feed; lane = [] })
 
 -- a feed with its lane once its database is deleted: the items in the lane stay there
-abbrev pub ended : Subscription → Subscription
-ended subscription = record subscription { feed = end subscription.feed }
+abbrev pub ended_subscription : Subscription → Subscription
+ended_subscription subscription = record subscription { feed = end subscription.feed }

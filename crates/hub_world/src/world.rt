@@ -6,7 +6,7 @@ ghost use Rattle.hub_world.specs.Applied.{Answers, Applies, CoreStep, last_reply
 ghost use Rattle.hub_world.specs.Core.{Shows, limits_of};
 ghost use Rattle.hub_world.specs.Growth.{MayFail};
 ghost use Rattle.hub_world.specs.Headline.{AreFaithful, AreRight};
-ghost use Rattle.hub_world.specs.Lane.{back, held};
+ghost use Rattle.hub_world.specs.Lane.{back, lane_items};
 ghost use Rattle.hub_world.specs.Step.{Run};
 ghost use Rattle.hub_world.specs.World.{World as Shown, empty};
 
@@ -85,7 +85,7 @@ impl World {
     // The reply that tells the last item of a feed's lane; `Nothing` where no item lies in it.
     fn last_reply(&self, feed: FeedId) -> Reply
         ensures reply { result ≡ last_reply (back feed.number self.now.lanes) }
-        ensures within { length (held feed.number self.now.lanes) ≤ self.now.db.limits.lane }
+        ensures within { length (lane_items feed.number self.now.lanes) ≤ self.now.db.limits.lane }
     {
         let Some(list) = self.locked.outbox(feed) else {
             return Reply::Nothing;

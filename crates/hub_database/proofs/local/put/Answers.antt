@@ -1,5 +1,5 @@
 use Rattle.std.proofs.Common.{◌∙◌, ap, map}
-use Rattle.hub_database.specs.Kept.{kept}
+use Rattle.hub_database.specs.Kept.{locals_of}
 use Rattle.hub_database.specs.Locals.{put_local}
 use Rattle.hub_database.specs.Answers.{local_named}
 use Rattle.hub_database.proofs.LocalLemmas.{entry_as, put_in}
@@ -9,4 +9,4 @@ pub returns-clause-ok : goal.returns-clause-ok
 returns-clause-ok c =
     ap (map entry_as) c.in_ok-insert.ensures.entries
     ∙ (put_in c.args.locals.now.entries c.into_string.result c.args.local
-    ∙ ap (λ i. put_local (local_named i c.args.local) (kept c.args.locals.now)) c.into_string.ensures)
+    ∙ ap (λ i. put_local (local_named i c.args.local) (locals_of c.args.locals.now)) c.into_string.ensures)

@@ -1,6 +1,6 @@
 use Rattle.std.proofs.Common.{◌≡◌, ℕ, List, [], ◌∷◌, ◌++◌, Option, Some, None, option_map}
 use Rattle.std.proofs.Common.{string_bytes, refl, sym, ap, ◌∙◌, append_assoc, rules}
-use Rattle.hub_model.specs.Missing.{Asked}
+use Rattle.hub_model.specs.Missing.{RevisionsOfDoc}
 use Rattle.hub_model.specs.Revision.{Revision}
 use Rattle.serde_json.specs.Data.{Data, Members, member}
 use Rattle.serde_json.specs.View.{view, members_view}
@@ -8,14 +8,14 @@ use Rattle.hub_document.specs.Asking.{in_front, revs_in, asked_of}
 use Rattle.hub_document.proofs.asked.asked_of.Goals as goal
 
 -- one that is put in front of the rest stands behind those before
-regrouped : (done : List Asked) (asked : Asked) (rest : Option (List Asked))
+regrouped : (done : List RevisionsOfDoc) (asked : RevisionsOfDoc) (rest : Option (List RevisionsOfDoc))
     → option_map (λ others. done ++ others) (in_front asked rest)
     ≡ option_map (λ others. (done ++ asked ∷ []) ++ others) rest
 regrouped done asked None = refl
 regrouped done asked (Some others) = ap Some (sym (append_assoc done (asked ∷ []) others))
 
 -- one more member
-one_more : (done : List Asked) (id : List ℕ) (content : Data) (members : Members) (revs : List Revision)
+one_more : (done : List RevisionsOfDoc) (id : List ℕ) (content : Data) (members : Members) (revs : List Revision)
     → revs_in content ≡ Some revs
     → option_map (λ others. done ++ others) (asked_of (member id content members))
     ≡ option_map (λ others. (done ++ record { id = id; revs = revs } ∷ []) ++ others) (asked_of members)

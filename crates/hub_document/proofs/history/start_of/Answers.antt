@@ -2,7 +2,7 @@ use Rattle.std.proofs.Common.{◌≡◌, ◌∙◌, sym, length, ◌≢◌, ◌<
 use Rattle.std.proofs.lemmas.Bool.{eqb-false}
 use Rattle.std.proofs.lemmas.Grind.{common_steps}
 use Rattle.serde_json.specs.View.{view, items_view}
-use Rattle.hub_document.specs.Histories.{history_in, starting}
+use Rattle.hub_document.specs.Histories.{history_in, limited_history}
 use Rattle.hub_document.proofs.PathLemmas.{starting_is}
 use Rattle.hub_document.proofs.history.start_of.Goals as goal
 
@@ -13,6 +13,6 @@ returns-clause-some c =
     let some : length ids.items ≢ 0 = λ e. full (ids.ok.0 ∙ e) in
     let above : 0 < c.in_ok-start.start = grind (arith, common_steps, c.if-start-eq0.false) in
     let below : c.in_ok-start.start < 65536 = grind (arith, common_steps, c.if-start-gt65535.false) in
-    let is : starting c.in_ok-start.start (items_view ids.items) ≡ history_in (view c.args.history.now) =
+    let is : limited_history c.in_ok-start.start (items_view ids.items) ≡ history_in (view c.args.history.now) =
     search rules in
     starting_is c.in_ok-start.start ids.items some above below ∙ is

@@ -1,7 +1,7 @@
 use Rattle.std.proofs.Common.{◌≡◌, ◌∙◌, ap, sym, arith, length, ◌<◌, slice_set}
 use Rattle.std.proofs.lemmas.List.Edits.{map_over_more}
 use Rattle.hub_model.specs.Feed.{Feed, end}
-use Rattle.hub_feed.specs.Feeds.{ended}
+use Rattle.hub_feed.specs.Feeds.{ended_entry}
 use Rattle.hub_feed.proofs.feeds.end_each.Goals as goal
 
 pub loop-feed-preserved : goal.loop-feed-preserved
@@ -16,6 +16,6 @@ loop-feed-preserved c =
       now =
           rw (sym c.feed-item.is)
           (ap (λ (feed : Feed). slice_set items at (x.0, feed)) now
-          ∙ map_over_more ended c.args.feeds.now.items items
+          ∙ map_over_more ended_entry c.args.feeds.now.items items
           at x low c.loop-feed.invariant.now c.feed-item.is);
     }

@@ -1,5 +1,5 @@
 use Rattle.std.proofs.Common.{◌≡◌, ◌∙◌, ap, length, take, false, rules}
-use Rattle.hub_database.specs.Edits.{writes}
+use Rattle.hub_database.specs.Edits.{docs_result}
 use Rattle.hub_follower.proofs.Served.{all_stored}
 use Rattle.hub_follower.proofs.db_peer.store_all.Goals as goal
 
@@ -14,7 +14,7 @@ returns-in-Ok g c =
       stored.found.legal,
       all_stored stored.db.deleted stored.db.limits.journal stored.db.journal c.args.docs.now rs
           (stored.replies
-          ∙ ap (λ z. (writes false stored.db.deleted stored.db.limits.journal
+          ∙ ap (λ z. (docs_result false stored.db.deleted stored.db.limits.journal
           stored.db.journal (take (length rs) z)).outcomes) same)
           (stored.whole stands ∙ ap length same),
     )

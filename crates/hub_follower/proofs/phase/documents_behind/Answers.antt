@@ -3,7 +3,7 @@ use Rattle.std.proofs.Common.{append_assoc, length, length-append, ◌+◌, drop
 use Rattle.std.specs.Prelude.{All, string_bytes}
 use Rattle.std.proofs.lemmas.List.{drop_more}
 use Rattle.std.proofs.lemmas.List.Elements.{All-tail}
-use Rattle.hub_model.specs.Missing.{Asked}
+use Rattle.hub_model.specs.Missing.{RevisionsOfDoc}
 use Rattle.hub_model.specs.Revision.{Revision}
 use Rattle.hub_database.specs.declared.answers.OpenRev.TheVariants.{Found, Missing}
 use Rattle.hub_follow_model.specs.Follower as follow
@@ -67,9 +67,9 @@ returns-in-Missing-clause-err c =
     step.0 ∙ ap (λ asked. asked ∷ rest) c.in-Missing.is in
     let first = c.index-as_slice-at.result in
     let listed : c.as_slice.result.now ≡ revs =
-    c.as_slice.ensures ∙ ap (λ (asked : Asked). asked.revs) c.asked.view_is in
+    c.as_slice.ensures ∙ ap (λ (asked : RevisionsOfDoc). asked.revs) c.asked.view_is in
     let named : string_bytes c.asked.inside.id ≡ c.args.asked.id = ap
-    (λ (asked : Asked). asked.id) c.asked.view_is in
+    (λ (asked : RevisionsOfDoc). asked.id) c.asked.view_is in
     let is : get_or revs at first ≡ first =
     ap (λ asked. get_or asked at first) (sym listed) ∙ sym c.index-as_slice-at.is in
     let whole : opens c.args.asked.id revs c.args.found c.args.got

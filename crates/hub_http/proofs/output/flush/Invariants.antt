@@ -1,6 +1,6 @@
 use Rattle.std.proofs.Common.{◌<◌, ◌≤◌}
 use Rattle.std.specs.Io.KnownBytes.{Keeps}
-use Rattle.hub_http.specs.Counts.{Rose, RoseBy}
+use Rattle.hub_http.specs.Counts.{HasGrown, HasGrownBy}
 use Rattle.hub_http.proofs.output.flush.Given as goal
 
 abbrev pub invariant-loop : goal.invariant-loop
@@ -10,6 +10,6 @@ invariant-loop g l =
     let failures = g.W.Output.failure_count in
     Keeps (written l.fn.writer) (written l.writer)
     × (faults l.fn.writer ≤ faults l.writer)
-    × (0 < l.counter → Rose (faults l.fn.writer) (faults l.writer))
+    × (0 < l.counter → HasGrown (faults l.fn.writer) (faults l.writer))
     × (failures l.fn.writer ≤ failures l.writer)
-    × RoseBy l.counter (faults l.fn.writer) (faults l.writer)
+    × HasGrownBy l.counter (faults l.fn.writer) (faults l.writer)

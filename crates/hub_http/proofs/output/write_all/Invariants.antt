@@ -1,6 +1,6 @@
 use Rattle.std.proofs.Common.{◌≡◌, ◌≤◌, ◌<◌, ◌+◌, ◌-◌, ◌*◌, ℕ, ◌++◌, List, length}
 use Rattle.std.specs.Io.KnownBytes.{Appends}
-use Rattle.hub_http.specs.Counts.{RoseBy, most_tries}
+use Rattle.hub_http.specs.Counts.{HasGrownBy, most_tries}
 use Rattle.hub_http.proofs.output.write_all.Given as goal
 
 abbrev pub invariant-loop-rest : goal.invariant-loop-rest
@@ -12,7 +12,7 @@ invariant-loop-rest g l =
     × (faults l.fn.writer ≤ faults l.writer)
     × (failures l.fn.writer ≤ failures l.writer)
     × (0 < l.tries) × (l.tries ≤ most_tries)
-    × RoseBy (most_tries - l.tries) (faults l.fn.writer) (faults l.writer)
+    × HasGrownBy (most_tries - l.tries) (faults l.fn.writer) (faults l.writer)
 
 abbrev pub decreases-loop-rest : goal.decreases-loop-rest
 decreases-loop-rest g l = length l.rest * 1000001 + l.tries

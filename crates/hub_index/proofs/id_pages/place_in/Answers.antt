@@ -3,7 +3,7 @@ use Rattle.std.proofs.lemmas.List.Sorted.{IsPartitionPoint-from_clause}
 use Rattle.std.specs.Cmp.Lexicographic.{slice_cmp}
 use Rattle.std.specs.Ordering.{nat_cmp, is_lt}
 use Rattle.std.proofs.lemmas.List.{get_or_default}
-use Rattle.hub_index.specs.Order.{lies_below}
+use Rattle.hub_index.specs.Order.{is_below}
 use Rattle.hub_index.proofs.OrderLemmas.{below_parted, parted, whole_parted}
 use Rattle.hub_index.proofs.id_pages.place_in.Goals as goal
 
@@ -13,9 +13,9 @@ returns-clause-before g c =
     let id = c.args.id.now in
     let point =
     IsPartitionPoint-from_clause
-    (lies_below ids id) c.args.numbers.now c.partition_point.result c.partition_point.ensures.partitioned
+    (is_below ids id) c.args.numbers.now c.partition_point.result c.partition_point.ensures.partitioned
     (below_parted ids id c.args.numbers.now c.requires.order.rising) (λ a r f called. search rules) in
-    (parted (lies_below ids id) c.args.numbers.now c.partition_point.result
+    (parted (is_below ids id) c.args.numbers.now c.partition_point.result
     c.partition_point.ensures.bound point.0 point.1).0
 
 pub returns-clause-behind : goal.returns-clause-behind
@@ -24,9 +24,9 @@ returns-clause-behind g c =
     let id = c.args.id.now in
     let point =
     IsPartitionPoint-from_clause
-    (lies_below ids id) c.args.numbers.now c.partition_point.result c.partition_point.ensures.partitioned
+    (is_below ids id) c.args.numbers.now c.partition_point.result c.partition_point.ensures.partitioned
     (below_parted ids id c.args.numbers.now c.requires.order.rising) (λ a r f called. search rules) in
-    (parted (lies_below ids id) c.args.numbers.now c.partition_point.result
+    (parted (is_below ids id) c.args.numbers.now c.partition_point.result
     c.partition_point.ensures.bound point.0 point.1).1
 
 pub returns-then-is_lt-clause-before : goal.returns-then-is_lt-clause-before
@@ -36,14 +36,14 @@ returns-then-is_lt-clause-before g c =
     let numbers = c.args.numbers.now in
     let at = length numbers - 1 in
     let last : ℕ = get_or numbers at 0 in
-    let passes : lies_below ids id last ≡ true =
+    let passes : is_below ids id last ≡ true =
     ap (λ t. is_lt (slice_cmp nat_cmp t id)) (sym c.id.ensures)
     ∙ (ap is_lt (sym c.cmp.ensures) ∙ (sym c.is_lt.ensures ∙ c.if-is_lt.true)) in
     let point =
-    whole_parted (lies_below ids id) numbers
+    whole_parted (is_below ids id) numbers
     at last (below_parted ids id numbers c.requires.order.rising) (omega (arith, c.if-count-gt0.true))
     (get_or_default numbers at 0 last (omega (arith, c.if-count-gt0.true))) passes in
-    (parted (lies_below ids id) numbers (length numbers) (omega arith) point.0 point.1).0
+    (parted (is_below ids id) numbers (length numbers) (omega arith) point.0 point.1).0
 
 pub returns-then-is_lt-clause-behind : goal.returns-then-is_lt-clause-behind
 returns-then-is_lt-clause-behind g c =
@@ -52,11 +52,11 @@ returns-then-is_lt-clause-behind g c =
     let numbers = c.args.numbers.now in
     let at = length numbers - 1 in
     let last : ℕ = get_or numbers at 0 in
-    let passes : lies_below ids id last ≡ true =
+    let passes : is_below ids id last ≡ true =
     ap (λ t. is_lt (slice_cmp nat_cmp t id)) (sym c.id.ensures)
     ∙ (ap is_lt (sym c.cmp.ensures) ∙ (sym c.is_lt.ensures ∙ c.if-is_lt.true)) in
     let point =
-    whole_parted (lies_below ids id) numbers
+    whole_parted (is_below ids id) numbers
     at last (below_parted ids id numbers c.requires.order.rising) (omega (arith, c.if-count-gt0.true))
     (get_or_default numbers at 0 last (omega (arith, c.if-count-gt0.true))) passes in
-    (parted (lies_below ids id) numbers (length numbers) (omega arith) point.0 point.1).1
+    (parted (is_below ids id) numbers (length numbers) (omega arith) point.0 point.1).1

@@ -2,7 +2,7 @@ use Rattle.std.proofs.Common.{◌≡◌, ℕ, [], Ok, Err, rules, sym, subst, ap
 use Rattle.std.specs.Prelude.{Vec}
 use Rattle.std.specs.declared.alloc.Global.{Global}
 use Rattle.hub_database.specs.Database.{Database}
-use Rattle.hub_model.specs.Missing.{Asked, Diff, diffs}
+use Rattle.hub_model.specs.Missing.{RevisionsOfDoc, Diff, diffs}
 use Rattle.hub_replies.specs.Bodies.{diffs_body}
 use Rattle.hub_service.specs.Calls.{says_diffs}
 use Rattle.hub_service.specs.Moments.{IsRead}
@@ -11,7 +11,7 @@ use Rattle.hub_service.proofs.Looks.{found_read, look_found, look_unfound, said_
 use Rattle.hub_service.proofs.diff.diff.Goals as goal
 
 -- what a look for missing revisions finds
-abbrev are_diffs : Vec Asked Global → Database → Vec Diff Global → Type 0
+abbrev are_diffs : Vec RevisionsOfDoc Global → Database → Vec Diff Global → Type 0
 are_diffs asked db found = found.items ≡ diffs db.journal asked.items
 
 pub returns-in_err-found : goal.returns-in_err-found

@@ -1,9 +1,9 @@
 use Rattle.std.proofs.Common.{◌≡◌, ℕ, List, Err, ◌<◌, ◌^◌, rules, sym, subst, arith}
 use Rattle.std.specs.Prelude.{Vec}
 use Rattle.std.specs.declared.alloc.Global.{Global}
-use Rattle.hub_database.specs.Locals.{written}
+use Rattle.hub_database.specs.Locals.{local_after_write}
 use Rattle.hub_replies.specs.Bodies.{edit_front, local_edit_body}
-use Rattle.hub_service.specs.Calls.{keeps}
+use Rattle.hub_service.specs.Calls.{local_reply}
 use Rattle.hub_service.specs.Moments.{IsRead}
 use Rattle.hub_service.proofs.Looks.{kept_read, kept_said, said_text, told_of, unkept_read}
 use Rattle.hub_service.proofs.locals.keep.Goals as goal
@@ -11,7 +11,7 @@ use Rattle.hub_service.proofs.locals.keep.Goals as goal
 pub returns-in_err-count : goal.returns-in_err-count
 returns-in_err-count g c =
     let same : c.from_residual-in_err-count.result ≡ Err c.in_err-count.field-0.0 = search rules in
-    subst (IsRead (λ db. keeps (written db.locals c.args.doc))) (sym same)
+    subst (IsRead (λ db. local_reply (local_after_write db.locals c.args.doc))) (sym same)
     (unkept_read c.args.doc c.in_err-count.field-0.0 c.in_err-count.ensures)
 
 pub returns : goal.returns

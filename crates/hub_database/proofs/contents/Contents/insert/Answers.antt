@@ -3,11 +3,11 @@ use Rattle.std.proofs.Common.{ap, sym, refl, length, arith, rules, subst, nat_le
 use Rattle.std.specs.Prelude.{OnErr}
 use Rattle.std.proofs.lemmas.List.{map-append}
 use Rattle.hub_index.specs.Order.{IsOrder, with_number}
-use Rattle.hub_index.specs.Rows.{moved}
+use Rattle.hub_index.specs.Rows.{rows_after_move}
 use Rattle.hub_model.specs.declared.outcomes.Outcome.TheVariants.{Stored}
 use Rattle.hub_database.specs.Database.{Contents}
-use Rattle.hub_database.specs.Documents.{filed, files, one_if}
-use Rattle.hub_database.specs.Filed.{Filed}
+use Rattle.hub_database.specs.Documents.{filed_document, files, one_if}
+use Rattle.hub_database.specs.Filed.{FiledDocument}
 use Rattle.hub_database.specs.Inside.{IsWhole, edits_inside, first_setting, ids_in, number_by}
 use Rattle.hub_database.specs.Looked.{NeedsRoomFor, journal_after, look_at, look_in, outcome_of}
 use Rattle.hub_database.specs.Looked.{stores_edit, unless_full}
@@ -32,7 +32,7 @@ returns-in_err-look c =
           on_err c.from_residual.result _
           (subst (λ (contents : Contents). NeedsRoomFor contents.journal c.args.id c.args.edit) c.self.view_is
           (needs_first s c.self.invariant.documents c.args.id absent c.args.edit
-          (subst (λ (z : Filed). NeedsRoomFor z.edits [] c.args.edit) c.new-document.ensures
+          (subst (λ (z : FiledDocument). NeedsRoomFor z.edits [] c.args.edit) c.new-document.ensures
           c.in_err-look.ensures.memory)));
     }
 
@@ -41,7 +41,7 @@ enter-requires-clause-new c =
     let s = c.self.inside in
     let absent =
     no_number s c.self.invariant.documents c.args.id (rw (sym c.self.view_is) at c.requires.new) in
-    subst (λ id. number_by s id ≡ None) (sym (ap (λ (z : Filed). z.id) c.new-document.ensures)) absent
+    subst (λ id. number_by s id ≡ None) (sym (ap (λ (z : FiledDocument). z.id) c.new-document.ensures)) absent
 
 pub enter-requires-clause-own : goal.enter-requires-clause-own
 enter-requires-clause-own c = no_row c.self.inside c.self.invariant.rows
@@ -78,7 +78,7 @@ returns-in_err-number-in-Ready c =
           err_then result
           (λ needs. subst (λ (contents : Contents). NeedsRoomFor contents.journal c.args.id c.args.edit)
           c.self.view_is (needs_first s c.self.invariant.documents c.args.id absent c.args.edit needs))
-          (subst (λ (z : Filed). OnErr result (NeedsRoomFor z.edits [] c.args.edit)) c.new-document.ensures
+          (subst (λ (z : FiledDocument). OnErr result (NeedsRoomFor z.edits [] c.args.edit)) c.new-document.ensures
           (ready_needs result c.new-document.result.id c.new-document.result.tree.edits _ c.args.edit
           c.in_ok-look.field-0 c.in-Ready.ready c.in-Ready.is c.in_ok-look.ensures.storable
           c.in_ok-look.ensures.looked));
@@ -98,7 +98,7 @@ returns-in-Refused c =
     sym
     (c.in_ok-look.ensures.looked
     ∙ (ap (λ n. unless_full (nat_le limit n) (look_at d.id d.tree.edits edit)) many
-    ∙ ap (λ (z : Filed). unless_full (nat_le limit (length s.journal.items)) (look_at z.id z.edits edit))
+    ∙ ap (λ (z : FiledDocument). unless_full (nat_le limit (length s.journal.items)) (look_at z.id z.edits edit))
     c.new-document.ensures))
     ∙ c.in-Refused.is in
     record {
@@ -137,9 +137,9 @@ left c =
     no_number old c.self.invariant.documents c.args.id (rw (sym c.self.view_is) at c.requires.new) in
     let many : c.len.result ≡ length old.journal.items =
     omega (arith, c.len.ensures, old.journal.ok.0) in
-    let named : d.id ≡ c.args.id = ap (λ (z : Filed). z.id) c.new-document.ensures in
+    let named : d.id ≡ c.args.id = ap (λ (z : FiledDocument). z.id) c.new-document.ensures in
     inserted_whole old (after c) c.self.invariant c.args.id absent c.args.edit (Stored c.take-rev.result)
-    (first_stored c.args.id c.args.edit old (after c) (filed d) (filed c.take-rev.new.self)
+    (first_stored c.args.id c.args.edit old (after c) (filed_document d) (filed_document c.take-rev.new.self)
     c.in_ok-look.field-0 c.in-Ready.ready c.take-rev.result number c.new-document.ensures
     (look.looked
     ∙ ap (λ n. unless_full (nat_le old.limits.journal n) (look_at d.id d.tree.edits c.args.edit)) many)
@@ -154,8 +154,8 @@ left c =
     }) look.edits))
     entered.next
     (ap files c.push_reserved.ensures.items
-    ∙ (map-append filed c.enter.new.documents.items (_ ∷ [])
-    ∙ ap (λ ds. files ds ++ filed c.take-rev.new.self ∷ []) c.enter.ensures.documents))
+    ∙ (map-append filed_document c.enter.new.documents.items (_ ∷ [])
+    ∙ ap (λ ds. files ds ++ filed_document c.take-rev.new.self ∷ []) c.enter.ensures.documents))
     (c.take-rev.ensures.journal
     ∙ (ap (λ es. es ++ record { document = number; revision = length c.look.new.tree.edits } ∷ [])
     c.enter.ensures.journal
@@ -166,7 +166,7 @@ left c =
     ∙ ap (with_number (ids_in old) old.numbers c.args.id) (sym entered.next)))
     (subst (λ i. IsOrder (ids_in old ++ i ∷ []) c.enter.new.numbers) named entered.order)
     (omega (arith, c.recounted-self-inside.ensures, ap one_if c.is_deleted.ensures.mark))
-    (entered.index ∙ ap (λ n. moved old.index n (length old.journal.items + 1)) (sym entered.next)))
+    (entered.index ∙ ap (λ n. rows_after_move old.index n (length old.journal.items + 1)) (sym entered.next)))
     refl
 
 pub invariant_of-self-in-Ready : goal.invariant_of-self-in-Ready

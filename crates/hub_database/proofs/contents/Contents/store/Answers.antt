@@ -3,10 +3,10 @@ use Rattle.std.specs.Prelude.{option_map}
 use Rattle.hub_model.specs.Journal.{Edit}
 use Rattle.hub_document.specs.declared.limits.Limits.{Limits}
 use Rattle.hub_database.specs.Database.{Contents, Local}
-use Rattle.hub_database.specs.Documents.{filed, files}
+use Rattle.hub_database.specs.Documents.{filed_document, files}
 use Rattle.hub_database.specs.Indexed.{latest_of}
 use Rattle.hub_database.specs.Inside.{number_by}
-use Rattle.hub_database.specs.Kept.{kept}
+use Rattle.hub_database.specs.Kept.{locals_of}
 use Rattle.hub_database.specs.Looked.{NeedsRoomFor}
 use Rattle.hub_database.proofs.IndexedLemmas.{rows_below}
 use Rattle.hub_database.proofs.StoreLemmas.{document_there, extended, extended_whole, few_edits}
@@ -61,7 +61,7 @@ extend-requires-clause-own c =
     let now =
     filed_at s.limits.journal (number_by s) s.documents.items s.journal.items
     c.self.invariant.documents.filed k d at in
-    c.self.invariant.rows.key k (latest_of (filed d)) (ap (option_map latest_of) now)
+    c.self.invariant.rows.key k (latest_of (filed_document d)) (ap (option_map latest_of) now)
 
 pub extend-requires-clause-above : goal.extend-requires-clause-above
 extend-requires-clause-above c =
@@ -106,7 +106,7 @@ returns-in_err-outcome-in-Some c =
       rest = search rules;
       err =
           on_err c.from_residual.result _
-          (ap (with_edits s.life s.limits (kept s.locals))
+          (ap (with_edits s.life s.limits (locals_of s.locals))
           (unchanged s.limits.journal (number_by s) s.documents.items s.journal.items
           c.self.invariant.documents.filed k d at s.index c.extend.new.index c.self.invariant.rows
           c.extend.new.self c.extend.new.journal.items e.0 e.1 e.2).1

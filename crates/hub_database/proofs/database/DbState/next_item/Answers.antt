@@ -5,7 +5,7 @@ use Rattle.hub_model.specs.Entries.{entry_in}
 use Rattle.hub_model.specs.Row.{ChangeRow, row_of}
 use Rattle.hub_model.proofs.Entries.{no_entry}
 use Rattle.hub_feed.specs.Feeds.{FeedList}
-use Rattle.hub_feed.specs.Host.{answer_of, answered, behind_answer, due_to}
+use Rattle.hub_feed.specs.Host.{next_if_any, next_of_number, hosted_after_next, due_of_number}
 use Rattle.hub_feed.specs.Next.{IsRowDue}
 use Rattle.hub_feed.specs.declared.next.Next.{Next}
 use Rattle.hub_feed.specs.declared.next.Next.TheVariants.{Gone}
@@ -34,7 +34,7 @@ returns-in_default-clause-ok c =
     subst (λ (database : Database). entry_in id database.feeds ≡ None) c.self.view_is
     (no_entry id state.feeds.feeds (sym c.in_default.ensures.1)) in
     let gone : Next ChangeRow = Gone in (
-      subst (λ o. gone ≡ answer_of (hosted_of db) o) (sym none) refl,
+      subst (λ o. gone ≡ next_if_any (hosted_of db) o) (sym none) refl,
       ap whole c.place.ensures.0 ∙ c.self.view_is,
     )
 
@@ -72,8 +72,8 @@ returns-clause-ok c =
     } in
     let new = c.next_at.new.self in
     both_ok c.next_at.result
-    (λ next is _. subst (λ (db : Database). (next ≡ answered (hosted_of db) id)
-    × (whole new ≡ with_hosted db (behind_answer (hosted_of db) id next)))
+    (λ next is _. subst (λ (db : Database). (next ≡ next_of_number (hosted_of db) id)
+    × (whole new ≡ with_hosted db (hosted_after_next (hosted_of db) id next)))
     (ap whole c.place.ensures.0 ∙ c.self.view_is) (is.0, ap whole is.1))
     c.next_at.ensures.ok c.next_at.ensures.ok
 
@@ -94,5 +94,5 @@ returns-clause-err c =
     err_then c.next_at.result
     (λ w. (
       ap whole w.0 ∙ same,
-      subst (λ (db : Database). IsRowDue (due_to (hosted_of db) id)) same w.1,
+      subst (λ (db : Database). IsRowDue (due_of_number (hosted_of db) id)) same w.1,
     )) c.next_at.ensures.err

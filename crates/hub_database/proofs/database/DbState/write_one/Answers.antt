@@ -1,10 +1,10 @@
 use Rattle.std.proofs.Common.{◌≡◌, ◌∙◌, ◌⊎◌, ◌≤◌, ap, length, rules, subst, true}
 use Rattle.std.specs.Prelude.{IfOk, IfErr}
-use Rattle.hub_model.specs.Outcome.{refuses}
+use Rattle.hub_model.specs.Outcome.{refusal_result}
 use Rattle.hub_model.specs.declared.outcomes.Fault.{Fault}
 use Rattle.hub_model.specs.declared.outcomes.Outcome.TheVariants.{Stored}
 use Rattle.hub_database.specs.Database.{Contents, Database}
-use Rattle.hub_database.specs.Edits.{makes_one}
+use Rattle.hub_database.specs.Edits.{one_draft_result}
 use Rattle.hub_database.specs.declared.batch.DbFault.TheVariants.{NoMemory, Refused}
 use Rattle.hub_database.proofs.FeedLemmas.{write_grows}
 use Rattle.hub_database.proofs.MergeLemmas.{one_reply}
@@ -24,7 +24,7 @@ returns-clause-ok c =
     } in
     let new = c.write.new.self in
     subst (λ (db : Database). IfOk c.reply.result (λ rev.
-    makes_one db.deleted db.limits.journal db.journal c.args.doc
+    one_draft_result db.deleted db.limits.journal db.journal c.args.doc
     ≡ record { outcome = Stored rev; journal = new.journal })) c.self.view_is
     (one_reply (whole s.contents) (whole new) c.args.doc c.in_ok-outcome.outcome c.reply.result
     (ap (λ (db : Database). db.deleted) c.self.view_is ∙ c.in_ok-standing.ensures.ok.0) c.reply.ensures
@@ -45,7 +45,7 @@ returns-clause-err c =
     let new = c.write.new.self in
     subst (λ (db : Database). IfErr c.reply.result (λ e. (whole new ≡ db) × ((e ≡ NoMemory)
     ⊎ ((f : Fault) × (e ≡ Refused f)
-    × (makes_one db.deleted db.limits.journal db.journal c.args.doc ≡ refuses db.journal f))))) c.self.view_is
+    × (one_draft_result db.deleted db.limits.journal db.journal c.args.doc ≡ refusal_result db.journal f))))) c.self.view_is
     (one_reply (whole s.contents) (whole new) c.args.doc c.in_ok-outcome.outcome c.reply.result
     (ap (λ (db : Database). db.deleted) c.self.view_is ∙ c.in_ok-standing.ensures.ok.0) c.reply.ensures
     c.in_ok-outcome.ensures.ok (ap whole c.in_ok-outcome.ensures.rest)).1

@@ -7,7 +7,7 @@ use Rattle.hub_model.specs.Row.{row_of}
 use Rattle.hub_model.proofs.Entries.{no_entry}
 use Rattle.hub_feed.specs.Feeds.{FeedList, feeds_of, over}
 use Rattle.hub_feed.specs.Hand.{HandsTo}
-use Rattle.hub_feed.specs.Host.{answer_of, answered, behind_answer, handed}
+use Rattle.hub_feed.specs.Host.{next_if_any, next_of_number, hosted_after_next, hosted_after_hand}
 use Rattle.hub_feed.specs.declared.handed.Handed.TheVariants.{Gone}
 use Rattle.hub_feed.specs.declared.next.Next.TheVariants.{Nothing}
 use Rattle.hub_feed.proofs.FeedsLemmas.{both_ok, ok_or_err}
@@ -37,9 +37,9 @@ returns-in_default-clause-ok g c =
     subst (λ (database : Database). entry_in id database.feeds ≡ None) c.self.view_is
     (no_entry id state.feeds.feeds (sym c.in_default.ensures.1)) in
     subst (λ o. HandsTo g.K.Sink.behind (g.H.Pushes.refuses c.args.handle.now) db
-    (with_hosted db (handed (hosted_of db) id))
-    (with_hosted db (behind_answer (hosted_of db) id Nothing)) sink
-    (answer_of (hosted_of db) o) Gone (whole c.place.new.self) sink) (sym none)
+    (with_hosted db (hosted_after_hand (hosted_of db) id))
+    (with_hosted db (hosted_after_next (hosted_of db) id Nothing)) sink
+    (next_if_any (hosted_of db) o) Gone (whole c.place.new.self) sink) (sym none)
     (refl, ap whole c.place.ensures.0 ∙ c.self.view_is, refl)
 
 pub hand_at-requires-clause-ready : goal.hand_at-requires-clause-ready
@@ -57,8 +57,8 @@ invariant_of-self-3 g c =
     let rows = current J in
     let shown = row_of J in
     let seen = over len rows shown old in
-    let given = feeds_of (handed seen id) in
-    let looked = feeds_of (behind_answer seen id Nothing) in
+    let given = feeds_of (hosted_after_hand seen id) in
+    let looked = feeds_of (hosted_after_next seen id Nothing) in
     let behind = g.K.Sink.behind in
     let refuses = g.H.Pushes.refuses c.args.handle.now in
     let K : FeedList → Type 0 = λ z. IsListing db.contents.journal z.feeds z.next db.listing in
@@ -68,7 +68,7 @@ invariant_of-self-3 g c =
           (λ did hands. hands_keeps behind refuses c.args.sink.now K old given looked new kept
           (handed_kept db.contents.journal len rows shown old given id db.listing refl kept)
           (answer_kept db.contents.journal len rows shown old looked id Nothing db.listing refl kept)
-          (answered seen id) did c.hand_at.new.sink hands)
+          (next_of_number seen id) did c.hand_at.new.sink hands)
           (λ w. subst K (sym w.0) kept)
           c.hand_at.ensures.ok c.hand_at.ensures.err,
     )
@@ -107,16 +107,16 @@ returns-clause-ok g c =
     let taker = c.hand_at.new.sink in
     let J = db.contents.journal in
     let seen = over (length J) (current J) (row_of J) old in
-    let given = feeds_of (handed seen id) in
-    let looked = feeds_of (behind_answer seen id Nothing) in
+    let given = feeds_of (hosted_after_hand seen id) in
+    let looked = feeds_of (hosted_after_next seen id Nothing) in
     both_ok c.hand_at.result
     (λ did hands _.
     subst (λ (database : Database). HandsTo behind refuses database
-    (with_hosted database (handed (hosted_of database) id))
-    (with_hosted database (behind_answer (hosted_of database) id Nothing)) sink
-    (answered (hosted_of database) id) did (whole new) taker) same
+    (with_hosted database (hosted_after_hand (hosted_of database) id))
+    (with_hosted database (hosted_after_next (hosted_of database) id Nothing)) sink
+    (next_of_number (hosted_of database) id) did (whole new) taker) same
     (hands_lifted behind refuses sink old given looked new
     (whole old) (whole given) (whole looked) (whole new)
-    (ap whole) (ap whole) (ap whole) (answered seen id) did taker
+    (ap whole) (ap whole) (ap whole) (next_of_number seen id) did taker
     hands))
     c.hand_at.ensures.ok c.hand_at.ensures.ok

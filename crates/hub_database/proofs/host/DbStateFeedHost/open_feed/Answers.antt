@@ -1,5 +1,5 @@
 use Rattle.std.proofs.Common.{◌++◌, ◌∷◌, [], ◌+◌, sym, subst, arith}
-use Rattle.hub_model.specs.Feed.{begin}
+use Rattle.hub_model.specs.Feed.{new_feed}
 use Rattle.hub_params.specs.FeedModel.{params_of}
 use Rattle.hub_feed.specs.Feeds.{AreBehind, FeedList}
 use Rattle.hub_feed.proofs.FeedsLemmas.{ok_or_err}
@@ -13,7 +13,7 @@ invariant_of-self c =
     let new = c.open.new.self in
     let J = c.self.inside.contents.journal in
     let listing = c.self.inside.listing in
-    let begun = begin (params_of c.args.params) c.length-length.result c.life-life.result in (
+    let begun = new_feed (params_of c.args.params) c.length-length.result c.life-life.result in (
       subst (λ n. AreBehind n new.feeds) c.length-length.ensures
           (c.open.ensures.behind
           (subst (λ n. AreBehind n old.feeds)

@@ -2,7 +2,7 @@
 use Rattle.std.proofs.Common.{◌≡◌, true, false, sym, ◌∙◌, ap, subst, option_map, Some, None, arith}
 use Rattle.hub_model.specs.Current.{Current}
 use Rattle.hub_model.specs.Feed.{Feed}
-use Rattle.hub_model.specs.Filter.{passes}
+use Rattle.hub_model.specs.Filter.{is_passing}
 use Rattle.hub_feed.specs.Reach.{first_within}
 use Rattle.hub_feed.proofs.ReachLemmas.{none_in_reach, found_in_reach, reach_behind, ahead_above, none_above}
 use Rattle.hub_feed.proofs.feed.FeedState.first_until.Goals as goal
@@ -27,7 +27,7 @@ returns-then-passes g c =
     subst (λ (feed : Feed). Some row ≡ first_within c.loop.place feed.bound rows)
     c.self.view_is c.in_ok-seq.ensures in
     let shown =
-    subst (λ (feed : Feed). true ≡ passes feed.params.filter row.id) c.self.view_is c.if-passes.ensures in
+    subst (λ (feed : Feed). true ≡ is_passing feed.params.filter row.id) c.self.view_is c.if-passes.ensures in
     let same =
     sym (ap (option_map (λ (r : Current). r.seq))
     (c.loop.invariant.kept ∙ found_in_reach here rows row found (sym shown))) in
@@ -42,7 +42,7 @@ loop-preserved g c =
     subst (λ (feed : Feed). Some row ≡ first_within c.loop.place feed.bound rows)
     c.self.view_is c.in_ok-seq.ensures in
     let hidden =
-    subst (λ (feed : Feed). false ≡ passes feed.params.filter row.id) c.self.view_is c.if-passes.ensures in
+    subst (λ (feed : Feed). false ≡ is_passing feed.params.filter row.id) c.self.view_is c.if-passes.ensures in
     let above = ahead_above here rows row found in
     record {
       passed = omega (arith, above, c.loop.invariant.passed);

@@ -1,11 +1,11 @@
 -- What is due by its sequence is what is due.
 use Rattle.std.proofs.Common.{◌≡◌, sym, ◌∙◌, ap, subst}
 use Rattle.std.specs.Prelude.{IfSome}
-use Rattle.hub_model.specs.Feed.{Feed, after_due, after_nothing, due}
-use Rattle.hub_model.specs.Hand.{item_of}
+use Rattle.hub_model.specs.Feed.{Feed, feed_after_due, after_nothing, next_due}
+use Rattle.hub_model.specs.Hand.{item_of_due}
 use Rattle.hub_model.specs.declared.feeds.Item.TheVariants.{Row}
 use Rattle.hub_feed.specs.Hand.{HandsTo, MayTake}
-use Rattle.hub_feed.specs.Next.{next_of}
+use Rattle.hub_feed.specs.Next.{next_of_due}
 use Rattle.hub_feed.specs.declared.next.Next.TheVariants.{Give}
 use Rattle.hub_feed.proofs.DueLemmas.{row_here}
 use Rattle.hub_feed.proofs.feed.FeedState.hand.Goals as goal
@@ -29,7 +29,7 @@ give-requires-clause-item g c =
     let shown : c.in_ok-row-in-Row.row ≡ show f row =
     subst (λ (feed : Feed). c.in_ok-row-in-Row.row ≡ show feed row) c.self.view_is
     (c.in_ok-row-in-Row.ensures row here same) in
-    ap (next_of (show f) rows) is ∙ ap (λ r. Give (Row r)) (sym shown)
+    ap (next_of_due (show f) rows) is ∙ ap (λ r. Give (Row r)) (sym shown)
 
 pub give-requires-clause-may : goal.give-requires-clause-may
 give-requires-clause-may g c =
@@ -44,7 +44,7 @@ give-requires-clause-may g c =
     (c.in_ok-row-in-Row.ensures row here same) in
     let may = MayTake g.K.Sink.allows g.K.Sink.sent c.args.sink.now in
     subst (λ r. may (Row r)) (sym shown)
-    (subst (λ what. IfSome (item_of (show f) rows what) may) is c.requires.may)
+    (subst (λ what. IfSome (item_of_due (show f) rows what) may) is c.requires.may)
 
 pub returns-in_ok-row-in-Row-clause-ok : goal.returns-in_ok-row-in-Row-clause-ok
 returns-in_ok-row-in-Row-clause-ok g c =
@@ -59,6 +59,6 @@ returns-in_ok-row-in-Row-clause-ok g c =
     (c.in_ok-row-in-Row.ensures row here same) in
     let len = g.S.Source.length c.args.source.now in
     subst (λ next. HandsTo g.K.Sink.behind (g.H.Pushes.refuses c.args.handle.now) f
-    (after_due f (due rows f) len) (after_nothing f len) c.args.sink.now next c.give.result c.give.new.self
+    (feed_after_due f (next_due rows f) len) (after_nothing f len) c.args.sink.now next c.give.result c.give.new.self
     c.give.new.sink)
-    (sym (ap (next_of (show f) rows) is ∙ ap (λ r. Give (Row r)) (sym shown))) c.give.ensures
+    (sym (ap (next_of_due (show f) rows) is ∙ ap (λ r. Give (Row r)) (sym shown))) c.give.ensures

@@ -1,9 +1,9 @@
 use Rattle.std.proofs.Common.{◌≡◌, ◌∙◌, sym, subst, ap, ℕ, List, Some, None, nat_eq}
 use Rattle.std.specs.Prelude.{position, slice_set}
-use Rattle.hub_model.specs.Feed.{Feed, due, after_due}
+use Rattle.hub_model.specs.Feed.{Feed, next_due, feed_after_due}
 use Rattle.hub_model.proofs.Entries.{changed_absent, changed_here, entry_here, no_entry}
 use Rattle.hub_feed.specs.Feeds.{AreBehind, AreNumbered, FeedList, feeds_of, over}
-use Rattle.hub_feed.specs.Host.{handed, item_due}
+use Rattle.hub_feed.specs.Host.{hosted_after_hand, item_of_number}
 use Rattle.hub_feed.proofs.FeedsLemmas.{behind_changed, goes_behind, numbered_changed}
 use Rattle.hub_feed.proofs.feeds.Feeds.accept_item.Goals as goal
 
@@ -14,7 +14,7 @@ returns-in_default g c =
     rw c.as_slice.ensures.value at (sym c.place_near.ensures ∙ c.in_default.is) in
     record {
       new =
-          subst (λ (list : FeedList). list ≡ feeds_of (handed (over (g.S.Source.length c.args.source.now)
+          subst (λ (list : FeedList). list ≡ feeds_of (hosted_after_hand (over (g.S.Source.length c.args.source.now)
           (g.S.Source.current c.args.source.now) (g.S.Source.shown c.args.source.now) list) id))
           c.self.view_is
           (ap (λ (fs : List (ℕ × Feed)). record { feeds = fs; next = c.self.inside.next })
@@ -33,7 +33,7 @@ accept_item-requires g c =
     let p = c.index_mut-feed.result.now in
     let is = c.index_mut-feed.ensures.value in
     let asked =
-    subst (λ (list : FeedList). item_due (over len rows (g.S.Source.shown c.args.source.now) list) id
+    subst (λ (list : FeedList). item_of_number (over len rows (g.S.Source.shown c.args.source.now) list) id
     ≡ Some c.args.item.now)
     (sym c.self.view_is) c.requires.due in
     record { due = rw (entry_here id feeds c.in-Some.at placed p is) at asked }
@@ -48,7 +48,7 @@ invariant_of-self g c =
     rw c.as_slice.ensures.value at c.in-Some.ensures in
     let p = c.index_mut-feed.result.now in
     let is = c.index_mut-feed.ensures.value in
-    let change : Feed → Feed = λ f. after_due f (due rows f) len in
+    let change : Feed → Feed = λ f. feed_after_due f (next_due rows f) len in
     subst (AreNumbered c.self.inside.next)
     (sym (changed_here id feeds c.in-Some.at placed p is change c.accept_item.new.self
     c.self.invariant.rising c.accept_item.ensures))
@@ -64,7 +64,7 @@ returns g c =
     rw c.as_slice.ensures.value at c.in-Some.ensures in
     let p = c.index_mut-feed.result.now in
     let is = c.index_mut-feed.ensures.value in
-    let change : Feed → Feed = λ f. after_due f (due rows f) len in
+    let change : Feed → Feed = λ f. feed_after_due f (next_due rows f) len in
     let now =
     changed_here id feeds c.in-Some.at placed p is change c.accept_item.new.self
     c.self.invariant.rising c.accept_item.ensures in
@@ -75,7 +75,7 @@ returns g c =
             feeds = slice_set feeds c.in-Some.at (p.0, c.accept_item.new.self);
             next = c.self.inside.next;
           })
-          (feeds_of (handed (over len rows (g.S.Source.shown c.args.source.now) list) id))) c.self.view_is
+          (feeds_of (hosted_after_hand (over len rows (g.S.Source.shown c.args.source.now) list) id))) c.self.view_is
           (ap (λ (fs : List (ℕ × Feed)). record { feeds = fs; next = c.self.inside.next }) now);
       behind = λ m least behind.
           subst (AreBehind m) (sym now)

@@ -1,6 +1,6 @@
 use Rattle.std.proofs.Common.{◌≡◌, sym, subst, ap, map, ℕ, List}
 use Rattle.hub_model.specs.Feed.{Feed}
-use Rattle.hub_feed.specs.Feeds.{AreBehind, AreNumbered, FeedList, ended}
+use Rattle.hub_feed.specs.Feeds.{AreBehind, AreNumbered, FeedList, ended_entry}
 use Rattle.hub_feed.proofs.FeedsLemmas.{behind_ended, numbered_ended}
 use Rattle.hub_feed.proofs.feeds.Feeds.end_all.Goals as goal
 
@@ -13,7 +13,7 @@ pub returns : goal.returns
 returns c = record {
   new =
       subst (λ (list : FeedList). record { feeds = c.end_each.new.feeds.items; next = c.self.inside.next }
-      ≡ record list { feeds = map ended list.feeds }) c.self.view_is
+      ≡ record list { feeds = map ended_entry list.feeds }) c.self.view_is
       (ap (λ (fs : List (ℕ × Feed)). record { feeds = fs; next = c.self.inside.next }) c.end_each.ensures);
   behind = λ len least behind.
       subst (AreBehind len) (sym c.end_each.ensures)

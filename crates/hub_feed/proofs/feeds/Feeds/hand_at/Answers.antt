@@ -2,12 +2,12 @@
 use Rattle.std.proofs.Common.{◌≡◌, sym, subst, ap, refl, rules, arith, ℕ, List, Some}
 use Rattle.std.specs.Prelude.{position, slice_set, option_and_then, IfSome}
 use Rattle.hub_model.specs.Entries.{entry_in, is_of}
-use Rattle.hub_model.specs.Feed.{Feed, DueNothing, due, after_due, after_nothing}
+use Rattle.hub_model.specs.Feed.{Feed, DueNothing, next_due, feed_after_due, after_nothing}
 use Rattle.hub_model.proofs.Entries.{changed_here, entry_here, stays_here}
 use Rattle.hub_feed.specs.Feeds.{AreBehind, FeedList, feeds_of, over}
 use Rattle.hub_feed.specs.Hand.{HandsTo, MayTake}
-use Rattle.hub_feed.specs.Host.{answer_of, answered, behind_answer, due_of, due_to, handed, item_due}
-use Rattle.hub_feed.specs.Host.{item_for}
+use Rattle.hub_feed.specs.Host.{next_if_any, next_of_number, hosted_after_next, due_if_any, due_of_number, hosted_after_hand, item_of_number}
+use Rattle.hub_feed.specs.Host.{item_of_feed}
 use Rattle.hub_feed.specs.Next.{IsRowDue}
 use Rattle.hub_feed.specs.Reach.{IsFirst}
 use Rattle.hub_feed.specs.declared.next.Next.TheVariants.{Nothing}
@@ -44,10 +44,10 @@ hand-requires-clause-may g c =
     let may = MayTake g.K.Sink.allows g.K.Sink.sent c.args.sink.now in
     let placed = subst (λ (z : FeedList). Some c.args.at ≡ position (is_of id) z.feeds) (sym c.self.view_is)
     c.requires.ready.placed in
-    let asked = subst (λ (z : FeedList). IfSome (item_due (over len rows shown z) id) may)
+    let asked = subst (λ (z : FeedList). IfSome (item_of_number (over len rows shown z) id) may)
     (sym c.self.view_is) c.requires.may in
     let list : FeedList = record { feeds = feeds; next = c.self.inside.next } in
-    subst (λ o. IfSome (option_and_then (item_for (over len rows shown list)) o) may)
+    subst (λ o. IfSome (option_and_then (item_of_feed (over len rows shown list)) o) may)
     (entry_here id feeds c.args.at placed c.index_mut-state.result.now c.index_mut-state.ensures.value) asked
 
 pub returns-clause-ok : goal.returns-clause-ok
@@ -68,24 +68,24 @@ returns-clause-ok g c =
     let refuses = g.H.Pushes.refuses c.args.handle.now in
     let sink = c.args.sink.now in
     let taker = c.hand.new.sink in
-    let goes : Feed → Feed = λ f. after_due f (due rows f) len in
+    let goes : Feed → Feed = λ f. feed_after_due f (next_due rows f) len in
     let looks : Feed → Feed = λ f. after_nothing f len in
-    let given : FeedList → FeedList = λ z. feeds_of (handed (over len rows shown z) id) in
-    let looked : FeedList → FeedList = λ z. feeds_of (behind_answer (over len rows shown z) id Nothing) in
+    let given : FeedList → FeedList = λ z. feeds_of (hosted_after_hand (over len rows shown z) id) in
+    let looked : FeedList → FeedList = λ z. feeds_of (hosted_after_next (over len rows shown z) id Nothing) in
     let here = list feeds in
     let after = list (slice_set feeds at (p.0, new)) in
     both_ok c.hand.result
     (λ did hands _.
     subst (λ (z : FeedList). HandsTo behind refuses z (given z) (looked z) sink
-    (answered (over len rows shown z) id) did after taker) c.self.view_is
+    (next_of_number (over len rows shown z) id) did after taker) c.self.view_is
     (subst (λ o. HandsTo behind refuses here (given here) (looked here) sink
-    (answer_of (over len rows shown here) o) did after taker) (sym (entry_here id feeds at placed p is))
+    (next_if_any (over len rows shown here) o) did after taker) (sym (entry_here id feeds at placed p is))
     (hands_lifted behind refuses sink p.1 (goes p.1) (looks p.1) new
     here (given here) (looked here) after
     (λ e. ap list (stays_here id feeds at placed p is new e))
     (λ e. ap list (changed_here id feeds at placed p is goes new c.self.invariant.rising e))
     (λ e. ap list (changed_here id feeds at placed p is looks new c.self.invariant.rising e))
-    (answer_of (over len rows shown here) (Some p.1)) did taker hands)))
+    (next_if_any (over len rows shown here) (Some p.1)) did taker hands)))
     c.hand.ensures.ok c.hand.ensures.ok
 
 pub returns-clause-err : goal.returns-clause-err
@@ -107,8 +107,8 @@ returns-clause-err g c =
       subst (λ (z : FeedList). ◌≡◌ {A = FeedList} (list (slice_set feeds at (p.0, new))) z) c.self.view_is
           (ap list (stays_here id feeds at placed p is new w.0)),
       w.1,
-      subst (λ (z : FeedList). IsRowDue (due_to (over len rows shown z) id)) c.self.view_is
-          (subst IsRowDue (sym (ap (due_of rows) (entry_here id feeds at placed p is))) w.2),
+      subst (λ (z : FeedList). IsRowDue (due_of_number (over len rows shown z) id)) c.self.view_is
+          (subst IsRowDue (sym (ap (due_if_any rows) (entry_here id feeds at placed p is))) w.2),
     )) c.hand.ensures.err
 
 pub returns-clause-behind : goal.returns-clause-behind
@@ -126,7 +126,7 @@ returns-clause-behind g c =
     c.requires.ready.placed in
     let behind : AreBehind len feeds =
     subst (λ (z : FeedList). AreBehind len z.feeds) (sym c.self.view_is) c.requires.ready.behind in
-    let goes : Feed → Feed = λ feed. after_due feed (due rows feed) len in
+    let goes : Feed → Feed = λ feed. feed_after_due feed (next_due rows feed) len in
     let looks : Feed → Feed = λ feed. after_nothing feed len in
     let list : FeedList = record { feeds = feeds; next = c.self.inside.next } in
     ok_or_err {P = AreBehind len (slice_set feeds at (p.0, new))} c.hand.result
@@ -140,6 +140,6 @@ returns-clause-behind g c =
     (subst (AreBehind len)
     (sym (changed_here id feeds at placed p is looks (looks p.1) c.self.invariant.rising refl))
     (behind_changed id looks len feeds (λ feed. looks_behind len DueNothing feed) behind))
-    (answer_of (over len rows shown list) (Some p.1)) did c.hand.new.sink hands)
+    (next_if_any (over len rows shown list) (Some p.1)) did c.hand.new.sink hands)
     (λ w. subst (AreBehind len) (sym (stays_here id feeds at placed p is new w.0)) behind)
     c.hand.ensures.ok c.hand.ensures.err

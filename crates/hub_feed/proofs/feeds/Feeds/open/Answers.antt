@@ -1,6 +1,6 @@
 use Rattle.std.proofs.Common.{◌≡◌, ◌∙◌, ap, sym, subst, [], ◌∷◌, ◌++◌, None}
 use Rattle.hub_model.specs.Entries.{entry_in}
-use Rattle.hub_model.specs.Feed.{begin}
+use Rattle.hub_model.specs.Feed.{new_feed}
 use Rattle.hub_model.proofs.Entries.{none_above}
 use Rattle.hub_params.specs.FeedModel.{params_of}
 use Rattle.hub_feed.specs.Feeds.{AreBehind, FeedList}
@@ -16,7 +16,7 @@ pub returns-clause-behind : goal.returns-clause-behind
 returns-clause-behind c =
     let feeds = c.self.inside.list.items in
     let more : c.push_reserved.new.self.items
-    ≡ feeds ++ (c.self.inside.next, begin (params_of c.args.params) c.args.length c.args.life) ∷ [] =
+    ≡ feeds ++ (c.self.inside.next, new_feed (params_of c.args.params) c.args.length c.args.life) ∷ [] =
     c.push_reserved.ensures.items
     ∙ (ap (λ fs. fs ++ (c.self.inside.next, c.begin.result) ∷ []) c.try_reserve.ensures.items
     ∙ ap (λ f. feeds ++ (c.self.inside.next, f) ∷ []) c.begin.ensures) in

@@ -1,8 +1,8 @@
 use Rattle.std.proofs.Common.{◌≡◌, ◌∙◌, ℕ, List, ap, sym, subst, map, length, refl, rules}
 use Rattle.std.specs.Prelude.{All}
-use Rattle.hub_model.specs.Missing.{Asked}
+use Rattle.hub_model.specs.Missing.{RevisionsOfDoc}
 use Rattle.hub_model.specs.Row.{ChangeRow}
-use Rattle.hub_model.specs.Walk.{shown}
+use Rattle.hub_model.specs.Walk.{shown_edit}
 use Rattle.hub_follow_model.specs.ChangesFeed.{HasChangesAnswer}
 use Rattle.hub_follow_model.specs.Follower as follow
 use Rattle.hub_follow_model.specs.Sequence.{seq_in}
@@ -55,13 +55,13 @@ returns-in-Ok-open_revs c =
     let asked = c.in-OpenRevs.asked.now in
     let revs = c.in_ok-copy-in-OpenRevs.field-0 in
     let answer = follow.OpenRevsAnswer (map found_edit c.new.result) in
-    let named = c.as_str.ensures.value ∙ ap (λ (one : Asked). one.id) c.asked.view_is in
-    let listed = c.in_ok-copy-in-OpenRevs.ensures.value ∙ ap (λ (one : Asked). one.revs) c.asked.view_is in
-    let docs : map found_edit c.new.result ≡ map (shown J asked.id) asked.revs =
+    let named = c.as_str.ensures.value ∙ ap (λ (one : RevisionsOfDoc). one.id) c.asked.view_is in
+    let listed = c.in_ok-copy-in-OpenRevs.ensures.value ∙ ap (λ (one : RevisionsOfDoc). one.revs) c.asked.view_is in
+    let docs : map found_edit c.new.result ≡ map (shown_edit J asked.id) asked.revs =
     ap (λ found. map found_edit found) (c.new.ensures ∙ c.in-Ok-open_revs.ensures.ok.1)
     ∙ (opened_shown J c.as_str.result.now revs
-    ∙ (ap (λ id. map (shown J id) revs) named
-    ∙ ap (λ one. map (shown J asked.id) one) listed)) in
+    ∙ (ap (λ id. map (shown_edit J id) revs) named
+    ∙ ap (λ one. map (shown_edit J asked.id) one) listed)) in
     let call : call_of c.args.call ≡ follow.OpenRevs asked.id asked.revs = search rules in
     λ sessions follower. subst (λ (z : follow.Call).
     world.IsAnswered (world_of c.args.self.now sessions follower) z answer

@@ -1,6 +1,6 @@
 use Rattle.std.proofs.Common.{◌≡◌, ◌≤◌, ◌<◌}
 use Rattle.std.specs.Io.KnownBytes.{Keeps}
-use Rattle.hub_http.specs.Counts.{Rose, RoseBy}
+use Rattle.hub_http.specs.Counts.{HasGrown, HasGrownBy}
 use Rattle.hub_http.proofs.block.Block.refill.Given as goal
 
 abbrev pub invariant-loop : goal.invariant-loop
@@ -11,6 +11,6 @@ invariant-loop g l =
     Keeps (left l.fn.reader) (left l.reader)
     × (l.self-inside.len ≡ 0)
     × (faults l.fn.reader ≤ faults l.reader)
-    × (0 < l.counter → Rose (faults l.fn.reader) (faults l.reader))
+    × (0 < l.counter → HasGrown (faults l.fn.reader) (faults l.reader))
     × (failures l.fn.reader ≤ failures l.reader)
-    × RoseBy l.counter (faults l.fn.reader) (faults l.reader)
+    × HasGrownBy l.counter (faults l.fn.reader) (faults l.reader)

@@ -4,7 +4,7 @@ use Rattle.std.specs.Prelude.{if◌then◌else◌}
 use Rattle.std.specs.List.{All}
 use Rattle.std.specs.Ordering.{is_gt}
 use Rattle.std.specs.Str.{bytes_eq}
-use Rattle.hub_index.specs.Order.{IsOrder, has_id, id_cmp, lies_below, number_in, numbers_of}
+use Rattle.hub_index.specs.Order.{IsOrder, has_id, id_cmp, is_below, number_in, numbers_of}
 use Rattle.hub_index.proofs.IdPageLemmas.{page_order, page_finds}
 use Rattle.hub_index.proofs.OrderLemmas.{found_past, found_here}
 use Rattle.hub_index.proofs.id_order.IdOrder.find.Goals as goal
@@ -16,7 +16,7 @@ record IsItsPage (ids : List (List ℕ)) (id all page : List ℕ) : Type 0 where
 
 its_page : (ids : List (List ℕ)) (id : List ℕ) (pages : List (Vec ℕ Global)) (k : ℕ) (x : Vec ℕ Global)
     (all page : List ℕ) → k < length pages → x ≡ get_or pages k x
-    → All (λ n. lies_below ids id n ≡ true) (numbers_of (take k pages))
+    → All (λ n. is_below ids id n ≡ true) (numbers_of (take k pages))
     → All (λ n. is_gt (id_cmp ids id n) ≡ true) (numbers_of (drop (k + 1) pages))
     → numbers_of pages ≡ all → page ≡ x.items → IsOrder ids all → IsItsPage ids id all page
 its_page ids id pages k x all page low is below above whole here order =

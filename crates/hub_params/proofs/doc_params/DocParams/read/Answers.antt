@@ -1,7 +1,7 @@
 use Rattle.std.proofs.Common.{◌≡◌, ◌∷◌, codes, rules, ◌∙◌}
 use Rattle.form_urlencoded.specs.Form.{raw_pairs}
 use Rattle.form_urlencoded.specs.Parse.{raw_pairs_left}
-use Rattle.hub_params.specs.Encoded.{decoded}
+use Rattle.hub_params.specs.Encoded.{decoded_text}
 use Rattle.hub_params.specs.Room.{DocNeedsRoom}
 use Rattle.hub_params.specs.Room as needs
 use Rattle.hub_params.proofs.QueryLemmas.{read_none, read_one, plain_from_all, plain_from_rest, escaped_name}
@@ -40,7 +40,7 @@ loop-encoded-preserved-in_ok-decoded_name c =
     let rest = raw_pairs_left c.next.new.self in
     let text = c.as_str-name.result.now in
     let taken : left ≡ (name, value) ∷ rest = search rules in
-    let named : text ≡ decoded name = c.as_str-name.ensures.value ∙ c.in_ok-decoded_name.ensures.value.2 in
+    let named : text ≡ decoded_text name = c.as_str-name.ensures.value ∙ c.in_ok-decoded_name.ensures.value.2 in
     record {
       plain = plain_from_rest c.args.query.now name value left rest taken c.loop-encoded.invariant.plain;
       rev =
@@ -65,7 +65,7 @@ loop-encoded-preserved c =
     let rest = raw_pairs_left c.next.new.self in
     let text = c.as_str-name.result.now in
     let taken : left ≡ (name, value) ∷ rest = search rules in
-    let named : text ≡ decoded name = c.as_str-name.ensures.value ∙ c.in_ok-decoded_name.ensures.value.2 in
+    let named : text ≡ decoded_text name = c.as_str-name.ensures.value ∙ c.in_ok-decoded_name.ensures.value.2 in
     record {
       plain = plain_from_rest c.args.query.now name value left rest taken c.loop-encoded.invariant.plain;
       rev =

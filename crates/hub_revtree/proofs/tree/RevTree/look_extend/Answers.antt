@@ -1,6 +1,6 @@
 use Rattle.std.proofs.Common.{◌∷◌, ◌<◌, ◌∙◌, sym, ap, inr, subst}
 use Rattle.std.specs.Prelude.{Ok}
-use Rattle.hub_model.specs.Draft.{generation_of, made}
+use Rattle.hub_model.specs.Draft.{generation_of, new_revision}
 use Rattle.hub_model.specs.Journal.{IsAcceptable}
 use Rattle.hub_model.specs.Path.{IsHistory}
 use Rattle.hub_revtree.specs.Extend.{draft, line_to}
@@ -15,7 +15,7 @@ returns-then-knows-clause-err c =
     let first = c.in_ok-older.ensures.first in
     let rev =
     c.in-Ok.ensures.ok
-    ∙ ap (made (draft c.args.id.now c.args.parent c.args.deleted c.args.body)) (sym first) in
+    ∙ ap (new_revision (draft c.args.id.now c.args.parent c.args.deleted c.args.body)) (sym first) in
     inr (known_conflicts c.args.self.now.edits
     c.branches.ensures.tree c.args.id.now c.args.parent c.args.deleted c.args.body line
     (sym c.in_ok-older.ensures.line) (subst (λ z. generation_of z < 65535) (sym first) c.in-Ok.ensures.below)
@@ -27,7 +27,7 @@ ready_on-requires c =
     let line = line_to c.args.self.now.edits c.in_ok-older.older in
     let rev =
     c.in-Ok.ensures.ok
-    ∙ ap (made (draft c.args.id.now c.args.parent c.args.deleted c.args.body))
+    ∙ ap (new_revision (draft c.args.id.now c.args.parent c.args.deleted c.args.body))
     (sym c.in_ok-older.ensures.first) in
     subst (λ z. IsHistory (z ∷ line)) (sym rev)
     (next_history c.args.self.now.edits c.branches.ensures.tree c.args.id.now c.args.parent c.args.deleted
@@ -39,7 +39,7 @@ returns-clause-ok c =
     let first = c.in_ok-older.ensures.first in
     let rev =
     c.in-Ok.ensures.ok
-    ∙ ap (made (draft c.args.id.now c.args.parent c.args.deleted c.args.body)) (sym first) in
+    ∙ ap (new_revision (draft c.args.id.now c.args.parent c.args.deleted c.args.body)) (sym first) in
     let new =
     is_new c.args.self.now.edits c.rev.result _ c.knows.result c.knows.ensures
     (c.rev.ensures ∙ rev) c.if-knows.false in
@@ -53,7 +53,7 @@ returns-clause-acceptable c =
     let line = line_to c.args.self.now.edits c.in_ok-older.older in
     let rev =
     c.in-Ok.ensures.ok
-    ∙ ap (made (draft c.args.id.now c.args.parent c.args.deleted c.args.body))
+    ∙ ap (new_revision (draft c.args.id.now c.args.parent c.args.deleted c.args.body))
     (sym c.in_ok-older.ensures.first) in
     let new =
     is_new c.args.self.now.edits c.rev.result _ c.knows.result c.knows.ensures

@@ -1,17 +1,17 @@
 use Rattle.std.proofs.Common.{◌∙◌, refl, sym}
 use Rattle.hub_session.specs.declared.closing.StreamEnd.TheVariants.{Exhausted}
-use Rattle.hub_session.specs.Runs.{Steps, moment_of, seen}
+use Rattle.hub_session.specs.Runs.{Steps, moment_of, session_view}
 use Rattle.hub_session.proofs.AnswerLemmas.{broken_stream}
 use Rattle.hub_session.proofs.StepLemmas.{step_broken, stepped_ends, streamed_out}
 use Rattle.hub_session.proofs.machine.Session.send_item.Goals as goal
 
 pub returns-then-sending-eq18446744073709551615 : goal.returns-then-sending-eq18446744073709551615
 returns-then-sending-eq18446744073709551615 g c = λ place.
-    let old = seen c.args.self.now in
-    let mid = seen (record c.args.self.now { service = c.drop_stream.new.self }) in
+    let old = session_view c.args.self.now in
+    let mid = session_view (record c.args.self.now { service = c.drop_stream.new.self }) in
     let step = c.go_behind.ensures.step in (
       stepped_ends g.S.Service.rules c.args.sending c.args.close Exhausted c.after_stream.result old mid
-          (seen c.go_behind.new.self) c.go_behind.result place c.after_stream.ensures refl refl
+          (session_view c.go_behind.new.self) c.go_behind.result place c.after_stream.ensures refl refl
           (streamed_out g.S.Service.rules c.args.sending (moment_of old)
           (moment_of mid) c.drop_stream.ensures refl c.if-sending-eq18446744073709551615.true)
           c.go_behind.ensures.shown step,
@@ -34,14 +34,14 @@ returns g c = λ place.
     let given = rw c.if-not-poll_item.false at c.poll_item.ensures in
     let before = c.args.self.now in
     let mid =
-    seen (record before {
+    session_view (record before {
       outbox = c.send_given.new.writer;
       chunks = c.send_given.new.chunks;
       service = c.send_given.new.service;
     }) in
     let step = c.go_behind-in-Err.ensures.step in (
       stepped_ends g.S.Service.rules c.args.sending c.args.close c.in-Err.end c.after_stream-in-Err.result
-          (seen before) mid (seen c.go_behind-in-Err.new.self) c.go_behind-in-Err.result place
+          (session_view before) mid (session_view c.go_behind-in-Err.new.self) c.go_behind-in-Err.result place
           c.after_stream-in-Err.ensures refl refl
           (λ sent low. c.in-Err.ensures.sent before.service sent given) c.go_behind-in-Err.ensures.shown step,
       λ broken.

@@ -1,6 +1,6 @@
 use Rattle.std.proofs.Common.{◌≡◌, ◌∙◌, ap, refl, sym, subst, Some, None, length}
 use Rattle.std.specs.Prelude.{IfSome, IsSome, position, slice_set}
-use Rattle.hub_model.specs.Entries.{changed, entry_in, is_of}
+use Rattle.hub_model.specs.Entries.{with_change, entry_in, is_of}
 use Rattle.hub_model.proofs.Entries.{changed_absent, changed_here, entry_here, no_entry}
 use Rattle.hub_shared.specs.Blocks.{IsHeldUp, SubscriberState, handed_over, waiting_of, with_room}
 use Rattle.hub_shared.specs.Locked.{AreSendersOf, LockedState}
@@ -51,7 +51,7 @@ returns-in_default-clause-over g c =
     let none : position (is_of id) senders ≡ None =
     rw c.as_slice.ensures.value at (sym c.place_near.ensures ∙ c.in_default.is) in
     subst (λ (l : LockedState _ _). ◌≡◌ {A = LockedState _ _} l
-    (record l { senders = changed id handed_over l.senders })) c.self.view_is
+    (record l { senders = with_change id handed_over l.senders })) c.self.view_is
     (λ k. record {
       state = c.self.inside.state;
       senders = sym (changed_absent id handed_over senders (no_entry id senders none)) k;
@@ -84,7 +84,7 @@ returns-clause-over g c =
     some_then c.hand_over.result
     (λ count is. subst (λ (l : LockedState _ _). ◌≡◌ {A = LockedState _ _}
     (record { state = s; senders = slice_set senders at (p.0, new); lane = lane })
-    (record l { senders = changed id handed_over l.senders })) c.self.view_is
+    (record l { senders = with_change id handed_over l.senders })) c.self.view_is
     (λ k. record {
       state = s;
       senders = changed_here id senders at placed p c.index_mut-entry.ensures.value handed_over new
@@ -105,7 +105,7 @@ returns-clause-held_up g c =
     none_then c.hand_over.result
     (λ is. subst (λ (l : LockedState _ _). ◌≡◌ {A = LockedState _ _}
     (record { state = s; senders = slice_set senders at (p.0, new); lane = lane })
-    (record l { senders = changed id (with_room 0) l.senders })) c.self.view_is
+    (record l { senders = with_change id (with_room 0) l.senders })) c.self.view_is
     (λ k. record {
       state = s;
       senders = changed_here id senders at placed p c.index_mut-entry.ensures.value (with_room 0) new

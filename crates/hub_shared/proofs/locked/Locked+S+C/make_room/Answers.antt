@@ -2,7 +2,7 @@ use Rattle.std.proofs.Common.{◌≡◌, ◌∙◌, refl, sym, subst, Some, None
 use Rattle.std.specs.Prelude.{position, slice_set}
 use Rattle.std.proofs.lemmas.Result.{on_ok_weaker}
 use Rattle.hub_feed.proofs.FeedsLemmas.{err_then}
-use Rattle.hub_model.specs.Entries.{changed, is_of}
+use Rattle.hub_model.specs.Entries.{with_change, is_of}
 use Rattle.hub_model.proofs.Entries.{changed_absent, changed_here, no_entry, stays_here}
 use Rattle.hub_shared.specs.Blocks.{SubscriberState, with_room}
 use Rattle.hub_shared.specs.Locked.{AreSendersOf, LockedState}
@@ -43,7 +43,7 @@ returns-in_default-clause-ok g c =
     let none : position (is_of id) senders ≡ None =
     rw c.as_slice.ensures.value at (sym c.place_near.ensures ∙ c.in_default.is) in
     subst (λ (l : LockedState _ _). ◌≡◌ {A = LockedState _ _} l
-    (record l { senders = changed id (with_room l.lane) l.senders })) c.self.view_is
+    (record l { senders = with_change id (with_room l.lane) l.senders })) c.self.view_is
     (λ k. record {
       state = c.self.inside.state;
       senders = sym (changed_absent id (with_room lane) senders (no_entry id senders none)) k;
@@ -63,7 +63,7 @@ returns-clause-ok g c =
     on_ok_weaker c.make_room.result
     (λ made. subst (λ (l : LockedState _ _). ◌≡◌ {A = LockedState _ _}
     (record { state = s; senders = slice_set senders at (p.0, new); lane = lane })
-    (record l { senders = changed id (with_room l.lane) l.senders })) c.self.view_is
+    (record l { senders = with_change id (with_room l.lane) l.senders })) c.self.view_is
     (λ k. record {
       state = s;
       senders = changed_here id senders at placed p c.index_mut-entry.ensures.value (with_room lane) new

@@ -3,7 +3,7 @@ use Rattle.std.proofs.Common.{◌≡◌, ◌∙◌, sym, subst, refl, Some, None
 use Rattle.std.specs.Prelude.{position, slice_set}
 use Rattle.std.proofs.lemmas.Option.{same_Some}
 use Rattle.hub_feed.specs.Hand.{MayTake}
-use Rattle.hub_feed.specs.Host.{is_beat_due}
+use Rattle.hub_feed.specs.Host.{is_beat_allowed_if_any}
 use Rattle.hub_feed.specs.declared.handed.Handed.TheVariants.{Nothing}
 use Rattle.hub_model.specs.declared.feeds.Item.TheVariants.{Beat}
 use Rattle.hub_model.specs.Entries.{entry_in, is_of}
@@ -32,7 +32,7 @@ returns-in_default g c =
     no_beat g.K.Outbox.label g.K.Outbox.items v.hosted h.with_hosted v.fits v.right laws.hosts laws.rightly
     laws.stays laws.handed_fits s id senders c.self.invariant.1 (no_entry id senders none) in
     subst (λ (l : LockedState _ _).
-    Beats g.K.Sink.behind refuses (is_beat_due (entry_in id (v.hosted l.state).feeds)) l id Nothing l)
+    Beats g.K.Sink.behind refuses (is_beat_allowed_if_any (entry_in id (v.hosted l.state).feeds)) l id Nothing l)
     c.self.view_is
     (subst (λ due. Beats g.K.Sink.behind refuses due whole id Nothing whole) (sym no) (refl, refl))
 
@@ -127,6 +127,6 @@ returns g c =
           )
     ] in
     subst (λ (l : LockedState _ _).
-    Beats g.K.Sink.behind refuses (is_beat_due (entry_in id (v.hosted l.state).feeds)) l id
+    Beats g.K.Sink.behind refuses (is_beat_allowed_if_any (entry_in id (v.hosted l.state).feeds)) l id
     c.match-push.result new) c.self.view_is
     (subst (λ b. Beats g.K.Sink.behind refuses b whole id c.match-push.result new) (sym due) told)

@@ -1,7 +1,7 @@
 use Rattle.std.proofs.Common.{◌≡◌, ◌∙◌, sym, subst, ◌∷◌, [], ◌++◌, None}
 use Rattle.hub_model.specs.Entries.{entry_in}
-use Rattle.hub_feed.specs.Host.{opened}
-use Rattle.hub_model.specs.Feed.{Params, begin}
+use Rattle.hub_feed.specs.Host.{hosted_after_opening}
+use Rattle.hub_model.specs.Feed.{Params, new_feed}
 use Rattle.hub_params.specs.FeedModel.{params_of}
 use Rattle.hub_params.specs.FeedShown.{params_asked}
 use Rattle.hub_shared.specs.Label.{label_of}
@@ -33,7 +33,7 @@ invariant_of-self-in-Ok-open_feed g c =
     ∙ (λ k. c.try_reserve.ensures.items k ++ (own.number k, made k) ∷ []) in
     let begins =
     subst (λ l. (params : Params)
-    → v.fits l.state (begin params (v.hosted l.state).length (v.hosted l.state).life) [])
+    → v.fits l.state (new_feed params (v.hosted l.state).length (v.hosted l.state).life) [])
     (sym c.self.view_is) c.open_outbox.ensures.begins in
     let fresh : entry_in next (v.hosted s).feeds ≡ None =
     subst (λ n. entry_in n (v.hosted s).feeds ≡ None) own.number own.new in (
@@ -47,7 +47,7 @@ invariant_of-self-in-Ok-open_feed g c =
           (g.met.K.TwoEnded.labelled c.in-Ok.taker label c.self.inside.lane)
           (g.met.K.TwoEnded.begins c.in-Ok.taker label c.self.inside.lane) begins fresh c.self.invariant.1)),
       book_kept v.hosted h.with_hosted laws.hosts g.C.Count.counts (g.C.Count.total c.self.inside.book)
-          s new (opened (v.hosted s) (params_of c.args.params)) own.ok c.self.invariant.2,
+          s new (hosted_after_opening (v.hosted s) (params_of c.args.params)) own.ok c.self.invariant.2,
     )
 
 pub returns-in-Ok-open_feed-clause-ok : goal.returns-in-Ok-open_feed-clause-ok

@@ -1,5 +1,5 @@
 use Rattle.std.proofs.Common.{sym, subst}
-use Rattle.hub_feed.specs.Host.{expired}
+use Rattle.hub_feed.specs.Host.{hosted_after_expiry}
 use Rattle.hub_shared.specs.Locked.{AreSendersOf}
 use Rattle.hub_shared.proofs.Booking.{book_kept}
 use Rattle.hub_shared.proofs.Sending.{expires}
@@ -20,5 +20,5 @@ invariant_of-self g c =
           laws.rightly laws.stays
           s id senders c.self.invariant.1 laws.expired_fits),
       book_kept v.hosted h.with_hosted laws.hosts g.C.Count.counts (g.C.Count.total c.self.inside.book)
-          s c.expire.new.self (expired (v.hosted s) id) c.expire.ensures c.self.invariant.2,
+          s c.expire.new.self (hosted_after_expiry (v.hosted s) id) c.expire.ensures c.self.invariant.2,
     )

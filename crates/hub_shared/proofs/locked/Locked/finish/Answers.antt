@@ -1,5 +1,5 @@
 use Rattle.std.proofs.Common.{sym, subst}
-use Rattle.hub_feed.specs.Host.{finished}
+use Rattle.hub_feed.specs.Host.{hosted_after_finish}
 use Rattle.hub_model.specs.Entries.{without}
 use Rattle.hub_shared.specs.Locked.{AreSendersOf}
 use Rattle.hub_shared.proofs.Booking.{book_kept}
@@ -24,5 +24,5 @@ invariant_of-self g c =
           laws.rightly laws.stays
           s id senders c.self.invariant.1)),
       book_kept v.hosted h.with_hosted laws.hosts g.C.Count.counts (g.C.Count.total c.self.inside.book)
-          s new (finished (v.hosted s) id) c.finish.ensures c.self.invariant.2,
+          s new (hosted_after_finish (v.hosted s) id) c.finish.ensures c.self.invariant.2,
     )

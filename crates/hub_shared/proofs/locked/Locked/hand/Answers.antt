@@ -4,7 +4,7 @@ use Rattle.std.specs.Prelude.{position, slice_set}
 use Rattle.hub_model.specs.Entries.{is_of}
 use Rattle.hub_model.proofs.Entries.{entry_here, no_entry, stays_here}
 use Rattle.hub_feed.specs.Hand.{MayTake}
-use Rattle.hub_feed.specs.Host.{answered, behind_answer, due_to, handed}
+use Rattle.hub_feed.specs.Host.{next_of_number, hosted_after_next, due_of_number, hosted_after_hand}
 use Rattle.hub_feed.specs.Next.{IsRowDue}
 use Rattle.hub_feed.specs.declared.handed.Handed.TheVariants.{Gone}
 use Rattle.hub_feed.specs.declared.next.Next.TheVariants.{Nothing}
@@ -34,7 +34,7 @@ returns-in_default-clause-ok g c =
     laws.stays laws.handed_fits s id
     senders c.self.invariant.1 (no_entry id senders none) in
     subst (λ (l : LockedState _ _).
-    Hands v.hosted h.with_hosted g.K.Sink.behind refuses (answered (v.hosted l.state) id) l id Gone l)
+    Hands v.hosted h.with_hosted g.K.Sink.behind refuses (next_of_number (v.hosted l.state) id) l id Gone l)
     c.self.view_is
     (subst (λ a. Hands v.hosted h.with_hosted g.K.Sink.behind refuses a whole id Gone whole) gone
     (refl, refl))
@@ -77,8 +77,8 @@ invariant_of-self g c =
     let new = c.hand.new.self in
     let sender = c.hand.new.sink in
     let refuses = g.P.Pushes.refuses c.args.handle.now in
-    let given = h.with_hosted s (handed (v.hosted s) id) in
-    let looked = h.with_hosted s (behind_answer (v.hosted s) id Nothing) in
+    let given = h.with_hosted s (hosted_after_hand (v.hosted s) id) in
+    let looked = h.with_hosted s (hosted_after_next (v.hosted s) id Nothing) in
     let book = c.self.invariant.2 in
     let counts = g.C.Count.counts in
     let total = g.C.Count.total c.self.inside.book in (
@@ -93,7 +93,7 @@ invariant_of-self g c =
           (adds_item g.K.Sink.sent g.K.Outbox.items g.K.Sink.behind g.met.K.Receives.same
           g.met.P.Pushes.sends)
           refuses at p placed
-          is new sender (answered (v.hosted s) id) refl answer hands)
+          is new sender (next_of_number (v.hosted s) id) refl answer hands)
           (λ err. subst (λ z. AreSendersOf g.K.Outbox.label g.K.Outbox.items (v.fits z) (v.hosted z)
           (slice_set senders at (p.0, sender)))
           (sym err.0) (subst (AreSendersOf g.K.Outbox.label g.K.Outbox.items (v.fits s) (v.hosted s))
@@ -102,11 +102,11 @@ invariant_of-self g c =
       ok_or_err {P = IsBookOf counts total (v.hosted new).length} c.hand.result
           (λ answer hands. hands_keeps g.K.Sink.behind refuses p.1
           (λ z. IsBookOf counts total (v.hosted z).length) s given looked new book
-          (book_kept v.hosted h.with_hosted laws.hosts counts total s given (handed (v.hosted s) id) refl
+          (book_kept v.hosted h.with_hosted laws.hosts counts total s given (hosted_after_hand (v.hosted s) id) refl
           book)
           (book_kept v.hosted h.with_hosted laws.hosts counts total s looked
-          (behind_answer (v.hosted s) id Nothing) refl book)
-          (answered (v.hosted s) id) answer sender hands)
+          (hosted_after_next (v.hosted s) id Nothing) refl book)
+          (next_of_number (v.hosted s) id) answer sender hands)
           (λ err. subst (λ z. IsBookOf counts total (v.hosted z).length) (sym err.0) book)
           c.hand.ensures.ok c.hand.ensures.err,
     )
@@ -128,14 +128,14 @@ returns-clause-ok g c =
     let refuses = g.P.Pushes.refuses c.args.handle.now in
     both_ok c.hand.result
     (λ answer hands _. subst (λ (l : LockedState _ _).
-    Hands v.hosted h.with_hosted g.K.Sink.behind refuses (answered (v.hosted l.state) id) l id answer
+    Hands v.hosted h.with_hosted g.K.Sink.behind refuses (next_of_number (v.hosted l.state) id) l id answer
     (record { state = new; senders = slice_set senders at (p.0, sender); lane = lane })) c.self.view_is
     (hand_in g.K.Outbox.label g.K.Outbox.items v.hosted h.with_hosted v.fits v.right laws.hosts laws.rightly
     laws.stays laws.handed_fits s id
     senders c.self.invariant.1 laws.waiting_fits g.K.Sink.behind g.met.K.Receives.stays
     (adds_item g.K.Sink.sent g.K.Outbox.items g.K.Sink.behind g.met.K.Receives.same g.met.P.Pushes.sends)
     refuses at p placed c.index_mut-entry.ensures.value new
-    sender lane (answered (v.hosted s) id) answer hands))
+    sender lane (next_of_number (v.hosted s) id) answer hands))
     c.hand.ensures.ok c.hand.ensures.ok
 
 pub returns-clause-err : goal.returns-clause-err
@@ -152,7 +152,7 @@ returns-clause-err g c =
     err_then c.hand.result
     (λ err. subst (λ (l : LockedState _ _). ◌≡◌ {A = LockedState _ _}
     (record { state = c.hand.new.self; senders = slice_set senders at (p.0, sender); lane = lane }) l
-    × IsRowDue (due_to (v.hosted l.state) id)) c.self.view_is (
+    × IsRowDue (due_of_number (v.hosted l.state) id)) c.self.view_is (
       (λ k. record {
         state = err.0 k;
         senders = stays_here id senders at placed p is sender err.1 k;

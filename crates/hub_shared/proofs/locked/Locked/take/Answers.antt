@@ -1,6 +1,6 @@
 use Rattle.std.proofs.Common.{◌≡◌, ◌∙◌, ap, sym, subst, Some, None}
 use Rattle.std.specs.Prelude.{position, option_and_then, slice_set}
-use Rattle.hub_model.specs.Entries.{entry_in, changed, is_of}
+use Rattle.hub_model.specs.Entries.{entry_in, with_change, is_of}
 use Rattle.hub_model.proofs.Entries.{changed_absent, changed_here, entry_here, no_entry}
 use Rattle.hub_shared.specs.Locked.{AreSendersOf, LockedState}
 use Rattle.hub_shared.proofs.Sending.{still}
@@ -45,7 +45,7 @@ returns-in_err-at-clause-rest g c =
     let none : position (is_of id) senders ≡ None =
     rw c.as_slice.ensures.value at (sym c.place_of.ensures ∙ c.in_err-at.was) in
     subst (λ (l : LockedState _ _). ◌≡◌ {A = LockedState _ _} l
-    (record l { senders = changed id g.K.Shelf.without_front l.senders })) c.self.view_is
+    (record l { senders = with_change id g.K.Shelf.without_front l.senders })) c.self.view_is
     (λ k. record {
       state = c.self.inside.state;
       senders = sym (changed_absent id g.K.Shelf.without_front senders (no_entry id senders none)) k;
@@ -78,5 +78,5 @@ returns-clause-rest g c =
     c.take.new.self c.self.invariant.1.rising c.take.ensures.rest in
     subst (λ (l : LockedState _ _). ◌≡◌ {A = LockedState _ _}
     (record { state = s; senders = slice_set senders at (p.0, c.take.new.self); lane = lane })
-    (record l { senders = changed id g.K.Shelf.without_front l.senders })) c.self.view_is
+    (record l { senders = with_change id g.K.Shelf.without_front l.senders })) c.self.view_is
     (λ k. record { state = s; senders = rest k; lane = lane })

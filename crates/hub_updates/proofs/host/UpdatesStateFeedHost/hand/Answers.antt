@@ -7,7 +7,7 @@ use Rattle.hub_model.specs.Updates.{edits_of_log, update_row_of}
 use Rattle.hub_model.proofs.Entries.{no_entry}
 use Rattle.hub_feed.specs.Feeds.{FeedList, feeds_of, over}
 use Rattle.hub_feed.specs.Hand.{HandsTo}
-use Rattle.hub_feed.specs.Host.{answer_of, answered, behind_answer, handed}
+use Rattle.hub_feed.specs.Host.{next_if_any, next_of_number, hosted_after_next, hosted_after_hand}
 use Rattle.hub_feed.specs.Reach.{IsFirst}
 use Rattle.hub_feed.specs.declared.handed.Handed.TheVariants.{Gone}
 use Rattle.hub_feed.specs.declared.next.Next.TheVariants.{Nothing}
@@ -44,9 +44,9 @@ returns-in_default-clause-ok g c =
     subst (λ (updates : Updates). entry_in id updates.feeds ≡ None) c.self.view_is
     (no_entry id state.feeds.feeds (sym c.in_default.ensures.1)) in
     subst (λ o. HandsTo g.K.Sink.behind (g.H.Pushes.refuses c.args.handle.now) log
-    (with_hosted log (handed (hosted_of log) id))
-    (with_hosted log (behind_answer (hosted_of log) id Nothing)) sink
-    (answer_of (hosted_of log) o) Gone (whole c.place.new.self) sink) (sym none)
+    (with_hosted log (hosted_after_hand (hosted_of log) id))
+    (with_hosted log (hosted_after_next (hosted_of log) id Nothing)) sink
+    (next_if_any (hosted_of log) o) Gone (whole c.place.new.self) sink) (sym none)
     (refl, ap whole c.place.ensures.0 ∙ c.self.view_is, refl)
 
 pub returns-clause-ok : goal.returns-clause-ok
@@ -68,15 +68,15 @@ returns-clause-ok g c =
     let sink = c.args.sink.now in
     let edits = edits_of_log state.log.notes in
     let seen = over (length state.log.notes) (current edits) (update_row_of edits) old in
-    let given = feeds_of (handed seen id) in
-    let looked = feeds_of (behind_answer seen id Nothing) in
+    let given = feeds_of (hosted_after_hand seen id) in
+    let looked = feeds_of (hosted_after_next seen id Nothing) in
     both_ok c.hand_at.result
     (λ did hands _.
     subst (λ (log : Updates). HandsTo behind refuses log
-    (with_hosted log (handed (hosted_of log) id))
-    (with_hosted log (behind_answer (hosted_of log) id Nothing)) sink
-    (answered (hosted_of log) id) did (whole new) c.hand_at.new.sink) same
+    (with_hosted log (hosted_after_hand (hosted_of log) id))
+    (with_hosted log (hosted_after_next (hosted_of log) id Nothing)) sink
+    (next_of_number (hosted_of log) id) did (whole new) c.hand_at.new.sink) same
     (hands_lifted behind refuses sink old given looked new
     (whole old) (whole given) (whole looked) (whole new)
-    (ap whole) (ap whole) (ap whole) (answered seen id) did c.hand_at.new.sink hands))
+    (ap whole) (ap whole) (ap whole) (next_of_number seen id) did c.hand_at.new.sink hands))
     c.hand_at.ensures.ok c.hand_at.ensures.ok

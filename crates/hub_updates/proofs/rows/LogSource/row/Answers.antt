@@ -5,7 +5,7 @@ use Rattle.hub_index.proofs.IndexedLemmas.{row_lies}
 use Rattle.hub_model.specs.Current.{Current, current}
 use Rattle.hub_model.specs.Updates.{edit_of, edits_of_log, note_of, update_row_of}
 use Rattle.hub_updates.specs.Kept.{ids_of, note_at}
-use Rattle.hub_updates.specs.Log.{Noted}
+use Rattle.hub_updates.specs.Log.{LogContents}
 use Rattle.hub_updates.proofs.RowLemmas.{entry_low, entry_read, entry_row}
 use Rattle.hub_updates.proofs.rows.LogSource.row.Goals as goal
 
@@ -18,7 +18,7 @@ index-number-requires c =
     let noted = row_lies (edits_of_log c.args.self.now.notes) c.args.seq c.requires in
     let many : length (edits_of_log c.args.self.now.notes) ≡ length s.notes.items =
     length-map c.args.self.now.notes edit_of
-    ∙ (sym (ap (λ (noted : Noted). length noted.notes) c.self.view_is)
+    ∙ (sym (ap (λ (noted : LogContents). length noted.notes) c.self.view_is)
     ∙ length-map s.notes.items (note_at (ids_of s.pairs.items))) in
     omega (arith, noted.0, noted.1, many, s.notes.ok.0)
 
@@ -28,7 +28,7 @@ index-pair-requires c =
     let noted = row_lies (edits_of_log c.args.self.now.notes) c.args.seq c.requires in
     let many : length (edits_of_log c.args.self.now.notes) ≡ length s.notes.items =
     length-map c.args.self.now.notes edit_of
-    ∙ (sym (ap (λ (noted : Noted). length noted.notes) c.self.view_is)
+    ∙ (sym (ap (λ (noted : LogContents). length noted.notes) c.self.view_is)
     ∙ length-map s.notes.items (note_at (ids_of s.pairs.items))) in
     omega (
       arith,
@@ -44,7 +44,7 @@ read_id-kind-requires c =
     let noted = row_lies (edits_of_log c.args.self.now.notes) c.args.seq c.requires in
     let many : length (edits_of_log c.args.self.now.notes) ≡ length s.notes.items =
     length-map c.args.self.now.notes edit_of
-    ∙ (sym (ap (λ (noted : Noted). length noted.notes) c.self.view_is)
+    ∙ (sym (ap (λ (noted : LogContents). length noted.notes) c.self.view_is)
     ∙ length-map s.notes.items (note_at (ids_of s.pairs.items))) in
     rw c.as_str.ensures.value
     (entry_read (get_by_text s.numbers) s.pairs.items s.notes.items s.index c.self.invariant
@@ -58,7 +58,7 @@ returns c =
     let noted = row_lies (edits_of_log c.args.self.now.notes) c.args.seq c.requires in
     let many : length (edits_of_log c.args.self.now.notes) ≡ length s.notes.items =
     length-map c.args.self.now.notes edit_of
-    ∙ (sym (ap (λ (noted : Noted). length noted.notes) c.self.view_is)
+    ∙ (sym (ap (λ (noted : LogContents). length noted.notes) c.self.view_is)
     ∙ length-map s.notes.items (note_at (ids_of s.pairs.items))) in
     let id = c.index-pair.result.now.id in
     let kinds : c.read_id-kind.result.0 ≡ (note_of (string_bytes id)).kind =
@@ -66,7 +66,7 @@ returns c =
     let names : string_bytes c.in_ok-db_name.db_name ≡ (note_of (string_bytes id)).name =
     c.in_ok-db_name.ensures.ok
     ∙ (c.read_id-kind.ensures.name ∙ ap (λ i. (note_of i).name) c.as_str.ensures.value) in
-    subst (λ (noted : Noted). (row : Current) → Contains (current (edits_of_log noted.notes)) row
+    subst (λ (noted : LogContents). (row : Current) → Contains (current (edits_of_log noted.notes)) row
     → row.seq ≡ c.args.seq → record {
       db_name = string_bytes c.in_ok-db_name.db_name;
       kind = c.read_id-kind.result.0;

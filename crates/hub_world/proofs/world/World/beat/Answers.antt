@@ -1,6 +1,6 @@
 use Rattle.std.proofs.Common.{◌≡◌, ◌∙◌, sym, ap, subst, ℕ, Bool}
 use Rattle.hub_database.specs.Database.{Database}
-use Rattle.hub_feed.specs.Host.{is_beat_due}
+use Rattle.hub_feed.specs.Host.{is_beat_allowed_if_any}
 use Rattle.hub_feed.specs.declared.handed.Handed.TheVariants as did
 use Rattle.hub_model.specs.Entries.{entry_in}
 use Rattle.hub_world.specs.Applied.{whole_reply}
@@ -13,9 +13,9 @@ use Rattle.hub_world.proofs.world.World.beat.Goals as goal
 
 -- whether a heartbeat is due, of the state under the lock
 due_is : (inside seen : Database) (number : ℕ) (told : Bool) → seen ≡ inside
-    → told ≡ is_beat_due (entry_in number seen.feeds) → is_beat_due (entry_in number inside.feeds) ≡ told
+    → told ≡ is_beat_allowed_if_any (entry_in number seen.feeds) → is_beat_allowed_if_any (entry_in number inside.feeds) ≡ told
 due_is inside seen number told same is =
-    ap (λ (db : Database). is_beat_due (entry_in number db.feeds)) (sym same) ∙ sym is
+    ap (λ (db : Database). is_beat_allowed_if_any (entry_in number db.feeds)) (sym same) ∙ sym is
 
 pub returns-then-not-beat_due : goal.returns-then-not-beat_due
 returns-then-not-beat_due c =
