@@ -110,7 +110,7 @@ module _ (limit : ℕ) (numbers : List ℕ → Option ℕ) (documents : List Fil
       ≡ Some (record { id = id; latest = length entries + 1; edits = edits ++ edit ∷ [] })
       → ((j : ℕ) → j ≢ k → slice_get documents' j ≡ slice_get documents j)
       → numbers' id ≡ Some k → ((q : List ℕ) → q ≢ id → numbers' q ≡ numbers q)
-      → ((filed : FiledDocument) → slice_get documents k ≡ Some filed → length documents' ≡ length documents)
+      → ((filed_document : FiledDocument) → slice_get documents k ≡ Some filed_document → length documents' ≡ length documents)
       → (slice_get documents k ≡ None → length documents' ≡ length documents + 1)
       → Leaves limit documents entries id (Ready edit) numbers' documents'
       (entries ++ record { document = k; revision = length edits } ∷ []) (rows_after_move index k (length entries + 1))
@@ -134,21 +134,21 @@ module _ (limit : ℕ) (numbers : List ℕ → Option ℕ) (documents : List Fil
 module _ (limit : ℕ) (numbers : List ℕ → Option ℕ) (documents : List Document) (entries : List Entry)
     (st : IsFiled limit numbers (files documents) entries) (k : ℕ) (document : Document)
     (at : slice_get documents k ≡ Some document) where
-  pub filed_at : slice_get (files documents) k ≡ Some (filed document)
-  filed_at = slice_get-map filed documents k ∙ ap (option_map filed) at
+  pub filed_at : slice_get (files documents) k ≡ Some (filed_document document)
+  filed_at = slice_get-map filed_document documents k ∙ ap (option_map filed_document) at
 
-  pub same_files : (other : Document) → filed other ≡ filed document
+  pub same_files : (other : Document) → filed_document other ≡ filed_document document
       → files (slice_set documents k other) ≡ files documents
   same_files other e =
-      map-set_same filed documents k other document
-      (e ∙ ap filed (sym (get_or_from_slice_get documents k document document at)))
+      map-set_same filed_document documents k other document
+      (e ∙ ap filed_document (sym (get_or_from_slice_get documents k document document at)))
 
   pub in_range : k < length documents
   in_range = slice_get_within documents k document at
 
   kept_at : edits_of (journal_of (files documents) entries) document.id ≡ map
       (edit_with_id document.id) document.tree.edits
-  kept_at = st.kept k (filed document) filed_at
+  kept_at = st.kept k (filed_document document) filed_at
 
   -- a document has no more edits than the journal
   pub few_edits : length document.tree.edits ≤ length entries
@@ -187,7 +187,7 @@ module _ (limit : ℕ) (numbers : List ℕ → Option ℕ) (documents : List Doc
       )
 
   pub unchanged : (index index' : List (ℕ × ℕ)) → IsIndexed (files documents) entries index
-      → (other : Document) (entries' : List Entry) → filed other ≡ filed document → entries' ≡ entries
+      → (other : Document) (entries' : List Entry) → filed_document other ≡ filed_document document → entries' ≡ entries
       → index' ≡ index → IsFiled limit numbers (files (slice_set documents k other)) entries'
       × (journal_of (files (slice_set documents k other)) entries' ≡ journal_of (files documents) entries)
       × IsIndexed (files (slice_set documents k other)) entries' index'
@@ -199,7 +199,7 @@ module _ (limit : ℕ) (numbers : List ℕ → Option ℕ) (documents : List Doc
   needs_at id there tree edit n =
       let f = st.found id k there in
       let this : document.id ≡ id = ap (λ (z : FiledDocument). z.id)
-      (same_Some (filed document) f.0 (sym filed_at ∙ f.1)) ∙ f.2 in
+      (same_Some (filed_document document) f.0 (sym filed_at ∙ f.1)) ∙ f.2 in
       subst (λ i. NeedsRoomFor (journal_of (files documents) entries) i edit) this
       (needs_in (journal_of (files documents) entries) document.id document.tree.edits kept_at tree.one
       edit.origin
@@ -210,7 +210,7 @@ module _ (limit : ℕ) (numbers : List ℕ → Option ℕ) (documents : List Doc
       (room : (e : Edit) → looked ≡ Ready e → length entries < limit)
       (other : Document) (entries' : List Entry)
       → IsStorable document.tree.edits looked
-      → filed other ≡ document_after looked (setting_of k document entries index)
+      → filed_document other ≡ document_after looked (setting_of k document entries index)
       → entries' ≡ entries_after looked (setting_of k document entries index)
       → index' ≡ rows_after looked (setting_of k document entries index)
       → Leaves limit (files documents) entries document.id looked numbers
@@ -218,23 +218,23 @@ module _ (limit : ℕ) (numbers : List ℕ → Option ℕ) (documents : List Doc
       index'
   leaves_so index index' ix tree (Ready x) room other entries' s e es is =
       let within : k < length documents = slice_get_within documents k document at in
-      let now : slice_get (files (slice_set documents k other)) k ≡ Some (filed other) =
-      slice_get-map filed (slice_set documents k other) k
-      ∙ ap (option_map filed) (get_set documents k other within) in
+      let now : slice_get (files (slice_set documents k other)) k ≡ Some (filed_document other) =
+      slice_get-map filed_document (slice_set documents k other) k
+      ∙ ap (option_map filed_document) (get_set documents k other within) in
       rw (es, is) (stores limit numbers
       (files documents) entries st index ix document.id k document.tree.edits
-      (inl (st.own k (filed document) filed_at, (filed document, filed_at, refl))) tree.one x s
+      (inl (st.own k (filed_document document) filed_at, (filed_document document, filed_at, refl))) tree.one x s
       (room x refl) numbers
       (files (slice_set documents k other))
       (now ∙ ap Some e)
-      (λ j n. slice_get-map filed (slice_set documents k other) j
-      ∙ (ap (option_map filed) (get_set_other documents k other j n) ∙ sym (slice_get-map filed documents j)))
-      (st.own k (filed document) filed_at) (λ q n. refl)
+      (λ j n. slice_get-map filed_document (slice_set documents k other) j
+      ∙ (ap (option_map filed_document) (get_set_other documents k other j n) ∙ sym (slice_get-map filed_document documents j)))
+      (st.own k (filed_document document) filed_at) (λ q n. refl)
       (λ f g. let looked : length (files (slice_set documents k other)) ≡ length
       (slice_set documents k other) =
-      length-map (slice_set documents k other) filed in
-      omega (arith, looked, length-set documents k other, length-map documents filed))
-      (λ g. absurd (none-some (filed document) (sym g ∙ filed_at))))
+      length-map (slice_set documents k other) filed_document in
+      omega (arith, looked, length-set documents k other, length-map documents filed_document))
+      (λ g. absurd (none-some (filed_document document) (sym g ∙ filed_at))))
   leaves_so index index' ix tree Known room other entries' s e es is =
       rw (same_files other e, es, is) (st, refl, ix)
   leaves_so index index' ix tree (Refused fault) room other entries' s e es is =
@@ -268,7 +268,7 @@ module _ (limit : ℕ) (numbers : List ℕ → Option ℕ) (documents : List Doc
       ap (nat_le limit) (length-map entries (edit_at (files documents))) in
       let f = st.found id k there in
       let this : document.id ≡ id = ap (λ (z : FiledDocument). z.id)
-      (same_Some (filed document) f.0 (sym filed_at ∙ f.1)) ∙ f.2 in
+      (same_Some (filed_document document) f.0 (sym filed_at ∙ f.1)) ∙ f.2 in
       let said =
       stores_by (journal_of (files documents) entries) document.id document.tree.edits kept_at tree.one limit
       (nat_le limit (length entries)) full edit in
@@ -283,14 +283,14 @@ module _ (limit : ℕ) (numbers : List ℕ → Option ℕ) (documents : List Doc
       })
       (sym x.answer)
       ∙ ap (λ (journal : List Edit). record { outcome = o; journal = journal }) (sym left.1)) in
-      let now : slice_get (files (slice_set documents k other)) k ≡ Some (filed other) =
-      slice_get-map filed (slice_set documents k other) k
-      ∙ ap (option_map filed) (get_set documents k other in_range) in
+      let now : slice_get (files (slice_set documents k other)) k ≡ Some (filed_document other) =
+      slice_get-map filed_document (slice_set documents k other) k
+      ∙ ap (option_map filed_document) (get_set documents k other in_range) in
       let named_now : other.id ≡ document.id = id_stays looked (setting_of k document entries index)
-      (filed other) x.document in
+      (filed_document other) x.document in
       let kept_now : edits_of (journal_of (files (slice_set documents k other)) entries') other.id
       ≡ map (edit_with_id other.id) other.tree.edits =
-      left.0.kept k (filed other) now in
+      left.0.kept k (filed_document other) now in
       let mark_now : is_deleted (leaves_of other.tree.edits [])
       ≡ is_deleted (leaves_of (journal_of (files (slice_set documents k other)) entries') document.id) =
       sym
@@ -337,7 +337,7 @@ module _ (old : Inside) (st : HasDocuments old) (ix : HasRows old) (id : List �
       rw (fs, es, is) (at looked s room ns)
     where
       many_files : length (files old.documents.items) ≡ length old.documents.items
-      many_files = length-map old.documents.items filed
+      many_files = length-map old.documents.items filed_document
 
       past : slice_get (files old.documents.items) (length old.documents.items) ≡ None
       past =
@@ -548,7 +548,7 @@ same_store old new st counted ix w stay =
     ∙ ap (λ l. number_in (ids_in old) l q) w.numbers in
     let numbers : number_by new ≡ number_by old = λ i q. same q i in (
       record {
-        filed_document = rw stay (rw (numbers, w.documents, w.journal) st.filed);
+        filed = rw stay (rw (numbers, w.documents, w.journal) st.filed);
         order = rw (w.documents, w.numbers) st.order;
       },
       rw (w.deleted, w.documents, w.journal) counted,
@@ -666,7 +666,7 @@ store_stays old new k document other st at same documents numbers filed_now =
     λ q. ap (λ z. number_in z new.numbers q) ids ∙ ap (λ l. number_in (ids_in old) l q) numbers in
     let found : number_by new ≡ number_by old = λ i q. each q i in
     record {
-      filed_document =
+      filed =
           subst (λ f. IsFiled new.limits.journal f (files new.documents.items) new.journal.items)
           (sym found) filed_now;
       order = rw (ids, numbers) st.order;

@@ -161,8 +161,8 @@ module _ {R : Type 0} (id : ℕ) (feeds : List (ℕ × Feed))
     (is : p ≡ get_or feeds at p) where
   -- the feeds behind what the feed there answers
   pub behind_here : (show : Current → R) (rows : List Current) (len : ℕ) (new : Feed) → AreRising feeds
-      → (due : Due) (next : Next R)
-      → next ≡ next_of_due show rows due → new ≡ feed_after_next p.1 due len
+      → (next_due : Due) (next : Next R)
+      → next ≡ next_of_due show rows next_due → new ≡ feed_after_next p.1 next_due len
       → slice_set feeds at (p.0, new) ≡ feeds_behind id len next feeds
   behind_here show rows len new rising (DueRow c) next e h = rw e (stays_here id feeds at placed p is new h)
   behind_here show rows len new rising (DueEnd last_seq) next e h =

@@ -267,7 +267,7 @@ opened_in journal id (r ∷ revs) got legal q =
                 rest = [];
                 r = r;
                 split = append-nil journal;
-                shown_edit = subst (λ z. IsShown journal z r e) (sym shown_edit.named) shown_edit;
+                shown = subst (λ z. IsShown journal z r e) (sym shown_edit.named) shown_edit;
               }))
               (λ v. k.0 f v) (contains_cases e f edits (subst (λ z. Contains z f) (sym is) c)),
           λ revision c. ⊎_elim

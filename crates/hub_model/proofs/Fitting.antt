@@ -97,7 +97,7 @@ module _ {R : Type 0} (kind : RowKind R) where
 
   -- a row that is due
   fits_row : (journal : List Edit) (feed : Feed) (items : List (Item R)) (c : Current)
-      → Fits kind journal feed items → due (current journal) feed ≡ DueRow c
+      → Fits kind journal feed items → next_due (current journal) feed ≡ DueRow c
       → Fits kind journal (after_row feed c.seq (length journal))
       (items ++ Row (kind.shown journal feed.params.style feed.params.include_docs c) ∷ [])
   fits_row journal feed items c h e =
@@ -163,7 +163,7 @@ module _ {R : Type 0} (kind : RowKind R) where
   -- an End that is due
   fits_end : (journal : List Edit) (feed : Feed) (items : List (Item R)) (last n : ℕ)
       → Fits kind journal feed items
-      → due (current journal) feed ≡ DueEnd last
+      → next_due (current journal) feed ≡ DueEnd last
       → Fits kind journal (after_end feed last) (items ++ End last n ∷ [])
   fits_end journal feed items last n h e =
       elim (due_end (current journal) feed last e) [
@@ -179,12 +179,12 @@ module _ {R : Type 0} (kind : RowKind R) where
       ]
 
   -- what is due so is handed
-  handed_as : (journal : List Edit) (feed : Feed) (items : List (Item R)) (item : Item R) (due : Due)
-      → journal_due journal feed ≡ due
+  handed_as : (journal : List Edit) (feed : Feed) (items : List (Item R)) (item : Item R) (next_due : Due)
+      → journal_due journal feed ≡ next_due
       → item_of_due (kind.shown journal feed.params.style feed.params.include_docs)
-      (current journal) due ≡ Some item
+      (current journal) next_due ≡ Some item
       → Fits kind journal feed items
-      → Fits kind journal (feed_after_due feed due (length journal)) (items ++ item ∷ [])
+      → Fits kind journal (feed_after_due feed next_due (length journal)) (items ++ item ∷ [])
   handed_as journal feed items item (DueRow c) q e h =
       subst (λ (i : Item R). Fits kind journal (after_row feed c.seq (length journal)) (items ++ i ∷ []))
       (same_Some _ item e) (fits_row journal feed items c h q)

@@ -65,7 +65,7 @@ module _ {S R K : Type 0} (label : K → Label) (sent : K → List (Item R)) (ho
           Permits label sent hosted with_hosted fits right hosts rightly stays own (sent own ++ item ∷ []))
           (same_Some may.0 outbox (sym may.1 ∙ is)) may.2)
 
-      from : (due : Option (Item R)) → item_of_number (hosted state) id ≡ due → IfSome due (Takes outbox)
+      from : (next_due : Option (Item R)) → item_of_number (hosted state) id ≡ next_due → IfSome next_due (Takes outbox)
       from None none = tt
       from (Some item) some =
           one item
@@ -100,7 +100,7 @@ module _ {S R K : Type 0} (label : K → Label) (sent : K → List (Item R)) (ho
   looked = with_hosted state (hosted_after_next (hosted state) id Nothing)
 
   -- of the sender that stands here, after a hand of the host to it
-  module _ (waiting_fits : (s : S) (f : Feed) (items : List (Item R)) → due (hosted s).current f ≡ DueNothing
+  module _ (waiting_fits : (s : S) (f : Feed) (items : List (Item R)) → next_due (hosted s).current f ≡ DueNothing
       → fits s f items → fits s (after_nothing f (hosted s).length) items)
       (behind : K → Item R → K) (label_stays : (k : K) (item : Item R) → label (behind k item) ≡ label k)
       (sent_adds : (k : K) (item : Item R) → sent (behind k item) ≡ sent k ++ item ∷ [])

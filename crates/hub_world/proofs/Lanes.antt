@@ -33,7 +33,7 @@ fitting_kept = record {
   begins = λ J params life. fits_begin change_rows J params life;
   hands = λ J s h t item d q. fits_handed change_rows J s.feed h item d q;
   beats = λ J s h t d q. fits_beat change_rows J s.feed h d q;
-  is_waiting_mode = λ J s h t d q. fits_nothing change_rows J s.feed h d q;
+  waits = λ J s h t d q. fits_nothing change_rows J s.feed h d q;
   expires = λ J s h t q. fits_expire change_rows J s.feed h q;
   ends = λ J s h t q. fits_close change_rows J s.feed h q;
   finishes = λ J s h t q. fits_finish change_rows J s.feed h q;
@@ -125,7 +125,7 @@ told_kept = record {
         goes_in t s.lane q.dropped h Beat (q.none (open_stands s.feed.status (and_parts _ _ d).0)) q.in_order;
     none = λ e. refl;
   };
-  is_waiting_mode = λ J s h t d q. record {
+  waits = λ J s h t d q. record {
     fits = fits_nothing change_rows J s.feed h d q.fits;
     dropped = q.dropped;
     in_order = q.in_order;

@@ -17,7 +17,7 @@ accept_item-requires c =
     let edits = c.args.edits.now.ids.now in
     let next = c.in_ok-next.ensures in
     record {
-      next_due =
+      due =
           given_accepted show (rows_of 1 edits) c.in-Give.item c.args.feed.now c.next_item.new.self
           (length edits) (sym c.in-Give.is ∙ next.ok) next.new;
     }
