@@ -351,7 +351,7 @@ module _ (old : Inside) (st : HasDocuments old) (ix : HasRows old) (id : List �
           (documents_after looked (first_setting id old) (files old.documents.items))
           (entries_after looked (first_setting id old)) (rows_after looked (first_setting id old))
       at (Ready edit) s room ns =
-          let new : Filed = record { id = id; latest = length old.journal.items + 1; edits = edit ∷ [] } in
+          let new : FiledDocument = record { id = id; latest = length old.journal.items + 1; edits = edit ∷ [] } in
           stores old.limits.journal (number_by old) (files old.documents.items) old.journal.items st.filed
           old.index ix id (length old.documents.items) [] (inr (absent, past, refl)) refl edit s
           (room edit refl)
@@ -751,7 +751,7 @@ pub number_has : (documents : List Document) (numbers : List ℕ) → HasNumbers
 number_has documents numbers own id k low here =
     let within : k < length (files documents) =
     omega (arith, length-map (files documents) (λ (filed : FiledDocument). filed.id)) in
-    let d : Filed = get_or (files documents) k (unwritten_document []) in
+    let d : FiledDocument = get_or (files documents) k (unwritten_document []) in
     let edit_with_id : d.id ≡ id =
     sym (get_or-map (λ (filed : FiledDocument). filed.id) (files documents) k (unwritten_document []) [] within) ∙ here in
     ap (number_in (ids_of (files documents)) numbers) (sym edit_with_id)

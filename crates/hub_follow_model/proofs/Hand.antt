@@ -131,7 +131,7 @@ module _ (journal later_journal : List Edit) (since last : ℕ) (rows : List Cha
       → (row : ChangeRow) → Contains rows row → row.seq ≡ n → IsRow (take row.seen journal) AllDocs false row
       → InAsked (map revisions_of_row rows) id revision
   in_row n edit id revision current q leaf row c at fits =
-      let shown = row_is (take row.seen journal) false row fits in
+      let shown_edit = row_is (take row.seen journal) false row fits in
       let as_leaf =
       leaf_then n edit id revision (take row.seen journal) (drop row.seen journal) shown_edit.0
       (sym (take-append-drop row.seen journal))
@@ -259,7 +259,7 @@ opened_in journal id (r ∷ revs) got legal q =
     at (Some e) s (Ok edits) ih t =
         let k = ih edits refl in
         let is : e ∷ edits ≡ got = cc in
-        let shown = shown_is journal id r e legal s in (
+        let shown_edit = shown_is journal id r e legal s in (
           λ f c. ⊎_elim
               (λ (v : e ≡ f). subst (λ z. IsCopy journal z) v
               (record {

@@ -171,9 +171,9 @@ look_found {A} gives found a (inr is) finds =
   where
     by : (given : Result A DbFault) → Ok a ≡ with_refusal given
         → IfOk given (λ a. (is.db.deleted ≡ false) × found is.db a) → IsFound found (Ok a)
-    by (Ok b) same stands =
+    by (Ok b) same said_unless_deleted =
         subst (IsFound found) (sym same) (record { db = is.db; legal = is.legal; held = said_unless_deleted })
-    by (Err e) same stands = absurd (cc)
+    by (Err e) same said_unless_deleted = absurd (cc)
 
 -- and where it gave nothing, the database was deleted, or memory was missing
 pub look_unfound : {A : Type 0} (gives : Bor Database → Result A DbFault → Type 0)

@@ -27,7 +27,7 @@ loop-key-preserved c =
     let done = c.loop-key.asked.items in
     let revs = c.in-Some-2.revs in
     let found : revs_in (view c.in-Some.member.now) ≡ Some revs = sym c.in_ok-revs.ensures ∙ c.in-Some-2.is in
-    let one : List ℕ → Asked = λ id. record { id = id; revs = revs } in
+    let one : List ℕ → RevisionsOfDoc = λ id. record { id = id; revs = revs } in
     let same : string_bytes c.in_ok-id.id ≡ string_bytes c.in-Some.key.now = search rules in
     let pushed : c.push.new.self.items ≡ done ++ one (string_bytes c.in-Some.key.now) ∷ [] =
     c.in_ok-push.ensures.items ∙ ap (λ id. done ++ one id ∷ []) same in
