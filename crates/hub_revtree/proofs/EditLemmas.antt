@@ -1,10 +1,10 @@
 -- What an edit that is made extends, and that it is acceptable.
-use Rattle.std.proofs.Common.{◌≡◌, ℕ, ◌+◌, ◌<◌, List, [], ◌∷◌, Bool, true, false}
+use Rattle.std.proofs.Common.{◌≡◌, ℕ, ◌+◌, ◌<◌, ◌≤◌, List, [], ◌∷◌, Bool, true, false}
 use Rattle.std.proofs.Common.{◌⊎◌, inl, inr, refl, sym, ap, ◌∙◌, subst, arith}
 use Rattle.std.specs.Prelude.{Contains, Option, Some, None, Ok, Err}
 use Rattle.std.specs.Prelude.{IsTrue, ◌↔◌, not, ◌&&◌, nat_le, slice_get}
 use Rattle.std.specs.List.{list_any}
-use Rattle.std.proofs.lemmas.Bool.{and_from, and_parts, leb-true, both_ways, cases_Bool}
+use Rattle.std.proofs.lemmas.Bool.{and_from, and_parts, le-leb, leb-true, both_ways, cases_Bool}
 use Rattle.std.proofs.lemmas.Option.{same_Some}
 use Rattle.hub_model.specs.Revision.{Revision}
 use Rattle.hub_model.specs.Path.{IsFirst, IsNext, IsHistory, names, is_history, is_consistent}
@@ -19,7 +19,7 @@ use Rattle.hub_model.proofs.Tests.{is_agreeing, all_at, acceptable_is, known_is}
 use Rattle.hub_model.proofs.Leaves.{leaf_law, leaf_is}
 use Rattle.hub_model.proofs.Walks.{legal_histories, line_of_walk, walk_history, walk_steps}
 use Rattle.hub_model.proofs.Drafts.{drafts_extend}
-use Rattle.hub_revtree.specs.declared.fault.EditFault.TheVariants.{Conflict}
+use Rattle.hub_revtree.specs.declared.fault.EditFault.TheVariants.{Conflict, GenerationLimit}
 use Rattle.hub_revtree.specs.declared.leaf.Winner.{Winner}
 use Rattle.hub_revtree.specs.Branch.{Branch, edit_of, edits_in}
 use Rattle.hub_revtree.specs.Extend.{draft, edit_of_draft, edit_on_path, line_to, path_to}
@@ -147,6 +147,10 @@ module _ (edits : List Edit) (tree : IsRevTree edits) (id : List ℕ) (parent : 
     | inl t ↦ absurd (omega (arith, leb-true 65535 (generation_of (parent_of older)) t))
     | inr t ↦ t
   ]
+
+  pub last_limits : 65535 ≤ generation_of (parent_of older)
+      → edit_of_draft edits (draft id parent deleted body) ≡ Err GenerationLimit
+  last_limits past = so ∙ rw (le-leb 65535 (generation_of (parent_of older)) past) refl
 
   pub known_conflicts : generation_of (parent_of older) < 65535 → is_known edits [] next ≡ true
       → edit_of_draft edits (draft id parent deleted body) ≡ Err Conflict

@@ -15,7 +15,7 @@ use Rattle.hub_revtree.specs.declared.stem.Place.{Place}
 use Rattle.hub_revtree.specs.Branch.{Branch, edit_of, edits_in}
 use Rattle.hub_revtree.specs.Common.{last_in}
 use Rattle.hub_revtree.specs.Extend.{line_to}
-use Rattle.hub_revtree.specs.Stem.{Stem, AreStems, IsBrought, IsWithin, branch_of, branches_of}
+use Rattle.hub_revtree.specs.Stem.{Stem, AreStems, IsBrought, IsFound, IsWithin, branch_of, branches_of}
 use Rattle.hub_revtree.specs.Stem.{chain_from, chain_of, chains_of, has_revision, one_of}
 use Rattle.hub_revtree.specs.Stem.{own_from, own_path, rev_at, revisions_at, revisions_in, whole_in}
 use Rattle.hub_revtree.proofs.LineLemmas.{first_ends, has_last, last_down, line_front}
@@ -94,15 +94,13 @@ last_append (other ∷ z ∷ others) revision revisions = last_append (z ∷ oth
 
 -- whether the look found it
 pub is_placed : (stems : List Stem) (revision : Revision) (maybe_place : Option Place)
-    → IfSome maybe_place (λ place. slice_get (revisions_at stems place.stem) place.at ≡ Some revision)
-    → IfNone maybe_place (has_revision stems revision ≡ false)
-    → is_some maybe_place ≡ has_revision stems revision
-is_placed stems revision None found none = sym none
-is_placed stems revision (Some place) found none =
-    let i = within_stem stems place (slice_get_within (revisions_at stems place.stem) place.at revision found)
-    in
+    → IsFound stems revision maybe_place → is_some maybe_place ≡ has_revision stems revision
+is_placed stems revision None f = sym f.none
+is_placed stems revision (Some place) f =
+    let i =
+    within_stem stems place (slice_get_within (revisions_at stems place.stem) place.at revision f.found) in
     sym (any_at (λ s. names s.revisions revision) stems place.stem i.0 i.1
-    (named i.0.revisions place.at revision (rw i.1 at found)))
+    (named i.0.revisions place.at revision (rw i.1 at f.found)))
 
 module _ (stems : List Stem) (a : AreStems stems) where
   abbrev bs : List Branch

@@ -11,8 +11,8 @@ use Rattle.hub_revtree.specs.declared.stem.Place.{Place}
 use Rattle.hub_revtree.specs.Branch.{Branch, edits_in}
 use Rattle.hub_revtree.specs.Common.{common, last_in}
 use Rattle.hub_revtree.specs.Extend.{line_to}
-use Rattle.hub_revtree.specs.Stem.{Stem, Storage, AreStems, IsBrought, IsFoundBehind, IsWithin, StandsAt}
-use Rattle.hub_revtree.specs.Stem.{branches_of, chain_from, chains_of, has_revision, own_from, rev_at}
+use Rattle.hub_revtree.specs.Stem.{Stem, Storage, AreStems, IsAfter, IsBrought, IsFound, IsFoundBehind}
+use Rattle.hub_revtree.specs.Stem.{IsWithin, branches_of, chain_from, chains_of, own_from, rev_at}
 use Rattle.hub_revtree.specs.Stem.{revisions_in}
 use Rattle.hub_revtree.proofs.JoinLemmas.{chain_long, found_behind, last_left, no_line, walk_less, walk_long}
 use Rattle.hub_revtree.proofs.JoinLemmas.{walk_step}
@@ -39,28 +39,25 @@ module _ (s : Storage) (k : IsStored s) where
   legal_in = subst (λ bs. IsLegal (edits_in bs)) (sym k.shown) k.legal
 
   -- a walk begins where the look found the revision
-  pub line_begins : (rev : Revision) (o : Option Place) → IfSome o (StandsAt s.stems rev)
-      → IfNone o (has_revision s.stems rev ≡ false)
+  pub line_begins : (rev : Revision) (o : Option Place) → IsFound s.stems rev o
       → line_to (edits_in s.list) (rev_at s.stems o) ≡ line_to (edits_in s.list) (Some rev)
-  line_begins rev None found none =
-      sym (subst (λ bs. line_to (edits_in bs) (Some rev) ≡ []) k.shown (no_line s.stems k.stems rev none))
-  line_begins rev (Some p) found none = ap (line_to (edits_in s.list)) found
+  line_begins rev None f =
+      sym (subst (λ bs. line_to (edits_in bs) (Some rev) ≡ []) k.shown (no_line s.stems k.stems rev f.none))
+  line_begins rev (Some p) f = ap (line_to (edits_in s.list)) f.found
 
-  pub begins_within : (rev : Revision) (o : Option Place) → IfSome o (StandsAt s.stems rev)
+  pub begins_within : (rev : Revision) (o : Option Place) → IsFound s.stems rev o
       → IfSome o (IsWithin s.stems)
-  begins_within rev None found = tt
-  begins_within rev (Some p) found = rev_within s.stems p rev found
+  begins_within rev None f = tt
+  begins_within rev (Some p) f = rev_within s.stems p rev f.found
 
   pub few_in : (rev : Revision) → length (line_to (edits_in s.list) (Some rev)) ≤ rev.generation
   few_in rev = line_short (edits_in s.list) rev k.legal
 
   -- what is told behind a stem's last, and whether a path agrees with all, by the stems
-  pub told_in : (after : Option Place) (p : Place)
-      → ((x : Revision) → last_in (own_from s.stems p) ≡ Some x
-      → rev_at s.stems after ≡ behind_in x (edits_in s.list))
+  pub told_in : (after : Option Place) (p : Place) → IsAfter s p after
       → (x : Revision) → last_in (own_from s.stems p) ≡ Some x
       → rev_at s.stems after ≡ behind_in x (edits_in (branches_of s.stems))
-  told_in after p behind x last = behind x last ∙ ap (λ bs. behind_in x (edits_in bs)) (sym k.shown)
+  told_in after p goes x last = goes.behind x last ∙ ap (λ bs. behind_in x (edits_in bs)) (sym k.shown)
 
   pub agrees_shown : (path revisions : List Revision) (b : Bool) → revisions ≡ path
       → b ≡ list_all (λ branch. is_consistent revisions branch.path) (branches_of s.stems)
@@ -130,25 +127,24 @@ module _ (s : Storage) (k : IsStored s) where
 
   -- a step of the walk
   module _ (o after : Option Place) (p : Place) (is : o ≡ Some p) (w : IsWithin s.stems p)
-      (behind : (x : Revision) → last_in (own_from s.stems p) ≡ Some x
-      → rev_at s.stems after ≡ behind_in x (edits_in s.list)) where
+      (goes : IsAfter s p after) where
     pub line_step : line_to (edits_in s.list) (rev_at s.stems o)
         ≡ own_from s.stems p ++ line_to (edits_in s.list) (rev_at s.stems after)
     line_step =
         subst (λ bs. line_to (edits_in bs) (rev_at s.stems o)
         ≡ own_from s.stems p ++ line_to (edits_in bs) (rev_at s.stems after)) k.shown
-        (walk_step s.stems k.stems legal_in o after p is w (told_in after p behind))
+        (walk_step s.stems k.stems legal_in o after p is w (told_in after p goes))
 
     pub line_less : length (line_to (edits_in s.list) (rev_at s.stems after))
         < length (line_to (edits_in s.list) (rev_at s.stems o))
     line_less =
         subst (λ bs. length (line_to (edits_in bs) (rev_at s.stems after))
         < length (line_to (edits_in bs) (rev_at s.stems o))) k.shown
-        (walk_less s.stems k.stems legal_in o after p is w (told_in after p behind))
+        (walk_less s.stems k.stems legal_in o after p is w (told_in after p goes))
 
     pub line_long : length (line_to (edits_in s.list) (rev_at s.stems o))
         ≡ length (own_from s.stems p) + length (line_to (edits_in s.list) (rev_at s.stems after))
     line_long =
         subst (λ bs. length (line_to (edits_in bs) (rev_at s.stems o))
         ≡ length (own_from s.stems p) + length (line_to (edits_in bs) (rev_at s.stems after))) k.shown
-        (walk_long s.stems k.stems legal_in o after p is w (told_in after p behind))
+        (walk_long s.stems k.stems legal_in o after p is w (told_in after p goes))

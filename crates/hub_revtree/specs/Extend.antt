@@ -1,14 +1,14 @@
 -- What an edit that is made here becomes in a tree (CouchDB API reference, PUT and DELETE of a document).
 use Rattle.std.specs.Prelude.{ℕ, List, [], ◌∷◌, Bool, if◌then◌else◌, nat_le, Option, Some, None, Result, Ok}
-use Rattle.std.specs.Prelude.{Err, unwrap_or}
+use Rattle.std.specs.Prelude.{Err, ◌≡◌, unwrap_or}
 use Rattle.hub_model.specs.Revision.{Revision}
 use Rattle.hub_model.specs.Journal.{Edit, is_known}
 use Rattle.hub_model.specs.Leaves.{leaves_of}
 use Rattle.hub_model.specs.Walk.{line_of}
-use Rattle.hub_model.specs.Draft.{Draft, extended_path, new_revision, generation_of, parent_of}
+use Rattle.hub_model.specs.Draft.{Draft, HasNextRevision, extended_path, new_revision, generation_of, parent_of}
 use Rattle.hub_revtree.specs.Tree.{nameless}
 use Rattle.hub_revtree.specs.declared.fault.EditFault.{EditFault}
-use Rattle.hub_revtree.specs.declared.fault.EditFault.TheVariants.{Conflict, GenerationLimit}
+use Rattle.hub_revtree.specs.declared.fault.EditFault.TheVariants.{Conflict, GenerationLimit, NoMemory}
 
 -- an edit before its revision is made
 abbrev pub draft : List ℕ → Option Revision → Bool → List ℕ → Draft
@@ -25,6 +25,12 @@ edit_on_path edits draft (Some path) =
 -- the edit that a draft becomes after these edits of its document, on the path that it extends
 abbrev pub edit_of_draft : List Edit → Draft → Result Edit EditFault
 edit_of_draft edits draft = edit_on_path edits draft (extended_path edits [] (leaves_of edits []) draft.rev)
+
+-- why no edit is made of a draft after these edits of its document: it has a next revision, and memory for it was
+-- not to be had; or what becomes of it is this fault
+abbrev pub IsEditFault : List Edit → Draft → EditFault → Type 0
+IsEditFault edits this NoMemory = HasNextRevision edits (draft [] this.rev this.deleted this.body)
+IsEditFault edits this fault = edit_of_draft edits this ≡ Err fault
 
 -- a known revision and all that stands behind it
 abbrev pub path_to : List Edit → Revision → Option (List Revision)

@@ -16,8 +16,10 @@ use Rattle.std.specs.Prelude.{Bool, true, false, ◌||◌, IfSome, IfNone}
 use Rattle.std.specs.List.{list_any}
 use Rattle.hub_model.specs.Revision.{Revision}
 use Rattle.hub_model.specs.Path.{IsNext, IsPath, names, is_first}
+use Rattle.hub_model.specs.Walk.{behind_in}
 use Rattle.hub_revtree.specs.declared.stem.Place.{Place}
-use Rattle.hub_revtree.specs.Branch.{Branch}
+use Rattle.hub_revtree.specs.Branch.{Branch, edits_in}
+use Rattle.hub_revtree.specs.Common.{last_in}
 
 -- what an edit brought: the first of its path's revisions, where the one behind them stands, how many
 -- revisions its path has, how many its chain has, whether one of its revisions was known before, whether it
@@ -161,6 +163,11 @@ IsBrought stems revision other =
 abbrev pub StandsAt : List Stem → Revision → Place → Type 0
 StandsAt stems revision place = rev_at stems (Some place) ≡ Some revision
 
+-- what a look finds of revision: a place where it stands; none where no stem has it
+pub record IsFound (stems : List Stem) (revision : Revision) (place : Option Place) : Type 0 where
+  pub found : IfSome place (StandsAt stems revision)
+  pub none : IfNone place (has_revision stems revision ≡ false)
+
 -- one of the stems has a revision at the place, and it stands directly behind other in what a stem brought
 abbrev pub IsBehind : List Stem → Revision → Place → Type 0
 IsBehind stems other place =
@@ -172,6 +179,13 @@ IsBehind stems other place =
 pub record IsFoundBehind (stems : List Stem) (other : Revision) (found : Option Place) : Type 0 where
   pub place : IfSome found (IsBehind stems other)
   pub none : IfNone found ((revision : Revision) → ¬ IsBrought stems revision other)
+
+-- where a walk along stored edits goes on behind what the stem of a place has from there on: at a place of the
+-- stems, whose revision is the one directly behind the last of these, or nowhere, where there is none
+pub record IsAfter (storage : Storage) (place : Place) (after : Option Place) : Type 0 where
+  pub within : IfSome after (IsWithin storage.stems)
+  pub behind : (revision : Revision) → last_in (own_from storage.stems place) ≡ Some revision
+      → rev_at storage.stems after ≡ behind_in revision (edits_in storage.list)
 
 -- whether revision is the revision at the place, if there is one
 abbrev pub is_at : List Stem → Revision → Option Place → Bool

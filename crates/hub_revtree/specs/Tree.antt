@@ -3,7 +3,9 @@
 use Rattle.std.specs.Prelude.{◌≡◌, ◌≤◌, ℕ, List, [], Bool, IfOk, Option, Result, Some, length}
 use Rattle.hub_model.specs.Revision.{Revision}
 use Rattle.hub_model.specs.Path.{IsFirst}
-use Rattle.hub_model.specs.Journal.{Edit, IsKnown, IsLegal, edits_of, head_of}
+use Rattle.hub_model.specs.Journal.{Edit, IsAcceptable, IsKnown, IsLegal, edits_of, head_of}
+use Rattle.hub_revtree.specs.declared.fault.MergeFault.{MergeFault}
+use Rattle.hub_revtree.specs.declared.fault.MergeFault.TheVariants.{Contradicts, NoMemory}
 
 -- the edits of the document, its id left out, in the order in which they were taken; and how many more
 -- revisions it has memory for
@@ -44,3 +46,9 @@ tip rev deleted body = record { rev = Some rev; deleted = deleted; body = body }
 -- the first revision of the path is known
 abbrev pub HasKnownHead : List Edit → List Revision → Type 0
 HasKnownHead edits path = (revision : Revision) × IsFirst path revision × IsKnown edits [] revision
+
+-- why an edit is not merged after these edits: its revision is unknown, and it may not be stored; or it may, and
+-- memory for it was not to be had
+abbrev pub IsMergeFault : List Edit → Edit → MergeFault → Type 0
+IsMergeFault edits edit Contradicts = (¬ HasKnownHead edits edit.path) × (¬ IsAcceptable edits edit)
+IsMergeFault edits edit NoMemory = IsAcceptable edits edit

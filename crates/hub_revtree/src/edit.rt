@@ -4,13 +4,12 @@ ghost use Rattle.std.specs.Prelude.{◌≡◌, ◌⊎◌, ◌≤◌, ◌<◌, �
 ghost use Rattle.std.specs.Prelude.{Some, None, Ok, Err, IfOk, IfErr, IfSome, IsTrue, OnOk};
 ghost use Rattle.std.specs.Result.{result_ok};
 ghost use Rattle.hex.specs.Hex.{encode_lower};
-ghost use Rattle.hub_model.specs.Draft.{HasNextRevision, extended_path as extended_in};
-ghost use Rattle.hub_model.specs.Draft.{generation_of, new_revision, parent_of};
+ghost use Rattle.hub_model.specs.Draft.{extended_path as extended_in, generation_of, new_revision, parent_of};
 ghost use Rattle.hub_model.specs.Journal.{Edit, IsAcceptable, head_of};
 ghost use Rattle.hub_model.specs.Leaves.{leaves_of};
 ghost use Rattle.hub_model.specs.Path.{IsHistory};
-ghost use Rattle.hub_revtree.specs.Extend.{draft, edit_of_draft, line_to};
-ghost use Rattle.hub_revtree.specs.Tree.{IsRevTree, MakesReady, nameless};
+ghost use Rattle.hub_revtree.specs.Extend.{IsEditFault, draft, edit_of_draft, line_to};
+ghost use Rattle.hub_revtree.specs.Tree.{IsRevTree};
 
 use crate::fault::EditFault;
 use crate::line::Line;
@@ -148,24 +147,6 @@ impl RevTree {
         Ok(Run::whole(revisions))
     }
 
-    // The edit with the revision in front of the one that it extends, with memory for it. The revision alone
-    // is new: what it stands on is known.
-    fn ready_on(
-        &mut self,
-        rev: &DigestRev,
-        older: &Option<RevId>,
-        deleted: bool,
-        body: Body,
-    ) -> Result<Ready, AllocError>
-        requires { IsHistory (rev.now ∷ line_to self.old.edits older.now) }
-        ensures { MakesReady self.old self.new
-            (nameless (rev.now ∷ line_to self.old.edits older.now) deleted body) result }
-    {
-        let alloc = *self.branches().stems().allocator();
-        let path = self.path_on(alloc, rev, older)?;
-        self.ready_with(path, Run::of_one(rev), deleted, body)
-    }
-
     /// Looks what becomes of an edit that is made here, on the leaf that is named, or, without a
     /// name, on nothing where the document is unknown and on its winner where that is deleted: the
     /// edit with the revision that is made for it, with memory for it. `id` is the document's,
@@ -186,10 +167,7 @@ impl RevTree {
             (λ ready. edit_of_draft self.old.edits (draft id.now parent deleted body) ≡ Ok ready) }
         ensures acceptable { IfOk result (IsAcceptable self.old.edits) }
         ensures room { IfOk result (λ ready. length ready.path ≤ self.new.room) }
-        ensures err { IfErr result (λ e.
-            (e ≡ EditFault.NoMemory) ⊎ (edit_of_draft self.old.edits (draft id.now parent deleted body) ≡ Err e)) }
-        ensures memory { result ≡ Err EditFault.NoMemory
-            → HasNextRevision self.old.edits (draft [] parent deleted body) }
+        ensures err { IfErr result (IsEditFault self.old.edits (draft id.now parent deleted body)) }
     {
         let alloc = *self.branches().stems().allocator();
         let older = self.extended(parent)?;
@@ -200,7 +178,8 @@ impl RevTree {
         if self.knows(&rev.rev()) {
             return Err(EditFault::Conflict);
         }
-        let ready = self.ready_on(&rev, &older, deleted, body)?;
+        let path = self.path_on(alloc, &rev, &older)?;
+        let ready = self.ready_with(path, Run::of_one(&rev), deleted, body)?;
         Ok(ready)
     }
 
@@ -216,11 +195,9 @@ impl RevTree {
         ensures ok { IfOk result (λ rev.
             (made : Edit) × (edit_of_draft self.old.edits (draft id.now parent deleted body) ≡ Ok made)
             × (head_of made ≡ Some rev) × (self.new.edits ≡ self.old.edits ++ made ∷ [])) }
-        ensures err { IfErr result (λ e.
-            ((e ≡ EditFault.NoMemory) ⊎ (edit_of_draft self.old.edits (draft id.now parent deleted body) ≡ Err e))
+        ensures err { IfErr result (λ fault.
+            IsEditFault self.old.edits (draft id.now parent deleted body) fault
             × (self.new.edits ≡ self.old.edits)) }
-        ensures memory { result ≡ Err EditFault.NoMemory
-            → HasNextRevision self.old.edits (draft [] parent deleted body) }
     {
         match self.look_extend(id, parent, deleted, body) {
             Ok(ready) => {

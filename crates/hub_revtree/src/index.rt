@@ -60,7 +60,7 @@ pub(crate) struct Index {
 fn number_at(map: &BTreeMap<RevKey, u32>, rev: &RevId) -> Option<u32>
     ensures { result ≡ number_in map.now rev.now }
 {
-    map.get(&RevKey::new(rev)).copied()
+    map.get(&RevKey { rev: *rev }).copied()
 }
 
 // Puts the number at the revision, where the map has none there. At most log n comparisons of revisions.
@@ -69,7 +69,7 @@ fn put_at(map: &mut BTreeMap<RevKey, u32>, rev: &RevId, number: u32) -> Result<(
         ((r : Revision)
         → number_in map.new r ≡ first_put (eq_by_cmp revision_cmp) (number_in map.old) rev.now number r) }
 {
-    let key = RevKey::new(rev);
+    let key = RevKey { rev: *rev };
     if map.contains_key(&key) {
         return Ok(());
     }
@@ -167,10 +167,10 @@ impl Firsts {
         let Some(place) = self.place(stems, &rev) else {
             return Ok(());
         };
-        if behind_in(stems, place.stem, &Sought::once(&rev)).is_some() {
+        if behind_in(stems, place.stem, &Sought::among(&rev, 1)).is_some() {
             return Ok(());
         }
-        if behind_in(stems, number as usize, &Sought::once(&rev)).is_none() {
+        if behind_in(stems, number as usize, &Sought::among(&rev, 1)).is_none() {
             return Ok(());
         }
         put_at(links, &rev, number)

@@ -14,7 +14,7 @@ use std::marker::Model;
 /// A revision as a key: in the order of the generations, and then of the hashes.
 #[derive(Debug, Drop)]
 pub(crate) struct RevKey {
-    rev: RevId,
+    pub(crate) rev: RevId,
 }
 
 impl Model for RevKey {
@@ -23,15 +23,6 @@ impl Model for RevKey {
     ghost Value = { Revision };
 
     ghost view = { λ a. a.rev };
-}
-
-impl RevKey {
-    /// The key of the revision.
-    pub(crate) fn new(rev: &RevId) -> RevKey
-        ensures { result ≡ rev.now }
-    {
-        RevKey { rev: *rev }
-    }
 }
 
 impl PartialEq for RevKey {

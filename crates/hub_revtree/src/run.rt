@@ -380,7 +380,7 @@ impl Run {
     {
         let count = (self.len() - at).min(revisions.len());
         for place in 0..count {
-            if !self.is_at(at + place, &Sought::once(&revisions[place])) {
+            if !self.is_at(at + place, &Sought::among(&revisions[place], 1)) {
                 return None;
             }
         }

@@ -52,22 +52,16 @@ fn form_of(rev: &RevId) -> Form
 }
 
 impl<'a> Sought<'a> {
-    /// The revision, for one look.
-    pub(crate) fn once(rev: &'a RevId) -> Sought<'a>
-        ensures { result ≡ rev.now }
-    {
-        Sought {
-            rev,
-            form: Form::Unmade,
-        }
-    }
-
-    /// The revision, for so many looks.
+    /// The revision, for a look among so many. Where the number is known, this costs nothing.
+    #[inline(always)]
     pub(crate) fn among(rev: &'a RevId, looks: usize) -> Sought<'a>
         ensures { result ≡ rev.now }
     {
         if looks < MANY {
-            return Sought::once(rev);
+            return Sought {
+                rev,
+                form: Form::Unmade,
+            };
         }
         Sought {
             rev,

@@ -7,15 +7,15 @@ ghost use Rattle.std.specs.List.{list_all, list_any};
 ghost use Rattle.hex.specs.Hex.{encode_lower};
 ghost use Rattle.hub_model.specs.Revision.{Revision};
 ghost use Rattle.hub_model.specs.Path.{IsHistory, IsNext, IsPath, is_consistent as agrees_with, is_first, names};
-ghost use Rattle.hub_model.specs.Walk.{behind_in as behind_of};
 ghost use Rattle.hub_revtree.specs.Branch.{edits_in};
 ghost use Rattle.hub_revtree.specs.Common.{last_in};
 ghost use Rattle.hub_revtree.specs.Extend.{line_to};
 ghost use Rattle.hub_revtree.specs.Index.{GoesOn};
 ghost use Rattle.hub_revtree.specs.Lookup.{AreIndexed, IsMeeting, IsNumberIn};
 ghost use Rattle.hub_revtree.specs.Stem.{Stem as StemModel, IsBrought};
-ghost use Rattle.hub_revtree.specs.Stem.{IsBehind, IsFoundBehind, IsWithin, StandsAt, chain_from, chains_of};
-ghost use Rattle.hub_revtree.specs.Stem.{has_revision, own_from, own_path, rev_at, revisions_at};
+ghost use Rattle.hub_revtree.specs.Stem.{IsAfter, IsBehind, IsFound, IsFoundBehind, IsWithin, StandsAt};
+ghost use Rattle.hub_revtree.specs.Stem.{chain_from, chains_of};
+ghost use Rattle.hub_revtree.specs.Stem.{has_revision, own_path, revisions_at};
 
 use crate::branches::{Branches, lent};
 use crate::index::Index;
@@ -34,7 +34,7 @@ pub(crate) fn place_in(stems: &[Stem], number: usize, rev: &RevId) -> Option<Pla
     if number >= stems.len() {
         return None;
     }
-    match stems[number].run().position(&Sought::once(rev)) {
+    match stems[number].run().position(&Sought::among(rev, 1)) {
         Some(at) => Some(Place { stem: number, at }),
         None => None,
     }
@@ -46,8 +46,7 @@ pub(crate) fn place_in(stems: &[Stem], number: usize, rev: &RevId) -> Option<Pla
 /// look an edit, from the newest on up to the one that brought it.
 pub(crate) fn place_of(stems: &[Stem], index: Option<&Index>, rev: &RevId) -> Option<Place>
     requires { AreIndexed stems.now (option_map (λ i. i.now) index) }
-    ensures found { IfSome result (StandsAt stems.now rev.now) }
-    ensures none { IfNone result (has_revision stems.now rev.now ≡ false) }
+    ensures { IsFound stems.now rev.now result }
 {
     if let Some(index) = index {
         return index.firsts.place(stems, rev);
@@ -95,7 +94,7 @@ pub(crate) fn is_newest(stems: &[Stem], rev: &RevId) -> bool
     ensures { result ≡ is_first rev.now (revisions_at stems.now (length stems.now - 1)) }
 {
     match stems.last() {
-        Some(newest) => newest.is_head(&Sought::once(rev)),
+        Some(newest) => newest.is_head(&Sought::among(rev, 1)),
         None => false,
     }
 }
@@ -133,11 +132,11 @@ pub(crate) fn place_behind(stems: &[Stem], index: Option<&Index>, rev: &RevId) -
 {
     if let Some(index) = index {
         let place = index.firsts.place(stems, rev)?;
-        if let Some(behind) = behind_in(stems, place.stem, &Sought::once(rev)) {
+        if let Some(behind) = behind_in(stems, place.stem, &Sought::among(rev, 1)) {
             return Some(behind);
         }
         let number = index.link(rev)?;
-        return behind_in(stems, number, &Sought::once(rev));
+        return behind_in(stems, number, &Sought::among(rev, 1));
     }
     let sought = Sought::among(rev, stems.len());
     for number in 0..stems.len() {
@@ -186,8 +185,7 @@ impl Branches {
     /// Where the revision stands. It costs what `place_of` does; constant time where its generation is above
     /// all others.
     pub(crate) fn place(&self, rev: &RevId) -> Option<Place>
-        ensures found { IfSome result (StandsAt self.now.stems rev.now) }
-        ensures none { IfNone result (has_revision self.now.stems rev.now ≡ false) }
+        ensures place { IsFound self.now.stems rev.now result }
         ensures named { is_some result ≡ list_any (λ b. names b.path rev.now) self.now.list }
         ensures low { rev.now.generation < 2 ^ 16 }
     {
@@ -223,9 +221,7 @@ impl Branches {
     // one. Constant time where the stem stands on another; else it costs what `behind_last` does.
     fn after(&self, place: Place) -> Option<Place>
         requires { IsWithin self.now.stems place }
-        ensures within { IfSome result (IsWithin self.now.stems) }
-        ensures behind { (x : Revision) → last_in (own_from self.now.stems place) ≡ Some x
-            → rev_at self.now.stems result ≡ behind_of x (edits_in self.now.list) }
+        ensures { IsAfter self.now place result }
     {
         let stem = &self.stems[place.stem];
         match stem.parent() {

@@ -1,8 +1,8 @@
 //! The tree of a document's revisions.
 
-ghost use Rattle.std.specs.Prelude.{Bool, true, ◌≡◌, ◌≤◌, ◌-◌, ◌^◌, min, ◌++◌, ◌∷◌, ◌↔◌, []};
+ghost use Rattle.std.specs.Prelude.{Bool, true, ◌≡◌, ◌≤◌, ◌<◌, ◌-◌, ◌^◌, min, ◌++◌, ◌∷◌, ◌↔◌, []};
 ghost use Rattle.std.specs.Prelude.{length, slice_get, take, IsTrue, IsSome, IsNone, IsSomeAnd};
-ghost use Rattle.std.specs.Prelude.{IfSome, IfNone, IfOk, OnOk, OnErr, option_map, None, Some};
+ghost use Rattle.std.specs.Prelude.{IfSome, IfNone, IfOk, IfErr, OnOk, OnErr, option_map, None, Some};
 ghost use Rattle.hub_document.specs.Changes.{IsDigestText};
 ghost use Rattle.hub_model.specs.Journal.{IsKnown, IsAcceptable, head_of};
 ghost use Rattle.hub_model.specs.Leaves.{IsMarked, IsWinner, leaves_of, revisions_of};
@@ -10,7 +10,7 @@ ghost use Rattle.hub_model.specs.Path.{IsHistory};
 ghost use Rattle.hub_model.specs.Row.{doc_of, is_deleted};
 ghost use Rattle.hub_revtree.specs.Branch.{edits_in};
 ghost use Rattle.hub_revtree.specs.Count.{revision_count};
-ghost use Rattle.hub_revtree.specs.Tree.{HasKnownHead, IsRevTree, MakesReady, nameless};
+ghost use Rattle.hub_revtree.specs.Tree.{HasKnownHead, IsMergeFault, IsRevTree, MakesReady, nameless};
 ghost use Rattle.hub_revtree.specs.Winner.{winner_of};
 
 use crate::branches::Branches;
@@ -113,7 +113,8 @@ impl RevTree {
         }
     }
 
-    // The edit on a path, of which the run is the front, with a place for it.
+    // The edit on a path, of which the run is the front, with a place for it: a path has no more revisions than
+    // its head's generation.
     pub(crate) fn ready_with(
         &mut self,
         path: Run,
@@ -122,11 +123,10 @@ impl RevTree {
         body: Body,
     ) -> Result<Ready, AllocError>
         requires history { IsHistory path }
+        requires short { length path < 2 ^ 16 }
         requires front { run ≡ take (length run) path }
         ensures { MakesReady self.old self.new (nameless path deleted body) result }
     {
-        // A path has no more revisions than its head's generation, so that one place has room for it.
-        let _revisions_at_most = path.generation();
         self.branches.make_room()?;
         Ok(Ready {
             path,
@@ -243,11 +243,7 @@ impl RevTree {
         ensures ready { IfOk result (λ looked. IfSome looked (λ ready. ready ≡ nameless path deleted body)) }
         ensures acceptable { IfOk result (λ looked. IfSome looked (IsAcceptable self.old.edits)) }
         ensures room { IfOk result (λ looked. IfSome looked (λ ready. length ready.path ≤ self.new.room)) }
-        ensures contradicts { result ≡ Err MergeFault.Contradicts
-            → (¬ HasKnownHead self.old.edits path)
-            × (¬ IsAcceptable self.old.edits (nameless path deleted body)) }
-        ensures memory { result ≡ Err MergeFault.NoMemory
-            → IsAcceptable self.old.edits (nameless path deleted body) }
+        ensures err { IfErr result (IsMergeFault self.old.edits (nameless path deleted body)) }
     {
         let head = path.head();
         if self.branches.is_named(&head) {
@@ -297,12 +293,8 @@ impl RevTree {
             × (self.new.edits ≡ self.old.edits ++ nameless path deleted body ∷ []) }
         ensures known { result ≡ Ok Merged.Known
             → HasKnownHead self.old.edits path × (self.new.edits ≡ self.old.edits) }
-        ensures err { OnErr result (self.new.edits ≡ self.old.edits) }
-        ensures contradicts { result ≡ Err MergeFault.Contradicts
-            → (¬ HasKnownHead self.old.edits path)
-            × (¬ IsAcceptable self.old.edits (nameless path deleted body)) }
-        ensures memory { result ≡ Err MergeFault.NoMemory
-            → IsAcceptable self.old.edits (nameless path deleted body) }
+        ensures err { IfErr result (λ fault. IsMergeFault self.old.edits (nameless path deleted body) fault
+            × (self.new.edits ≡ self.old.edits)) }
     {
         match self.look_merge(path, deleted, body)? {
             Some(ready) => {

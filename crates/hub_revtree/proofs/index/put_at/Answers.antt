@@ -10,12 +10,12 @@ pub returns-then-contains_key : goal.returns-then-contains_key
 returns-then-contains_key c =
     put_known (eq_by_cmp revision_cmp) exact_revisions
     (number_in c.args.map.now) c.args.rev.now c.args.number
-    (rw c.new-key.ensures at (sym c.contains_key.ensures ∙ c.if-contains_key.true))
+    (sym c.contains_key.ensures ∙ c.if-contains_key.true)
 
 pub returns : goal.returns
 returns c =
     let none =
-    none_there _ (rw c.new-key.ensures at (sym c.contains_key.ensures ∙ c.if-contains_key.false)) in
+    none_there _ (sym c.contains_key.ensures ∙ c.if-contains_key.false) in
     put_one (eq_by_cmp revision_cmp) (number_in c.args.map.now)
     (number_in c.insert.new.self) c.args.rev.now c.args.number none
-    (rw c.new-key.ensures at c.in_ok-insert.ensures.updates.0)
+    c.in_ok-insert.ensures.updates.0

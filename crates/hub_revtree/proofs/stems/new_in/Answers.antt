@@ -36,8 +36,7 @@ pub loop-at-preserved : goal.loop-at-preserved
 loop-at-preserved c =
     let earlier = take c.args.number c.args.stems.now in
     let placed =
-    is_placed earlier c.at.result c.place_of.result c.place_of.ensures.found
-    c.place_of.ensures.none in
+    is_placed earlier c.at.result c.place_of.result c.place_of.ensures in
     elim c.if-is_none.branch [
       | then-is_none w ↦
           w.count-is

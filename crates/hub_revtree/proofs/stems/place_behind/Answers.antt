@@ -26,7 +26,7 @@ returns-in_err-number-clause-none c =
     rw c.from_residual-in_err-number.ensures
     (nothing_linked c.args.stems.now c.requires.stems c.args.rev.now
     (link_in c.in-Some.index.now) c.in_ok-place.place.stem (rw c.in-Some.is at c.requires.index).0.1
-    c.in_ok-place.ensures.found.1 (rw c.once.ensures at c.in_default-behind_in.ensures.ends)
+    c.in_ok-place.ensures.found.1 (rw c.among.ensures at c.in_default-behind_in.ensures.ends)
     (sym c.in_err-number.ensures))
 
 pub behind_in-requires-in-Some : goal.behind_in-requires-in-Some
@@ -40,7 +40,7 @@ behind_in-requires-in-Some c = record {
 
 pub returns-in-Some-clause-none : goal.returns-in-Some-clause-none
 returns-in-Some-clause-none c =
-    none_map c.behind_in-in-Some.result _ _ (rw c.once-in-Some.ensures at c.behind_in-in-Some.ensures.ends)
+    none_map c.behind_in-in-Some.result _ _ (rw c.among-in-Some.ensures at c.behind_in-in-Some.ensures.ends)
     (λ ends. absurd (ends
     ((rw c.in-Some.is at c.requires.index).0.1.links c.in_ok-number.number c.args.rev.now
     (sym c.in_ok-number.ensures))))

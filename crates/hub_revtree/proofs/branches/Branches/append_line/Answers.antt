@@ -13,10 +13,9 @@ loop-next-init c =
     subst IsStored c.self.view_is
     (record { stems = c.self.invariant.0; shown = refl; legal = c.self.invariant.5 }) in
     record {
-      within = begins_within s k c.args.rev.now c.place-next.result c.place-next.ensures.found;
+      within = begins_within s k c.args.rev.now c.place-next.result c.place-next.ensures.place;
       whole = ap (λ z. c.args.line.now.items ++ z)
-          (line_begins s k c.args.rev.now c.place-next.result c.place-next.ensures.found
-          c.place-next.ensures.none);
+          (line_begins s k c.args.rev.now c.place-next.result c.place-next.ensures.place);
     }
 
 pub after-next-requires : goal.after-next-requires
@@ -29,7 +28,7 @@ loop-next-smaller c =
     subst IsStored c.self.view_is
     (record { stems = c.self.invariant.0; shown = refl; legal = c.self.invariant.5 }) in
     line_less s k c.loop-next.next c.after-next.result c.in-Some.place c.in-Some.is
-    (rw c.in-Some.is at c.loop-next.invariant.within) c.after-next.ensures.behind
+    (rw c.in-Some.is at c.loop-next.invariant.within) c.after-next.ensures
 
 pub loop-next-preserved : goal.loop-next-preserved
 loop-next-preserved c =
@@ -54,6 +53,6 @@ loop-next-preserved c =
           ∙ append_assoc c.loop-next.line.items (own_from s.stems c.in-Some.place) rest
           ∙ ap (λ z. c.loop-next.line.items ++ z)
           (sym (line_step s k c.loop-next.next c.after-next.result c.in-Some.place c.in-Some.is w
-          c.after-next.ensures.behind))
+          c.after-next.ensures))
           ∙ c.loop-next.invariant.whole;
     }

@@ -13,9 +13,9 @@ loop-next-init c =
     subst IsStored c.self.view_is
     (record { stems = c.self.invariant.0; shown = refl; legal = c.self.invariant.5 }) in
     let begins =
-    line_begins s k c.args.rev.now c.place-next.result c.place-next.ensures.found c.place-next.ensures.none in
+    line_begins s k c.args.rev.now c.place-next.result c.place-next.ensures.place in
     record {
-      within = begins_within s k c.args.rev.now c.place-next.result c.place-next.ensures.found;
+      within = begins_within s k c.args.rev.now c.place-next.result c.place-next.ensures.place;
       whole = omega (arith, ap length begins);
     }
 
@@ -116,7 +116,7 @@ overflow_add-count c =
     ap length (own_is s k c.in-Some.place w stem there) ∙ length-drop c.in-Some.place.at stem.revisions in
     let long =
     line_long s k c.loop-next.next c.after-next.result c.in-Some.place c.in-Some.is w
-    c.after-next.ensures.behind in
+    c.after-next.ensures in
     omega (
       arith,
       long,
@@ -140,7 +140,7 @@ loop-next-smaller c =
     subst IsStored c.self.view_is
     (record { stems = c.self.invariant.0; shown = refl; legal = c.self.invariant.5 }) in
     line_less s k c.loop-next.next c.after-next.result c.in-Some.place c.in-Some.is
-    (rw c.in-Some.is at c.loop-next.invariant.within) c.after-next.ensures.behind
+    (rw c.in-Some.is at c.loop-next.invariant.within) c.after-next.ensures
 
 pub loop-next-preserved : goal.loop-next-preserved
 loop-next-preserved c =
@@ -161,7 +161,7 @@ loop-next-preserved c =
     ap length (own_is s k c.in-Some.place w stem there) ∙ length-drop c.in-Some.place.at stem.revisions in
     let long =
     line_long s k c.loop-next.next c.after-next.result c.in-Some.place c.in-Some.is w
-    c.after-next.ensures.behind in
+    c.after-next.ensures in
     record {
       within = c.after-next.ensures.within;
       whole = omega (arith, long, size, some, c.from.ensures, c.len.ensures, ap length c.run-in-Some.ensures, c.loop-next.invariant.whole);

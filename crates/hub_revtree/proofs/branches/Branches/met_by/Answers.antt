@@ -12,7 +12,7 @@ loop-at-smaller-in-Some c =
     let k : IsStored s =
     subst IsStored c.self.view_is
     (record { stems = c.self.invariant.0; shown = refl; legal = c.self.invariant.5 }) in
-    let f = first_from s.stems c.in-Some.place c.at.result k.stems c.in-Some.ensures.found in
+    let f = first_from s.stems c.in-Some.place c.at.result k.stems c.in-Some.ensures.place.found in
     let long : length (chain_from (chains_of s.stems) (Some c.in-Some.place)) ≡ suc (length f.0) =
     ap length f.1 in
     omega (arith, long, c.reach_from-behind.ensures)
@@ -22,5 +22,5 @@ loop-at-preserved c = record {
   kept =
       let low = slice_get_within c.args.path.now c.loop-at.at c.at.result c.at.ensures in omega (arith, low);
   fresh = λ j. none_more (has_revision c.args.self.now.stems) c.args.path.now c.loop-at.at c.at.result
-      c.at.ensures (c.loop-at.invariant.fresh j) c.in-None.ensures.none;
+      c.at.ensures (c.loop-at.invariant.fresh j) c.in-None.ensures.place.none;
 }

@@ -178,7 +178,7 @@ loop-at-preserved-in-Some c =
     agrees_more s.stems k.stems legal r c.loop-at.at c.loop-at.told c.in-Some.place g
     c.in_ok-count-in-Some.count one c.after-told.result
     (λ z. omega (arith, z, c.if-count-revisions.false)) c.after-told.ensures.within
-    (told_in s k c.after-told.result c.in-Some.place c.after-told.ensures.behind) in
+    (told_in s k c.after-told.result c.in-Some.place c.after-told.ensures) in
     elim c.if-is_none.branch [
       | then-is_none w ↦ record { agrees = agrees; kept = omega (arith, w.kept-is) }
       | else-is_none w ↦ record { agrees = agrees; kept = omega (arith, w.kept-is, c.loop-at.invariant.kept) }

@@ -15,6 +15,5 @@ pub returns-clause-named : goal.returns-clause-named
 returns-clause-named c =
     rw (sym c.self.view_is)
     (is_placed c.self.inside.stems.items c.args.rev.now c.place_of.result
-    (rw c.as_slice.ensures.value at c.place_of.ensures.found)
-    (rw c.as_slice.ensures.value at c.place_of.ensures.none)
+    (rw c.as_slice.ensures.value at c.place_of.ensures)
     ∙ sym (named_in c.self.inside.stems.items c.self.invariant.0 c.args.rev.now))

@@ -31,7 +31,7 @@ returns-then-is_some c =
       c.in-Some.place.stem,
       c.in-Some.ensures.found.1,
       some_if c.behind_in.result (GoesOn xs c.in-Some.place.stem c.at-rev.result)
-          (rw c.once.ensures at c.behind_in.ensures.goes) (sym c.is_some.ensures ∙ c.if-is_some.true),
+          (rw c.among.ensures at c.behind_in.ensures.goes) (sym c.is_some.ensures ∙ c.if-is_some.true),
     ))
 
 pub returns-then-is_none : goal.returns-then-is_none
@@ -43,7 +43,7 @@ returns-then-is_none c =
     link_same xs c.args.number c.args.at c.at-rev.result there (number_in c.args.links.now)
     (number_in c.args.links.now) c.requires.linked (λ x. refl)
     (λ g. absurd (none_if c.behind_in-2.result (¬ GoesOn xs c.args.number c.at-rev.result)
-    (rw c.once-2.ensures at c.behind_in-2.ensures.ends) (c.is_none.ensures ∙ ap not c.if-is_none.true) g))
+    (rw c.among-2.ensures at c.behind_in-2.ensures.ends) (c.is_none.ensures ∙ ap not c.if-is_none.true) g))
 
 pub returns : goal.returns
 returns c =
@@ -55,5 +55,5 @@ returns c =
     (λ put. link_put xs c.args.number c.args.at c.at-rev.result there
     (number_in c.args.links.now) (number_in c.put_at.new.map) c.requires.linked put
     (some_if c.behind_in-2.result (GoesOn xs c.args.number c.at-rev.result)
-    (rw c.once-2.ensures at c.behind_in-2.ensures.goes) (c.is_none.ensures ∙ ap not c.if-is_none.false)))
+    (rw c.among-2.ensures at c.behind_in-2.ensures.goes) (c.is_none.ensures ∙ ap not c.if-is_none.false)))
     c.put_at.ensures

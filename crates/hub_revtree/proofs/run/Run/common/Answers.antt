@@ -36,7 +36,7 @@ loop-place-preserved c =
     omega (arith, c.loop-place-test.true, c.loop-place.auto.place-end, c.min-count.ensures) in
     let here : slice_get p k ≡ Some x = slice_get_read p _ k x refl low c.index-revisions-place.is in
     let same : is_first x (drop k q) ≡ true =
-    ap₂ is_first (sym c.once.ensures) (drop-drop k c.args.at c.args.self.now)
+    ap₂ is_first (sym c.among.ensures) (drop-drop k c.args.at c.args.self.now)
     ∙ (sym c.is_at.ensures ∙ c.if-not-is_at.false) in
     c.loop-place.invariant
     ∙ ap (option_map (λ n. n + k)) (common_on p q k x here same)
