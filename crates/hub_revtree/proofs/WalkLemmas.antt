@@ -1,7 +1,7 @@
 -- Walks along the stems of the stored edits.
 use Rattle.std.proofs.Common.{◌≡◌, ℕ, suc, ◌+◌, ◌<◌, ◌≤◌, List, [], ◌∷◌, ◌++◌, length, drop}
-use Rattle.std.proofs.Common.{false, refl, sym, ap, ◌∙◌, subst, option_map, arith}
-use Rattle.std.specs.Prelude.{Bool, Option, Some, None, IfSome, IfNone, slice_get}
+use Rattle.std.proofs.Common.{refl, sym, ap, ◌∙◌, subst, option_map, arith}
+use Rattle.std.specs.Prelude.{Bool, Option, Some, None, IfSome, slice_get}
 use Rattle.std.specs.List.{list_all}
 use Rattle.hub_model.specs.Revision.{Revision}
 use Rattle.hub_model.specs.Journal.{IsLegal}
@@ -11,7 +11,8 @@ use Rattle.hub_revtree.specs.declared.stem.Place.{Place}
 use Rattle.hub_revtree.specs.Branch.{Branch, edits_in}
 use Rattle.hub_revtree.specs.Common.{common, last_in}
 use Rattle.hub_revtree.specs.Extend.{line_to}
-use Rattle.hub_revtree.specs.Stem.{Stem, Storage, AreStems, IsAfter, IsBrought, IsFound, IsFoundBehind}
+use Rattle.hub_revtree.specs.Mark.{AreStemsOf}
+use Rattle.hub_revtree.specs.Stem.{Stem, Storage, IsAfter, IsBrought, IsFound, IsFoundBehind}
 use Rattle.hub_revtree.specs.Stem.{IsWithin, branches_of, chain_from, chains_of, own_from, rev_at}
 use Rattle.hub_revtree.specs.Stem.{revisions_in}
 use Rattle.hub_revtree.proofs.JoinLemmas.{chain_long, found_behind, last_left, no_line, walk_less, walk_long}
@@ -19,12 +20,6 @@ use Rattle.hub_revtree.proofs.JoinLemmas.{walk_step}
 use Rattle.hub_revtree.proofs.LineLemmas.{has_last, line_short}
 use Rattle.hub_revtree.proofs.StemLemmas.{rev_within}
 use Rattle.hub_revtree.proofs.StepLemmas.{parent_brought}
-
--- what holds of the stored edits
-pub record IsStored (storage : Storage) : Type 0 where
-  pub stems : AreStems storage.stems
-  pub shown : branches_of storage.stems ≡ storage.list
-  pub legal : IsLegal (edits_in storage.list)
 
 -- where the last one of some revisions stands
 last_get : (revisions : List Revision) (x : Revision) → last_in revisions ≡ Some x
@@ -34,7 +29,7 @@ last_get (revision ∷ []) x e = (0, e, omega arith)
 last_get (revision ∷ other ∷ revisions) x e =
     let i = last_get (other ∷ revisions) x e in (suc i.0, i.1, omega (arith, i.2))
 
-module _ (s : Storage) (k : IsStored s) where
+module _ (s : Storage) (k : AreStemsOf s.stems s.list) where
   pub legal_in : IsLegal (edits_in (branches_of s.stems))
   legal_in = subst (λ bs. IsLegal (edits_in bs)) (sym k.shown) k.legal
 

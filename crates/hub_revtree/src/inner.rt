@@ -1,9 +1,9 @@
 //! Which of the stems' newest revisions stand behind others.
 
-ghost use Rattle.std.specs.Prelude.{◌≡◌, ◌<◌, ◌||◌, Some, drop, false, length, option_map};
+ghost use Rattle.std.specs.Prelude.{◌≡◌, ◌<◌, ◌≤◌, ◌||◌, Some, drop, false, length, option_map};
 ghost use Rattle.std.specs.Prelude.{slice_get, slice_set, true, vec_capacity, vec_len};
 ghost use Rattle.std.specs.List.{list_any};
-ghost use Rattle.hub_model.specs.Path.{IsPath, names};
+ghost use Rattle.hub_model.specs.Path.{names};
 ghost use Rattle.hub_revtree.specs.Lookup.{AreIndexed, IsPlaceIn, MayCome};
 ghost use Rattle.hub_revtree.specs.Mark.{NotesOnly, with_note};
 ghost use Rattle.hub_revtree.specs.Stem.{Stem as StemModel, has_revision, is_at};
@@ -36,7 +36,7 @@ fn note_at(stems: &mut [Stem], place: Place)
 // known. A find for each of these.
 fn note_joined(stems: &mut [Stem], index: Option<&Index>, run: &Run, joins: bool)
     requires indexed { AreIndexed stems.old (option_map (λ i. i.now) index) }
-    requires run { IsPath run.now }
+    requires some { 1 ≤ length run.now }
     requires fresh { joins ≡ false → list_any (has_revision stems.old) run.now ≡ false }
     ensures { NotesOnly stems.old (λ r. names (drop 1 run.now) r) stems.new }
 {
@@ -47,19 +47,6 @@ fn note_joined(stems: &mut [Stem], index: Option<&Index>, run: &Run, joins: bool
         if let Some(place) = place_of(stems, index, &run.at(at)) {
             note_at(stems, place);
         }
-    }
-}
-
-// Notes the stems as inner whose newest revisions stand behind that of the stem with these
-// revisions, which is to come behind them.
-fn note_behind(stems: &mut [Stem], index: Option<&Index>, run: &Run, standing: &Standing)
-    requires { MayCome stems.old (option_map (λ i. i.now) index) run.now standing.now }
-    ensures { NotesOnly stems.old
-        (λ r. is_at stems.old r standing.now.parent || names (drop 1 run.now) r) stems.new }
-{
-    note_joined(stems, index, run, standing.joins);
-    if let Some(place) = standing.parent {
-        note_at(stems, place);
     }
 }
 
@@ -77,5 +64,9 @@ pub(crate) fn note_inner(
     ensures len { vec_len stems.new ≡ vec_len stems.old }
     ensures capacity { vec_capacity stems.new ≡ vec_capacity stems.old }
 {
-    note_behind(stems.as_mut_slice(), index, run, standing);
+    let list = stems.as_mut_slice();
+    note_joined(list, index, run, standing.joins);
+    if let Some(place) = standing.parent {
+        note_at(list, place);
+    }
 }

@@ -12,6 +12,7 @@ ghost use Rattle.hub_revtree.specs.Common.{last_in};
 ghost use Rattle.hub_revtree.specs.Extend.{line_to};
 ghost use Rattle.hub_revtree.specs.Index.{GoesOn};
 ghost use Rattle.hub_revtree.specs.Lookup.{AreIndexed, IsMeeting, IsNumberIn};
+ghost use Rattle.hub_revtree.specs.Mark.{AreStemsOf};
 ghost use Rattle.hub_revtree.specs.Stem.{Stem as StemModel, IsBrought};
 ghost use Rattle.hub_revtree.specs.Stem.{IsAfter, IsBehind, IsFound, IsFoundBehind, IsWithin, StandsAt};
 ghost use Rattle.hub_revtree.specs.Stem.{chain_from, chains_of};
@@ -186,6 +187,7 @@ impl Branches {
     /// all others.
     pub(crate) fn place(&self, rev: &RevId) -> Option<Place>
         ensures place { IsFound self.now.stems rev.now result }
+        ensures stored { AreStemsOf self.now.stems self.now.list }
         ensures named { is_some result ≡ list_any (λ b. names b.path rev.now) self.now.list }
         ensures low { rev.now.generation < 2 ^ 16 }
     {
@@ -348,8 +350,6 @@ impl Branches {
     pub(crate) fn met_by(&self, path: &Run) -> Meeting
         ensures { IsMeeting self.now.stems path.now result.at result.place result.behind result.joins }
     {
-        // Each step takes a revision at least: no stem of a tree is empty.
-        let _ = &self.stems;
         let mut at = 0usize;
         let mut joins = false;
         while at < path.len() {

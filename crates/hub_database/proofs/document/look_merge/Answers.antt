@@ -33,7 +33,7 @@ returns-in-Ok-Some c =
 
 pub returns-in-Err-Contradicts : goal.returns-in-Err-Contradicts
 returns-in-Err-Contradicts c =
-    let no = (rw c.in-Err-Contradicts.field-0-is at c.in-Err-Contradicts.ensures.contradicts) refl in
+    let no = rw c.in-Err-Contradicts.field-0-is at c.in-Err-Contradicts.ensures.err in
     record {
       edits = search rules;
       tree = search rules;
@@ -43,4 +43,16 @@ returns-in-Err-Contradicts c =
       storable = search rules;
       room = search rules;
       memory = search rules;
+    }
+
+pub returns-in-Err-NoMemory : goal.returns-in-Err-NoMemory
+returns-in-Err-NoMemory c =
+    let good = rw c.in-Err-NoMemory.field-0-is at c.in-Err-NoMemory.ensures.err in
+    record {
+      edits = search rules;
+      tree = search rules;
+      looked = search rules;
+      storable = search rules;
+      room = search rules;
+      memory = good;
     }

@@ -7,7 +7,6 @@ use Rattle.hub_revtree.specs.Stem.{has_revision, is_at, revisions_at}
 use Rattle.hub_revtree.proofs.MarkLemmas.{first_test, indexed_same, last_noted, notes_as, one_noted}
 use Rattle.hub_revtree.proofs.MarkLemmas.{stems_same, unknown_noted}
 use Rattle.hub_revtree.proofs.StemLemmas.{names_drop, none_of, rev_within}
-use Rattle.hub_revtree.proofs.StemLooks.{some_path}
 use Rattle.hub_revtree.proofs.inner.note_joined.Goals as goal
 
 pub returns-then-not-joins : goal.returns-then-not-joins
@@ -23,7 +22,7 @@ returns-then-not-joins c =
 
 pub loop-at-init : goal.loop-at-init
 loop-at-init c = record {
-  low = let some = some_path c.args.run.now c.requires.run in omega (arith, some, c.len-at.ensures);
+  low = omega (arith, c.requires.some, c.len-at.ensures);
   plain = refl;
   noted = last_noted c.args.stems.now c.args.run.now c.len-at.result (omega (arith, c.len-at.ensures));
 }

@@ -1,4 +1,4 @@
-use Rattle.std.proofs.Common.{◌≡◌, ◌++◌, ◌∙◌, ap, append_assoc, get_or, map, refl, subst, sym}
+use Rattle.std.proofs.Common.{◌≡◌, ◌++◌, ◌∙◌, ap, append_assoc, get_or, map, subst, sym}
 use Rattle.std.proofs.lemmas.List.{map-append}
 use Rattle.hex.specs.Hex.{encode_lower}
 use Rattle.hub_model.specs.Revision.{Revision}
@@ -6,15 +6,13 @@ use Rattle.hub_revtree.specs.Branch.{edits_in}
 use Rattle.hub_revtree.specs.Extend.{line_to}
 use Rattle.hub_revtree.specs.Stem.{Storage, own_from, rev_at}
 use Rattle.hub_revtree.proofs.StemLooks.{stem_there}
-use Rattle.hub_revtree.proofs.WalkLemmas.{IsStored, begins_within, line_begins, line_less, line_step, own_is}
+use Rattle.hub_revtree.proofs.WalkLemmas.{begins_within, line_begins, line_less, line_step, own_is}
 use Rattle.hub_revtree.proofs.branches.Branches.append_digests.Goals as goal
 
 pub loop-next-init : goal.loop-next-init
 loop-next-init c =
     let s = c.args.self.now in
-    let k : IsStored s =
-    subst IsStored c.self.view_is
-    (record { stems = c.self.invariant.0; shown = refl; legal = c.self.invariant.5 }) in
+    let k = c.place-next.ensures.stored in
     record {
       within = begins_within s k c.args.rev.now c.place-next.result c.place-next.ensures.place;
       whole =
@@ -28,18 +26,14 @@ after-next-requires c = rw c.in-Some.is at c.loop-next.invariant.within
 pub loop-next-smaller : goal.loop-next-smaller
 loop-next-smaller c =
     let s = c.args.self.now in
-    let k : IsStored s =
-    subst IsStored c.self.view_is
-    (record { stems = c.self.invariant.0; shown = refl; legal = c.self.invariant.5 }) in
+    let k = c.place-next.ensures.stored in
     line_less s k c.loop-next.next c.after-next.result c.in-Some.place c.in-Some.is
     (rw c.in-Some.is at c.loop-next.invariant.within) c.after-next.ensures
 
 pub loop-next-preserved : goal.loop-next-preserved
 loop-next-preserved c =
     let s = c.args.self.now in
-    let k : IsStored s =
-    subst IsStored c.self.view_is
-    (record { stems = c.self.invariant.0; shown = refl; legal = c.self.invariant.5 }) in
+    let k = c.place-next.ensures.stored in
     let same : c.as_slice-stems.result.now ≡ s.stems =
     c.as_slice-stems.ensures.value ∙ ap (λ (z : Storage). z.stems) c.self.view_is in
     let w = rw c.in-Some.is at c.loop-next.invariant.within in

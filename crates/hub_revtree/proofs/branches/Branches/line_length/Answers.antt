@@ -1,17 +1,15 @@
-use Rattle.std.proofs.Common.{◌≡◌, ◌<◌, ◌-◌, ◌∙◌, ap, get_or, length, refl, subst, arith}
+use Rattle.std.proofs.Common.{◌≡◌, ◌<◌, ◌-◌, ◌∙◌, ap, get_or, length, subst, arith}
 use Rattle.std.proofs.lemmas.List.{length-drop}
 use Rattle.hub_revtree.specs.Stem.{Storage, own_from, revisions_in}
 use Rattle.hub_revtree.proofs.StemLooks.{stem_there}
-use Rattle.hub_revtree.proofs.WalkLemmas.{IsStored, begins_within, few_in, line_begins, line_less, line_long}
+use Rattle.hub_revtree.proofs.WalkLemmas.{begins_within, few_in, line_begins, line_less, line_long}
 use Rattle.hub_revtree.proofs.WalkLemmas.{own_is, whole_long}
 use Rattle.hub_revtree.proofs.branches.Branches.line_length.Goals as goal
 
 pub loop-next-init : goal.loop-next-init
 loop-next-init c =
     let s = c.args.self.now in
-    let k : IsStored s =
-    subst IsStored c.self.view_is
-    (record { stems = c.self.invariant.0; shown = refl; legal = c.self.invariant.5 }) in
+    let k = c.place-next.ensures.stored in
     let begins =
     line_begins s k c.args.rev.now c.place-next.result c.place-next.ensures.place in
     record {
@@ -25,9 +23,7 @@ reach_from-requires c = rw c.in-Some.is at c.loop-next.invariant.within
 pub overflow_add-result : goal.overflow_add-result
 overflow_add-result c =
     let s = c.args.self.now in
-    let k : IsStored s =
-    subst IsStored c.self.view_is
-    (record { stems = c.self.invariant.0; shown = refl; legal = c.self.invariant.5 }) in
+    let k = c.place-next.ensures.stored in
     let same : c.as_slice-stems.result.now ≡ s.stems =
     c.as_slice-stems.ensures.value ∙ ap (λ (z : Storage). z.stems) c.self.view_is in
     let w = rw c.in-Some.is at c.loop-next.invariant.within in
@@ -44,9 +40,7 @@ overflow_add-result c =
 pub overflow_cast-result : goal.overflow_cast-result
 overflow_cast-result c =
     let s = c.args.self.now in
-    let k : IsStored s =
-    subst IsStored c.self.view_is
-    (record { stems = c.self.invariant.0; shown = refl; legal = c.self.invariant.5 }) in
+    let k = c.place-next.ensures.stored in
     let same : c.as_slice-stems.result.now ≡ s.stems =
     c.as_slice-stems.ensures.value ∙ ap (λ (z : Storage). z.stems) c.self.view_is in
     let w = rw c.in-Some.is at c.loop-next.invariant.within in
@@ -63,9 +57,7 @@ overflow_cast-result c =
 pub returns-then-generation-reach : goal.returns-then-generation-reach
 returns-then-generation-reach c =
     let s = c.args.self.now in
-    let k : IsStored s =
-    subst IsStored c.self.view_is
-    (record { stems = c.self.invariant.0; shown = refl; legal = c.self.invariant.5 }) in
+    let k = c.place-next.ensures.stored in
     let same : c.as_slice-stems.result.now ≡ s.stems =
     c.as_slice-stems.ensures.value ∙ ap (λ (z : Storage). z.stems) c.self.view_is in
     let w = rw c.in-Some.is at c.loop-next.invariant.within in
@@ -81,9 +73,7 @@ returns-then-generation-reach c =
 pub overflow_sub-count : goal.overflow_sub-count
 overflow_sub-count c =
     let s = c.args.self.now in
-    let k : IsStored s =
-    subst IsStored c.self.view_is
-    (record { stems = c.self.invariant.0; shown = refl; legal = c.self.invariant.5 }) in
+    let k = c.place-next.ensures.stored in
     let same : c.as_slice-stems.result.now ≡ s.stems =
     c.as_slice-stems.ensures.value ∙ ap (λ (z : Storage). z.stems) c.self.view_is in
     let w = rw c.in-Some.is at c.loop-next.invariant.within in
@@ -100,9 +90,7 @@ overflow_sub-count c =
 pub overflow_add-count : goal.overflow_add-count
 overflow_add-count c =
     let s = c.args.self.now in
-    let k : IsStored s =
-    subst IsStored c.self.view_is
-    (record { stems = c.self.invariant.0; shown = refl; legal = c.self.invariant.5 }) in
+    let k = c.place-next.ensures.stored in
     let same : c.as_slice-stems.result.now ≡ s.stems =
     c.as_slice-stems.ensures.value ∙ ap (λ (z : Storage). z.stems) c.self.view_is in
     let w = rw c.in-Some.is at c.loop-next.invariant.within in
@@ -136,18 +124,14 @@ after-next-requires c = rw c.in-Some.is at c.loop-next.invariant.within
 pub loop-next-smaller : goal.loop-next-smaller
 loop-next-smaller c =
     let s = c.args.self.now in
-    let k : IsStored s =
-    subst IsStored c.self.view_is
-    (record { stems = c.self.invariant.0; shown = refl; legal = c.self.invariant.5 }) in
+    let k = c.place-next.ensures.stored in
     line_less s k c.loop-next.next c.after-next.result c.in-Some.place c.in-Some.is
     (rw c.in-Some.is at c.loop-next.invariant.within) c.after-next.ensures
 
 pub loop-next-preserved : goal.loop-next-preserved
 loop-next-preserved c =
     let s = c.args.self.now in
-    let k : IsStored s =
-    subst IsStored c.self.view_is
-    (record { stems = c.self.invariant.0; shown = refl; legal = c.self.invariant.5 }) in
+    let k = c.place-next.ensures.stored in
     let same : c.as_slice-stems.result.now ≡ s.stems =
     c.as_slice-stems.ensures.value ∙ ap (λ (z : Storage). z.stems) c.self.view_is in
     let w = rw c.in-Some.is at c.loop-next.invariant.within in
@@ -170,7 +154,5 @@ loop-next-preserved c =
 pub overflow_cast-result-2 : goal.overflow_cast-result-2
 overflow_cast-result-2 c =
     let s = c.args.self.now in
-    let k : IsStored s =
-    subst IsStored c.self.view_is
-    (record { stems = c.self.invariant.0; shown = refl; legal = c.self.invariant.5 }) in
+    let k = c.place-next.ensures.stored in
     omega (arith, c.loop-next.invariant.whole, few_in s k c.args.rev.now, c.place-next.ensures.low)

@@ -1,17 +1,14 @@
-use Rattle.std.proofs.Common.{◌≡◌, suc, ap, length, refl, subst, arith}
+use Rattle.std.proofs.Common.{◌≡◌, suc, ap, length, arith}
 use Rattle.std.specs.Prelude.{Some}
 use Rattle.std.proofs.lemmas.Option.{slice_get_within}
 use Rattle.hub_revtree.specs.Stem.{chain_from, chains_of, has_revision}
 use Rattle.hub_revtree.proofs.StemLemmas.{first_from, none_more}
-use Rattle.hub_revtree.proofs.WalkLemmas.{IsStored}
 use Rattle.hub_revtree.proofs.branches.Branches.met_by.Goals as goal
 
 pub loop-at-smaller-in-Some : goal.loop-at-smaller-in-Some
 loop-at-smaller-in-Some c =
     let s = c.args.self.now in
-    let k : IsStored s =
-    subst IsStored c.self.view_is
-    (record { stems = c.self.invariant.0; shown = refl; legal = c.self.invariant.5 }) in
+    let k = c.in-Some.ensures.stored in
     let f = first_from s.stems c.in-Some.place c.at.result k.stems c.in-Some.ensures.place.found in
     let long : length (chain_from (chains_of s.stems) (Some c.in-Some.place)) ≡ suc (length f.0) =
     ap length f.1 in

@@ -2,12 +2,13 @@ use Rattle.std.proofs.Common.{◌≡◌, ◌-◌, ◌∙◌, ap, drop, get_or, l
 use Rattle.std.specs.Prelude.{None, Some, is_some}
 use Rattle.std.proofs.lemmas.Option.{slice_get_read}
 use Rattle.hub_model.specs.Path.{IsHistory}
+use Rattle.hub_revtree.specs.Mark.{AreStemsOf}
 use Rattle.hub_revtree.specs.Stem.{Storage}
 use Rattle.hub_revtree.proofs.BranchLemmas.{some_history}
 use Rattle.hub_revtree.proofs.MeetLemmas.{Goes, agree_all, agrees_more, agrees_none, agrees_unknown}
 use Rattle.hub_revtree.proofs.MeetLemmas.{agrees_whole, all_agree, differs, some_common, within_common}
 use Rattle.hub_revtree.proofs.StemLooks.{stem_there}
-use Rattle.hub_revtree.proofs.WalkLemmas.{IsStored, agrees_shown, common_own, legal_in, low, told_in}
+use Rattle.hub_revtree.proofs.WalkLemmas.{agrees_shown, common_own, legal_in, low, told_in}
 use Rattle.hub_revtree.proofs.branches.Branches.new_count.Goals as goal
 use Rattle.hub_revtree.proofs.branches.Branches.new_count.Goals.{In-Some, then-is_none, else-is_none}
 
@@ -28,9 +29,13 @@ goes c = record {
 pub loop-at-init : goal.loop-at-init
 loop-at-init c =
     let s = c.args.self.now in
-    let k : IsStored s =
-    subst IsStored c.self.view_is
-    (record { stems = c.self.invariant.0; shown = refl; legal = c.self.invariant.5 }) in
+    let k =
+    subst (λ (z : Storage). AreStemsOf z.stems z.list) c.self.view_is (record {
+      stems = c.self.invariant.0;
+      marked = c.self.invariant.3;
+      shown = refl;
+      legal = c.self.invariant.5;
+    }) in
     let r = c.revisions-revisions.result.now in
     let legal = legal_in s k in
     record { agrees = agrees_none s.stems k.stems legal r; kept = omega arith }
@@ -38,9 +43,13 @@ loop-at-init c =
 pub common-requires : goal.common-requires
 common-requires c =
     let s = c.args.self.now in
-    let k : IsStored s =
-    subst IsStored c.self.view_is
-    (record { stems = c.self.invariant.0; shown = refl; legal = c.self.invariant.5 }) in
+    let k =
+    subst (λ (z : Storage). AreStemsOf z.stems z.list) c.self.view_is (record {
+      stems = c.self.invariant.0;
+      marked = c.self.invariant.3;
+      shown = refl;
+      legal = c.self.invariant.5;
+    }) in
     let same : c.as_slice-stems.result.now ≡ s.stems =
     c.as_slice-stems.ensures.value ∙ ap (λ (z : Storage). z.stems) c.self.view_is in
     let stem = c.index-stems-place.result in
@@ -57,9 +66,13 @@ common-requires c =
 pub returns-in_err-count-in-Some-clause-agrees : goal.returns-in_err-count-in-Some-clause-agrees
 returns-in_err-count-in-Some-clause-agrees c =
     let s = c.args.self.now in
-    let k : IsStored s =
-    subst IsStored c.self.view_is
-    (record { stems = c.self.invariant.0; shown = refl; legal = c.self.invariant.5 }) in
+    let k =
+    subst (λ (z : Storage). AreStemsOf z.stems z.list) c.self.view_is (record {
+      stems = c.self.invariant.0;
+      marked = c.self.invariant.3;
+      shown = refl;
+      legal = c.self.invariant.5;
+    }) in
     let same : c.as_slice-stems.result.now ≡ s.stems =
     c.as_slice-stems.ensures.value ∙ ap (λ (z : Storage). z.stems) c.self.view_is in
     let r = c.revisions-revisions.result.now in
@@ -81,9 +94,13 @@ returns-in_err-count-in-Some-clause-agrees c =
 pub returns-then-count-revisions-clause-agrees : goal.returns-then-count-revisions-clause-agrees
 returns-then-count-revisions-clause-agrees c =
     let s = c.args.self.now in
-    let k : IsStored s =
-    subst IsStored c.self.view_is
-    (record { stems = c.self.invariant.0; shown = refl; legal = c.self.invariant.5 }) in
+    let k =
+    subst (λ (z : Storage). AreStemsOf z.stems z.list) c.self.view_is (record {
+      stems = c.self.invariant.0;
+      marked = c.self.invariant.3;
+      shown = refl;
+      legal = c.self.invariant.5;
+    }) in
     let same : c.as_slice-stems.result.now ≡ s.stems =
     c.as_slice-stems.ensures.value ∙ ap (λ (z : Storage). z.stems) c.self.view_is in
     let r = c.revisions-revisions.result.now in
@@ -105,9 +122,13 @@ returns-then-count-revisions-clause-agrees c =
 pub overflow_add-at : goal.overflow_add-at
 overflow_add-at c =
     let s = c.args.self.now in
-    let k : IsStored s =
-    subst IsStored c.self.view_is
-    (record { stems = c.self.invariant.0; shown = refl; legal = c.self.invariant.5 }) in
+    let k =
+    subst (λ (z : Storage). AreStemsOf z.stems z.list) c.self.view_is (record {
+      stems = c.self.invariant.0;
+      marked = c.self.invariant.3;
+      shown = refl;
+      legal = c.self.invariant.5;
+    }) in
     let same : c.as_slice-stems.result.now ≡ s.stems =
     c.as_slice-stems.ensures.value ∙ ap (λ (z : Storage). z.stems) c.self.view_is in
     let r = c.revisions-revisions.result.now in
@@ -130,9 +151,13 @@ overflow_add-at c =
 pub loop-at-smaller-in-Some : goal.loop-at-smaller-in-Some
 loop-at-smaller-in-Some c =
     let s = c.args.self.now in
-    let k : IsStored s =
-    subst IsStored c.self.view_is
-    (record { stems = c.self.invariant.0; shown = refl; legal = c.self.invariant.5 }) in
+    let k =
+    subst (λ (z : Storage). AreStemsOf z.stems z.list) c.self.view_is (record {
+      stems = c.self.invariant.0;
+      marked = c.self.invariant.3;
+      shown = refl;
+      legal = c.self.invariant.5;
+    }) in
     let same : c.as_slice-stems.result.now ≡ s.stems =
     c.as_slice-stems.ensures.value ∙ ap (λ (z : Storage). z.stems) c.self.view_is in
     let r = c.revisions-revisions.result.now in
@@ -155,9 +180,13 @@ loop-at-smaller-in-Some c =
 pub loop-at-preserved-in-Some : goal.loop-at-preserved-in-Some
 loop-at-preserved-in-Some c =
     let s = c.args.self.now in
-    let k : IsStored s =
-    subst IsStored c.self.view_is
-    (record { stems = c.self.invariant.0; shown = refl; legal = c.self.invariant.5 }) in
+    let k =
+    subst (λ (z : Storage). AreStemsOf z.stems z.list) c.self.view_is (record {
+      stems = c.self.invariant.0;
+      marked = c.self.invariant.3;
+      shown = refl;
+      legal = c.self.invariant.5;
+    }) in
     let same : c.as_slice-stems.result.now ≡ s.stems =
     c.as_slice-stems.ensures.value ∙ ap (λ (z : Storage). z.stems) c.self.view_is in
     let r = c.revisions-revisions.result.now in
@@ -187,9 +216,13 @@ loop-at-preserved-in-Some c =
 pub loop-at-preserved : goal.loop-at-preserved
 loop-at-preserved c =
     let s = c.args.self.now in
-    let k : IsStored s =
-    subst IsStored c.self.view_is
-    (record { stems = c.self.invariant.0; shown = refl; legal = c.self.invariant.5 }) in
+    let k =
+    subst (λ (z : Storage). AreStemsOf z.stems z.list) c.self.view_is (record {
+      stems = c.self.invariant.0;
+      marked = c.self.invariant.3;
+      shown = refl;
+      legal = c.self.invariant.5;
+    }) in
     let r = c.revisions-revisions.result.now in
     let legal = legal_in s k in
     record {
@@ -204,9 +237,13 @@ loop-at-preserved c =
 pub returns-clause-agrees : goal.returns-clause-agrees
 returns-clause-agrees c =
     let s = c.args.self.now in
-    let k : IsStored s =
-    subst IsStored c.self.view_is
-    (record { stems = c.self.invariant.0; shown = refl; legal = c.self.invariant.5 }) in
+    let k =
+    subst (λ (z : Storage). AreStemsOf z.stems z.list) c.self.view_is (record {
+      stems = c.self.invariant.0;
+      marked = c.self.invariant.3;
+      shown = refl;
+      legal = c.self.invariant.5;
+    }) in
     let r = c.revisions-revisions.result.now in
     let legal = legal_in s k in
     agrees_shown s k c.args.path.now r _ c.revisions-revisions.ensures

@@ -1,4 +1,6 @@
-use Rattle.std.proofs.Common.{◌∙◌, sym, arith}
+use Rattle.std.proofs.Common.{◌∙◌, refl, subst, sym, arith}
+use Rattle.hub_revtree.specs.Mark.{AreStemsOf}
+use Rattle.hub_revtree.specs.Stem.{Storage}
 use Rattle.hub_revtree.proofs.HighestLemmas.{above_none}
 use Rattle.hub_revtree.proofs.JoinLemmas.{is_placed}
 use Rattle.hub_revtree.proofs.StemLemmas.{named_in}
@@ -17,3 +19,21 @@ returns-clause-named c =
     (is_placed c.self.inside.stems.items c.args.rev.now c.place_of.result
     (rw c.as_slice.ensures.value at c.place_of.ensures)
     ∙ sym (named_in c.self.inside.stems.items c.self.invariant.0 c.args.rev.now))
+
+pub returns-then-generation-self-clause-stored : goal.returns-then-generation-self-clause-stored
+returns-then-generation-self-clause-stored c =
+    subst (λ (z : Storage). AreStemsOf z.stems z.list) c.self.view_is (record {
+      stems = c.self.invariant.0;
+      marked = c.self.invariant.3;
+      shown = refl;
+      legal = c.self.invariant.5;
+    })
+
+pub returns-clause-stored : goal.returns-clause-stored
+returns-clause-stored c =
+    subst (λ (z : Storage). AreStemsOf z.stems z.list) c.self.view_is (record {
+      stems = c.self.invariant.0;
+      marked = c.self.invariant.3;
+      shown = refl;
+      legal = c.self.invariant.5;
+    })
