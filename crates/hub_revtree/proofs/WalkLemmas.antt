@@ -11,8 +11,8 @@ use Rattle.hub_revtree.specs.declared.stem.Place.{Place}
 use Rattle.hub_revtree.specs.Branch.{Branch, edits_in}
 use Rattle.hub_revtree.specs.Common.{common, last_in}
 use Rattle.hub_revtree.specs.Extend.{line_to}
-use Rattle.hub_revtree.specs.Mark.{AreStemsOf}
-use Rattle.hub_revtree.specs.Stem.{Stem, Storage, IsAfter, IsBrought, IsFound, IsFoundBehind}
+use Rattle.hub_revtree.specs.Mark.{AreMarked, AreStemsOf}
+use Rattle.hub_revtree.specs.Stem.{Stem, Storage, AreStems, IsAfter, IsBrought, IsFound, IsFoundBehind}
 use Rattle.hub_revtree.specs.Stem.{IsWithin, branches_of, chain_from, chains_of, own_from, rev_at}
 use Rattle.hub_revtree.specs.Stem.{revisions_in}
 use Rattle.hub_revtree.proofs.JoinLemmas.{chain_long, found_behind, last_left, no_line, walk_less, walk_long}
@@ -20,6 +20,14 @@ use Rattle.hub_revtree.proofs.JoinLemmas.{walk_step}
 use Rattle.hub_revtree.proofs.LineLemmas.{has_last, line_short}
 use Rattle.hub_revtree.proofs.StemLemmas.{rev_within}
 use Rattle.hub_revtree.proofs.StepLemmas.{parent_brought}
+
+-- what holds of the stored edits, by the stems
+pub stored_by : (stems : List Stem) (spare : ℕ) (s : Storage)
+    → s ≡ record { list = branches_of stems; stems = stems; spare = spare } → AreStems stems → AreMarked stems
+    → IsLegal (edits_in (branches_of stems)) → AreStemsOf s.stems s.list
+stored_by stems spare s is a m l =
+    subst (λ (z : Storage). AreStemsOf z.stems z.list) (sym is)
+    (record { stems = a; marked = m; shown = refl; legal = l })
 
 -- where the last one of some revisions stands
 last_get : (revisions : List Revision) (x : Revision) → last_in revisions ≡ Some x

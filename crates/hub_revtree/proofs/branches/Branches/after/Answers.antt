@@ -1,9 +1,8 @@
-use Rattle.std.proofs.Common.{◌≡◌, ◌∙◌, get_or, refl, subst, sym}
+use Rattle.std.proofs.Common.{◌≡◌, ◌∙◌, get_or, subst, sym}
 use Rattle.std.specs.Prelude.{Some, slice_get}
-use Rattle.hub_revtree.specs.Mark.{AreStemsOf}
 use Rattle.hub_revtree.specs.Stem.{Storage}
 use Rattle.hub_revtree.proofs.StemLooks.{stem_there}
-use Rattle.hub_revtree.proofs.WalkLemmas.{after_found, after_parent, found_within}
+use Rattle.hub_revtree.proofs.WalkLemmas.{after_found, after_parent, found_within, stored_by}
 use Rattle.hub_revtree.proofs.branches.Branches.after.Goals as goal
 use Rattle.hub_revtree.proofs.branches.Branches.after.Goals.{After-run, In-Some, After-index-stem}
 
@@ -17,12 +16,8 @@ pub behind_last-requires : goal.behind_last-requires
 behind_last-requires c =
     let s = c.args.self.now in
     let k =
-    subst (λ (z : Storage). AreStemsOf z.stems z.list) c.self.view_is (record {
-      stems = c.self.invariant.0;
-      marked = c.self.invariant.3;
-      shown = refl;
-      legal = c.self.invariant.5;
-    }) in
+    stored_by c.self.inside.stems.items _ s (sym c.self.view_is) c.self.invariant.0 c.self.invariant.3
+    c.self.invariant.5 in
     rw c.run.ensures (k.stems.falling c.args.place.stem c.index-stem.result.now
     (there (goal.at.behind_last-requires c).After-index-stem))
 
@@ -30,12 +25,8 @@ pub returns-in-Some : goal.returns-in-Some
 returns-in-Some c =
     let s = c.args.self.now in
     let k =
-    subst (λ (z : Storage). AreStemsOf z.stems z.list) c.self.view_is (record {
-      stems = c.self.invariant.0;
-      marked = c.self.invariant.3;
-      shown = refl;
-      legal = c.self.invariant.5;
-    }) in
+    stored_by c.self.inside.stems.items _ s (sym c.self.view_is) c.self.invariant.0 c.self.invariant.3
+    c.self.invariant.5 in
     let e = there (goal.at.returns-in-Some c).After-index-stem in
     let is : c.index-stem.result.now.parent ≡ Some c.in-Some.parent = sym c.parent.ensures ∙ c.in-Some.is in
     record {
@@ -47,12 +38,8 @@ pub returns-in-None : goal.returns-in-None
 returns-in-None c =
     let s = c.args.self.now in
     let k =
-    subst (λ (z : Storage). AreStemsOf z.stems z.list) c.self.view_is (record {
-      stems = c.self.invariant.0;
-      marked = c.self.invariant.3;
-      shown = refl;
-      legal = c.self.invariant.5;
-    }) in
+    stored_by c.self.inside.stems.items _ s (sym c.self.view_is) c.self.invariant.0 c.self.invariant.3
+    c.self.invariant.5 in
     let e = there (goal.at.returns-in-None c).After-index-stem in
     let found = rw c.run.ensures at c.behind_last.ensures in
     record {

@@ -2,13 +2,12 @@ use Rattle.std.proofs.Common.{◌≡◌, ◌-◌, ◌∙◌, ap, drop, get_or, l
 use Rattle.std.specs.Prelude.{None, Some, is_some}
 use Rattle.std.proofs.lemmas.Option.{slice_get_read}
 use Rattle.hub_model.specs.Path.{IsHistory}
-use Rattle.hub_revtree.specs.Mark.{AreStemsOf}
 use Rattle.hub_revtree.specs.Stem.{Storage}
 use Rattle.hub_revtree.proofs.BranchLemmas.{some_history}
 use Rattle.hub_revtree.proofs.MeetLemmas.{Goes, agree_all, agrees_more, agrees_none, agrees_unknown}
 use Rattle.hub_revtree.proofs.MeetLemmas.{agrees_whole, all_agree, differs, some_common, within_common}
 use Rattle.hub_revtree.proofs.StemLooks.{stem_there}
-use Rattle.hub_revtree.proofs.WalkLemmas.{agrees_shown, common_own, legal_in, low, told_in}
+use Rattle.hub_revtree.proofs.WalkLemmas.{agrees_shown, common_own, legal_in, low, told_in, stored_by}
 use Rattle.hub_revtree.proofs.branches.Branches.new_count.Goals as goal
 use Rattle.hub_revtree.proofs.branches.Branches.new_count.Goals.{In-Some, then-is_none, else-is_none}
 
@@ -30,12 +29,8 @@ pub loop-at-init : goal.loop-at-init
 loop-at-init c =
     let s = c.args.self.now in
     let k =
-    subst (λ (z : Storage). AreStemsOf z.stems z.list) c.self.view_is (record {
-      stems = c.self.invariant.0;
-      marked = c.self.invariant.3;
-      shown = refl;
-      legal = c.self.invariant.5;
-    }) in
+    stored_by c.self.inside.stems.items _ s (sym c.self.view_is) c.self.invariant.0 c.self.invariant.3
+    c.self.invariant.5 in
     let r = c.revisions-revisions.result.now in
     let legal = legal_in s k in
     record { agrees = agrees_none s.stems k.stems legal r; kept = omega arith }
@@ -44,12 +39,8 @@ pub common-requires : goal.common-requires
 common-requires c =
     let s = c.args.self.now in
     let k =
-    subst (λ (z : Storage). AreStemsOf z.stems z.list) c.self.view_is (record {
-      stems = c.self.invariant.0;
-      marked = c.self.invariant.3;
-      shown = refl;
-      legal = c.self.invariant.5;
-    }) in
+    stored_by c.self.inside.stems.items _ s (sym c.self.view_is) c.self.invariant.0 c.self.invariant.3
+    c.self.invariant.5 in
     let same : c.as_slice-stems.result.now ≡ s.stems =
     c.as_slice-stems.ensures.value ∙ ap (λ (z : Storage). z.stems) c.self.view_is in
     let stem = c.index-stems-place.result in
@@ -67,12 +58,8 @@ pub returns-in_err-count-in-Some-clause-agrees : goal.returns-in_err-count-in-So
 returns-in_err-count-in-Some-clause-agrees c =
     let s = c.args.self.now in
     let k =
-    subst (λ (z : Storage). AreStemsOf z.stems z.list) c.self.view_is (record {
-      stems = c.self.invariant.0;
-      marked = c.self.invariant.3;
-      shown = refl;
-      legal = c.self.invariant.5;
-    }) in
+    stored_by c.self.inside.stems.items _ s (sym c.self.view_is) c.self.invariant.0 c.self.invariant.3
+    c.self.invariant.5 in
     let same : c.as_slice-stems.result.now ≡ s.stems =
     c.as_slice-stems.ensures.value ∙ ap (λ (z : Storage). z.stems) c.self.view_is in
     let r = c.revisions-revisions.result.now in
@@ -95,12 +82,8 @@ pub returns-then-count-revisions-clause-agrees : goal.returns-then-count-revisio
 returns-then-count-revisions-clause-agrees c =
     let s = c.args.self.now in
     let k =
-    subst (λ (z : Storage). AreStemsOf z.stems z.list) c.self.view_is (record {
-      stems = c.self.invariant.0;
-      marked = c.self.invariant.3;
-      shown = refl;
-      legal = c.self.invariant.5;
-    }) in
+    stored_by c.self.inside.stems.items _ s (sym c.self.view_is) c.self.invariant.0 c.self.invariant.3
+    c.self.invariant.5 in
     let same : c.as_slice-stems.result.now ≡ s.stems =
     c.as_slice-stems.ensures.value ∙ ap (λ (z : Storage). z.stems) c.self.view_is in
     let r = c.revisions-revisions.result.now in
@@ -123,12 +106,8 @@ pub overflow_add-at : goal.overflow_add-at
 overflow_add-at c =
     let s = c.args.self.now in
     let k =
-    subst (λ (z : Storage). AreStemsOf z.stems z.list) c.self.view_is (record {
-      stems = c.self.invariant.0;
-      marked = c.self.invariant.3;
-      shown = refl;
-      legal = c.self.invariant.5;
-    }) in
+    stored_by c.self.inside.stems.items _ s (sym c.self.view_is) c.self.invariant.0 c.self.invariant.3
+    c.self.invariant.5 in
     let same : c.as_slice-stems.result.now ≡ s.stems =
     c.as_slice-stems.ensures.value ∙ ap (λ (z : Storage). z.stems) c.self.view_is in
     let r = c.revisions-revisions.result.now in
@@ -152,12 +131,8 @@ pub loop-at-smaller-in-Some : goal.loop-at-smaller-in-Some
 loop-at-smaller-in-Some c =
     let s = c.args.self.now in
     let k =
-    subst (λ (z : Storage). AreStemsOf z.stems z.list) c.self.view_is (record {
-      stems = c.self.invariant.0;
-      marked = c.self.invariant.3;
-      shown = refl;
-      legal = c.self.invariant.5;
-    }) in
+    stored_by c.self.inside.stems.items _ s (sym c.self.view_is) c.self.invariant.0 c.self.invariant.3
+    c.self.invariant.5 in
     let same : c.as_slice-stems.result.now ≡ s.stems =
     c.as_slice-stems.ensures.value ∙ ap (λ (z : Storage). z.stems) c.self.view_is in
     let r = c.revisions-revisions.result.now in
@@ -181,12 +156,8 @@ pub loop-at-preserved-in-Some : goal.loop-at-preserved-in-Some
 loop-at-preserved-in-Some c =
     let s = c.args.self.now in
     let k =
-    subst (λ (z : Storage). AreStemsOf z.stems z.list) c.self.view_is (record {
-      stems = c.self.invariant.0;
-      marked = c.self.invariant.3;
-      shown = refl;
-      legal = c.self.invariant.5;
-    }) in
+    stored_by c.self.inside.stems.items _ s (sym c.self.view_is) c.self.invariant.0 c.self.invariant.3
+    c.self.invariant.5 in
     let same : c.as_slice-stems.result.now ≡ s.stems =
     c.as_slice-stems.ensures.value ∙ ap (λ (z : Storage). z.stems) c.self.view_is in
     let r = c.revisions-revisions.result.now in
@@ -217,12 +188,8 @@ pub loop-at-preserved : goal.loop-at-preserved
 loop-at-preserved c =
     let s = c.args.self.now in
     let k =
-    subst (λ (z : Storage). AreStemsOf z.stems z.list) c.self.view_is (record {
-      stems = c.self.invariant.0;
-      marked = c.self.invariant.3;
-      shown = refl;
-      legal = c.self.invariant.5;
-    }) in
+    stored_by c.self.inside.stems.items _ s (sym c.self.view_is) c.self.invariant.0 c.self.invariant.3
+    c.self.invariant.5 in
     let r = c.revisions-revisions.result.now in
     let legal = legal_in s k in
     record {
@@ -238,12 +205,8 @@ pub returns-clause-agrees : goal.returns-clause-agrees
 returns-clause-agrees c =
     let s = c.args.self.now in
     let k =
-    subst (λ (z : Storage). AreStemsOf z.stems z.list) c.self.view_is (record {
-      stems = c.self.invariant.0;
-      marked = c.self.invariant.3;
-      shown = refl;
-      legal = c.self.invariant.5;
-    }) in
+    stored_by c.self.inside.stems.items _ s (sym c.self.view_is) c.self.invariant.0 c.self.invariant.3
+    c.self.invariant.5 in
     let r = c.revisions-revisions.result.now in
     let legal = legal_in s k in
     agrees_shown s k c.args.path.now r _ c.revisions-revisions.ensures

@@ -1,9 +1,8 @@
-use Rattle.std.proofs.Common.{◌∙◌, refl, subst, sym, arith}
-use Rattle.hub_revtree.specs.Mark.{AreStemsOf}
-use Rattle.hub_revtree.specs.Stem.{Storage}
+use Rattle.std.proofs.Common.{◌∙◌, sym, arith}
 use Rattle.hub_revtree.proofs.HighestLemmas.{above_none}
 use Rattle.hub_revtree.proofs.JoinLemmas.{is_placed}
 use Rattle.hub_revtree.proofs.StemLemmas.{named_in}
+use Rattle.hub_revtree.proofs.WalkLemmas.{stored_by}
 use Rattle.hub_revtree.proofs.branches.Branches.place.Goals as goal
 
 pub returns-then-generation-self-clause-named : goal.returns-then-generation-self-clause-named
@@ -22,18 +21,10 @@ returns-clause-named c =
 
 pub returns-then-generation-self-clause-stored : goal.returns-then-generation-self-clause-stored
 returns-then-generation-self-clause-stored c =
-    subst (λ (z : Storage). AreStemsOf z.stems z.list) c.self.view_is (record {
-      stems = c.self.invariant.0;
-      marked = c.self.invariant.3;
-      shown = refl;
-      legal = c.self.invariant.5;
-    })
+    stored_by c.self.inside.stems.items _ c.args.self.now (sym c.self.view_is) c.self.invariant.0
+    c.self.invariant.3 c.self.invariant.5
 
 pub returns-clause-stored : goal.returns-clause-stored
 returns-clause-stored c =
-    subst (λ (z : Storage). AreStemsOf z.stems z.list) c.self.view_is (record {
-      stems = c.self.invariant.0;
-      marked = c.self.invariant.3;
-      shown = refl;
-      legal = c.self.invariant.5;
-    })
+    stored_by c.self.inside.stems.items _ c.args.self.now (sym c.self.view_is) c.self.invariant.0
+    c.self.invariant.3 c.self.invariant.5
