@@ -5,7 +5,8 @@ use Rattle.hub_model.specs.Revision.{Revision}
 use Rattle.hub_model.specs.Journal.{Edit, is_known}
 use Rattle.hub_model.specs.Leaves.{leaves_of}
 use Rattle.hub_model.specs.Walk.{line_of}
-use Rattle.hub_model.specs.Draft.{Draft, HasNextRevision, extended_path, new_revision, generation_of, parent_of}
+use Rattle.hub_model.specs.Draft.{Draft, HasNextRevision, extended_path, generation_of}
+use Rattle.hub_model.specs.Draft.{new_revision, parent_of}
 use Rattle.hub_revtree.specs.Tree.{nameless}
 use Rattle.hub_revtree.specs.declared.fault.EditFault.{EditFault}
 use Rattle.hub_revtree.specs.declared.fault.EditFault.TheVariants.{Conflict, GenerationLimit, NoMemory}
@@ -26,8 +27,8 @@ edit_on_path edits draft (Some path) =
 abbrev pub edit_of_draft : List Edit → Draft → Result Edit EditFault
 edit_of_draft edits draft = edit_on_path edits draft (extended_path edits [] (leaves_of edits []) draft.rev)
 
--- why no edit is made of a draft after these edits of its document: it has a next revision, and memory for it was
--- not to be had; or what becomes of it is this fault
+-- why no edit is made of a draft after these edits of its document: it has a next revision, and memory for it
+-- was not to be had; or what becomes of it is this fault
 abbrev pub IsEditFault : List Edit → Draft → EditFault → Type 0
 IsEditFault edits this NoMemory = HasNextRevision edits (draft [] this.rev this.deleted this.body)
 IsEditFault edits this fault = edit_of_draft edits this ≡ Err fault

@@ -180,8 +180,8 @@ pub record IsFoundBehind (stems : List Stem) (other : Revision) (found : Option 
   pub place : IfSome found (IsBehind stems other)
   pub none : IfNone found ((revision : Revision) → ¬ IsBrought stems revision other)
 
--- where a walk along stored edits goes on behind what the stem of a place has from there on: at a place of the
--- stems, whose revision is the one directly behind the last of these, or nowhere, where there is none
+-- where a walk along stored edits goes on behind what the stem of a place has from there on: at a place of
+-- the stems, whose revision is the one directly behind the last of these, or nowhere, where there is none
 pub record IsAfter (storage : Storage) (place : Place) (after : Option Place) : Type 0 where
   pub within : IfSome after (IsWithin storage.stems)
   pub behind : (revision : Revision) → last_in (own_from storage.stems place) ≡ Some revision

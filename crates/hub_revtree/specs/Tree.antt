@@ -47,8 +47,8 @@ tip rev deleted body = record { rev = Some rev; deleted = deleted; body = body }
 abbrev pub HasKnownHead : List Edit → List Revision → Type 0
 HasKnownHead edits path = (revision : Revision) × IsFirst path revision × IsKnown edits [] revision
 
--- why an edit is not merged after these edits: its revision is unknown, and it may not be stored; or it may, and
--- memory for it was not to be had
+-- why an edit is not merged after these edits: its revision is unknown, and it may not be stored; or it may,
+-- and memory for it was not to be had
 abbrev pub IsMergeFault : List Edit → Edit → MergeFault → Type 0
 IsMergeFault edits edit Contradicts = (¬ HasKnownHead edits edit.path) × (¬ IsAcceptable edits edit)
 IsMergeFault edits edit NoMemory = IsAcceptable edits edit

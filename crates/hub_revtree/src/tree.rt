@@ -113,8 +113,8 @@ impl RevTree {
         }
     }
 
-    // The edit on a path, of which the run is the front, with a place for it: a path has no more revisions than
-    // its head's generation.
+    // The edit on a path, of which the run is the front, with a place for it. A path has no more revisions
+    // than its head's generation.
     pub(crate) fn ready_with(
         &mut self,
         path: Run,
