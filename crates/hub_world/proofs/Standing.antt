@@ -17,7 +17,7 @@ use Rattle.hub_model.specs.RightlyHanded.{ChangeItem}
 use Rattle.hub_world.specs.Core.{Core, Shows, IsEmptied}
 use Rattle.hub_model.specs.Entries.{entry_in, with_change, is_of, without}
 use Rattle.hub_model.proofs.Entries.{without_absent}
-use Rattle.hub_feed.specs.Feeds.{ended_subscription as ended_entry}
+use Rattle.hub_feed.specs.Feeds.{ended_entry}
 use Rattle.hub_world.specs.Lane.{Lanes}
 use Rattle.hub_world.specs.World.{World, Subscription, is_finished, open_feeds, has_no_room, subscription}
 use Rattle.hub_world.specs.World.{with_subscription, lane_of, with_feed, world_after_expiry, world_after_take, world_after_finish, ended_subscription}
