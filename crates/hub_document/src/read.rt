@@ -20,30 +20,6 @@ use crate::revision::RevId;
 use serde_json::{Map, Value};
 use std::alloc::{AllocError, Global};
 
-// The head and the path of an edit.
-type History = (Option<RevId>, Option<Path>);
-
-// An edit that is made here has no path yet; one that came has its history. None is a fault.
-fn history_of(
-    alloc: Global,
-    new_edits: bool,
-    rev: Option<RevId>,
-    value: &Value,
-) -> Result<Option<History>, AllocError>
-    ensures value { IfOk result (λ o. o ≡ history_in new_edits rev (view value.now)) }
-    ensures memory { IfErr result (λ _. new_edits ≡ false) }
-    ensures some { IfOk result (λ o. IfSome o (λ h. is_some h.1 ≡ not new_edits)) }
-{
-    if new_edits {
-        return Ok(Some((rev, None)));
-    }
-    let Some(path) = path_of(alloc, rev, value)? else {
-        return Ok(None);
-    };
-    let head = path.head();
-    Ok(Some((Some(head), Some(path))))
-}
-
 // The first of the faults that are looked for last.
 fn last_fault(members: &Map<String, Value>, id: &str) -> Option<DocFault>
     ensures { result ≡ (if are_good (members_view members.now.entries)
@@ -147,14 +123,17 @@ pub fn read_doc(alloc: Global, value: &Value, new_edits: bool) -> Result<Doc, Do
     let Some(rev) = rev_of(value, new_edits) else {
         return Err(DocFault::BadRev);
     };
-    let history = match history_of(alloc, new_edits, rev, value) {
-        Ok(history) => history,
-        Err(_) => return Err(without_path(value, members, id, &rev)),
-    };
-    let Some((head, path)) = history else {
-        return Err(DocFault::BadRevisions);
-    };
-    with_path(alloc, value, members, id, head, path)
+    if new_edits {
+        return with_path(alloc, value, members, id, rev, None);
+    }
+    match path_of(alloc, rev, value) {
+        Ok(Some(path)) => {
+            let head = Some(path.head());
+            with_path(alloc, value, members, id, head, Some(path))
+        }
+        Ok(None) => Err(DocFault::BadRevisions),
+        Err(_) => Err(without_path(value, members, id, &rev)),
+    }
 }
 
 impl Doc {
