@@ -105,16 +105,16 @@ fn add_row(
     Ok(())
 }
 
-// Removes the row at a sequence, and its page if that was the only row there.
+// Removes the row at a sequence, and its page if that was the only row there. No row is at 0: it is looked for
+// in the last slot of 64 bits, which stays empty.
 fn remove_row(pages: &mut Vec<(u64, Page)>, seq: u64)
     requires pages { All IsPage pages.old.items }
     requires rising { AllPairs (λ a b. a.0 < b.0) pages.old.items }
-    requires positive { 0 < seq }
     ensures rows { rows_of pages.new.items ≡ remove_entry (is_at (nat_cmp seq)) (rows_of pages.old.items) }
     ensures pages { All IsPage pages.new.items }
     ensures rising { AllPairs (λ a b. a.0 < b.0) pages.new.items }
 {
-    let (number, slot) = slot_of(seq - 1);
+    let (number, slot) = slot_of(seq.wrapping_sub(1));
     let at = place_of(pages.as_slice(), number);
     if at == pages.len() || pages[at].0 != number {
         return;
@@ -154,7 +154,6 @@ impl PageIndex {
     /// Removes the row at a sequence, if there is one, after a search for its page. It takes no
     /// memory, and gives a page back where the row was its only one.
     pub fn remove(&mut self, seq: u64)
-        requires { 0 < seq }
         ensures { self.new ≡ filter (λ r. not (nat_eq r.0 seq)) self.old }
     {
         remove_row(&mut self.pages, seq);
