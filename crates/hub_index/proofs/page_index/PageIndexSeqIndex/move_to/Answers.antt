@@ -1,4 +1,4 @@
-use Rattle.std.proofs.Common.{ℕ, ◌<◌, List, [], ◌∷◌, ◌++◌, ◌∙◌, sym, ap, subst}
+use Rattle.std.proofs.Common.{ℕ, List, [], ◌∷◌, ◌++◌, ◌∙◌, sym, ap, subst}
 use Rattle.std.specs.Map.{remove_entry}
 use Rattle.hub_index.specs.Rows.{IsIndex}
 use Rattle.hub_index.proofs.IndexLemmas.{index_moved, moved_new, moved_old}
