@@ -83,10 +83,7 @@ fn start_of(history: &Value) -> Option<(u16, &Vec<Value>)>
 {
     let start = history.get("start").and_then(Value::as_u64)?;
     let ids = history.get("ids").and_then(Value::as_array)?;
-    if ids.is_empty() {
-        return None;
-    }
-    if start == 0 || start > 65535 {
+    if ids.is_empty() || start == 0 || start > 65535 {
         return None;
     }
     Some((start as u16, ids))

@@ -80,10 +80,7 @@ fn without_path(
     if !is_path(*rev, value) {
         return DocFault::BadRevisions;
     }
-    match last_fault(members, id) {
-        Some(fault) => fault,
-        None => DocFault::NoMemory,
-    }
+    last_fault(members, id).unwrap_or(DocFault::NoMemory)
 }
 
 /// The JSON value that a text is. It costs the text's length. Whatever the text is, it takes room
@@ -93,13 +90,8 @@ pub fn read_value(alloc: Global, bytes: &[u8]) -> Result<Value, DocFault>
 {
     match Value::from_slice(alloc, bytes) {
         Ok(value) => Ok(value),
-        Err(e) => {
-            if e.is_memory() {
-                Err(DocFault::NoMemory)
-            } else {
-                Err(DocFault::NotJson)
-            }
-        }
+        Err(e) if e.is_memory() => Err(DocFault::NoMemory),
+        Err(_) => Err(DocFault::NotJson),
     }
 }
 
