@@ -83,10 +83,7 @@ fn start_of(history: &Value) -> Option<(u16, &Vec<Value>)>
 {
     let start = history.get("start").and_then(Value::as_u64)?;
     let ids = history.get("ids").and_then(Value::as_array)?;
-    if ids.is_empty() {
-        return None;
-    }
-    if start == 0 || start > 65535 {
+    if ids.is_empty() || start == 0 || start > 65535 {
         return None;
     }
     Some((start as u16, ids))
@@ -119,15 +116,9 @@ fn alone(alloc: Global, rev: Option<RevId>) -> Result<Option<Path>, AllocError>
 fn begins_with(rev: Option<RevId>, start: u16, ids: &Vec<Value>) -> bool
     ensures { IfSome (falling start (items_view ids.now.items)) (λ path. result ≡ is_head_of rev path) }
 {
-    let Some(named) = rev else {
-        return true;
-    };
-    let Some(id) = ids.first() else {
-        return false;
-    };
-    match fallen(start, id) {
-        Some(first) => named.is_same(&first),
-        None => false,
+    match ids.first().and_then(|id| fallen(start, id)) {
+        Some(first) => is_head(rev, &[first]),
+        None => rev.is_none(),
     }
 }
 

@@ -5,31 +5,16 @@ ghost use Rattle.serde_json.specs.View.{view, members_view};
 ghost use Rattle.serde_json.specs.Written.{members_have_float as members_have_float_in};
 ghost use Rattle.hub_document.specs.Ids.{is_id as is_id_text};
 ghost use Rattle.hub_document.specs.Reading.{Reads};
-ghost use Rattle.hub_document.specs.Put.{unless_other as unless_other_in, rev_put, put_of, put_in};
-ghost use Rattle.hub_document.specs.Put.{put_doc};
+ghost use Rattle.hub_document.specs.Put.{rev_put, put_of, put_doc};
 
 use crate::doc::{Doc, DocFault};
 use crate::doc_id::{is_id, is_named_so};
 use crate::history::rev_of;
 use crate::numbers::members_have_float;
-use crate::read::{read_value, with_path};
+use crate::read::with_path;
 use crate::revision::RevId;
 use serde_json::Value;
 use std::alloc::Global;
-
-// The revision, unless the document names another one. None is a fault.
-fn unless_other(rev: RevId, named: Option<RevId>) -> Option<Option<RevId>>
-    ensures { result ≡ unless_other_in rev named }
-{
-    let Some(other) = named else {
-        return Some(Some(rev));
-    };
-    if rev.is_same(&other) {
-        Some(Some(rev))
-    } else {
-        None
-    }
-}
 
 // The leaf that the request or the document names, or both alike. None is a fault.
 fn named_by(rev: Option<&str>, value: &Value) -> Option<Option<RevId>>
@@ -39,12 +24,15 @@ fn named_by(rev: Option<&str>, value: &Value) -> Option<Option<RevId>>
         return rev_of(value, true);
     };
     let asked = RevId::read(text)?;
-    let named = rev_of(value, true)?;
-    unless_other(asked, named)
+    match rev_of(value, true)? {
+        Some(named) if !asked.is_same(&named) => None,
+        _ => Some(Some(asked)),
+    }
 }
 
-/// The document that a JSON value is under the id that a request names, as `Doc::read_put`. It costs the
-/// value's size.
+/// The document that a JSON value is under the id that a request names, or the first fault. The leaf that it
+/// edits may be named by the request too, by `rev`; an edit that was not made here (`new_edits` is false) is a
+/// bad member. It costs the value's size.
 pub fn put_doc(
     alloc: Global,
     id: &str,
@@ -73,26 +61,4 @@ pub fn put_doc(
         return Err(DocFault::BadMember);
     }
     with_path(alloc, value, members, id, named, None)
-}
-
-impl Doc {
-    /// The document that a JSON text is under the id that a request names, or the first fault. The
-    /// leaf that it edits may be named by the request too, by `rev`; an edit that was not made here
-    /// (`new_edits` is false) is a bad member. It costs the text's length, and takes room before it is
-    /// known what the text is.
-    pub fn read_put(
-        alloc: Global,
-        id: &str,
-        rev: Option<&str>,
-        new_edits: bool,
-        bytes: &[u8],
-    ) -> Result<Doc, DocFault>
-        ensures ok { IfOk result
-            (λ d. put_in id.now (option_map (λ s. s.now) rev.entry) new_edits bytes.now ≡ Ok d) }
-        ensures err { IfErr result (λ e. (e ≡ DocFault.NoMemory)
-            ⊎ (put_in id.now (option_map (λ s. s.now) rev.entry) new_edits bytes.now ≡ Err e)) }
-    {
-        let value = read_value(alloc, bytes)?;
-        put_doc(alloc, id, rev, new_edits, &value)
-    }
 }

@@ -20,30 +20,6 @@ use crate::revision::RevId;
 use serde_json::{Map, Value};
 use std::alloc::{AllocError, Global};
 
-// The head and the path of an edit.
-type History = (Option<RevId>, Option<Path>);
-
-// An edit that is made here has no path yet; one that came has its history. None is a fault.
-fn history_of(
-    alloc: Global,
-    new_edits: bool,
-    rev: Option<RevId>,
-    value: &Value,
-) -> Result<Option<History>, AllocError>
-    ensures value { IfOk result (λ o. o ≡ history_in new_edits rev (view value.now)) }
-    ensures memory { IfErr result (λ _. new_edits ≡ false) }
-    ensures some { IfOk result (λ o. IfSome o (λ h. is_some h.1 ≡ not new_edits)) }
-{
-    if new_edits {
-        return Ok(Some((rev, None)));
-    }
-    let Some(path) = path_of(alloc, rev, value)? else {
-        return Ok(None);
-    };
-    let head = path.head();
-    Ok(Some((Some(head), Some(path))))
-}
-
 // The first of the faults that are looked for last.
 fn last_fault(members: &Map<String, Value>, id: &str) -> Option<DocFault>
     ensures { result ≡ (if are_good (members_view members.now.entries)
@@ -104,10 +80,7 @@ fn without_path(
     if !is_path(*rev, value) {
         return DocFault::BadRevisions;
     }
-    match last_fault(members, id) {
-        Some(fault) => fault,
-        None => DocFault::NoMemory,
-    }
+    last_fault(members, id).unwrap_or(DocFault::NoMemory)
 }
 
 /// The JSON value that a text is. It costs the text's length. Whatever the text is, it takes room
@@ -117,13 +90,8 @@ pub fn read_value(alloc: Global, bytes: &[u8]) -> Result<Value, DocFault>
 {
     match Value::from_slice(alloc, bytes) {
         Ok(value) => Ok(value),
-        Err(e) => {
-            if e.is_memory() {
-                Err(DocFault::NoMemory)
-            } else {
-                Err(DocFault::NotJson)
-            }
-        }
+        Err(e) if e.is_memory() => Err(DocFault::NoMemory),
+        Err(_) => Err(DocFault::NotJson),
     }
 }
 
@@ -147,14 +115,17 @@ pub fn read_doc(alloc: Global, value: &Value, new_edits: bool) -> Result<Doc, Do
     let Some(rev) = rev_of(value, new_edits) else {
         return Err(DocFault::BadRev);
     };
-    let history = match history_of(alloc, new_edits, rev, value) {
-        Ok(history) => history,
-        Err(_) => return Err(without_path(value, members, id, &rev)),
-    };
-    let Some((head, path)) = history else {
-        return Err(DocFault::BadRevisions);
-    };
-    with_path(alloc, value, members, id, head, path)
+    if new_edits {
+        return with_path(alloc, value, members, id, rev, None);
+    }
+    match path_of(alloc, rev, value) {
+        Ok(Some(path)) => {
+            let head = Some(path.head());
+            with_path(alloc, value, members, id, head, Some(path))
+        }
+        Ok(None) => Err(DocFault::BadRevisions),
+        Err(_) => Err(without_path(value, members, id, &rev)),
+    }
 }
 
 impl Doc {

@@ -1,8 +1,8 @@
 -- Lemmas on the rows of pages.
-use Rattle.std.proofs.Common.{◌≡◌, ◌≢◌, ℕ, suc, ◌+◌, ◌*◌, ◌/◌, ◌^◌, ◌<◌, ◌≤◌, List, [], ◌∷◌, ◌++◌}
+use Rattle.std.proofs.Common.{◌≡◌, ◌≢◌, ℕ, suc, ◌+◌, ◌-◌, ◌*◌, ◌/◌, ◌%◌, ◌^◌, ◌<◌, ◌≤◌, List, [], ◌∷◌, ◌++◌}
 use Rattle.std.proofs.Common.{length, get_or, set, take, drop, Bool, true, false, not, ◌||◌, cond}
 use Rattle.std.proofs.Common.{nat_eq, nat_lt, Option, Some, None, find, filter, map, reverse}
-use Rattle.std.proofs.Common.{count_by, is_some, sym, ◌∙◌, ap, refl, subst, inl, inr, arith}
+use Rattle.std.proofs.Common.{◌⊎◌, count_by, is_some, sym, ◌∙◌, ap, refl, subst, inl, inr, arith}
 use Rattle.std.specs.Prelude.{IsSomeAnd, slice_get}
 use Rattle.std.specs.List.{All, AllPairs, AllWithin, list_any, remove}
 use Rattle.std.specs.List.Sorted.{IsPartitionPoint, IsPartitionedBy}
@@ -246,6 +246,33 @@ none_there numbered k at rising point apart z d l q =
       | inr (inr more) ↦
           omega (arith, q, rising at z d more l, point.1 at d (omega arith) (omega (arith, more, l)))
     ]
+
+-- the number behind the one before a sequence, of 64 bits: before 0 stands the last of them
+abbrev pub behind : ℕ → ℕ
+behind seq = (seq + (2 ^ 64 - 1)) % 2 ^ 64 + 1
+
+-- a removal there is one at the sequence: no row lies at 0 or behind the last
+pub row_behind : (seq : ℕ) → seq < 2 ^ 64 → (numbered : List Numbered) → All IsPage numbered
+    → remove_entry (at_seq (behind seq)) (rows_of numbered) ≡ remove_entry (at_seq seq) (rows_of numbered)
+row_behind seq fits numbered pages =
+    elim (cases_order seq 0) [
+      | inl q ↦
+          remove_none (at_seq (behind seq)) (rows_of numbered) (all (behind seq) (inr (omega (arith, q))))
+          ∙ sym (remove_none (at_seq seq) (rows_of numbered) (all seq (inl q)))
+      | inr (inl l) ↦ absurd (omega (arith, l))
+      | inr (inr more) ↦ ap (λ s. remove_entry (at_seq s) (rows_of numbered)) (omega (arith, more, fits))
+    ]
+  where
+    apart : (s : ℕ) → (s ≡ 0) ⊎ (s ≡ 2 ^ 64) → (page : Numbered) → IsPage page
+        → All (λ (row : ℕ × ℕ). at_seq s row.0 ≡ false) (page_rows page)
+    apart s (inl q) page good k d l =
+        not_at s _ (inl (omega (arith, q, (page_within page good.size k d l).0)))
+    apart s (inr q) page good k d l = not_at s _ (inr (omega (arith, q, good.fits k d l)))
+
+    all : (s : ℕ) → (s ≡ 0) ⊎ (s ≡ 2 ^ 64) → All (λ (row : ℕ × ℕ). at_seq s row.0 ≡ false) (rows_of numbered)
+    all s none =
+        All_rows (λ (row : ℕ × ℕ). at_seq s row.0 ≡ false) numbered
+        (λ z d l. apart s none (get_or numbered z d) (pages z d l))
 
 -- a sequence, the page of its number, and its slot there
 module _ (k i seq : ℕ) (in' : i < 256) (is : 256 * k + i + 1 ≡ seq) where

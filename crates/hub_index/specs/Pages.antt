@@ -29,6 +29,13 @@ pub record IsPage (page : ℕ × List (Option ℕ)) : Type 0 where
   pub live : 0 < count_by is_some page.1
   pub fits : All (λ (row : ℕ × ℕ). row.0 < 2 ^ 64) (page_rows page)
 
+-- how a page is kept: its sequences are numbers of 64 bits, but for the last of all, it has 256 slots, and so
+-- many of them have a document
+pub record IsKeptPage (live : ℕ) (page : ℕ × List (Option ℕ)) : Type 0 where
+  pub low : page.0 < 2 ^ 56
+  pub size : length page.1 ≡ 256
+  pub count : live ≡ count_by is_some page.1
+
 -- pages with rows, in the order of their numbers
 pub record AreLaid (pages : List (ℕ × List (Option ℕ))) : Type 0 where
   pub each : All IsPage pages

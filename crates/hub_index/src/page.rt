@@ -1,9 +1,9 @@
 //! A page of rows: a slot for each of 256 sequences behind one another.
 
-ghost use Rattle.std.specs.Prelude.{◌≡◌, ◌<◌, ◌≤◌, length, nat_lt, nat_le, set, drop, replicate};
+ghost use Rattle.std.specs.Prelude.{◌≡◌, ◌^◌, ◌<◌, nat_lt, nat_le, set, drop, replicate};
 ghost use Rattle.std.specs.Prelude.{reverse, find, is_some, count_by, None, Some, IfOk};
 ghost use Rattle.std.specs.List.{All};
-ghost use Rattle.hub_index.specs.Pages.{IsPage, page_rows, slot_rows};
+ghost use Rattle.hub_index.specs.Pages.{page_rows, slot_rows};
 
 use std::alloc::{AllocError, Global};
 use std::marker::Model;
@@ -11,22 +11,24 @@ use std::marker::Model;
 /// How many slots a page has.
 pub(crate) const PAGE_SIZE: u64 = 256;
 
-/// The slots of a page, each with the document whose row is there.
+/// The slots of a page, each with the document whose row is there, seen as its number with them.
 #[derive(Debug, Drop)]
 pub(crate) struct Page {
+    number: u64,
     /// How many slots have a document.
     live: usize,
     slots: Vec<Option<u32>>,
 }
 
 impl Model for Page {
-    ghost use Rattle.std.specs.Prelude.{◌≡◌, List, ℕ, Option, count_by, is_some};
+    ghost use Rattle.std.specs.Prelude.{List, ℕ, Option};
+    ghost use Rattle.hub_index.specs.Pages.{IsKeptPage};
 
-    ghost Value = { List (Option ℕ) };
+    ghost Value = { ℕ × List (Option ℕ) };
 
-    ghost view = { λ a. a.slots.items };
+    ghost view = { λ a. (a.number, a.slots.items) };
 
-    ghost invariant = { λ a. a.live ≡ count_by is_some a.slots.items };
+    ghost invariant = { λ a. IsKeptPage a.live (a.number, a.slots.items) };
 }
 
 // As many slots, all empty.
@@ -70,26 +72,37 @@ fn count_live(slots: &[Option<u32>]) -> usize
 }
 
 impl Page {
-    /// Empty slots.
-    pub(crate) fn new(alloc: Global) -> Result<Page, AllocError>
-        ensures size { IfOk result (λ page. length page ≡ 256) }
-        ensures empty { IfOk result (All (λ slot. slot ≡ None)) }
+    /// Empty slots of the page of this number.
+    pub(crate) fn new(alloc: Global, number: u64) -> Result<Page, AllocError>
+        requires { number < 2 ^ 56 }
+        ensures { IfOk result (λ page. page ≡ (number, replicate 256 None)) }
     {
         let slots = empty_slots(alloc, PAGE_SIZE as usize)?;
-        Ok(Page { live: 0, slots })
+        Ok(Page {
+            number,
+            live: 0,
+            slots,
+        })
+    }
+
+    /// Its number.
+    pub(crate) fn number(&self) -> u64
+        ensures { result ≡ self.now.0 }
+    {
+        self.number
     }
 
     /// How many slots have a document.
     pub(crate) fn live(&self) -> usize
-        ensures { result ≡ count_by is_some self.now }
+        ensures { result ≡ count_by is_some self.now.1 }
     {
         self.live
     }
 
     /// Puts a document into a slot, or empties it.
     pub(crate) fn put(&mut self, at: usize, document: Option<u32>)
-        requires { at < length self.old }
-        ensures { self.new ≡ set self.old at document }
+        requires { at < 256 }
+        ensures { self.new ≡ (self.old.0, set self.old.1 at document) }
     {
         if self.slots[at].is_some() {
             self.live -= 1;
@@ -100,35 +113,33 @@ impl Page {
         self.slots[at] = document;
     }
 
-    /// The first row above a place, of the page of this number. It looks at slots from the place on.
-    pub(crate) fn next_after(&self, number: u64, place: u64) -> Option<(u64, u32)>
-        requires { IsPage (number, self.now) }
-        ensures { result ≡ find (λ r. nat_lt place r.0) (page_rows (number, self.now)) }
+    /// The first row above a place. It looks at slots from the place on.
+    pub(crate) fn next_after(&self, place: u64) -> Option<(u64, u32)>
+        requires { All (λ r. r.0 < 2 ^ 64) (page_rows self.now) }
+        ensures { result ≡ find (λ r. nat_lt place r.0) (page_rows self.now) }
     {
-        let base = PAGE_SIZE * number;
+        let base = PAGE_SIZE * self.number;
         let from = place.saturating_sub(base) as usize;
         let (at, document) = first_from(self.slots.as_slice(), from)?;
         Some((base + (at as u64 + 1), document))
     }
 
-    /// The last row below a place, of the page of this number. It looks at slots from the place down.
-    pub(crate) fn last_before(&self, number: u64, place: u64) -> Option<(u64, u32)>
-        requires { IsPage (number, self.now) }
-        ensures { result ≡ find (λ r. nat_lt r.0 place) (reverse (page_rows (number, self.now))) }
+    /// The last row below a place. It looks at slots from the place down.
+    pub(crate) fn last_before(&self, place: u64) -> Option<(u64, u32)>
+        ensures { result ≡ find (λ r. nat_lt r.0 place) (reverse (page_rows self.now)) }
     {
-        let base = PAGE_SIZE * number;
+        let base = PAGE_SIZE * self.number;
         let end = place.saturating_sub(base + 1) as usize;
         let (at, document) = last_below(self.slots.as_slice(), end)?;
         Some((base + (at as u64 + 1), document))
     }
 
-    /// How many rows lie above a place, of the page of this number. It looks at slots from the place
-    /// on, and at none where the place lies before the page.
-    pub(crate) fn count_after(&self, number: u64, place: u64) -> u64
-        requires { IsPage (number, self.now) }
-        ensures { result ≡ count_by (λ r. nat_lt place r.0) (page_rows (number, self.now)) }
+    /// How many rows lie above a place. It looks at slots from the place on, and at none where the place
+    /// lies before the page.
+    pub(crate) fn count_after(&self, place: u64) -> u64
+        ensures { result ≡ count_by (λ r. nat_lt place r.0) (page_rows self.now) }
     {
-        let base = PAGE_SIZE * number;
+        let base = PAGE_SIZE * self.number;
         if place <= base {
             return self.live as u64;
         }

@@ -22,8 +22,8 @@ use std::marker::Model;
 #[derive(Debug)]
 pub struct PageIndex {
     alloc: Global,
-    /// With their numbers, which rise.
-    pages: Vec<(u64, Page)>,
+    /// Their numbers rise.
+    pages: Vec<Page>,
 }
 
 impl Drop for PageIndex {
@@ -52,13 +52,12 @@ fn slot_of(before: u64) -> (u64, usize)
 }
 
 // The place of the page of this number, where no number from it to the last lacks a page.
-fn place_from_last(pages: &[(u64, Page)], number: u64) -> Option<usize>
+fn place_from_last(pages: &[Page], number: u64) -> Option<usize>
     ensures { IfSome result (λ at. IsSomeAnd (slice_get pages.now at) (λ page. page.0 ≡ number)) }
 {
-    let (last, _) = pages.last()?;
-    let behind = last.checked_sub(number)?;
+    let behind = pages.last()?.number().checked_sub(number)?;
     let at = (pages.len() as u64 - 1).checked_sub(behind)? as usize;
-    if pages[at].0 == number {
+    if pages[at].number() == number {
         Some(at)
     } else {
         None
@@ -67,24 +66,19 @@ fn place_from_last(pages: &[(u64, Page)], number: u64) -> Option<usize>
 
 // Where the page of this number stands or belongs: behind those of lower numbers. It looks at two
 // pages where no number from this one to the last lacks a page, and else at logarithmically many.
-fn place_of(pages: &[(u64, Page)], number: u64) -> usize
+fn place_of(pages: &[Page], number: u64) -> usize
     requires { AllPairs (λ a b. a.0 < b.0) pages.now }
     ensures parted { IsPartitionPoint (λ page. page.0 < number) (λ page. number ≤ page.0) pages.now result }
     ensures within { result ≤ length pages.now }
 {
     match place_from_last(pages, number) {
         Some(at) => at,
-        None => pages.partition_point(|page| page.0 < number),
+        None => pages.partition_point(|page| page.number() < number),
     }
 }
 
 // Adds a row above all.
-fn add_row(
-    pages: &mut Vec<(u64, Page)>,
-    alloc: Global,
-    document: u32,
-    seq: u64,
-) -> Result<(), AllocError>
+fn add_row(pages: &mut Vec<Page>, alloc: Global, document: u32, seq: u64) -> Result<(), AllocError>
     requires laid { AreLaid pages.old.items }
     requires positive { 0 < seq }
     requires above { All (λ r. r.0 < seq) (rows_of pages.old.items) }
@@ -95,31 +89,31 @@ fn add_row(
 {
     let (number, slot) = slot_of(seq - 1);
     let end = pages.len();
-    if end > 0 && pages[end - 1].0 == number {
-        pages[end - 1].1.put(slot, Some(document));
+    if end > 0 && pages[end - 1].number() == number {
+        pages[end - 1].put(slot, Some(document));
         return Ok(());
     }
-    let mut page = Page::new(alloc)?;
+    let mut page = Page::new(alloc, number)?;
     page.put(slot, Some(document));
-    pages.push((number, page))?;
+    pages.push(page)?;
     Ok(())
 }
 
-// Removes the row at a sequence, and its page if that was the only row there.
-fn remove_row(pages: &mut Vec<(u64, Page)>, seq: u64)
+// Removes the row at a sequence, and its page if that was the only row there. No row is at 0: it is looked for
+// in the last slot of 64 bits, which stays empty.
+fn remove_row(pages: &mut Vec<Page>, seq: u64)
     requires pages { All IsPage pages.old.items }
     requires rising { AllPairs (λ a b. a.0 < b.0) pages.old.items }
-    requires positive { 0 < seq }
     ensures rows { rows_of pages.new.items ≡ remove_entry (is_at (nat_cmp seq)) (rows_of pages.old.items) }
     ensures pages { All IsPage pages.new.items }
     ensures rising { AllPairs (λ a b. a.0 < b.0) pages.new.items }
 {
-    let (number, slot) = slot_of(seq - 1);
+    let (number, slot) = slot_of(seq.wrapping_sub(1));
     let at = place_of(pages.as_slice(), number);
-    if at == pages.len() || pages[at].0 != number {
+    if at == pages.len() || pages[at].number() != number {
         return;
     }
-    let page = &mut pages[at].1;
+    let page = &mut pages[at];
     page.put(slot, None);
     if page.live() == 0 {
         pages.remove(at);
@@ -127,13 +121,12 @@ fn remove_row(pages: &mut Vec<(u64, Page)>, seq: u64)
 }
 
 // The first row above a place.
-fn row_after(pages: &[(u64, Page)], place: u64) -> Option<(u64, u32)>
+fn row_after(pages: &[Page], place: u64) -> Option<(u64, u32)>
     requires { AreLaid pages.now }
     ensures { result ≡ find (λ r. nat_lt place r.0) (rows_of pages.now) }
 {
     for at in place_of(pages, place / PAGE_SIZE)..pages.len() {
-        let (number, page) = &pages[at];
-        if let Some(row) = page.next_after(*number, place) {
+        if let Some(row) = pages[at].next_after(place) {
             return Some(row);
         }
     }
@@ -154,7 +147,6 @@ impl PageIndex {
     /// Removes the row at a sequence, if there is one, after a search for its page. It takes no
     /// memory, and gives a page back where the row was its only one.
     pub fn remove(&mut self, seq: u64)
-        requires { 0 < seq }
         ensures { self.new ≡ filter (λ r. not (nat_eq r.0 seq)) self.old }
     {
         remove_row(&mut self.pages, seq);
@@ -199,8 +191,7 @@ impl SeqIndex for PageIndex {
         let mut at = place_of(pages, place / PAGE_SIZE + 1);
         while at > 0 {
             at -= 1;
-            let (number, page) = &pages[at];
-            if let Some(row) = page.last_before(*number, place) {
+            if let Some(row) = pages[at].last_before(place) {
                 return Some(row);
             }
         }
@@ -213,8 +204,7 @@ impl SeqIndex for PageIndex {
         let pages = self.pages.as_slice();
         let mut count = 0;
         for at in place_of(pages, place / PAGE_SIZE)..pages.len() {
-            let (number, page) = &pages[at];
-            count += page.count_after(*number, place);
+            count += pages[at].count_after(place);
         }
         count
     }

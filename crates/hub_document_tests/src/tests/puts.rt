@@ -1,13 +1,25 @@
 use super::tables::{again, fault_name, grown, is_shown, parts, same};
-use hub_document::{Doc, DocFault};
+use hub_document::{Doc, DocFault, put_doc, read_value};
 use std::alloc::{AllocError, Global};
 use std::test::Fail;
+
+// The document that a text is under an id, where the request names a revision or none.
+fn put_under(
+    alloc: Global,
+    id: &str,
+    rev: Option<&str>,
+    new_edits: bool,
+    text: &str,
+) -> Result<Doc, DocFault> {
+    let value = read_value(alloc, text.as_bytes())?;
+    put_doc(alloc, id, rev, new_edits, &value)
+}
 
 // The document that is put at a place: an id, or an id and a revision with a comma between them.
 fn put(alloc: Global, place: &str, new_edits: bool, text: &str) -> Result<Doc, DocFault> {
     match place.split_once(", ") {
-        Some((id, rev)) => Doc::read_put(alloc, id, Some(rev), new_edits, text.as_bytes()),
-        None => Doc::read_put(alloc, place, None, new_edits, text.as_bytes()),
+        Some((id, rev)) => put_under(alloc, id, Some(rev), new_edits, text),
+        None => put_under(alloc, place, None, new_edits, text),
     }
 }
 
@@ -96,7 +108,7 @@ fn fault_of_length(
     new_edits: bool,
 ) -> Result<&'static str, AllocError> {
     let id = grown!("i".repeat(alloc, length))?;
-    let read = again!(Doc::read_put(alloc, id.as_str(), rev, new_edits, b"{}"));
+    let read = again!(put_under(alloc, id.as_str(), rev, new_edits, "{}"));
     Ok(fault_name(read.err()))
 }
 

@@ -18,8 +18,8 @@ refused : (text : List ℕ) (b : Bool) → is_utf8 text ≡ b → (IsUtf8 text �
 refused text true e none = rw e (none (IsUtf8-from_is_utf8 text e))
 refused text false e none = rw e refl
 
-pub returns-else-is_memory : goal.returns-else-is_memory
-returns-else-is_memory c = record {
+pub returns-in-Err-2 : goal.returns-in-Err-2
+returns-in-Err-2 c = record {
   ok = tt;
   err = inr (
     refl,

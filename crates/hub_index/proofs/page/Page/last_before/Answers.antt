@@ -8,9 +8,10 @@ returns-in_err-at c =
     let e : None ≡ find (λ (row : ℕ × ℕ). nat_lt row.0 c.saturating_sub-end.result)
     (reverse (slot_rows 0 c.as_slice.result.now)) =
     c.in_err-at.ensures in
-    c.from_residual.ensures
-    ∙ nothing_below (256 * c.args.number) c.args.place c.saturating_sub-end.result c.args.self.now
-    c.as_slice.result.now (c.as_slice.ensures.value ∙ c.self.view_is) c.saturating_sub-end.ensures e
+    rw (← c.self.view_is)
+    (c.from_residual.ensures
+    ∙ nothing_below (256 * c.self.inside.number) c.args.place c.saturating_sub-end.result c.self.inside.slots.items
+    c.as_slice.result.now c.as_slice.ensures.value c.saturating_sub-end.ensures e)
 
 pub overflow_add-result : goal.overflow_add-result
 overflow_add-result c =
@@ -21,8 +22,8 @@ overflow_add-result c =
     omega (
       arith,
       c.ranges.place,
-      fits_below (256 * c.args.number) c.args.place c.saturating_sub-end.result c.args.self.now
-          c.as_slice.result.now (c.as_slice.ensures.value ∙ c.self.view_is) c.saturating_sub-end.ensures
+      fits_below (256 * c.self.inside.number) c.args.place c.saturating_sub-end.result c.self.inside.slots.items
+          c.as_slice.result.now c.as_slice.ensures.value c.saturating_sub-end.ensures
           c.in_ok-at.at c.in_ok-at.document e,
     )
 
@@ -35,8 +36,8 @@ overflow_add-result-2 c =
     omega (
       arith,
       c.ranges.place,
-      fits_below (256 * c.args.number) c.args.place c.saturating_sub-end.result c.args.self.now
-          c.as_slice.result.now (c.as_slice.ensures.value ∙ c.self.view_is) c.saturating_sub-end.ensures
+      fits_below (256 * c.self.inside.number) c.args.place c.saturating_sub-end.result c.self.inside.slots.items
+          c.as_slice.result.now c.as_slice.ensures.value c.saturating_sub-end.ensures
           c.in_ok-at.at c.in_ok-at.document e,
     )
 
@@ -46,6 +47,7 @@ returns c =
     ≡ find (λ (row : ℕ × ℕ). nat_lt row.0 c.saturating_sub-end.result)
     (reverse (slot_rows 0 c.as_slice.result.now)) =
     c.in_ok-at.ensures in
-    found_below (256 * c.args.number) c.args.place c.saturating_sub-end.result c.args.self.now
-    c.as_slice.result.now (c.as_slice.ensures.value ∙ c.self.view_is) c.saturating_sub-end.ensures
-    c.in_ok-at.at c.in_ok-at.document e
+    rw (← c.self.view_is)
+    (found_below (256 * c.self.inside.number) c.args.place c.saturating_sub-end.result c.self.inside.slots.items
+    c.as_slice.result.now c.as_slice.ensures.value c.saturating_sub-end.ensures
+    c.in_ok-at.at c.in_ok-at.document e)

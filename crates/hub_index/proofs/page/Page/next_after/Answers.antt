@@ -1,5 +1,6 @@
-use Rattle.std.proofs.Common.{◌≡◌, ℕ, ◌*◌, ◌^◌, ◌∙◌, arith, find, nat_le, Some, None}
-use Rattle.hub_index.specs.Pages.{slot_rows}
+use Rattle.std.proofs.Common.{◌≡◌, ℕ, List, Option, ◌+◌, ◌*◌, ◌^◌, ◌<◌, ◌∙◌, arith, sym, subst, find, nat_le, Some, None}
+use Rattle.std.specs.List.{All}
+use Rattle.hub_index.specs.Pages.{slot_rows, page_rows}
 use Rattle.hub_index.proofs.SlotLemmas.{nothing_from, found_from, fits_from}
 use Rattle.hub_index.proofs.page.Page.next_after.Goals as goal
 
@@ -8,39 +9,36 @@ returns-in_err-at c =
     let e : None ≡ find (λ (row : ℕ × ℕ). nat_le c.saturating_sub-from.result row.0)
     (slot_rows 0 c.as_slice.result.now) =
     c.in_err-at.ensures in
-    c.from_residual.ensures
-    ∙ nothing_from (256 * c.args.number) c.args.place c.saturating_sub-from.result c.args.self.now
-    c.as_slice.result.now (c.as_slice.ensures.value ∙ c.self.view_is) c.saturating_sub-from.ensures e
+    rw (← c.self.view_is)
+    (c.from_residual.ensures
+    ∙ nothing_from (256 * c.self.inside.number) c.args.place c.saturating_sub-from.result
+    c.self.inside.slots.items
+    c.as_slice.result.now c.as_slice.ensures.value c.saturating_sub-from.ensures e)
+
+-- the row that is found lies at a number of 64 bits
+fits : (c : goal.In_ok-at) → 256 * c.self.inside.number + (c.in_ok-at.at + 1) < 2 ^ 64
+fits c =
+    let e : Some (c.in_ok-at.at, c.in_ok-at.document)
+    ≡ find (λ (row : ℕ × ℕ). nat_le c.saturating_sub-from.result row.0) (slot_rows 0 c.as_slice.result.now) =
+    c.in_ok-at.ensures in
+    fits_from (256 * c.self.inside.number) c.args.place c.saturating_sub-from.result c.self.inside.slots.items
+    c.as_slice.result.now c.as_slice.ensures.value c.saturating_sub-from.ensures
+    c.in_ok-at.at c.in_ok-at.document (2 ^ 64)
+    (subst (λ (page : ℕ × List (Option ℕ)). All (λ (row : ℕ × ℕ). row.0 < 2 ^ 64) (page_rows page))
+    (sym c.self.view_is) c.requires) e
 
 pub overflow_add-result : goal.overflow_add-result
-overflow_add-result c =
-    let e : Some (c.in_ok-at.at, c.in_ok-at.document)
-    ≡ find (λ (row : ℕ × ℕ). nat_le c.saturating_sub-from.result row.0) (slot_rows 0 c.as_slice.result.now) =
-    c.in_ok-at.ensures in
-    omega (
-      arith,
-      fits_from (256 * c.args.number) c.args.place c.saturating_sub-from.result c.args.self.now
-          c.as_slice.result.now (c.as_slice.ensures.value ∙ c.self.view_is) c.saturating_sub-from.ensures
-          c.in_ok-at.at c.in_ok-at.document (2 ^ 64) c.requires.fits e,
-    )
+overflow_add-result c = omega (arith, fits c)
 
 pub overflow_add-result-2 : goal.overflow_add-result-2
-overflow_add-result-2 c =
-    let e : Some (c.in_ok-at.at, c.in_ok-at.document)
-    ≡ find (λ (row : ℕ × ℕ). nat_le c.saturating_sub-from.result row.0) (slot_rows 0 c.as_slice.result.now) =
-    c.in_ok-at.ensures in
-    omega (
-      arith,
-      fits_from (256 * c.args.number) c.args.place c.saturating_sub-from.result c.args.self.now
-          c.as_slice.result.now (c.as_slice.ensures.value ∙ c.self.view_is) c.saturating_sub-from.ensures
-          c.in_ok-at.at c.in_ok-at.document (2 ^ 64) c.requires.fits e,
-    )
+overflow_add-result-2 c = omega (arith, fits c)
 
 pub returns : goal.returns
 returns c =
     let e : Some (c.in_ok-at.at, c.in_ok-at.document)
     ≡ find (λ (row : ℕ × ℕ). nat_le c.saturating_sub-from.result row.0) (slot_rows 0 c.as_slice.result.now) =
     c.in_ok-at.ensures in
-    found_from (256 * c.args.number) c.args.place c.saturating_sub-from.result c.args.self.now
-    c.as_slice.result.now (c.as_slice.ensures.value ∙ c.self.view_is) c.saturating_sub-from.ensures
-    c.in_ok-at.at c.in_ok-at.document e
+    rw (← c.self.view_is)
+    (found_from (256 * c.self.inside.number) c.args.place c.saturating_sub-from.result c.self.inside.slots.items
+    c.as_slice.result.now c.as_slice.ensures.value c.saturating_sub-from.ensures
+    c.in_ok-at.at c.in_ok-at.document e)

@@ -1,10 +1,10 @@
 use Rattle.std.proofs.Common.{◌≡◌, ℕ, ◌+◌, List, ◌∷◌, Option, drop, count_by, nat_lt, ◌∙◌, sym, ap, arith}
 use Rattle.std.proofs.lemmas.List.{drop_more, drop_all}
 use Rattle.std.proofs.lemmas.List.Sums.{count_by-le-length}
-use Rattle.std.proofs.Common.{◌<◌, subst, length}
+use Rattle.std.proofs.Common.{◌<◌, subst}
 use Rattle.std.specs.List.{All, AllPairs}
 use Rattle.hub_index.specs.Pages.{ArePages, IsPage, rows_of, page_rows}
-use Rattle.hub_index.proofs.PageLemmas.{from_page, count_same, counted_first, few_rows, is_page}
+use Rattle.hub_index.proofs.PageLemmas.{from_page, count_same, counted_first, few_rows}
 use Rattle.hub_index.proofs.page_index.PageIndexSeqIndex.count_after.Goals as goal
 
 -- the pages, as they are lent
@@ -12,12 +12,6 @@ pub place_of-at-requires : goal.place_of-at-requires
 place_of-at-requires c =
     subst (AllPairs (λ (a b : ℕ × List (Option ℕ)). a.0 < b.0)) (sym c.as_slice-pages.ensures.value)
     c.self.invariant.rising
-
-pub count_after-count-requires : goal.count_after-count-requires
-count_after-count-requires c =
-    is_page c.as_slice-pages.result.now c.loop-at.at c.index-pages-at.result c.loop-at-test.true
-    c.index-pages-at.is
-    (subst (All IsPage) (sym c.as_slice-pages.ensures.value) c.self.invariant.each)
 
 pub loop-at-init : goal.loop-at-init
 loop-at-init c =

@@ -1,10 +1,10 @@
 use Rattle.std.proofs.Common.{◌≡◌, ℕ, ◌-◌, ◌<◌, List, [], ◌∷◌, ◌++◌, Option, Some, None}
 use Rattle.std.proofs.Common.{take, find, reverse, nat_lt, ◌∙◌, sym, ap, arith}
 use Rattle.std.proofs.lemmas.List.{take_more}
-use Rattle.std.proofs.Common.{subst, length}
+use Rattle.std.proofs.Common.{subst}
 use Rattle.std.specs.List.{All, AllPairs}
 use Rattle.hub_index.specs.Pages.{IsPage, rows_of, page_rows}
-use Rattle.hub_index.proofs.PageLemmas.{upto_page, find_reverse_same, found_last, found_before, is_page}
+use Rattle.hub_index.proofs.PageLemmas.{upto_page, find_reverse_same, found_last, found_before}
 use Rattle.hub_index.proofs.page_index.PageIndexSeqIndex.last_before.Goals as goal
 
 -- the pages, as they are lent
@@ -12,12 +12,6 @@ pub place_of-at-requires : goal.place_of-at-requires
 place_of-at-requires c =
     subst (AllPairs (λ (a b : ℕ × List (Option ℕ)). a.0 < b.0)) (sym c.as_slice-pages.ensures.value)
     c.self.invariant.rising
-
-pub last_before-requires : goal.last_before-requires
-last_before-requires c =
-    is_page c.as_slice-pages.result.now (c.loop-at.at - 1) c.index-pages-at.result (omega arith)
-    c.index-pages-at.is
-    (subst (All IsPage) (sym c.as_slice-pages.ensures.value) c.self.invariant.each)
 
 pub loop-at-init : goal.loop-at-init
 loop-at-init c = record {

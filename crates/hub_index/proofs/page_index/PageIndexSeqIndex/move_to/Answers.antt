@@ -1,15 +1,9 @@
-use Rattle.std.proofs.Common.{ℕ, ◌<◌, List, [], ◌∷◌, ◌++◌, ◌∙◌, sym, ap, subst}
+use Rattle.std.proofs.Common.{ℕ, List, [], ◌∷◌, ◌++◌, ◌∙◌, sym, ap, subst}
 use Rattle.std.specs.Map.{remove_entry}
 use Rattle.hub_index.specs.Rows.{IsIndex}
-use Rattle.hub_index.proofs.IndexLemmas.{index_moved, moved_new, moved_old, seq_has}
+use Rattle.hub_index.proofs.IndexLemmas.{index_moved, moved_new, moved_old}
 use Rattle.hub_index.proofs.SlotLemmas.{at_seq}
 use Rattle.hub_index.proofs.page_index.PageIndexSeqIndex.move_to.Goals as goal
-
-pub remove_row-requires-clause-positive : goal.remove_row-requires-clause-positive
-remove_row-requires-clause-positive c =
-    let index : IsIndex c.args.self.now = subst IsIndex c.self.view_is c.self.invariant.index in
-    seq_has c.args.document (λ seq. 0 < seq) c.args.self.now c.in-Some.old index.positive
-    (c.requires.own ∙ c.in-Some.is)
 
 pub returns-in-Some-clause-moved : goal.returns-in-Some-clause-moved
 returns-in-Some-clause-moved c =
