@@ -8,8 +8,10 @@ mod id_pages;
 mod page;
 mod page_index;
 mod seq_index;
+mod tree_index;
 
 pub use id_hints::IdHints;
 pub use id_order::{IdOrder, Named};
 pub use page_index::PageIndex;
 pub use seq_index::SeqIndex;
+pub use tree_index::TreeIndex;

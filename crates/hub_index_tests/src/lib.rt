@@ -9,6 +9,3 @@ mod id_tests;
 mod page_tests;
 #[cfg(test)]
 mod tests;
-mod tree_index;
-
-pub use tree_index::TreeIndex;

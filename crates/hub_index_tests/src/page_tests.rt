@@ -3,9 +3,8 @@
 ghost use Rattle.std.specs.Prelude.{◌≡◌, ◌+◌, ◌^◌, ◌<◌, ◌≤◌, ◌∷◌, [], IfOk, OnOk};
 ghost use Rattle.std.specs.List.{All};
 
-use crate::TreeIndex;
 use crate::tests::{four_moves, move_again, move_both, room_for, same, seq_in};
-use hub_index::{PageIndex, SeqIndex};
+use hub_index::{PageIndex, SeqIndex, TreeIndex};
 use std::alloc::{AllocError, Global};
 use std::test::Fail;
 

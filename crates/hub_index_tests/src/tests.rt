@@ -7,8 +7,7 @@ ghost use Rattle.std.specs.Prelude.{◌≡◌, ◌<◌, ◌≤◌, [], IfOk, OnO
 ghost use Rattle.std.specs.List.{All};
 ghost use Rattle.hub_index.specs.Rows.{seq_of, rows_after_move};
 
-use crate::TreeIndex;
-use hub_index::SeqIndex;
+use hub_index::{SeqIndex, TreeIndex};
 use std::alloc::{AllocError, Global};
 use std::fmt::Debug;
 use std::process::Abort;

@@ -1,10 +1,9 @@
 use Rattle.std.proofs.Common.{◌≡◌, ℕ, ◌≤◌, Some, ◌∙◌, sym, subst}
 use Rattle.std.proofs.lemmas.Option.{none-some}
-use Rattle.hub_index.proofs.IndexLemmas.{same_Some}
-use Rattle.hub_index_tests.proofs.TreeLemmas.{next_none, next_beyond, next_within}
-use Rattle.hub_index_tests.proofs.tree_index.TreeIndexSeqIndex.next_after.Goals as goal
-use Rattle.hub_index_tests.proofs.tree_index.TreeIndexSeqIndex.next_after.Goals.{in_default-via-in-Some+else-bound-seq}
-use Rattle.hub_index_tests.proofs.tree_index.TreeIndexSeqIndex.next_after.Goals.{in_default-via-in_default}
+use Rattle.hub_index.proofs.IndexLemmas.{same_Some, next_none, next_beyond, next_within}
+use Rattle.hub_index.proofs.tree_index.TreeIndexSeqIndex.next_after.Goals as goal
+use Rattle.hub_index.proofs.tree_index.TreeIndexSeqIndex.next_after.Goals.{in_default-via-in-Some+else-bound-seq}
+use Rattle.hub_index.proofs.tree_index.TreeIndexSeqIndex.next_after.Goals.{in_default-via-in_default}
 
 pub returns-in_err-seq-clause-next : goal.returns-in_err-seq-clause-next
 returns-in_err-seq-clause-next c =

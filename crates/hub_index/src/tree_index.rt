@@ -2,13 +2,13 @@
 
 ghost use Rattle.std.specs.Prelude.{[], ◌≡◌};
 
-use hub_index::SeqIndex;
+use crate::SeqIndex;
 use std::alloc::{AllocError, Global};
 use std::collections::BTreeMap;
 use std::marker::Model;
 use std::ops::Bound;
 
-/// Rows in a tree by sequence, seen as the list of them: simpler than `PageIndex`, with which tests compare it.
+/// Rows in a tree by sequence, seen as the list of them.
 #[derive(Debug)]
 pub struct TreeIndex {
     documents: BTreeMap<u64, u32>,

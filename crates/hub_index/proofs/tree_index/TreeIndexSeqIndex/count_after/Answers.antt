@@ -1,7 +1,7 @@
 use Rattle.std.proofs.Common.{◌∙◌, refl}
 use Rattle.std.proofs.lemmas.Iterator.Consumers.{count_from_yields_List, YieldsList-from_rest}
-use Rattle.hub_index_tests.proofs.TreeLemmas.{counted}
-use Rattle.hub_index_tests.proofs.tree_index.TreeIndexSeqIndex.count_after.Goals as goal
+use Rattle.hub_index.proofs.IndexLemmas.{counted}
+use Rattle.hub_index.proofs.tree_index.TreeIndexSeqIndex.count_after.Goals as goal
 
 pub returns-clause-count : goal.returns-clause-count
 returns-clause-count c =

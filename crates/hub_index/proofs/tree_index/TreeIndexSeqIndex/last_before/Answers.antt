@@ -1,6 +1,6 @@
 use Rattle.std.proofs.Common.{◌∙◌, sym}
-use Rattle.hub_index_tests.proofs.TreeLemmas.{last_none, last_found}
-use Rattle.hub_index_tests.proofs.tree_index.TreeIndexSeqIndex.last_before.Goals as goal
+use Rattle.hub_index.proofs.IndexLemmas.{last_none, last_found}
+use Rattle.hub_index.proofs.tree_index.TreeIndexSeqIndex.last_before.Goals as goal
 
 pub returns-in_err-seq-clause-last : goal.returns-in_err-seq-clause-last
 returns-in_err-seq-clause-last c =

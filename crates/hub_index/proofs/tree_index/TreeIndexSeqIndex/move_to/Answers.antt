@@ -1,5 +1,5 @@
-use Rattle.hub_index_tests.proofs.TreeLemmas.{after_insert, after_remove, index_after}
-use Rattle.hub_index_tests.proofs.tree_index.TreeIndexSeqIndex.move_to.Goals as goal
+use Rattle.hub_index.proofs.IndexLemmas.{after_insert, after_remove, index_after}
+use Rattle.hub_index.proofs.tree_index.TreeIndexSeqIndex.move_to.Goals as goal
 
 pub returns-in-Some-clause-moved : goal.returns-in-Some-clause-moved
 returns-in-Some-clause-moved c =
