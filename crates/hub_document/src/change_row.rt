@@ -1,6 +1,6 @@
 //! Rows of changes.
 
-ghost use Rattle.std.specs.Prelude.{◌≡◌, ◌++◌, codes, slice_get};
+ghost use Rattle.std.specs.Prelude.{◌≡◌, ◌++◌, codes, slice_get, IfOk};
 ghost use Rattle.json.specs.Print.{escape};
 ghost use Rattle.hub_document.specs.Appends.{Appends};
 ghost use Rattle.hub_document.specs.DocText.{IsFirstText, doc_text, rev_member, row_doc};
@@ -10,7 +10,7 @@ use crate::body::Body;
 use crate::changes::{Changes, LentChanges};
 use crate::doc_id::DocId;
 use crate::text::{put_deleted, put_digest_rev, put_head, put_rev};
-use std::alloc::AllocError;
+use std::alloc::{AllocError, Global};
 use std::marker::Model;
 
 /// A row of a feed of changes (CouchDB API reference, `_changes`).
@@ -79,6 +79,26 @@ fn put_plain_head(out: &mut Vec<u8>, id: &str, rev: &[u8; 36]) -> Result<(), All
 }
 
 impl ChangeRow {
+    /// A copy. It costs the lengths of the list of revisions and of the members.
+    pub fn copy(&self, alloc: Global) -> Result<ChangeRow, AllocError>
+        ensures { IfOk result (λ row. row ≡ self.now) }
+    {
+        let id = self.id.copy()?;
+        let changes = self.changes.copy(alloc)?;
+        let doc = match &self.doc {
+            Some(body) => Some(body.copy(alloc)?),
+            None => None,
+        };
+        Ok(ChangeRow {
+            seq: self.seq,
+            id,
+            changes,
+            deleted: self.deleted,
+            doc,
+            seen: self.seen,
+        })
+    }
+
     /// Appends the text of the document with these members whose row it is. It costs the text's
     /// length. After an error what was held still stands in front, and a part of the text may stand
     /// behind it.

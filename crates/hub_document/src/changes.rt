@@ -1,6 +1,6 @@
 //! The revisions that rows list.
 
-ghost use Rattle.std.specs.Prelude.{◌≡◌, ◌∷◌, [], length, slice_get, IfOk, OnErr};
+ghost use Rattle.std.specs.Prelude.{◌≡◌, ◌<◌, ◌∷◌, [], length, slice_get, IfOk, OnErr};
 ghost use Rattle.hub_document.specs.Changes.{IsDigestText, lent_in};
 
 use crate::revision::{DigestRev, RevId};
@@ -112,6 +112,17 @@ impl Changes {
         match &self.kept {
             Kept::One(rev) => (at == 0).then_some(rev.rev()),
             Kept::Many(revs) => revs.as_slice().get(at).copied(),
+        }
+    }
+
+    /// A copy. One alone that takes no memory is copied without.
+    pub fn copy(&self, alloc: Global) -> Result<Changes, AllocError>
+        ensures ok { IfOk result (λ changes. changes ≡ self.now) }
+        ensures memory { OnErr result (0 < length self.now) }
+    {
+        match &self.kept {
+            Kept::One(rev) => Ok(Changes::of_digest(rev.copy())),
+            Kept::Many(revs) => Ok(Changes::new(revs.copy(alloc)?)),
         }
     }
 

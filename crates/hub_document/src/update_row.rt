@@ -1,6 +1,9 @@
 //! Rows of the log of updates.
 
+ghost use Rattle.std.specs.Prelude.{◌≡◌, ◌<◌, length, IfOk, OnErr};
+
 use hub_model::UpdateKind;
+use std::alloc::{AllocError, Global};
 use std::marker::Model;
 
 /// A row of a feed of the log of updates (CouchDB API reference, `_db_updates`).
@@ -28,4 +31,24 @@ impl Model for UpdateRow {
       seq = a.seq;
       seen = a.seen;
     } };
+}
+
+impl UpdateRow {
+    /// A copy. It costs the length of the name, and of an empty name takes no memory.
+    pub fn copy(&self, alloc: Global) -> Result<UpdateRow, AllocError>
+        ensures ok { IfOk result (λ row. row ≡ self.now) }
+        ensures memory { OnErr result (0 < length self.now.db_name) }
+    {
+        let db_name = if self.db_name.is_empty() {
+            String::new(alloc)
+        } else {
+            String::from_str(alloc, self.db_name.as_str())?
+        };
+        Ok(UpdateRow {
+            db_name,
+            kind: self.kind,
+            seq: self.seq,
+            seen: self.seen,
+        })
+    }
 }

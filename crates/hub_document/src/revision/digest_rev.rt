@@ -70,6 +70,16 @@ impl DigestRev {
         self.digest
     }
 
+    /// The same once more. Constant time.
+    pub fn copy(&self) -> DigestRev
+        ensures { result ≡ self.now }
+    {
+        DigestRev {
+            generation: self.generation,
+            digest: self.digest,
+        }
+    }
+
     /// The same with the text of its hash. Constant time.
     pub fn rev(&self) -> RevId
         ensures { result ≡ self.now }

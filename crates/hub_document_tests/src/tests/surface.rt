@@ -56,8 +56,8 @@ fn revisions_with_digests(rt: HostRuntime) {
 
 #[test]
 fn revisions_in_little_memory(rt: HostRuntime) {
-    let rev = DigestRev::new(3, DIGEST);
-    let found = (rev.generation(), rev.digest(), Some(rev.rev()));
+    let copy = DigestRev::new(3, DIGEST).copy();
+    let found = (copy.generation(), copy.digest(), Some(copy.rev()));
     same(&rt, &found, &(3, DIGEST, RevId::read(MADE)));
 }
 
@@ -84,9 +84,10 @@ fn lent_first(changes: &Changes) -> (bool, Option<RevId>) {
     }
 }
 
-// The list of a row's revision of that digest.
-fn made_list(alloc: Global) -> Result<Revisions, AllocError> {
-    Changes::of_digest(DigestRev::new(3, DIGEST)).into_revisions(alloc)
+// The list of a row's revisions, of a copy of them.
+fn list_of(alloc: Global, changes: &Changes) -> Result<Revisions, AllocError> {
+    let copy = changes.copy(alloc)?;
+    copy.into_revisions(alloc)
 }
 
 #[test]
@@ -101,7 +102,7 @@ fn revisions_of_rows(rt: HostRuntime) -> Result<(), Fail> {
     }
     let changes = Changes::of_digest(DigestRev::new(3, DIGEST));
     same(&rt, &lent_first(&changes), &(true, RevId::read(MADE)));
-    let list = grown!(made_list(alloc))?;
+    let list = grown!(list_of(alloc, &changes))?;
     let found = (list.as_slice().len(), list.as_slice().first().copied());
     same(&rt, &found, &(1, RevId::read(MADE)));
     Ok(())
