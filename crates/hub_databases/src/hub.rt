@@ -1,12 +1,12 @@
 //! A hub of databases behind locks.
 
-ghost use Rattle.std.specs.Prelude.{◌≡◌, ◌↔◌, ◌⊎◌, [], true, false, Ok, Err, map};
+ghost use Rattle.std.specs.Prelude.{◌≡◌, ◌↔◌, ◌⊎◌, true, false, Ok, Err, map};
 ghost use Rattle.std.specs.Prelude.{string_bytes, Contains, IfErr, IfOk, IsSome, OnOk};
 ghost use Rattle.hub_databases.specs.Kept.{AreNames, most_databases, with_made, without_name};
 ghost use Rattle.hub_databases.specs.Names.{is_name as is_database_name};
 ghost use Rattle.hub_databases.specs.Refusals.{IsCreationFault, IsFree, IsRemovalFault};
 ghost use Rattle.hub_params.specs.FeedShown.{params_asked};
-ghost use Rattle.hub_shared.specs.Handles.{IsBeginningFor, IsEditedBy, IsStoredBy};
+ghost use Rattle.hub_shared.specs.Handles.{IsEditedBy, IsNew, IsStoredBy};
 ghost use Rattle.hub_shared.specs.Stored.{HasStored};
 ghost use Rattle.hub_updates.specs.Asked.{updates_asked};
 
@@ -173,7 +173,7 @@ impl Hub {
         }
         let notice = Notice::new(self.alloc, UpdateKind::Deleted, name)?;
         let taken = self.take(rt, &mut *self.names.write(rt), name, notice);
-        let mut handle = taken?;
+        let handle = taken?;
         // Who has the database may have deleted it before.
         let _deleted = handle.delete(rt);
         Ok(())
@@ -260,9 +260,7 @@ impl Hub {
     /// `HostFeed::poll`, or something `pump` for it, and `HostFeed::take`. It shows every row of the
     /// log, upwards (`Updates::open_feed`). It costs the wait for the log, and what that call does.
     pub fn updates<R: Wait>(&self, rt: &R, params: FeedParams) -> Result<UpdatesFeed, OpenFault>
-        ensures asks { IfOk result (λ feed. feed.label.asked ≡ updates_asked (params_asked params)) }
-        ensures begins { IfOk result (λ feed. IsBeginningFor params.since 0 feed.label) }
-        ensures none { IfOk result (λ feed. feed.taken ≡ []) }
+        ensures new { IfOk result (IsNew (updates_asked (params_asked params)) 0) }
         ensures err { IfErr result (λ e. (e ≡ OpenFault.NoMemory) ⊎ (e ≡ OpenFault.TooManyFeeds)) }
     {
         self.updates.open_feed(rt, params)

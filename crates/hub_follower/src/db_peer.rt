@@ -77,7 +77,7 @@ fn rows_by_turns<R: Wait>(
     for _ in 0..=ROWS {
         feed.hold(rt, Turn::Hand, &Open)?;
         if let Some(last_seq) = take_rows(rt, feed, &mut rows)? {
-            let life = feed.label().life();
+            let life = feed.end().label().life();
             return Ok(Changes {
                 rows,
                 last_seq,

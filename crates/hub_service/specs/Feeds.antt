@@ -24,7 +24,7 @@ use Rattle.hub_http.specs.declared.refusal.Refusal.TheVariants as refusal
 use Rattle.hub_session.specs.Items as stream
 use Rattle.hub_session.specs.StreamItem.{StreamItem, Change, Update}
 use Rattle.hub_shared.specs.Feeds.{FeedState, behind_item, receiver_of}
-use Rattle.hub_shared.specs.Handles.{IsBeginningFor}
+use Rattle.hub_shared.specs.Handles.{IsNew}
 use Rattle.hub_service.specs.Moments.{HasDatabase}
 use Rattle.hub_service.specs.Refusals.{of_open_fault, of_param_fault}
 use Rattle.hub_service.specs.Said.{IsWant}
@@ -41,19 +41,11 @@ life_of (Updates feed) = feed.label.life
 
 -- ---- beginning one
 
--- A feed that was opened with these parameters, of which nothing was taken. It shows what lies above a
--- sequence that is not above the one asked for, and below it only where that many edits were not there yet; a
--- sequence of another life counts as 0.
-pub record IsNew {R : Type 0} (asked : FeedAsked) (feed : FeedState R) : Type 0 where
-  pub asks : feed.label.asked ≡ asked
-  pub begins : IsBeginningFor asked.since 0 feed.label
-  pub none : feed.taken ≡ []
-
 -- what is asked of a database is begun, in this mode: downwards it is made at once
 abbrev pub IsBegun : FeedAsked → Mode → Sent → Type 0
 IsBegun asked mode (Listed answer) = (asked.descending ≡ true) × (mode ≡ Normal)
     × HasDatabase (λ db. (db.deleted ≡ false) × (answer ≡ descending db.journal db.life (params_in asked)))
-IsBegun asked mode (Changes feed) = (asked.descending ≡ false) × (mode ≡ asked.mode) × IsNew asked feed
+IsBegun asked mode (Changes feed) = (asked.descending ≡ false) × (mode ≡ asked.mode) × IsNew asked 0 feed
 IsBegun asked mode (Updates feed) = ⊥
 
 -- why a database begins no feed: it was deleted, or it has as many as it may
@@ -72,7 +64,7 @@ BeginsChanges asked (Err e) = IsUnopened asked e ⊎ (e ≡ refusal.NoMemory)
 abbrev pub IsBegunOfUpdates : FeedAsked → Mode → Sent → Type 0
 IsBegunOfUpdates asked mode (Listed answer) = ⊥
 IsBegunOfUpdates asked mode (Changes feed) = ⊥
-IsBegunOfUpdates asked mode (Updates feed) = (mode ≡ asked.mode) × IsNew (updates_asked asked) feed
+IsBegunOfUpdates asked mode (Updates feed) = (mode ≡ asked.mode) × IsNew (updates_asked asked) 0 feed
 
 -- and so of the log of updates
 abbrev pub BeginsUpdates : FeedAsked → Result Response Refusal → Type 0

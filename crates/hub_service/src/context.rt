@@ -6,8 +6,8 @@ ghost use Rattle.hub_database.specs.Hosting.{hosted_of};
 ghost use Rattle.hub_feed.specs.Host.{opening_fault};
 ghost use Rattle.hub_params.specs.FeedShown.{params_asked};
 ghost use Rattle.hub_service.specs.Calls.{winner_in};
-ghost use Rattle.hub_service.specs.Feeds.{IsNew};
 ghost use Rattle.hub_service.specs.Moments.{HasDatabase, IsFound, IsKept, IsLooked};
+ghost use Rattle.hub_shared.specs.Handles.{IsNew};
 
 use crate::refusal::with_refusal;
 use crate::rooms::JsonRooms;
@@ -62,13 +62,13 @@ impl<'h, N: Wait> Context<'h, N> {
     pub(crate) fn local_put(&self, db: &HubDb, doc: LocalDoc) -> Result<u64, Refusal>
         ensures { IsKept doc result }
     {
-        let mut handle = db.handle()?;
+        let handle = db.handle()?;
         with_refusal(handle.local_put(self.rt, doc))
     }
 
     /// Opens a feed.
     pub(crate) fn open_feed(&self, db: &HubDb, params: FeedParams) -> Result<Feed<Plain>, OpenFault>
-        ensures new { IfOk result (λ feed. IsNew (params_asked params) feed) }
+        ensures new { IfOk result (IsNew (params_asked params) 0) }
         ensures err { IfErr result (λ e. (e ≡ OpenFault.NoMemory)
             ⊎ HasDatabase (λ db. e ≡ opening_fault (hosted_of db))) }
     {

@@ -90,8 +90,8 @@ impl Sent {
     {
         match self {
             Sent::Listed(listed) => listed.life,
-            Sent::Changes(feed) => feed.label().life(),
-            Sent::Updates(feed) => feed.label().life(),
+            Sent::Changes(feed) => feed.end().label().life(),
+            Sent::Updates(feed) => feed.end().label().life(),
         }
     }
 

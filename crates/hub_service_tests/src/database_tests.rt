@@ -80,7 +80,7 @@ fn delete<N: Wait>(rt: &N, hub: &Hub) -> bool {
         return false;
     };
     match db.handle() {
-        Ok(mut handle) => handle.delete(rt).is_ok(),
+        Ok(handle) => handle.delete(rt).is_ok(),
         Err(_) => false,
     }
 }

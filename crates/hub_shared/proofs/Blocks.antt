@@ -1,11 +1,14 @@
 -- What follows from an answer by its cases.
-use Rattle.std.proofs.Common.{◌≡◌, ◌∙◌, ap, sym, subst, arith, ◌+◌, ◌-◌, List, [], ◌∷◌, ◌++◌, length, take}
+use Rattle.std.proofs.Common.{◌≡◌, ◌∙◌, ap, sym, subst, arith, ℕ, ◌+◌, ◌-◌, List, [], ◌∷◌, ◌++◌, length, take}
 use Rattle.std.proofs.Common.{append_assoc, append-nil, length-append, Option, Some, None}
 use Rattle.std.proofs.lemmas.Grind.{flat_map-append}
 use Rattle.std.proofs.Math.Seq.{take-append_seam}
-use Rattle.hub_lane.specs.Ends.{ReceiverState, behind_take}
+use Rattle.hub_lane.specs.Ends.{IsAllowedBeginning, ReceiverState, behind_take}
+use Rattle.hub_model.specs.Feed.{Params}
 use Rattle.hub_model.specs.declared.feeds.Item.{Item}
+use Rattle.hub_params.specs.FeedModel.{params_in}
 use Rattle.hub_shared.specs.Blocks.{end_of, front_of, items_in}
+use Rattle.hub_shared.specs.Feeds.{IsRightSoFar}
 use Rattle.hub_shared.specs.Label.{Label}
 use Rattle.std.specs.Prelude.{IfSome, IfNone, OnOk, OnErr, Result, Ok, Err, option_to_list}
 
@@ -39,8 +42,13 @@ module _ {I : Type 0} where
   pub front_is : (all before end : List I) → all ≡ before ++ end → front_of all end ≡ before
   front_is all before end is = ap (λ list. front_of list end) is ∙ front_seam before end
 
-  pub front_whole : (all before end : List I) → all ≡ before ++ end → all ≡ front_of all end ++ end
-  front_whole all before end is = is ∙ ap (λ list. list ++ end) (sym (front_is all before end is))
+  -- what stands before the end of a list, and the end, are the list: also once more was taken of the end
+  pub front_more : (all before end one rest : List I) → all ≡ before ++ end → end ≡ one ++ rest
+      → all ≡ front_of all rest ++ rest
+  front_more all before end one rest is more =
+      let whole : all ≡ (before ++ one) ++ rest =
+      is ∙ (ap (λ list. before ++ list) more ∙ sym (append_assoc before one rest)) in
+      whole ∙ ap (λ list. list ++ rest) (sym (front_is all (before ++ one) rest whole))
 
   -- the items of blocks, and of one more
   pub items_more : (blocks : List (List I)) (block : List I)
@@ -50,12 +58,38 @@ module _ {I : Type 0} where
       ∙ ap (λ list. items_in blocks ++ list) (append-nil block)
 
   -- what is allowed of all blocks is allowed of a front of their items, what is left of them, and the others
-  pub front_allowed : (P : List I → Type 0) (blocks others : List (List I)) (front left : List I)
+  front_allowed : (P : List I → Type 0) (blocks others : List (List I)) (front left : List I)
       → items_in blocks ≡ front ++ left → P (items_in (blocks ++ others))
       → P (front ++ (left ++ items_in others))
   front_allowed P blocks others front left is allowed =
       subst P (flat_map-append (λ items. items) blocks others
       ∙ (ap (λ list. list ++ items_in others) is ∙ append_assoc front left (items_in others))) allowed
+
+-- where the lane gave what is right so far, an end took what is
+pub right_so_far : {R : Type 0} (right : Params → ℕ → List (Item R) → Type 0)
+    (receiver : ReceiverState Label (List (Item R))) (left : List (Item R))
+    → items_in receiver.taken ≡ front_of (items_in receiver.taken) left ++ left
+    → IsAllowedBeginning (λ (l : Label) blocks. right (params_in l.asked) l.since (items_in blocks)) receiver
+    → IsRightSoFar right (end_of receiver left)
+right_so_far right receiver left is (others, allowed) = (
+  left ++ items_in others,
+  front_allowed (right (params_in receiver.label.asked) receiver.label.since) receiver.taken others
+      (front_of (items_in receiver.taken) left) left is allowed,
+)
+
+-- an end that took what came first of the rest of its block
+pub end_goes_on : {R : Type 0} (receiver : ReceiverState Label (List (Item R))) (left rest : List (Item R))
+    (o : Option (Item R))
+    → items_in receiver.taken ≡ front_of (items_in receiver.taken) left ++ left
+    → left ≡ option_to_list o ++ rest
+    → IfSome o (λ item. end_of receiver rest ≡ behind_take (end_of receiver left) item)
+end_goes_on receiver left rest None is more = tt
+end_goes_on receiver left rest (Some item) is more =
+    let before = front_of (items_in receiver.taken) left in
+    let whole : items_in receiver.taken ≡ (before ++ item ∷ []) ++ rest =
+    is ∙ (ap (λ list. before ++ list) more ∙ sym (append_assoc before (item ∷ []) rest)) in
+    ap (λ taken. record { lane_id = receiver.lane_id; label = receiver.label; taken = taken })
+    (front_is (items_in receiver.taken) (before ++ item ∷ []) rest whole)
 
 -- an end of which nothing was left, behind one more block: what comes first of it was taken
 module _ {R : Type 0} (old new : ReceiverState Label (List (Item R))) (left rest block : List (Item R))

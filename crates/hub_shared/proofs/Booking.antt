@@ -1,7 +1,9 @@
--- What the book of a host has counted, once the feeds of the host moved, and once edits came.
+-- What the book of a host has counted, once the feeds of the host moved, and once edits came; and what a handle
+-- knows by its share.
 use Rattle.std.proofs.Common.{◌≡◌, ◌∙◌, ℕ, ◌+◌, ◌≤◌, List, Bool, true, false, ap, sym, subst, arith}
 use Rattle.hub_model.specs.Feed.{Feed}
 use Rattle.hub_feed.specs.Host.{Hosted, with_feeds}
+use Rattle.hub_shared.specs.Handles.{HandleState}
 use Rattle.hub_shared.specs.Locked.{IsBookOf}
 
 -- The feeds of a host do not change how many edits it has. So what counted those of a host has counted those
@@ -27,3 +29,10 @@ book_grows counts total rise more edits book low whole =
 -- what counts nothing has counted nothing
 pub counts_nothing : (edits : ℕ) → IsBookOf false 0 edits
 counts_nothing edits = (omega arith, λ counts. absurd (cc))
+
+-- what holds of a handle's share, which counted as many edits as the handle, holds of the handle
+pub of_share : {parts amount count : ℕ} {state : HandleState} (P : HandleState → Type 0) → amount ≡ count
+    → record { parts = parts; count = count } ≡ state → P (record { parts = parts; count = amount })
+    → P state
+of_share {parts} P counted is holds =
+    subst P (ap (λ (n : ℕ). record { parts = parts; count = n }) counted ∙ is) holds

@@ -4,7 +4,7 @@ use Rattle.hub_model.specs.Entries.{entry_in}
 use Rattle.hub_model.specs.Feed.{Params}
 use Rattle.hub_model.specs.declared.feeds.Item.{Item}
 use Rattle.hub_feed.specs.Host.{Hosted, opening_refusal}
-use Rattle.hub_lane.specs.Ends.{IsAllowedBeginning, LaneId, ReceiverState}
+use Rattle.hub_lane.specs.Ends.{IsAllowedBeginning, LaneId, ReceiverState, behind_take}
 use Rattle.hub_params.specs.FeedModel.{params_in}
 use Rattle.hub_params.specs.FeedParams.{FeedAsked}
 use Rattle.hub_shared.specs.Label.{Label, label_of}
@@ -30,15 +30,25 @@ module _ {R : Type 0} where
   abbrev pub behind_item : FeedState R → Item R → FeedState R
   behind_item feed item = record feed { taken = feed.taken ++ item ∷ [] }
 
-  -- What a call that looks for an item did to a feed: an item that was found stands behind those that were
-  -- taken, and where there is none the feed is as it was.
-  abbrev pub Takes : FeedState R → Option (Item R) → FeedState R → Type 0
-  Takes old found new = IfSome found (λ item. new ≡ behind_item old item) × IfNone found (new ≡ old)
+  -- where `right` says which lists of items are right for a feed of these parameters and this since
+  module _ (right : Params → ℕ → List (Item R) → Type 0) where
+    -- what was taken of the end of a feed's lane is the beginning of a list that is right for its label
+    abbrev pub IsRightSoFar : ReceiverState Label (Item R) → Type 0
+    IsRightSoFar end =
+        IsAllowedBeginning (λ (l : Label) items. right (params_in l.asked) l.since items) end
 
-  -- what was taken of a feed is the beginning of a list that is right for its parameters and its since
-  abbrev pub IsRightSoFar : (Params → ℕ → List (Item R) → Type 0) → FeedState R → Type 0
-  IsRightSoFar right feed =
-      IsAllowedBeginning (λ (l : Label) items. right (params_in l.asked) l.since items) (receiver_of feed)
+    -- What a call that looks for an item did to such an end: an item that was found stands behind those that
+    -- were taken, and where there is none the end is as it was. What was taken is right so far.
+    abbrev pub EndTakes : ReceiverState Label (Item R) → Option (Item R) → ReceiverState Label (Item R)
+        → Type 0
+    EndTakes old found new =
+        IfSome found (λ item. new ≡ behind_take old item) × IfNone found (new ≡ old) × IsRightSoFar new
+
+    -- what it did to a feed
+    abbrev pub Takes : FeedState R → Option (Item R) → FeedState R → Type 0
+    Takes old found new =
+        IfSome found (λ item. new ≡ behind_item old item) × IfNone found (new ≡ old)
+        × IsRightSoFar (receiver_of new)
 
   -- The host opened the feed, of which this was asked. The host refused none, no feed of it had the number,
   -- the label tells where a feed begins that is opened then, and nothing was taken yet.

@@ -1,5 +1,5 @@
 -- What a handle on a database knows of it (own).
-use Rattle.std.specs.Prelude.{◌≡◌, ℕ, ◌+◌, ◌≤◌, ◌<◌, ◌^◌, List, length, take, min, Bool, true, false}
+use Rattle.std.specs.Prelude.{◌≡◌, ℕ, ◌+◌, ◌≤◌, ◌<◌, ◌^◌, List, [], length, take, min, Bool, true, false}
 use Rattle.std.specs.Prelude.{IsTrue, Result}
 use Rattle.hub_model.specs.Feed.{counted_in}
 use Rattle.hub_model.specs.Journal.{IsLegal}
@@ -11,13 +11,12 @@ use Rattle.hub_database.specs.Database.{Database}
 use Rattle.hub_database.specs.Edits.{StopsAt, docs_result}
 use Rattle.hub_database.specs.declared.batch.Batch.{Batch}
 use Rattle.hub_database.specs.declared.batch.DbFault.{DbFault}
+use Rattle.hub_params.specs.FeedParams.{FeedAsked}
 use Rattle.hub_shared.specs.Edits.{IsEditAnswer}
+use Rattle.hub_shared.specs.Feeds.{FeedState}
 use Rattle.hub_shared.specs.Label.{Label}
 use Rattle.hub_database.specs.Receipts.{ids_of, receipts_from}
 use Rattle.hub_shared.specs.declared.write.Accepted.{Accepted}
-use Rattle.hub_database.specs.Answers.{IsAnswer}
-use Rattle.hub_database.specs.declared.question.Answer.{Answer}
-use Rattle.hub_database.specs.declared.question.Question.{Question}
 use Rattle.hub_shared.specs.Stored.{batch_of}
 
 -- what is seen of a handle
@@ -53,12 +52,12 @@ pub record IsFoundBy (counts : Bool) (all_parts : ℕ) (state : HandleState) (db
   pub whole : counts ≡ true → state.parts ≡ all_parts → length db.journal ≡ state.count
 
 module _ (counts : Bool) (all_parts : ℕ) (state : HandleState) where
-  -- the answer to a question of some database that the handle may find
-  pub record IsReadBy (question : Question) (answer : Answer) : Type 0 where
+  -- a call that only looks: this holds of some database that the handle may find, and the handle is as it was
+  pub record IsLook (new : HandleState) (holds_of : Database → Type 0) : Type 0 where
     pub db : Database
     pub found : IsFoundBy counts all_parts state db
-    pub stands : db.deleted ≡ false
-    pub answered : IsAnswer db question answer
+    pub held : holds_of db
+    pub same : new ≡ state
 
   -- What became of a batch that was stored in some database that the handle may find: of each document,
   -- unless memory ran out. It stops only at a document that needed room.
@@ -99,3 +98,11 @@ IsBeginningFor Now count label = count ≤ label.since
 IsBeginningFor (Plain seq) count label = IsBeginningAt seq count label.since
 IsBeginningFor (Tagged seq of) count label =
     IsBeginningAt (counted_in label.life seq of) count label.since
+
+-- A feed that was opened with these parameters, by a handle that has counted so many edits, of which nothing
+-- was taken. It shows what lies above a sequence that is not above the one asked for, and below it only where
+-- that many edits were not there yet; a sequence of another life counts as 0.
+pub record IsNew {R : Type 0} (asked : FeedAsked) (count : ℕ) (feed : FeedState R) : Type 0 where
+  pub asks : feed.label.asked ≡ asked
+  pub begins : IsBeginningFor asked.since count feed.label
+  pub none : feed.taken ≡ []

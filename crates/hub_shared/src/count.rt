@@ -52,18 +52,6 @@ pub trait Count: Drop {
             × (parts share.new ≡ parts share.old) }
         ensures bound { amount share.old ≤ total book.old }
         ensures whole { counts ≡ true → parts share.old ≡ all_parts → amount share.old ≡ total book.old };
-
-    /// A share that has counted nothing, with as many parts of this one. It takes no memory.
-    fn split(share: &mut Self::Share, given: u64) -> Self::Share
-        requires { counts ≡ true → (0 < given) × (given < parts share.old) }
-        ensures given { counts ≡ true → parts result ≡ given }
-        ensures parts { parts share.new + parts result ≡ parts share.old }
-        ensures amount { (amount share.new ≡ amount share.old) × (amount result ≡ 0) };
-
-    /// Adds another share to this one. It takes no memory.
-    fn merge(share: &mut Self::Share, other: Self::Share)
-        ensures parts { parts share.new ≡ parts share.old + parts other }
-        ensures amount { amount share.new ≡ amount share.old + amount other };
 }
 
 /// Counts, by a ledger of std with a fixed number of parts.
@@ -120,14 +108,6 @@ impl<L: Ledger> Count for Counted<L> {
     fn audit(book: &mut Book<L>, share: &mut Share<L>) {
         book.audit(share);
     }
-
-    fn split(share: &mut Share<L>, given: u64) -> Share<L> {
-        share.split_off(given, 0)
-    }
-
-    fn merge(share: &mut Share<L>, other: Share<L>) {
-        share.merge(other);
-    }
 }
 
 /// Counts nothing: for databases whose handles need no count.
@@ -164,12 +144,4 @@ impl Count for Plain {
     }
 
     fn audit(_book: &mut NoCount, _share: &mut NoCount) {}
-
-    fn split(_share: &mut NoCount, _given: u64) -> NoCount {
-        NoCount
-    }
-
-    fn merge(_share: &mut NoCount, other: NoCount) {
-        drop(other);
-    }
 }

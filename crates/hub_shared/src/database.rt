@@ -1,8 +1,7 @@
 //! A database that lies under a lock.
 
-ghost use Rattle.std.specs.Prelude.{◌≡◌, ◌<◌, ◌^◌, true, false, ℕ, length, Some, IfOk, IfErr, OnOk};
+ghost use Rattle.std.specs.Prelude.{◌≡◌, ◌<◌, ◌^◌, true, false, ℕ, length, Some, IfErr, OnOk};
 ghost use Rattle.hub_database.specs.Feeds.{deleted_database};
-ghost use Rattle.hub_database.specs.Locals.{put_local, local_after_write};
 ghost use Rattle.hub_model.specs.Entries.{entry_in};
 ghost use Rattle.hub_model.specs.Feed.{Feed};
 ghost use Rattle.hub_model.specs.Journal.{IsLegal};
@@ -11,13 +10,11 @@ ghost use Rattle.hub_model.specs.RowKind.{change_rows};
 ghost use Rattle.hub_model.specs.declared.outcomes.Fault.TheVariants.{Deleted};
 ghost use Rattle.hub_params.specs.FeedModel.{params_in};
 ghost use Rattle.hub_shared.specs.Handles.{IsFoundBy, handle_of};
-ghost use Rattle.hub_shared.specs.Locals.{IsLocalFault};
 
 use crate::count::Count;
 use crate::locked::Locked;
 use crate::outbox::Outbox;
 use hub_database::{DbFault, DbState};
-use hub_document::LocalDoc;
 
 impl<C: Count, K: Outbox<DbState>> Locked<DbState, C, K> {
     /// How many edits there are. Whenever a database is got from a lock, its journal is legal, and what was
@@ -48,20 +45,6 @@ impl<C: Count, K: Outbox<DbState>> Locked<DbState, C, K> {
     {
         C::audit(&mut self.book, share);
         self.feeds_are_right()
-    }
-
-    /// Stores a local document, as `DbState::local_put`: feeds do not show it.
-    pub fn local_put(&mut self, doc: LocalDoc) -> Result<u64, DbFault>
-        ensures ok { IfOk result (λ count. (self.old.state.deleted ≡ false)
-            × (count ≡ (local_after_write self.old.state.locals doc).count)
-            × (self.new ≡ record self.old {
-              state = record self.old.state {
-                locals = put_local (local_after_write self.old.state.locals doc) self.old.state.locals;
-              };
-            })) }
-        ensures err { IfErr result (λ e. (self.new ≡ self.old) × IsLocalFault self.old.state doc e) }
-    {
-        self.state.local_put(doc)
     }
 
     /// Deletes the database, ends its open feeds, and gives news of it: what is left of each feed is its

@@ -2,7 +2,7 @@
 
 ghost use Rattle.std.specs.Prelude.{◌≡◌, IfNone};
 ghost use Rattle.hub_shared.specs.Blocks.{IsDrained};
-ghost use Rattle.hub_shared.specs.Feeds.{IsRightSoFar, Takes, feed_of, receiver_of};
+ghost use Rattle.hub_shared.specs.Feeds.{Takes, feed_of, receiver_of};
 
 use crate::block::Block;
 use crate::count::{Count, Plain};
@@ -20,6 +20,7 @@ use hub_lane::Asks;
 use hub_model::Item;
 use std::alloc::{AllocError, Global};
 use std::marker::Model;
+use std::sync::atomic::Ordering;
 use std::sync::{Arc, Wait};
 
 /// The label of a feed of changes.
@@ -79,11 +80,11 @@ impl<S: FeedHost, C: Count> HostFeed<S, C> {
         self.id
     }
 
-    /// What the feed was asked for, and where it began. Constant time, and no memory.
-    pub fn label(&self) -> &FeedLabel<S>
-        ensures { result.now ≡ self.now.label }
+    /// The end of its lane that takes, for its label. Constant time, and no memory.
+    pub fn end(&self) -> &FeedEnd<S>
+        ensures { result.now ≡ receiver_of self.now }
     {
-        self.end.label()
+        &self.end
     }
 
     /// Takes the first item that was handed and not taken yet: what was taken is the beginning of a
@@ -91,9 +92,8 @@ impl<S: FeedHost, C: Count> HostFeed<S, C> {
     /// the lane was empty at a moment of the call, and no item was left of its blocks: then a pump that waits
     /// for room is woken. It waits for nobody, and takes no memory.
     pub fn take<R: Asks<FeedLabel<S>, Block<S::Row>>>(&mut self, rt: &R) -> Option<Item<S::Row>>
-        ensures taken { Takes self.old result self.new }
+        ensures taken { Takes S.right self.old result self.new }
         ensures none { IfNone result (IsDrained (R.lacks rt.now) (receiver_of self.old)) }
-        ensures allowed { IsRightSoFar S.right self.new }
     {
         let mut next = None;
         self.take_into(rt, &mut next);
@@ -104,9 +104,8 @@ impl<S: FeedHost, C: Count> HostFeed<S, C> {
     pub fn take_into<R>(&mut self, rt: &R, next: &mut Option<Item<S::Row>>)
     where
         R: Asks<FeedLabel<S>, Block<S::Row>>,
-        ensures taken { Takes self.old next.new self.new }
+        ensures taken { Takes S.right self.old next.new self.new }
         ensures none { IfNone next.new (IsDrained (R.lacks rt.now) (receiver_of self.old)) }
-        ensures allowed { IsRightSoFar S.right self.new }
     {
         self.end.take_into(rt, next);
         if next.is_none() {
@@ -123,7 +122,7 @@ impl<S: FeedHost, C: Count> HostFeed<S, C> {
     /// Whether nothing more is handed, as the feed's pump has ended, or `poll` found the feed gone or no
     /// memory for an item: what can be taken then is all that will come. Constant time.
     pub fn is_over(&self) -> bool {
-        self.signals.is_over()
+        self.signals.is_over.load(Ordering::SeqCst)
     }
 
     /// Takes the lock once for this feed, as the free function `hold`.

@@ -1,9 +1,10 @@
 //! The end of a feed's lane from which its connection takes.
 
-ghost use Rattle.std.specs.Prelude.{◌≡◌, IfSome, IfNone};
-ghost use Rattle.hub_lane.specs.Ends.{IsAllowedBeginning, behind_take, new_receiver};
+ghost use Rattle.std.specs.Prelude.{◌≡◌, [], IfNone};
+ghost use Rattle.hub_lane.specs.Ends.{new_receiver};
 ghost use Rattle.hub_params.specs.FeedModel.{params_in};
 ghost use Rattle.hub_shared.specs.Blocks.{IsDrained};
+ghost use Rattle.hub_shared.specs.Feeds.{EndTakes};
 
 use crate::block::Block;
 use crate::label::FeedLabel;
@@ -28,7 +29,8 @@ impl<S: HostView> Model for FeedEnd<S> {
     ghost use Rattle.std.specs.Prelude.{◌≡◌, ◌++◌};
     ghost use Rattle.std.specs.Vec.Iter.{into_iter_items};
     ghost use Rattle.hub_model.specs.declared.feeds.Item.{Item as HandedItem};
-    ghost use Rattle.hub_lane.specs.Ends.{ReceiverState};
+    ghost use Rattle.hub_lane.specs.Ends.{IsAllowedBeginning, ReceiverState};
+    ghost use Rattle.hub_params.specs.FeedModel.{params_in};
     ghost use Rattle.hub_shared.specs.Blocks.{end_of, front_of, items_in};
     ghost use Rattle.hub_shared.specs.Label.{Label};
 
@@ -36,14 +38,16 @@ impl<S: HostView> Model for FeedEnd<S> {
 
     ghost view = { λ a. end_of a.receiver (into_iter_items a.block) };
 
-    ghost invariant = { λ a. items_in a.receiver.taken
-        ≡ front_of (items_in a.receiver.taken) (into_iter_items a.block) ++ into_iter_items a.block };
+    ghost invariant = { λ a. (items_in a.receiver.taken
+        ≡ front_of (items_in a.receiver.taken) (into_iter_items a.block) ++ into_iter_items a.block)
+        × IsAllowedBeginning (λ l blocks. S.right (params_in l.asked) l.since (items_in blocks)) a.receiver };
 }
 
 impl<S: HostView> FeedEnd<S> {
     /// The end of a lane of which nothing was taken. It takes no memory.
     pub(crate) fn new(alloc: Global, receiver: Receiver<FeedLabel<S>, Block<S::Row>>) -> FeedEnd<S>
         requires new { receiver ≡ new_receiver receiver.lane_id receiver.label }
+        requires allowed { S.right (params_in receiver.label.asked) receiver.label.since [] }
         ensures { result ≡ new_receiver receiver.lane_id receiver.label }
     {
         FeedEnd {
@@ -65,11 +69,8 @@ impl<S: HostView> FeedEnd<S> {
     /// where the lane was empty at a moment of the call, and no item was left of its blocks; then no memory
     /// is kept for blocks. It waits for nobody, and takes no memory.
     pub fn take<R: Asks<FeedLabel<S>, Block<S::Row>>>(&mut self, rt: &R) -> Option<Item<S::Row>>
-        ensures taken { IfSome result (λ item. self.new ≡ behind_take self.old item) }
-        ensures same { IfNone result (self.new ≡ self.old) }
+        ensures taken { EndTakes S.right self.old result self.new }
         ensures none { IfNone result (IsDrained (R.lacks rt.now) self.old) }
-        ensures allowed { IsAllowedBeginning
-            (λ l items. S.right (params_in l.asked) l.since items) self.new }
     {
         let mut next = None;
         self.take_into(rt, &mut next);
@@ -81,15 +82,11 @@ impl<S: HostView> FeedEnd<S> {
     pub fn take_into<R>(&mut self, rt: &R, next: &mut Option<Item<S::Row>>)
     where
         R: Asks<FeedLabel<S>, Block<S::Row>>,
-        ensures taken { IfSome next.new (λ item. self.new ≡ behind_take self.old item) }
-        ensures same { IfNone next.new (self.new ≡ self.old) }
+        ensures taken { EndTakes S.right self.old next.new self.new }
         ensures none { IfNone next.new (IsDrained (R.lacks rt.now) self.old) }
-        ensures allowed { IsAllowedBeginning
-            (λ l items. S.right (params_in l.asked) l.since items) self.new }
     {
         let front = self.block.next();
         if let Some(_) = &front {
-            let _label = self.receiver.label();
             *next = front;
             return;
         }

@@ -1,23 +1,23 @@
 //! Handles on a database.
 
-ghost use Rattle.std.specs.Prelude.{◌≡◌, ◌⊎◌, [], ◌+◌, ◌<◌, true, false};
-ghost use Rattle.std.specs.Prelude.{IfOk, IfErr, OnErr, OnOk, vec_len};
+ghost use Rattle.std.specs.Prelude.{◌≡◌, ◌⊎◌, ◌+◌, ◌<◌, true, false};
+ghost use Rattle.std.specs.Prelude.{IfOk, IfErr, MatchResult, OnErr, vec_len};
 ghost use Rattle.std.specs.Fn.{FnOnceReturnsAt};
 ghost use Rattle.hub_model.specs.declared.outcomes.Fault.TheVariants.{Deleted, SequenceFull};
 ghost use Rattle.hub_params.specs.FeedShown.{params_asked};
-ghost use Rattle.hub_database.specs.Database.{Database, GivesUp};
+ghost use Rattle.hub_database.specs.Database.{Database, IsRead};
 ghost use Rattle.hub_database.specs.Hosting.{hosted_of};
 ghost use Rattle.hub_database.specs.Locals.{local_after_write};
 ghost use Rattle.hub_feed.specs.Host.{opening_fault};
 ghost use Rattle.hub_shared.specs.Feeds.{IsOpened};
 ghost use Rattle.hub_database.specs.Receipts.{IsAudit};
-ghost use Rattle.hub_database.specs.Answers.{TakesMemory};
-ghost use Rattle.hub_shared.specs.Handles.{HasCounted, IsBeginningFor, IsEditedBy, IsFoundBy, IsReadBy};
+ghost use Rattle.hub_database.specs.Answers.{IsAnswer, TakesMemory};
+ghost use Rattle.hub_shared.specs.Handles.{HasCounted, IsEditedBy, IsFoundBy, IsLook, IsNew};
 ghost use Rattle.hub_shared.specs.Handles.{IsStoredBy, IsWrittenBy};
 ghost use Rattle.hub_shared.specs.Locals.{IsLocalFault};
 ghost use Rattle.hub_shared.specs.Stored.{IsOutOfMemoryFor, stored_count};
 
-use crate::count::Count;
+use crate::count::{Count, Counted};
 use crate::db::Db;
 use crate::feed::{Feed, HostFeed};
 use crate::locked::OpenedFeed;
@@ -31,6 +31,7 @@ use hub_params::FeedParams;
 use std::alloc::AllocError;
 use std::marker::Model;
 use std::sync::Wait;
+use std::sync::ledger::Ledger;
 
 /// A handle on a database: each thread has its own. It counts the edits that were accepted through it
 /// and through those joined to it, and each of its calls finds a legal journal of at least so many.
@@ -43,7 +44,6 @@ pub struct Handle<C: Count> {
 
 impl<C: Count> Model for Handle<C> {
     ghost use Rattle.std.specs.Prelude.{◌≡◌, ◌<◌, true};
-    ghost use Rattle.hub_database.specs.Answers.{TakesMemory};
     ghost use Rattle.hub_shared.specs.Handles.{HandleState};
 
     ghost Value = { HandleState };
@@ -91,8 +91,9 @@ impl<C: Count> Handle<C> {
     ) -> Result<Accepted, DbFault>
         ensures written { IfOk result (λ a.
             IsWrittenBy C.counts C.all_parts self.old new_edits docs.items a) }
-        ensures counted { IfOk result (λ a. HasCounted C.counts (vec_len a.receipts) self.old self.new) }
-        ensures err { IfErr result (λ e. IsOutOfMemoryFor docs.items e × (self.new ≡ self.old)) }
+        ensures counted { MatchResult result
+            (λ a. HasCounted C.counts (vec_len a.receipts) self.old self.new) (λ _. self.new ≡ self.old) }
+        ensures err { IfErr result (IsOutOfMemoryFor docs.items) }
     {
         let room = ReceiptRoom::of(self.db.alloc, docs.as_slice())?;
         let mut locked = self.db.locked().lock(rt);
@@ -131,9 +132,10 @@ impl<C: Count> Handle<C> {
     ) -> Result<Batch, DbFault>
         ensures stored { IfOk result (λ batch.
             IsStoredBy C.counts C.all_parts self.old new_edits docs.items batch) }
-        ensures counted { IfOk result (λ batch.
-            HasCounted C.counts (stored_count batch.replies) self.old self.new) }
-        ensures err { IfErr result (λ e. IsOutOfMemoryFor docs.items e × (self.new ≡ self.old)) }
+        ensures counted { MatchResult result
+            (λ batch. HasCounted C.counts (stored_count batch.replies) self.old self.new)
+            (λ _. self.new ≡ self.old) }
+        ensures err { IfErr result (IsOutOfMemoryFor docs.items) }
     {
         let (batch, rise) = self
             .db
@@ -151,8 +153,8 @@ impl<C: Count> Handle<C> {
     /// takes no memory beside that.
     pub fn write_one<R: Wait>(&mut self, rt: &R, doc: Doc) -> Result<RevId, DbFault>
         ensures edited { IsEditedBy C.counts C.all_parts self.old doc result }
-        ensures counted { OnOk result (HasCounted C.counts 1 self.old self.new) }
-        ensures err { OnErr result (self.new ≡ self.old) }
+        ensures counted { MatchResult result
+            (λ _. HasCounted C.counts 1 self.old self.new) (λ _. self.new ≡ self.old) }
     {
         let (rev, rise) = self.db.locked().lock(rt).write_one(&mut self.share, doc)?;
         self.db.tell();
@@ -162,11 +164,8 @@ impl<C: Count> Handle<C> {
 
     /// Answers a question. It costs the wait for the lock, and what `DbState::answer` does.
     pub fn read<R: Wait>(&mut self, rt: &R, question: Question) -> Result<Answer, DbFault>
-        ensures ok { IfOk result (λ answer.
-            IsReadBy C.counts C.all_parts self.old question answer) }
-        ensures err { IfErr result (λ e. (db : Database) × IsFoundBy C.counts C.all_parts self.old db
-            × GivesUp db (TakesMemory db question) e) }
-        ensures same { self.new ≡ self.old }
+        ensures { IsLook C.counts C.all_parts self.old self.new (λ db.
+            IsRead db result (IsAnswer db question) (TakesMemory db question)) }
     {
         self.look(rt, move |state| state.answer(question))
     }
@@ -174,16 +173,17 @@ impl<C: Count> Handle<C> {
     /// Stores a local document in place of the one of its id, and says how often it was written: once
     /// at least. A deleted database is told before anything else, and a full sequence at the last
     /// count, 2^64 - 1. It costs the wait for the lock, and what `DbState::local_put` does.
-    pub fn local_put<R: Wait>(&mut self, rt: &R, doc: LocalDoc) -> Result<u64, DbFault>
+    pub fn local_put<R: Wait>(&self, rt: &R, doc: LocalDoc) -> Result<u64, DbFault>
         ensures ok { IfOk result (λ count. (db : Database) × (db.deleted ≡ false)
             × (count ≡ (local_after_write db.locals doc).count)) }
         ensures once { IfOk result (λ count. 0 < count) }
         ensures err { IfErr result (λ e. (db : Database) × IsLocalFault db doc e) }
         ensures faults { IfErr result (λ e. (e ≡ DbFault.NoMemory) ⊎ ((e ≡ DbFault.Refused Deleted)
             ⊎ (e ≡ DbFault.Refused SequenceFull))) }
-        ensures same { self.new ≡ self.old }
     {
-        self.db.locked().lock(rt).local_put(doc)
+        let mut guard = self.db.locked().lock(rt);
+        let locked = &mut *guard;
+        locked.state.local_put(doc)
     }
 
     /// Opens a feed, which stays until it is finished: its connection is to call `HostFeed::poll`, or
@@ -191,10 +191,7 @@ impl<C: Count> Handle<C> {
     /// told first, then too many feeds, and out of memory only where the database refuses nothing. It
     /// costs the wait for the lock, and what `Locked::begin` does.
     pub fn open_feed<R: Wait>(&mut self, rt: &R, params: FeedParams) -> Result<Feed<C>, OpenFault>
-        ensures asks { IfOk result (λ feed. feed.label.asked ≡ params_asked params) }
-        ensures begins { IfOk result (λ feed.
-            IsBeginningFor params.since self.old.count feed.label) }
-        ensures none { IfOk result (λ feed. feed.taken ≡ []) }
+        ensures new { IfOk result (IsNew (params_asked params) self.old.count) }
         ensures opened { IfOk result (λ feed. (db : Database)
             × IsFoundBy C.counts C.all_parts self.old db
             × IsOpened (hosted_of db) (params_asked params) feed) }
@@ -214,9 +211,8 @@ impl<C: Count> Handle<C> {
 
     /// Deletes the database. Its feeds come to their ends. It takes no memory, and costs the wait for
     /// the lock, and a step for each feed.
-    pub fn delete<R: Wait>(&mut self, rt: &R) -> Result<(), DbFault>
-        ensures err { IfErr result (λ e. e ≡ DbFault.Refused Deleted) }
-        ensures same { self.new ≡ self.old }
+    pub fn delete<R: Wait>(&self, rt: &R) -> Result<(), DbFault>
+        ensures { IfErr result (λ e. e ≡ DbFault.Refused Deleted) }
     {
         let done = self.db.locked().lock(rt).delete();
         self.db.tell();
@@ -226,32 +222,33 @@ impl<C: Count> Handle<C> {
     /// Compares receipts with the journal, by `audit_of`. It takes no memory, and costs the wait for
     /// the lock, and a look in the journal for each receipt.
     pub fn audit<R: Wait>(&mut self, rt: &R, receipts: &[Receipt]) -> Result<(), AuditFault>
-        ensures audit { (db : Database) × IsFoundBy C.counts C.all_parts self.old db
-            × IsAudit db.journal receipts.now result }
-        ensures same { self.new ≡ self.old }
+        ensures { IsLook C.counts C.all_parts self.old self.new (λ db.
+            IsAudit db.journal receipts.now result) }
     {
         let mut locked = self.db.locked().lock(rt);
         locked.audit_share(&mut self.share);
         audit_of(locked.state(), receipts)
     }
+}
 
+impl<L: Ledger + Send + Sync> Handle<Counted<L>> {
     /// Cuts a handle off, with so many of the parts of this one. It has counted nothing yet. It takes
     /// no memory but the count of the database's users.
-    pub fn split(&mut self, parts: u64) -> Result<Handle<C>, AllocError>
-        requires { C.counts ≡ true → (0 < parts) × (parts < self.old.parts) }
-        ensures given { IfOk result (λ handle. (C.counts ≡ true → handle.parts ≡ parts)
+    pub fn split(&mut self, parts: u64) -> Result<Handle<Counted<L>>, AllocError>
+        requires { (0 < parts) × (parts < self.old.parts) }
+        ensures given { IfOk result (λ handle. (handle.parts ≡ parts)
             × (handle.count ≡ 0) × (self.new.parts + handle.parts ≡ self.old.parts)) }
         ensures count { self.new.count ≡ self.old.count }
         ensures err { OnErr result (self.new ≡ self.old) }
     {
         let db = self.db.again()?;
-        let share = C::split(&mut self.share, parts);
+        let share = self.share.split_off(parts, 0);
         Ok(Handle::new(db, share))
     }
 
     /// Joins another handle on this database to this one, with its parts and its count. It takes no
     /// memory, and waits for the lock: that bounds the sum of the counts.
-    pub fn join<R: Wait>(&mut self, rt: &R, other: Handle<C>)
+    pub fn join<R: Wait>(&mut self, rt: &R, other: Handle<Counted<L>>)
         ensures { self.new ≡ record {
           parts = self.old.parts + other.parts;
           count = self.old.count + other.count;
@@ -262,7 +259,7 @@ impl<C: Count> Handle<C> {
             share,
             count,
         } = other;
-        C::merge(&mut self.share, share);
+        self.share.merge(share);
         self.db.locked().lock(rt).audit_share(&mut self.share);
         self.count += count;
     }

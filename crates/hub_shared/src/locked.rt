@@ -21,7 +21,6 @@ use crate::outboxes::{outbox_of, remove};
 use crate::pumping::Turn;
 use crate::signals::Signals;
 use crate::subscriber::{Directly, Subscriber};
-use crate::watch::Watch;
 use hub_feed::{FeedHost, FeedId, Handed, HostView, OpenFault, Pushes};
 use hub_lane::Asks;
 use hub_model::{Item, place_near, place_of};
@@ -47,7 +46,7 @@ pub struct OpenedFeed<T> {
 pub struct Locked<S: HostView, C: Count = Plain, K: Outbox<S> = Subscriber<S>> {
     pub(crate) state: S,
     /// The outboxes of the feeds that are not finished, by the numbers of the feeds, which rise.
-    subscribers: Vec<(u64, K)>,
+    pub(crate) subscribers: Vec<(u64, K)>,
     /// Where the outbox stood that was handed to last. One is looked for there first.
     near: usize,
     /// How many items of a feed may wait at most.
@@ -91,18 +90,6 @@ impl<S: HostView, C: Count> Locked<S, C> {
         };
         let entry = &self.subscribers[at];
         Ok(Some(entry.1.signals()?))
-    }
-
-    /// From here on this watch has news of each change that a feed may wait for, while there is a feed of
-    /// this number. A binary search.
-    pub(crate) fn watch(&mut self, feed: FeedId, news: Arc<Watch, Global>)
-        ensures { self.new ≡ self.old }
-    {
-        let Some(at) = place_of(self.subscribers.as_slice(), feed.number) else {
-            return;
-        };
-        let entry = &mut self.subscribers[at];
-        entry.1.watch(news);
     }
 
     /// Reserves memory for as many items of a feed as may wait, those that wait among them, if there is a

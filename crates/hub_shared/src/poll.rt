@@ -1,7 +1,7 @@
 //! How one thread sends many feeds: each is asked for its next item, and none is waited for.
 
 ghost use Rattle.std.specs.Prelude.{◌≡◌};
-ghost use Rattle.hub_shared.specs.Feeds.{IsRightSoFar, Takes};
+ghost use Rattle.hub_shared.specs.Feeds.{Takes};
 
 use crate::block::Block;
 use crate::count::Count;
@@ -13,7 +13,7 @@ use crate::times::Due;
 use crate::watch::Watch;
 use hub_feed::{FeedHost, Handed};
 use hub_lane::Asks;
-use hub_model::Item;
+use hub_model::{Item, place_of};
 use std::alloc::Global;
 use std::sync::{Arc, Wait};
 
@@ -76,15 +76,14 @@ impl<S: FeedHost, C: Count> HostFeed<S, C> {
         R: Asks<FeedLabel<S>, Block<S::Row>>,
         G: Gate,
         K: Clock,
-        ensures taken { Takes self.old next.new self.new }
-        ensures allowed { IsRightSoFar S.right self.new }
+        ensures { Takes S.right self.old next.new self.new }
     {
         self.end.take_into(rt, next);
         if next.is_some() {
             self.idle_since = None;
             return;
         }
-        if self.signals.is_over() {
+        if self.is_over() {
             return;
         }
         if self.is_behind {
@@ -94,7 +93,7 @@ impl<S: FeedHost, C: Count> HostFeed<S, C> {
                 self.idle_since = None;
                 return;
             }
-            if self.signals.is_over() {
+            if self.is_over() {
                 return;
             }
         }
@@ -112,6 +111,11 @@ impl<S: FeedHost, C: Count> HostFeed<S, C> {
     /// is finished. Who calls this polls the feed once more after it: what was written before gave no news.
     /// It costs the wait for the lock, and a binary search.
     pub fn watch<R: Wait>(&self, rt: &R, watch: Arc<Watch, Global>) {
-        self.host.locked().lock(rt).watch(self.id, watch);
+        let mut guard = self.host.locked().lock(rt);
+        let locked = &mut *guard;
+        if let Some(at) = place_of(locked.subscribers.as_slice(), self.id.number) {
+            let entry = &mut locked.subscribers[at];
+            entry.1.watch(watch);
+        }
     }
 }

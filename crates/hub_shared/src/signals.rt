@@ -20,7 +20,7 @@ pub struct Signals {
     /// it where the lane is full.
     room: Parker,
     /// Whether nothing more is sent.
-    is_over: AtomicBool,
+    pub(crate) is_over: AtomicBool,
 }
 
 impl Signals {
@@ -55,11 +55,6 @@ impl Signals {
     pub(crate) fn end(&self) {
         self.is_over.store(true, Ordering::SeqCst);
         self.items.unpark();
-    }
-
-    /// Whether nothing more is sent.
-    pub(crate) fn is_over(&self) -> bool {
-        self.is_over.load(Ordering::SeqCst)
     }
 
     /// Sleeps until there are items, or nothing more is sent.

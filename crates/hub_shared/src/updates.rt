@@ -5,7 +5,7 @@ ghost use Rattle.hub_feed.specs.Host.{Hosted};
 ghost use Rattle.hub_model.specs.Updates.{UpdateRow};
 ghost use Rattle.hub_params.specs.FeedShown.{params_asked};
 ghost use Rattle.hub_shared.specs.Feeds.{IsOpened};
-ghost use Rattle.hub_shared.specs.Handles.{IsBeginningFor};
+ghost use Rattle.hub_shared.specs.Handles.{IsNew};
 ghost use Rattle.hub_updates.specs.Asked.{updates_asked};
 
 use crate::count::NoCount;
@@ -66,9 +66,7 @@ impl Host<UpdatesState> {
     /// something `pump` for it, and `HostFeed::take`. It shows every row of the log, upwards
     /// (`UpdatesState::effective`). It costs the wait for the lock, and what `Locked::begin` does.
     pub fn open_feed<R: Wait>(&self, rt: &R, params: FeedParams) -> Result<UpdatesFeed, OpenFault>
-        ensures asks { IfOk result (λ feed. feed.label.asked ≡ updates_asked (params_asked params)) }
-        ensures begins { IfOk result (λ feed. IsBeginningFor params.since 0 feed.label) }
-        ensures none { IfOk result (λ feed. feed.taken ≡ []) }
+        ensures new { IfOk result (IsNew (updates_asked (params_asked params)) 0) }
         ensures opened { IfOk result (λ feed. (h : Hosted UpdateRow)
             × IsOpened h (updates_asked (params_asked params)) feed) }
         ensures err { IfErr result (λ e. (e ≡ OpenFault.NoMemory) ⊎ (e ≡ OpenFault.TooManyFeeds)) }

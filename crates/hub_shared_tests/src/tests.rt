@@ -13,7 +13,8 @@ use hub_feed::{FeedId, OpenFault};
 use hub_model::{Fault, Item};
 use hub_params::FeedParams;
 use hub_shared::{
-    AuditFault, ChangeItem, Directly, FeedEnd, Handed, Locked, NoCount, Receipt, audit_of,
+    AuditFault, ChangeItem, Db, Directly, FeedEnd, Handed, Handle, Locked, NoCount, Plain, Receipt,
+    audit_of,
 };
 use std::alloc::{AllocError, Global};
 use std::process::Abort;
@@ -382,39 +383,64 @@ fn an_audit_tells_the_first_wrong_receipt(rt: HostRuntime) -> Result<(), Fail> {
 }
 
 // What storing a local document answers; an error where it finds no memory.
-fn try_put(alloc: Global, database: &mut Database) -> Result<Result<u64, DbFault>, AllocError> {
+fn try_put<R: Wait>(
+    rt: &R,
+    alloc: Global,
+    handle: &Handle<Plain>,
+) -> Result<Result<u64, DbFault>, AllocError> {
     let Ok(doc) = LocalDoc::read(alloc, "_local/p", b"{}") else {
         return Err(AllocError);
     };
-    match database.local_put(doc) {
+    match handle.local_put(rt, doc) {
         Err(DbFault::NoMemory) => Err(AllocError),
         put => Ok(put),
     }
 }
 
+// How often the local document was written, and how many edits there are. It takes no memory.
+fn counts<R: Wait>(rt: &R, handle: &mut Handle<Plain>) -> Result<(u64, u64), DbFault> {
+    handle.look(rt, |state| {
+        let local = state.local_get("_local/p")?;
+        Ok((local.map_or(0, |local| local.count), state.update_seq()))
+    })
+}
+
 // Whether storing a local document has this answer, also where a growth of it is refused.
-fn puts(alloc: Global, database: &mut Database, answer: Result<u64, DbFault>) -> bool {
-    match again_on!(database, try_put(alloc, database)) {
+fn puts<R: Wait>(
+    rt: &R,
+    alloc: Global,
+    handle: &mut Handle<Plain>,
+    answer: Result<u64, DbFault>,
+) -> bool {
+    let before = counts(rt, handle);
+    let put = match try_put(rt, alloc, handle) {
+        Err(AllocError) if counts(rt, handle) == before => try_put(rt, alloc, handle),
+        put => put,
+    };
+    match put {
         Ok(put) => put == answer,
         Err(AllocError) => false,
     }
 }
 
-fn local_documents_are_counted(alloc: Global, database: &mut Database) -> Result<bool, Fail> {
-    let twice = puts(alloc, database, Ok(1)) && puts(alloc, database, Ok(2));
-    let kept = match database.state().local_get("_local/p") {
-        Ok(Some(local)) => local.count == 2,
-        _ => false,
-    };
-    let none = database.state().update_seq() == 0;
-    database.delete()?;
-    let deleted = puts(alloc, database, Err(DbFault::Refused(Fault::Deleted)));
-    Ok(twice && kept && none && deleted)
+fn local_documents_are_counted<R: Wait>(rt: &R, alloc: Global) -> Result<bool, Fail> {
+    let (_db, mut handle) = again!(Db::new(alloc, Limits::full(), LIFE, Plain))?;
+    let twice = puts(rt, alloc, &mut handle, Ok(1)) && puts(rt, alloc, &mut handle, Ok(2));
+    let kept = counts(rt, &mut handle) == Ok((2, 0));
+    handle.delete(rt)?;
+    let deleted = puts(
+        rt,
+        alloc,
+        &mut handle,
+        Err(DbFault::Refused(Fault::Deleted)),
+    );
+    Ok(twice && kept && deleted)
 }
 
 #[test]
 fn local_documents_go_under_a_lock(rt: HostRuntime) -> Result<(), Fail> {
-    assert_case(&rt, rt.alloc(), local_documents_are_counted)
+    assert_true(&rt, local_documents_are_counted(&rt, rt.alloc())?);
+    Ok(())
 }
 
 // Where the feed of a query begins while there are three documents: a sequence of another life is none.

@@ -168,7 +168,7 @@ fn a_feed_of_the_log_shows_every_database(rt: HostRuntime) -> Result<(), Fail> {
 fn the_log_is_of_life_0(rt: HostRuntime) -> Result<(), Fail> {
     let alloc = rt.alloc();
     let hub = noted(&rt, alloc)?;
-    same(&rt, &open(&rt, alloc, &hub, "")?.label().life(), &0);
+    same(&rt, &open(&rt, alloc, &hub, "")?.end().label().life(), &0);
     let behind = [Row(Updated, "d", 2), End(2, 0)];
     assert!(rt; shows(&rt, alloc, &hub, "since=1-0", &behind)?);
     let all = [Row(Created, "d", 1), Row(Updated, "d", 2), End(2, 0)];
@@ -209,7 +209,7 @@ fn hand<R: Wait>(rt: &R, db: &HubDb, feed: &Feed<Plain>) -> Result<Handed, Alloc
 // first row, 0 where it shows none.
 fn begun<R: Wait>(rt: &R, alloc: Global, db: &HubDb, query: &str) -> Result<(u64, u64, u64), Fail> {
     let mut feed = follow(rt, alloc, db, query)?;
-    let (life, since) = (feed.label().life(), feed.label().since());
+    let (life, since) = (feed.end().label().life(), feed.end().label().since());
     let _handed = hand(rt, db, &feed)?;
     let first = match feed.take(rt) {
         Some(Item::Row(row)) => row.seq,

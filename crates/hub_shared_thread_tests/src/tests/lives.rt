@@ -36,7 +36,7 @@ fn beginning<C: Count, R: Wait>(
 ) -> Option<(u64, u64)> {
     let params = FeedParams::read(alloc, query.as_bytes(), b"").ok()?;
     let feed = handle.open_feed(rt, params).ok()?;
-    let label = (feed.label().since(), feed.label().life());
+    let label = (feed.end().label().since(), feed.end().label().life());
     drop(feed.finish(rt));
     Some(label)
 }
@@ -198,7 +198,7 @@ fn beginning_of_updates<R: Wait>(
 ) -> Option<(u64, u64)> {
     let params = FeedParams::read(alloc, query.as_bytes(), b"").ok()?;
     let feed = updates.open_feed(rt, params).ok()?;
-    let label = (feed.label().since(), feed.label().life());
+    let label = (feed.end().label().since(), feed.end().label().life());
     drop(feed.finish(rt));
     Some(label)
 }

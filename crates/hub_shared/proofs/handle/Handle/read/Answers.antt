@@ -1,25 +1,12 @@
-use Rattle.std.proofs.Common.{◌≡◌, false, rules, subst}
-use Rattle.std.specs.Prelude.{IfOk, IfErr}
-use Rattle.hub_database.specs.Database.{Database, GivesUp}
+use Rattle.std.proofs.Common.{rules, subst}
+use Rattle.hub_database.specs.Database.{Database, IsRead}
 use Rattle.hub_database.specs.Answers.{IsAnswer, TakesMemory}
-use Rattle.hub_shared.proofs.Outcomes.{ok_by, err_by}
 use Rattle.hub_shared.proofs.handle.Handle.read.Goals as goal
 
-pub returns-clause-ok : goal.returns-clause-ok
-returns-clause-ok g c =
+pub returns : goal.returns
+returns g c =
     let asked = c.look.ensures.asked in
-    let told : IfOk c.look.result (λ a.
-    (asked.2.0.now.deleted ≡ false) × IsAnswer asked.2.0.now c.args.question a) = search rules in
-    ok_by c.look.result
-    (λ a is. record { db = asked.0; found = asked.1; stands = is.0; answered = is.1 })
-    (subst (λ (db : Database). IfOk c.look.result (λ a. (db.deleted ≡ false) × IsAnswer db c.args.question a))
-    asked.2.2 told)
-
-pub returns-clause-err : goal.returns-clause-err
-returns-clause-err g c =
-    let asked = c.look.ensures.asked in
-    let told : IfErr c.look.result (λ e.
-    GivesUp asked.2.0.now (TakesMemory asked.2.0.now c.args.question) e) = search rules in
-    err_by c.look.result (λ e is. (asked.0, asked.1, is))
-    (subst (λ (db : Database). IfErr c.look.result (λ e. GivesUp db (TakesMemory db c.args.question) e))
-    asked.2.2 told)
+    let Says : Database → Type 0 =
+    λ db. IsRead db c.look.result (IsAnswer db c.args.question) (TakesMemory db c.args.question) in
+    let told : Says asked.2.0.now = search rules in
+    record { db = asked.0; found = asked.1; held = subst Says asked.2.2 told; same = c.look.ensures.same }
