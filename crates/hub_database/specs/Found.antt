@@ -18,6 +18,11 @@ pub record IsFound (journal : List Edit) (id : List ℕ) (document : Document) :
 abbrev pub shown_in : Document → Revision → Option Edit
 shown_in document revision = option_map (edit_with_id document.id) (shown_edit document.tree.edits [] revision)
 
+-- the same of a document, if there is one
+abbrev pub shown_if_any : Option Document → Revision → Option Edit
+shown_if_any None revision = None
+shown_if_any (Some document) revision = shown_in document revision
+
 -- what a document that is asked for misses, where that is anything
 abbrev pub wanted_diff : List Edit → RevisionsOfDoc → Option Diff
 wanted_diff journal asked = if is_wanted (diff_of journal asked) then Some (diff_of journal asked) else None

@@ -1,6 +1,8 @@
 -- The rows of a store by sequence (own).
-use Rattle.std.specs.Prelude.{ℕ, List, slice_get, Option, option_map}
+use Rattle.std.specs.Prelude.{◌≡◌, ◌<◌, ℕ, List, slice_get, Option, option_map}
+use Rattle.std.specs.List.{All}
 use Rattle.hub_index.specs.Indexed as indexed
+use Rattle.hub_index.specs.Rows.{seq_of}
 use Rattle.hub_database.specs.declared.entry.Entry.{Entry}
 use Rattle.hub_database.specs.Filed.{FiledDocument, journal_of}
 
@@ -18,3 +20,10 @@ latest_at documents k = option_map latest_of (slice_get documents k)
 abbrev pub IsIndexed : List FiledDocument → List Entry → List (ℕ × ℕ) → Type 0
 IsIndexed documents entries index =
     indexed.IsIndexed (latest_at documents) (journal_of documents entries) index
+
+-- The row of the document of this number may move to the end, at this sequence: it is at `latest` now, if
+-- there is one, and each row lies below. Of rows (2, 1) and (3, 0) that of document 1 may move from 2 to 4,
+-- and not to 3.
+pub record IsMovable (number : ℕ) (latest : Option ℕ) (seq : ℕ) (rows : List (ℕ × ℕ)) : Type 0 where
+  pub own : seq_of number rows ≡ latest
+  pub above : All (λ (r : ℕ × ℕ). r.0 < seq) rows

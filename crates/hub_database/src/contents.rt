@@ -1,19 +1,19 @@
 //! What a database keeps: its documents with their journal, and its local documents.
 
 ghost use Rattle.std.specs.Prelude.{[], ◌∷◌, ◌++◌, false, ◌≡◌, ◌+◌, ◌<◌, ◌≤◌, ◌^◌};
-ghost use Rattle.std.specs.Prelude.{length, vec_len, vec_capacity, None, IfOk, IfErr, OnOk, OnErr};
-ghost use Rattle.std.specs.List.{All};
+ghost use Rattle.std.specs.Prelude.{length, vec_len, vec_capacity, None, IfOk, OnOk, OnErr};
 ghost use Rattle.hub_index.specs.Order.{IsOrder, number_in, with_number};
-ghost use Rattle.hub_index.specs.Rows.{seq_of, rows_after_move};
+ghost use Rattle.hub_index.specs.Rows.{rows_after_move};
 ghost use Rattle.hub_model.specs.Journal.{edits_of};
 ghost use Rattle.hub_database.specs.Documents.{files, one_if};
 ghost use Rattle.hub_database.specs.Edits.{IsBatch, IsStore, NeedsRoom, stores_doc};
 ghost use Rattle.hub_database.specs.Filed.{ids_of};
+ghost use Rattle.hub_database.specs.Indexed.{IsMovable};
 ghost use Rattle.hub_database.specs.Looked.{NeedsRoomFor, stores_edit};
 ghost use Rattle.hub_database.specs.Reads.{info_of};
 
 use crate::answers::Info;
-use crate::batch::{Batch, DbFault, Replies};
+use crate::batch::{Batch, Replies};
 use crate::document::{Document, Incoming, Looked, Origin, look};
 use crate::entry::Entry;
 use crate::ids::Ids;
@@ -96,8 +96,7 @@ fn enter(
 ) -> Result<u32, AllocError>
     requires order { IsOrder (ids_of (files documents.old.items)) numbers.old }
     requires new { number_in (ids_of (files documents.old.items)) numbers.old id.now ≡ None }
-    requires own { seq_of (length documents.old.items) index.old ≡ None }
-    requires above { All (λ r. r.0 < length journal.old.items + 1) index.old }
+    requires row { IsMovable (length documents.old.items) None (length journal.old.items + 1) index.old }
     requires few { length documents.old.items < 2 ^ 32 }
     ensures documents { documents.new.items ≡ documents.old.items }
     ensures journal { journal.new.items ≡ journal.old.items }
@@ -250,12 +249,16 @@ impl Contents {
     }
 
     /// Stores documents one after the other, as `DbState::write_edits` says.
-    pub(crate) fn write_edits(&mut self, docs: Vec<Doc>, new_edits: bool) -> Result<Batch, DbFault>
+    pub(crate) fn write_edits(
+        &mut self,
+        docs: Vec<Doc>,
+        new_edits: bool,
+    ) -> Result<Batch, AllocError>
         ensures batch { IfOk result
             (IsBatch new_edits false self.old.limits.journal self.old.journal self.new.journal docs.items) }
         ensures rest { (self.new ≡ record self.old { journal = self.new.journal })
             × (length self.old.journal ≤ length self.new.journal) }
-        ensures err { IfErr result (λ e. (e ≡ DbFault.NoMemory) × (self.new ≡ self.old)) }
+        ensures err { OnErr result (self.new ≡ self.old) }
     {
         let mut list = Vec::new(self.alloc);
         list.try_reserve(docs.len())?;

@@ -28,7 +28,7 @@ use hub_document::{Asked, Doc, Limits, LocalDoc, OpenRevs, RevId};
 use hub_feed::Feeds;
 use hub_model::{Fault, Outcome};
 use hub_params::FeedParams;
-use std::alloc::Global;
+use std::alloc::{AllocError, Global};
 use std::marker::Model;
 
 /// The state of one database: what it keeps, whether it was deleted, and its feeds.
@@ -78,10 +78,9 @@ impl Model for DbState {
 }
 
 // Refuses as many documents of a deleted database.
-fn refuse_all(alloc: Global, count: usize) -> Result<Batch, DbFault>
-    ensures ok { IfOk result (λ batch. (batch.replies ≡ replicate count (Refused Deleted))
+fn refuse_all(alloc: Global, count: usize) -> Result<Batch, AllocError>
+    ensures { IfOk result (λ batch. (batch.replies ≡ replicate count (Refused Deleted))
         × (batch.stopped ≡ false)) }
-    ensures err { IfErr result (λ e. e ≡ DbFault.NoMemory) }
 {
     let list = vec![in alloc; Outcome::Refused(Fault::Deleted); count]?;
     Ok(Batch {
@@ -244,10 +243,10 @@ impl DbState {
             });
         }
         if self.deleted {
-            return refuse_all(self.contents.alloc(), docs.len());
+            return Ok(refuse_all(self.contents.alloc(), docs.len())?);
         }
         self.listing.forget();
-        self.contents.write_edits(docs, new_edits)
+        Ok(self.contents.write_edits(docs, new_edits)?)
     }
 
     /// Stores one edit whose revision is made here, and says that revision (CouchDB API reference,

@@ -2,12 +2,11 @@
 
 ghost use Rattle.std.specs.Prelude.{[], ◌∷◌, ◌++◌, false, true, None, Some, ◌≡◌, ◌+◌, ◌<◌, ◌≤◌};
 ghost use Rattle.std.specs.Prelude.{◌^◌, length, vec_len, vec_capacity, IfOk, OnErr, OnOk};
-ghost use Rattle.std.specs.List.{All};
-ghost use Rattle.hub_index.specs.Rows.{seq_of};
 ghost use Rattle.hub_model.specs.Journal.{IsAcceptable, head_of};
 ghost use Rattle.hub_model.specs.Leaves.{leaves_of};
 ghost use Rattle.hub_model.specs.Row.{changes_of, doc_of, is_deleted};
 ghost use Rattle.hub_revtree.specs.Tree.{IsRevTree};
+ghost use Rattle.hub_database.specs.Indexed.{IsMovable};
 ghost use Rattle.hub_database.specs.Looked.{IsLook, IsWritten, NeedsRoomFor, look_in, unless_full};
 ghost use Rattle.hub_database.specs.Documents.{filed_document, setting_of};
 ghost use Rattle.hub_database.specs.declared.document.Origin.TheVariants.{Elsewhere, Here};
@@ -184,8 +183,7 @@ impl Document {
     ) -> Result<Outcome<RevId>, AllocError>
         requires limit { limit < 2 ^ 32 }
         requires few { length self.old.tree.edits ≤ length journal.old.items }
-        requires own { seq_of number index.old ≡ Some self.old.latest }
-        requires above { All (λ r. r.0 < length journal.old.items + 1) index.old }
+        requires row { IsMovable number (Some self.old.latest) (length journal.old.items + 1) index.old }
         ensures tree { IsRevTree self.old.tree.edits }
         ensures written { let before = setting_of number self.old journal.old.items index.old in
             let after = setting_of number self.new journal.new.items index.new in

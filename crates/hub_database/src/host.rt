@@ -136,38 +136,25 @@ impl FeedHost for DbState {
 }
 
 impl DbState {
-    // The sequence of the first row in reach of the feed that stands here, if there is one, where the
-    // feed is open and shows listed documents, its rows are kept, and more edits lie above its place
-    // than ids are listed. It costs what `Listing::holds` and `Listing::first_between` do.
-    fn first_listed(&mut self, feed: FeedId, at: usize) -> Option<Option<u64>>
-        requires placed { Some at ≡ position (is_of feed.number) self.old.feeds }
-        ensures { (self.new ≡ self.old) × IfSome result (λ first.
-            IsFirst first (current self.old.journal) (entry_in feed.number self.old.feeds)) }
-    {
-        let state = self.feeds.state_at(feed, at);
-        let ids = state.listed()?;
-        let few = state.place().saturating_add(ids.len() as u64);
-        if !state.is_open() || self.contents.length() <= few {
-            return None;
-        }
-        if !self.listing.holds(feed.number, &self.contents, ids) {
-            return None;
-        }
-        Some(self.listing.first_between(state.place(), state.bound()))
-    }
-
-    /// The sequence of the first row in reach of the feed that stands here, if it is open. It costs
-    /// what `first_listed` does, and where that knows nothing what `FeedState::first_of_open`
-    /// does.
+    /// The sequence of the first row in reach of the feed that stands here, if it is open. Where it shows
+    /// listed documents, its rows are kept, and more edits lie above its place than ids are listed, it costs
+    /// what `Listing::holds` and `Listing::first_between` do, and else what `FeedState::first_of_open` does.
     pub(crate) fn first_at(&mut self, feed: FeedId, at: usize) -> Option<u64>
         requires placed { Some at ≡ position (is_of feed.number) self.old.feeds }
         ensures same { self.new ≡ self.old }
         ensures first { IsFirst result (current self.old.journal) (entry_in feed.number self.old.feeds) }
     {
-        match self.first_listed(feed, at) {
-            Some(first) => first,
-            None => self.feeds.state_at(feed, at).first_of_open(&self.contents),
+        let state = self.feeds.state_at(feed, at);
+        if let Some(ids) = state.listed() {
+            let few = state.place().saturating_add(ids.len() as u64);
+            if state.is_open()
+                && self.contents.length() > few
+                && self.listing.holds(feed.number, &self.contents, ids)
+            {
+                return self.listing.first_between(state.place(), state.bound());
+            }
         }
+        state.first_of_open(&self.contents)
     }
 
     /// What a feed has to hand now. An item is made and nothing changes: `accept_item` goes on. A

@@ -1,9 +1,8 @@
 //! Revisions that are asked for.
 
 ghost use Rattle.std.specs.Prelude.{◌≡◌, [], map, option_map, IfOk, OnErr};
-ghost use Rattle.hub_database.specs.Found.{history_of, shown_in};
+ghost use Rattle.hub_database.specs.Found.{history_of, shown_if_any, shown_in};
 ghost use Rattle.hub_database.specs.Reads.{doc_shown, open_rev_of, open_revs as open_revs_of};
-ghost use Rattle.hub_database.specs.declared.answers.OpenRev.TheVariants.{Missing};
 
 use crate::answers::OpenRev;
 use crate::contents::Contents;
@@ -54,34 +53,26 @@ impl Document {
             None => Ok(OpenRev::Missing(*rev)),
         }
     }
-
-    // What is shown of each of these revisions.
-    fn open_revs(
-        &self,
-        alloc: Global,
-        asked: &[RevId],
-        revs: bool,
-    ) -> Result<Vec<OpenRev>, AllocError>
-        ensures ok { IfOk result (λ found. found.items
-            ≡ map (λ r. open_rev_of revs r (shown_in self.now r)) asked.now) }
-        ensures memory { OnErr result (¬ (asked.now ≡ [])) }
-    {
-        let mut found = Vec::new(alloc);
-        for rev in asked {
-            found.push(self.open_rev(alloc, rev, revs)?)?;
-        }
-        Ok(found)
-    }
 }
 
-// What is shown of revisions of which none is known.
-fn all_missing(alloc: Global, asked: &[RevId]) -> Result<Vec<OpenRev>, AllocError>
-    ensures ok { IfOk result (λ found. found.items ≡ map Missing asked.now) }
+// What is shown of each of these revisions of a document. Where there is no document each is missing.
+fn open_each(
+    alloc: Global,
+    document: Option<&Document>,
+    asked: &[RevId],
+    revs: bool,
+) -> Result<Vec<OpenRev>, AllocError>
+    ensures ok { let shown = shown_if_any (option_map (λ d. d.now) document.entry) in
+        IfOk result (λ found. found.items ≡ map (λ r. open_rev_of revs r (shown r)) asked.now) }
     ensures memory { OnErr result (¬ (asked.now ≡ [])) }
 {
     let mut found = Vec::new(alloc);
     for rev in asked {
-        found.push(OpenRev::Missing(*rev))?;
+        let shown = match document {
+            Some(document) => document.open_rev(alloc, rev, revs)?,
+            None => OpenRev::Missing(*rev),
+        };
+        found.push(shown)?;
     }
     Ok(found)
 }
@@ -104,13 +95,13 @@ impl Contents {
         match (self.document(id), which) {
             (Some(document), OpenRevs::All) => {
                 let leaves = document.tree.leaves(alloc)?;
-                document.open_revs(alloc, leaves.as_slice(), revs)
+                open_each(alloc, Some(document), leaves.as_slice(), revs)
             }
             (Some(document), OpenRevs::Listed(listed)) => {
-                document.open_revs(alloc, listed.as_slice(), revs)
+                open_each(alloc, Some(document), listed.as_slice(), revs)
             }
             (None, OpenRevs::All) => Ok(Vec::new(alloc)),
-            (None, OpenRevs::Listed(listed)) => all_missing(alloc, listed.as_slice()),
+            (None, OpenRevs::Listed(listed)) => open_each(alloc, None, listed.as_slice(), revs),
         }
     }
 }

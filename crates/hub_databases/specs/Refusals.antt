@@ -1,10 +1,18 @@
--- Why no database is made under a name, or none is removed (own).
-use Rattle.std.specs.Prelude.{ℕ, ◌≤◌, ◌<◌, List, length, Contains}
+-- Why a call by a name of a database fails (own).
+use Rattle.std.specs.Prelude.{◌≡◌, ◌↔◌, ◌≤◌, ◌<◌, ℕ, List, length, Contains, false, Result, Err, IfErr}
 use Rattle.hub_databases.specs.Kept.{NamesState}
+use Rattle.hub_databases.specs.Names.{is_name}
 use Rattle.hub_databases.specs.declared.fault.HubFault.{HubFault}
 use Rattle.hub_databases.specs.declared.fault.HubFault.TheVariants.{NoMemory, BadName}
 use Rattle.hub_databases.specs.declared.fault.HubFault.TheVariants.{Exists, Absent, TooMany}
 use Rattle.hub_databases.specs.declared.fault.HubFault.TheVariants.{SequenceFull}
+
+-- What a call gives that goes by a name: BadName just where the text is no name of a database, and no fault
+-- but those that may come.
+pub record IsCallByName {A : Type 0} (name : List ℕ) (result : Result A HubFault)
+    (may : HubFault → Type 0) : Type 0 where
+  pub bad : (is_name name ≡ false) ↔ (result ≡ Err BadName)
+  pub err : IfErr result may
 
 -- there is no such name yet, and room for it
 abbrev pub IsFree : NamesState → List ℕ → Type 0

@@ -1,10 +1,11 @@
 //! A hub of databases behind locks.
 
-ghost use Rattle.std.specs.Prelude.{◌≡◌, ◌↔◌, ◌⊎◌, true, false, Ok, Err, map};
+ghost use Rattle.std.specs.Prelude.{◌≡◌, ◌⊎◌, true, false, Ok, Err, map};
 ghost use Rattle.std.specs.Prelude.{string_bytes, Contains, IfErr, IfOk, IsSome, OnOk};
 ghost use Rattle.hub_databases.specs.Kept.{AreNames, most_databases, with_made, without_name};
 ghost use Rattle.hub_databases.specs.Names.{is_name as is_database_name};
-ghost use Rattle.hub_databases.specs.Refusals.{IsCreationFault, IsFree, IsRemovalFault};
+ghost use Rattle.hub_databases.specs.Refusals.{IsCallByName, IsCreationFault, IsFree};
+ghost use Rattle.hub_databases.specs.Refusals.{IsRemovalFault};
 ghost use Rattle.hub_params.specs.FeedShown.{params_asked};
 ghost use Rattle.hub_shared.specs.Handles.{IsEditedBy, IsNew, IsStoredBy};
 ghost use Rattle.hub_shared.specs.Stored.{HasStored};
@@ -102,8 +103,7 @@ impl Hub {
     /// databases that were made so far, itself included. It costs the wait for the names and for the
     /// log, a search among the names, and a note. The names are held meanwhile.
     pub fn create<R: Wait>(&self, rt: &R, name: &str) -> Result<(), HubFault>
-        ensures bad { (is_database_name name.now ≡ false) ↔ (result ≡ Err HubFault.BadName) }
-        ensures err { IfErr result (λ e. ¬ (e ≡ HubFault.Absent)) }
+        ensures { IsCallByName name.now result (λ e. ¬ (e ≡ HubFault.Absent)) }
     {
         if !is_name(name) {
             return Err(HubFault::BadName);
@@ -117,8 +117,7 @@ impl Hub {
     /// among them.
     pub fn find<R: Wait>(&self, rt: &R, name: &str) -> Result<HubDb, HubFault>
         ensures own { IfOk result (λ db. db ≡ name.now) }
-        ensures bad { (is_database_name name.now ≡ false) ↔ (result ≡ Err HubFault.BadName) }
-        ensures err { IfErr result (λ e.
+        ensures call { IsCallByName name.now result (λ e.
             (e ≡ HubFault.BadName) ⊎ (e ≡ HubFault.Absent) ⊎ (e ≡ HubFault.NoMemory)) }
     {
         if !is_name(name) {
@@ -165,8 +164,8 @@ impl Hub {
     /// unless someone has it. It costs the wait for the names and for the log, a search among the
     /// names, a note, and what `Handle::delete` does.
     pub fn remove<R: Wait>(&self, rt: &R, name: &str) -> Result<(), HubFault>
-        ensures bad { (is_database_name name.now ≡ false) ↔ (result ≡ Err HubFault.BadName) }
-        ensures err { IfErr result (λ e. ¬ (e ≡ HubFault.Exists) × ¬ (e ≡ HubFault.TooMany)) }
+        ensures { IsCallByName name.now result
+            (λ e. ¬ (e ≡ HubFault.Exists) × ¬ (e ≡ HubFault.TooMany)) }
     {
         if !is_name(name) {
             return Err(HubFault::BadName);

@@ -3,6 +3,7 @@ use Rattle.std.specs.Prelude.{◌≡◌, ℕ, ◌<◌, ◌≤◌, List, length, 
 use Rattle.std.specs.Prelude.{Some}
 use Rattle.std.specs.List.{All}
 use Rattle.hub_index.specs.Indexed.{IsIndexed, id_in}
+use Rattle.hub_index.specs.Rows.{seq_of}
 use Rattle.hub_model.specs.Updates.{Note, edits_of_log, id_of, note_of}
 use Rattle.hub_updates.specs.declared.log.Pair.{Pair}
 
@@ -27,10 +28,13 @@ note_at ids k = note_of (id_in (slice_get ids k))
 abbrev pub notes_of : List (List ℕ × ℕ) → List ℕ → List Note
 notes_of ids entries = map (note_at ids) entries
 
--- a sequence from 1 on that lies above those of all rows: above rows at 3 and 5 that is 6, and not 5
-pub record IsNext (index : List (ℕ × ℕ)) (seq : ℕ) : Type 0 where
+-- The row of the pair of this number may move to the end, at this sequence from 1 on: it is at `latest` now, if
+-- there is one, and each row lies below. Of rows (3, 1) and (5, 0) that of pair 1 may move from 3 to 6, and not
+-- to 5.
+pub record IsMovable (number : ℕ) (latest : Option ℕ) (seq : ℕ) (rows : List (ℕ × ℕ)) : Type 0 where
+  pub own : seq_of number rows ≡ latest
   pub positive : 0 < seq
-  pub above : All (λ (r : ℕ × ℕ). r.0 < seq) index
+  pub above : All (λ (r : ℕ × ℕ). r.0 < seq) rows
 
 -- What holds of the pairs, of their numbers by id, of the notes, and of the rows: an id has a number where it
 -- is the id of a pair, which is then of this number; each id is that of a note; each note is of a pair; and

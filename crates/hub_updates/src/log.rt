@@ -6,8 +6,8 @@ ghost use Rattle.std.specs.Prelude.{MatchResult};
 ghost use Rattle.std.specs.BTreeMap.{get_by_text};
 ghost use Rattle.std.specs.Map.{update};
 ghost use Rattle.std.specs.Str.{bytes_eq};
-ghost use Rattle.hub_index.specs.Rows.{seq_of, rows_after_move};
-ghost use Rattle.hub_updates.specs.Kept.{IsNext, ids_of, ids_with_sequence};
+ghost use Rattle.hub_index.specs.Rows.{rows_after_move};
+ghost use Rattle.hub_updates.specs.Kept.{IsMovable, ids_of, ids_with_sequence};
 
 use crate::notice::Notice;
 use hub_index::{PageIndex, SeqIndex};
@@ -67,9 +67,8 @@ fn raise(
     seq: u64,
 ) -> Result<(), AllocError>
     requires there { number < length pairs.old.items }
-    requires own { seq_of number index.old
-        ≡ option_map (λ p. p.1) (slice_get (ids_of pairs.old.items) number) }
-    requires next { IsNext index.old seq }
+    requires row { let latest = option_map (λ p. p.1) (slice_get (ids_of pairs.old.items) number) in
+        IsMovable number latest seq index.old }
     ensures pairs { OnOk result (ids_of pairs.new.items ≡ ids_with_sequence number seq (ids_of pairs.old.items)) }
     ensures index { OnOk result (index.new ≡ rows_after_move index.old number seq) }
     ensures err { OnErr result ((ids_of pairs.new.items ≡ ids_of pairs.old.items)
@@ -93,8 +92,7 @@ fn add(
 ) -> Result<u32, AllocError>
     requires room { length pairs.old.items < 2 ^ 32 }
     requires new { get_by_text numbers.old (string_bytes id) ≡ None }
-    requires own { seq_of (length pairs.old.items) index.old ≡ None }
-    requires next { IsNext index.old seq }
+    requires row { IsMovable (length pairs.old.items) None seq index.old }
     ensures number { IfOk result (λ number. number ≡ length pairs.old.items) }
     ensures pairs { OnOk result
         (ids_of pairs.new.items ≡ ids_of pairs.old.items ++ (string_bytes id, seq) ∷ []) }

@@ -18,6 +18,6 @@ returns-in-Err-clause-err c =
           left)
           c.in_ok-move_to.ensures.moved
           ∙ row_taken rows c.len-number.result (c.len.result + 1)
-          (subst (λ n. seq_of n rows ≡ None) (sym number) c.requires.own)
-          (subst (λ n. All (λ (row : ℕ × ℕ). row.0 < n + 1) rows) (sym many) c.requires.above)),
+          (subst (λ n. seq_of n rows ≡ None) (sym number) c.requires.row.own)
+          (subst (λ n. All (λ (row : ℕ × ℕ). row.0 < n + 1) rows) (sym many) c.requires.row.above)),
     )

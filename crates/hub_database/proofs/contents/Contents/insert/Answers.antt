@@ -43,13 +43,13 @@ enter-requires-clause-new c =
     no_number s c.self.invariant.documents c.args.id (rw (sym c.self.view_is) at c.requires.new) in
     subst (λ id. number_by s id ≡ None) (sym (ap (λ (z : FiledDocument). z.id) c.new-document.ensures)) absent
 
-pub enter-requires-clause-own : goal.enter-requires-clause-own
-enter-requires-clause-own c = no_row c.self.inside c.self.invariant.rows
-
-pub enter-requires-clause-above : goal.enter-requires-clause-above
-enter-requires-clause-above c =
+pub enter-requires-clause-row : goal.enter-requires-clause-row
+enter-requires-clause-row c =
     let s = c.self.inside in
-    rows_below (files s.documents.items) s.journal.items s.index c.self.invariant.rows
+    record {
+      own = no_row s c.self.invariant.rows;
+      above = rows_below (files s.documents.items) s.journal.items s.index c.self.invariant.rows;
+    }
 
 pub invariant_of-self : goal.invariant_of-self
 invariant_of-self c =

@@ -18,33 +18,33 @@ returns-in_err-leaves-in-Some-All-clause-memory c =
 pub returns-in_ok-leaves-in-Some-All-clause-ok : goal.returns-in_ok-leaves-in-Some-All-clause-ok
 returns-in_ok-leaves-in-Some-All-clause-ok c =
     rw (c.in-Some-All.is-1)
-    (subst (λ os. IfOk c.open_revs.result (λ found. found.items ≡ os))
+    (subst (λ os. IfOk c.open_each.result (λ found. found.items ≡ os))
     (all_found c.args.self.now.journal
     c.args.id.now c.in-Some-All.document.now c.in-Some-All.ensures.found c.args.revs c.as_slice.result.now
-    (c.as_slice.ensures ∙ c.in_ok-leaves-in-Some-All.ensures.ok)) c.open_revs.ensures.ok)
+    (c.as_slice.ensures ∙ c.in_ok-leaves-in-Some-All.ensures.ok)) c.open_each.ensures.ok)
 
 pub returns-in_ok-leaves-in-Some-All-clause-memory :
     goal.returns-in_ok-leaves-in-Some-All-clause-memory
 returns-in_ok-leaves-in-Some-All-clause-memory c =
     rw (c.in-Some-All.is-1)
-    (err_then c.open_revs.result
+    (err_then c.open_each.result
     (leaves_open c.args.self.now.journal c.args.id.now
     c.in-Some-All.document.now c.in-Some-All.ensures.found c.args.revs c.as_slice.result.now
     (c.as_slice.ensures ∙ c.in_ok-leaves-in-Some-All.ensures.ok))
-    c.open_revs.ensures.memory)
+    c.open_each.ensures.memory)
 
 pub returns-in-Some-Listed-clause-ok : goal.returns-in-Some-Listed-clause-ok
 returns-in-Some-Listed-clause-ok c =
     rw (c.in-Some-Listed.is-1, sym c.as_slice-in-Some-Listed.ensures)
-    (subst (λ os. IfOk c.open_revs-in-Some-Listed.result (λ found. found.items ≡ os))
+    (subst (λ os. IfOk c.open_each-in-Some-Listed.result (λ found. found.items ≡ os))
     (listed_found c.args.self.now.journal c.args.id.now c.in-Some-Listed.document.now
     c.in-Some-Listed.ensures.found c.args.revs c.as_slice-in-Some-Listed.result.now)
-    c.open_revs-in-Some-Listed.ensures.ok)
+    c.open_each-in-Some-Listed.ensures.ok)
 
 pub returns-in-Some-Listed-clause-memory : goal.returns-in-Some-Listed-clause-memory
 returns-in-Some-Listed-clause-memory c =
     rw (c.in-Some-Listed.is-1, sym c.as_slice-in-Some-Listed.ensures)
-    (err_then c.open_revs-in-Some-Listed.result
+    (err_then c.open_each-in-Some-Listed.result
     (listed_open c.args.self.now.journal c.args.id.now c.args.revs
     c.as_slice-in-Some-Listed.result.now)
-    c.open_revs-in-Some-Listed.ensures.memory)
+    c.open_each-in-Some-Listed.ensures.memory)

@@ -49,8 +49,8 @@ extend-requires-clause-few c =
     few_edits s.limits.journal (number_by s) s.documents.items s.journal.items
     c.self.invariant.documents.filed k d at
 
-pub extend-requires-clause-own : goal.extend-requires-clause-own
-extend-requires-clause-own c =
+pub extend-requires-clause-row : goal.extend-requires-clause-row
+extend-requires-clause-row c =
     let s = c.self.inside in
     let k = c.in-Some.number in
     let d = c.index_mut-document.result.now in
@@ -61,12 +61,10 @@ extend-requires-clause-own c =
     let now =
     filed_at s.limits.journal (number_by s) s.documents.items s.journal.items
     c.self.invariant.documents.filed k d at in
-    c.self.invariant.rows.key k (latest_of (filed_document d)) (ap (option_map latest_of) now)
-
-pub extend-requires-clause-above : goal.extend-requires-clause-above
-extend-requires-clause-above c =
-    let s = c.self.inside in
-    rows_below (files s.documents.items) s.journal.items s.index c.self.invariant.rows
+    record {
+      own = c.self.invariant.rows.key k (latest_of (filed_document d)) (ap (option_map latest_of) now);
+      above = rows_below (files s.documents.items) s.journal.items s.index c.self.invariant.rows;
+    }
 
 pub recounted-self-inside-requires-clause-some : goal.recounted-self-inside-requires-clause-some
 recounted-self-inside-requires-clause-some c =

@@ -1,4 +1,4 @@
-use Rattle.std.proofs.Common.{◌≡◌, ◌∙◌, ◌+◌, List, Some, None, length, string_bytes, sym, ap, arith}
+use Rattle.std.proofs.Common.{◌≡◌, ◌∙◌, ◌+◌, List, Some, None, length, string_bytes, sym, ap, arith, rules}
 use Rattle.std.proofs.lemmas.List.{length-map}
 use Rattle.std.specs.BTreeMap.{get_by_text}
 use Rattle.hub_model.specs.Updates.{Note, id_of}
@@ -18,10 +18,11 @@ raise-requires-clause-there c =
       length-map s.pairs.items pair_of,
     )
 
-pub raise-requires-clause-next : goal.raise-requires-clause-next
-raise-requires-clause-next c =
+pub raise-requires-clause-row : goal.raise-requires-clause-row
+raise-requires-clause-row c =
     let s = c.self.inside in
     record {
+      own = search rules;
       positive = omega arith;
       above = λ k d l. omega (
         arith,
@@ -32,16 +33,13 @@ raise-requires-clause-next c =
       );
     }
 
-pub add-requires-clause-own : goal.add-requires-clause-own
-add-requires-clause-own c =
-    let s = c.self.inside in
-    rw (sym (length-map s.pairs.items pair_of))
-    (kept_past (get_by_text s.numbers) (ids_of s.pairs.items) s.notes.items s.index c.self.invariant)
-
-pub add-requires-clause-next : goal.add-requires-clause-next
-add-requires-clause-next c =
+pub add-requires-clause-row : goal.add-requires-clause-row
+add-requires-clause-row c =
     let s = c.self.inside in
     record {
+      own =
+          rw (sym (length-map s.pairs.items pair_of))
+          (kept_past (get_by_text s.numbers) (ids_of s.pairs.items) s.notes.items s.index c.self.invariant);
       positive = omega arith;
       above = λ k d l. omega (
         arith,
