@@ -92,12 +92,12 @@ impl<S: HostView, C: Count> Locked<S, C> {
         Ok(Some(entry.1.signals()?))
     }
 
-    /// Reserves memory for as many items of a feed as may wait, those that wait among them, if there is a
-    /// feed of this number. Without memory nothing changes. It costs a search among the outboxes, which is
-    /// constant time where the last hand was for the same feed.
-    pub fn make_room(&mut self, feed: FeedId) -> Result<(), AllocError>
+    /// Reserves memory for so many items of a feed that wait, those that wait among them, if there is a feed of
+    /// this number. Without memory nothing changes. It costs a search among the outboxes, which is constant
+    /// time where the last hand was for the same feed.
+    pub fn make_room(&mut self, feed: FeedId, room: usize) -> Result<(), AllocError>
         ensures ok { OnOk result (self.new ≡ record self.old {
-          senders = with_change feed.number (with_room self.old.lane) self.old.senders;
+          senders = with_change feed.number (with_room room) self.old.senders;
         }) }
         ensures err { OnErr result (self.new ≡ self.old) }
     {
@@ -105,7 +105,7 @@ impl<S: HostView, C: Count> Locked<S, C> {
             return Ok(());
         };
         let entry = &mut self.subscribers[at];
-        entry.1.make_room(self.lane)
+        entry.1.make_room(room)
     }
 
     /// Gives the lane of a feed all items of it that wait, as one block, and answers how many these were:
@@ -138,18 +138,19 @@ impl<S: HostView, C: Count> Locked<S, C> {
 /// How a subscriber's items are handed.
 impl<S: FeedHost, C: Count> Locked<S, C> {
     /// The steps of one holding: the last answer, and how many items were sent. A turn that hands goes on
-    /// until an answer is not a row, or as many items were sent as one holding may. It costs what these steps
-    /// do.
+    /// until an answer is not a row, or as many items were sent as one holding may. Room is made for so many and
+    /// no more: a list of a few lies in the C library's quick pieces. It costs what these steps do.
     pub(crate) fn step(&mut self, feed: FeedId, turn: Turn) -> Result<(Handed, u64), AllocError> {
         if turn == Turn::Expire {
             self.expire(feed);
             return Ok((Handed::Nothing, 0));
         }
-        self.make_room(feed)?;
         if turn == Turn::Beat {
+            self.make_room(feed, self.lane)?;
             return Ok((self.beat(&Directly, feed), 0));
         }
         let most = self.most(feed);
+        self.make_room(feed, self.lane.min(most as usize))?;
         for sent in 0..most {
             match self.hand(&Directly, feed)? {
                 Handed::Row => {}

@@ -230,7 +230,7 @@ fn a_full_lane_waits<R: Wait>(
     let rows = hands(rt, database, feed, Handed::Row)? && hands(rt, database, feed, Handed::Row)?;
     let full = hands(rt, database, feed, Handed::Full)? && hands(rt, database, feed, Handed::Full)?;
     let over = database.hand_over(rt, feed) == Some(2);
-    again_on!(database, database.make_room(feed))?;
+    again_on!(database, database.make_room(feed, 2))?;
     let first = take(rt, &mut taker) == Some(Told::Row(1));
     let third = hands(rt, database, feed, Handed::Row)? && database.hand_over(rt, feed) == Some(1);
     let second = take(rt, &mut taker) == Some(Told::Row(2));

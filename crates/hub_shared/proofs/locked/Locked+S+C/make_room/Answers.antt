@@ -28,9 +28,9 @@ invariant_of-self g c =
       c.self.invariant.0,
       by_result c.make_room.result c.make_room.ensures.ok c.make_room.ensures.err
           (λ made. subst serves
-          (sym (changed_here id senders at placed p is (with_room c.self.inside.lane) new
+          (sym (changed_here id senders at placed p is (with_room c.args.room) new
           c.self.invariant.1.rising made))
-          (still (with_room c.self.inside.lane) (λ k. (refl, refl)) c.self.invariant.1))
+          (still (with_room c.args.room) (λ k. (refl, refl)) c.self.invariant.1))
           (λ same. subst serves (sym (stays_here id senders at placed p is new same)) c.self.invariant.1),
       c.self.invariant.2,
     )
@@ -43,10 +43,10 @@ returns-in_default-clause-ok g c =
     let none : position (is_of id) senders ≡ None =
     rw c.as_slice.ensures.value at (sym c.place_near.ensures ∙ c.in_default.is) in
     subst (λ (l : LockedState _ _). ◌≡◌ {A = LockedState _ _} l
-    (record l { senders = with_change id (with_room l.lane) l.senders })) c.self.view_is
+    (record l { senders = with_change id (with_room c.args.room) l.senders })) c.self.view_is
     (λ k. record {
       state = c.self.inside.state;
-      senders = sym (changed_absent id (with_room lane) senders (no_entry id senders none)) k;
+      senders = sym (changed_absent id (with_room c.args.room) senders (no_entry id senders none)) k;
       lane = lane;
     })
 
@@ -63,10 +63,10 @@ returns-clause-ok g c =
     on_ok_weaker c.make_room.result
     (λ made. subst (λ (l : LockedState _ _). ◌≡◌ {A = LockedState _ _}
     (record { state = s; senders = slice_set senders at (p.0, new); lane = lane })
-    (record l { senders = with_change id (with_room l.lane) l.senders })) c.self.view_is
+    (record l { senders = with_change id (with_room c.args.room) l.senders })) c.self.view_is
     (λ k. record {
       state = s;
-      senders = changed_here id senders at placed p c.index_mut-entry.ensures.value (with_room lane) new
+      senders = changed_here id senders at placed p c.index_mut-entry.ensures.value (with_room c.args.room) new
           c.self.invariant.1.rising made k;
       lane = lane;
     })) c.make_room.ensures.ok
