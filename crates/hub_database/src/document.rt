@@ -205,16 +205,6 @@ impl Document {
         }
     }
 
-    // The revisions that a row lists.
-    fn changes(&self, alloc: Global, style: Style) -> Result<Changes, AllocError>
-        ensures { IfOk result (λ changes. changes ≡ changes_of style (leaves_of self.now.tree.edits [])) }
-    {
-        by_style!(style,
-            main_only: self.tree.winner_alone(alloc),
-            all_docs: Ok(Changes::new(self.tree.leaves(alloc)?)),
-        )
-    }
-
     // The members of the winner's document, where it is asked for.
     fn row_doc(&self, alloc: Global, include_docs: bool) -> Result<Option<Body>, AllocError>
         ensures { IfOk result (λ body. body ≡ doc_of include_docs (leaves_of self.now.tree.edits [])) }
@@ -249,10 +239,14 @@ impl Document {
             }) }
         ensures tree { OnOk result (IsRevTree self.now.tree.edits) }
     {
+        let changes = by_style!(style,
+            main_only: self.tree.winner_alone(alloc),
+            all_docs: Ok(Changes::new(self.tree.leaves(alloc)?)),
+        )?;
         Ok(ChangeRow {
             seq,
             id: self.id.copy()?,
-            changes: self.changes(alloc, style)?,
+            changes,
             deleted: self.tree.is_deleted(),
             doc: self.row_doc(alloc, include_docs)?,
             seen,
