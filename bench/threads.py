@@ -4,9 +4,9 @@
     python3 bench/threads.py
 
 runs the proved program of crates/threads_bench, which `rt all check` builds, and prints writes a second
-beside feeds that are read, the time from a write until the last of 1,000 feeds has its row, and the
-processor time of readers that stopped. Only Python's standard library is used. No figure is asserted
-anywhere: a figure is read, beside the machine's load.
+beside feeds that are polled, and the time from a write until the last of 1,000 feeds has its row. As many
+threads as there are processors poll the feeds. Only Python's standard library is used. No figure is
+asserted anywhere: a figure is read, beside the machine's load.
 """
 
 import os
@@ -38,8 +38,6 @@ def main():
     news = figures("news", 1_000, 100)
     print("a write until the last of 1,000 feeds has its row: median %.2f ms, 99 in 100 within %.2f ms"
           % (at_share(news, 50) / 1000, at_share(news, 99) / 1000))
-    (idle,) = figures("stopped", 10, 1_000)
-    print("processor time of ten stopped readers over a second: %.2f ms" % (idle / 1000))
 
 
 if __name__ == "__main__":

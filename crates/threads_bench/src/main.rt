@@ -1,18 +1,18 @@
-//! Measures databases that threads share, and prints microseconds: `writes FEEDS COUNT`, the time of
-//! so many writes; `news FEEDS ROUNDS`, for each write the time until every feed's reader took its row,
-//! rising; `stopped READERS DOCUMENTS`, the processor time of a second in which readers with full lanes
-//! take nothing. With no argument it does nothing.
+//! Measures a database that threads share, and prints microseconds: `writes FEEDS COUNT`, the time of so many
+//! writes beside feeds that are read; `news FEEDS ROUNDS`, for each write the time until every feed's reader took
+//! its row, rising. Feeds are read as the workers of a server read them: a thread a processor polls its part of
+//! them, and sleeps until a write has news for them. With no argument it does nothing.
 #![tactic(auto)]
 
 use hub_document::{Doc, Limits};
 use hub_model::Item;
 use hub_params::FeedParams;
-use hub_shared::{Clock, Db, Feed, Gate, Handle, Plain, Point, pump};
-use std::alloc::Global;
-use std::sync::Wait;
-use std::sync::atomic::{AtomicBool, AtomicU64, Ordering};
+use hub_shared::{Bell, Clock, Db, Feed, Gate, Handle, Plain, Point, Watch};
+use std::alloc::{AllocError, Global};
+use std::sync::atomic::{AtomicU64, Ordering};
+use std::sync::{Arc, Wait};
 use std::thread::{self, Parker, Threads};
-use std::time::{self, CpuClock, Duration, Instant};
+use std::time::{self, Duration, Instant};
 use std::{env, io};
 
 // A gate that is open, and a clock that stands.
@@ -29,80 +29,133 @@ impl Clock for Free {
     }
 }
 
+// A thread that reads feeds, as others see it.
+#[derive(Drop)]
+struct Reader {
+    /// Rung where its feeds have news.
+    bell: Arc<Bell, Global>,
+    /// It sleeps here while they have none.
+    parker: Parker,
+}
+
 // What the threads of a run share.
 #[derive(Drop)]
 struct Scene {
     db: Db<Plain>,
     feeds: u64,
+    readers: Vec<Reader>,
     /// How many feeds are open.
     open: AtomicU64,
     /// How many rows were taken.
     rows: AtomicU64,
     /// Rung where every feed's reader took a row.
     taken: Parker,
-    /// Whether the measuring is done.
-    is_done: AtomicBool,
 }
 
 impl Scene {
+    fn new(alloc: Global, feeds: u64, readers: usize) -> Result<Scene, AllocError> {
+        let (db, _handle) = Db::new(alloc, Limits::full(), 1, Plain)?;
+        let mut list = Vec::new(alloc);
+        for _ in 0..readers {
+            list.push(Reader {
+                bell: Arc::new(alloc, Bell::new())?,
+                parker: Parker::new(),
+            })?;
+        }
+        Ok(Scene {
+            db,
+            feeds,
+            readers: list,
+            open: AtomicU64::new(0),
+            rows: AtomicU64::new(0),
+            taken: Parker::new(),
+        })
+    }
+
     fn count_row(&self) {
         let rows = self.rows.fetch_add(1, Ordering::SeqCst).wrapping_add(1);
         if self.feeds > 0 && rows % self.feeds == 0 {
             self.taken.unpark();
         }
     }
+
+    // Wakes the readers whose feeds have news, as whoever wrote does behind its turn.
+    fn ring(&self) {
+        for reader in &self.readers {
+            if reader.bell.is_rung() {
+                reader.parker.unpark();
+            }
+        }
+    }
 }
 
-// Takes a feed's items until its end.
-fn read<R: Wait>(rt: &R, scene: &Scene, mut feed: Feed<Plain>) {
-    scene.open.fetch_add(1, Ordering::SeqCst);
+// Takes the items that a feed has now, and says whether it is over.
+fn take_all<R: Wait>(rt: &R, scene: &Scene, feed: &mut Feed<Plain>) -> bool {
+    let mut next = None;
     for _ in rt.forever() {
-        let is_over = feed.is_over();
-        match feed.take(rt) {
+        feed.poll(rt, &Free, &Free, &mut next);
+        match next.take() {
             Some(Item::Row(_)) => scene.count_row(),
             Some(Item::Beat) => {}
-            Some(Item::End { .. }) => break,
-            None if is_over => break,
-            None => feed.wait(rt),
+            Some(Item::End { .. }) => return true,
+            None => return feed.is_over(),
         }
     }
-    drop(feed.finish(rt));
+    true
 }
 
-// Takes nothing until the measuring is done.
-fn stand<R: Wait + time::Clock>(rt: &R, scene: &Scene, feed: Feed<Plain>) {
-    scene.open.fetch_add(1, Ordering::SeqCst);
-    for _ in rt.forever() {
-        if scene.is_done.load(Ordering::SeqCst) {
-            break;
-        }
-        thread::sleep(rt, Duration::from_millis(100));
-    }
-    drop(feed.finish(rt));
-}
-
-// A feed with its pump and its reader, which stands or takes.
-fn follow<R: Threads + Wait + time::Clock + Sync>(
+// Opens so many feeds, each watched for this reader.
+fn open<R: Wait>(
     rt: &R,
     alloc: Global,
     scene: &Scene,
-    stands: bool,
-) -> Option<()> {
-    let params = FeedParams::read(alloc, b"feed=continuous", b"").ok()?;
-    let feed = scene.db.handle().ok()?.open_feed(rt, params).ok()?;
-    let id = feed.id();
-    let (pumped, ()) = thread::join(
-        rt,
-        || pump(rt, &scene.db, id, &Free, &Free).is_ok(),
-        || {
-            if stands {
-                stand(rt, scene, feed)
-            } else {
-                read(rt, scene, feed)
-            }
-        },
-    );
-    pumped.then_some(())
+    watch: &Arc<Watch, Global>,
+    count: u64,
+) -> Option<Vec<Feed<Plain>>> {
+    let mut feeds = Vec::new(alloc);
+    let mut handle = scene.db.handle().ok()?;
+    for _ in 0..count {
+        let params = FeedParams::read(alloc, b"feed=continuous", b"").ok()?;
+        let mut feed = handle.open_feed(rt, params).ok()?;
+        take_all(rt, scene, &mut feed);
+        feed.watch(rt, Arc::try_clone(watch).ok()?);
+        take_all(rt, scene, &mut feed);
+        feeds.push(feed).ok()?;
+        scene.open.fetch_add(1, Ordering::SeqCst);
+    }
+    Some(feeds)
+}
+
+// Takes the items that the feeds have now, and says whether one of them goes on.
+fn take_news<R: Wait>(rt: &R, scene: &Scene, feeds: &mut [Feed<Plain>]) -> bool {
+    let mut goes_on = false;
+    for feed in feeds {
+        if !take_all(rt, scene, feed) {
+            goes_on = true;
+        }
+    }
+    goes_on
+}
+
+// Reads so many feeds until their ends.
+fn read<R: Wait>(rt: &R, alloc: Global, scene: &Scene, reader: &Reader, count: u64) -> Option<()> {
+    let watch = Arc::new(alloc, Watch::new(Arc::try_clone(&reader.bell).ok()?)).ok()?;
+    let mut feeds = open(rt, alloc, scene, &watch, count)?;
+    let mut goes_on = count > 0;
+    for _ in rt.forever() {
+        if !goes_on {
+            break;
+        }
+        if reader.bell.take() && watch.take() {
+            goes_on = take_news(rt, scene, feeds.as_mut_slice());
+        } else {
+            reader.parker.park(rt);
+        }
+    }
+    for feed in feeds {
+        drop(feed.finish(rt));
+    }
+    Some(())
 }
 
 // Documents of one edit each.
@@ -116,7 +169,7 @@ fn documents(alloc: Global, count: u64) -> Option<Vec<Vec<Doc>>> {
     Some(all)
 }
 
-// Waits until every feed is open, and its pump had time to find nothing.
+// Waits until every feed is open, and its reader had time to sleep.
 fn wait_for_feeds<R: Wait + time::Clock>(rt: &R, scene: &Scene) {
     for _ in rt.forever() {
         if scene.open.load(Ordering::SeqCst) >= scene.feeds {
@@ -135,12 +188,14 @@ fn micros(start: &Instant, now: &Instant) -> Option<u64> {
 // How many microseconds it takes to write documents, one a call.
 fn time_writes<R: Wait + time::Clock>(
     rt: &R,
+    scene: &Scene,
     handle: &mut Handle<Plain>,
     all: Vec<Vec<Doc>>,
 ) -> Option<u64> {
     let start = Instant::now(rt).ok()?;
     for docs in all {
         handle.write(rt, docs, false).ok()?;
+        scene.ring();
     }
     let end = Instant::now(rt).ok()?;
     micros(&start, &end)
@@ -156,6 +211,7 @@ fn time_news<R: Wait + time::Clock>(
 ) -> Option<u64> {
     let start = Instant::now(rt).ok()?;
     handle.write(rt, docs, false).ok()?;
+    scene.ring();
     for _ in rt.forever() {
         if scene.rows.load(Ordering::SeqCst) >= wanted {
             break;
@@ -185,24 +241,15 @@ fn times_of_news<R: Wait + time::Clock>(
     Some(times)
 }
 
-// The processor time in microseconds that the process takes in a second.
-fn time_idle<R: time::Clock + CpuClock>(rt: &R) -> Option<u64> {
-    let before = rt.process_cpu_time().ok()?;
-    thread::sleep(rt, Duration::from_secs(1));
-    let after = rt.process_cpu_time().ok()?;
-    u64::try_from(after.checked_sub(before)?.as_micros()).ok()
-}
-
 // What is measured.
-#[derive(Clone, Copy, PartialEq, Eq)]
+#[derive(Clone, Copy)]
 enum Measure {
     Writes,
     News,
-    Stopped,
 }
 
 // Measures, with every feed open, and then ends the feeds.
-fn figures_of<R: Wait + time::Clock + CpuClock>(
+fn figures_of<R: Wait + time::Clock>(
     rt: &R,
     alloc: Global,
     scene: &Scene,
@@ -214,58 +261,53 @@ fn figures_of<R: Wait + time::Clock + CpuClock>(
     wait_for_feeds(rt, scene);
     let figures = match what {
         Measure::Writes => {
-            let passed = time_writes(rt, &mut handle, all)?;
+            let passed = time_writes(rt, scene, &mut handle, all)?;
             vec![in alloc; passed].ok()
         }
         Measure::News => times_of_news(rt, alloc, scene, &mut handle, all),
-        Measure::Stopped => {
-            time_writes(rt, &mut handle, all)?;
-            thread::sleep(rt, Duration::from_millis(500));
-            let passed = time_idle(rt)?;
-            vec![in alloc; passed].ok()
-        }
     };
-    scene.is_done.store(true, Ordering::SeqCst);
     handle.delete(rt).ok()?;
+    scene.ring();
     figures
 }
 
-// Measures with so many feeds.
-fn run<R: Threads + Wait + time::Clock + CpuClock + Sync>(
+// How many of the feeds the reader of this number has, of so many readers.
+fn share_of(feeds: u64, readers: u64, at: u64) -> u64 {
+    let others = feeds.saturating_sub(at);
+    if readers == 0 || others == 0 {
+        return 0;
+    }
+    ((others - 1) / readers).saturating_add(1)
+}
+
+// Measures with so many feeds, which are shared out among as many readers as there are processors.
+fn run<R: Threads + Wait + time::Clock + Sync>(
     rt: &R,
     alloc: Global,
     what: Measure,
     feeds: u64,
     count: u64,
 ) -> Option<Vec<u64>> {
-    let (db, _handle) = Db::new(alloc, Limits::full(), 1, Plain).ok()?;
-    let scene = Scene {
-        db,
-        feeds,
-        open: AtomicU64::new(0),
-        rows: AtomicU64::new(0),
-        taken: Parker::new(),
-        is_done: AtomicBool::new(false),
-    };
+    let readers = thread::available_parallelism(rt).ok()?.get();
+    let scene = Scene::new(alloc, feeds, readers).ok()?;
     let parts = thread::map_indices(
         rt,
         alloc,
-        feeds.saturating_add(1) as usize,
+        readers.saturating_add(1),
         &|at| {
-            if at == 0 {
+            let Some(reader) = scene.readers.get(at) else {
                 return figures_of(rt, alloc, &scene, what, count);
-            }
-            follow(rt, alloc, &scene, what == Measure::Stopped)?;
+            };
+            let own = share_of(feeds, readers as u64, at as u64);
+            read(rt, alloc, &scene, reader, own)?;
             Some(Vec::new(alloc))
         },
     );
-    let mut first = None;
+    let mut figures = None;
     for part in parts.ok()? {
-        if first.is_none() {
-            first = Some(part?);
-        }
+        figures = Some(part?);
     }
-    first
+    figures
 }
 
 fn number(text: Option<&String>) -> u64 {
@@ -283,7 +325,6 @@ fn main(rt: HostRuntime) -> io::Result<()> {
     let what = match word {
         Some(word) if word.as_str() == "writes" => Measure::Writes,
         Some(word) if word.as_str() == "news" => Measure::News,
-        Some(word) if word.as_str() == "stopped" => Measure::Stopped,
         _ => return Ok(()),
     };
     let Some(figures) = run(&rt, rt.alloc(), what, feeds, count) else {
