@@ -65,7 +65,8 @@ fn put_size(bytes: &mut [u8], start: usize, end: usize, size: usize) -> Option<u
 }
 
 // Appends room for a head of so many digits, a text, CR and LF: an append of these two bytes costs more than
-// two pushes.
+// two pushes. Where the number of digits is known, so is the room.
+#[inline(always)]
 fn put_parts<T: Text>(out: &mut Vec<u8>, text: &T, count: usize) -> Result<(), AllocError>
     requires { count ≤ 16 }
     ensures { Appends (head_room count ++ T.bytes text.now ++ (13 ∷ 10 ∷ [])) result out.old.items

@@ -85,8 +85,6 @@ impl<S: HostView> FeedEnd<S> {
         ensures taken { EndTakes S.right self.old next.new self.new }
         ensures none { IfNone next.new (IsDrained (R.lacks rt.now) self.old) }
     {
-        // Let go first, so that the item is moved from the block to its place at once.
-        *next = None;
         let front = self.block.next();
         if let Some(_) = &front {
             *next = front;
@@ -94,6 +92,7 @@ impl<S: HostView> FeedEnd<S> {
         }
         let Some(block) = self.receiver.take(rt) else {
             self.block = Vec::new(self.alloc).into_iter();
+            *next = None;
             return;
         };
         let mut items = block.into_items().into_iter();
