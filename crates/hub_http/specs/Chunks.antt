@@ -1,5 +1,5 @@
 -- What is written for a text (RFC 9112, section 7.1).
-use Rattle.std.specs.Prelude.{◌≡◌, ◌-◌, codes, drop, ℕ, List, [], ◌∷◌, Result, Ok, Err, IsErrOf, Option}
+use Rattle.std.specs.Prelude.{ℕ, List, [], ◌∷◌, Result, Ok, Err, IsErrOf, Option}
 use Rattle.std.specs.Io.KnownBytes.{Keeps, Appends}
 use Rattle.hub_http.specs.Counts.{AppendsFront, CallCounts}
 use Rattle.hub_http.specs.Texts.{chunk_text}
@@ -11,11 +11,6 @@ use Rattle.hub_http.specs.declared.chunk.ChunkFault.TheVariants.{NoMemory, IoFau
 abbrev pub text_chunks : List ℕ → List ℕ
 text_chunks [] = []
 text_chunks (b ∷ bs) = chunk_text (b ∷ bs)
-
--- The room for the head of a chunk whose size has so many digits, 16 at most: a place for each, CR and LF. For
--- two it is `00`, CR LF.
-abbrev pub head_room : ℕ → List ℕ
-head_room count = drop (16 - count) (codes "0000000000000000\r\n")
 
 -- The bytes were written, or after a fault a front of them. So out of memory nothing of abc was written, and
 -- after IoFault nothing, a, ab or all of it.
@@ -30,11 +25,3 @@ pub record WritesTo {W : Type 0} (written_of : W → Option (List ℕ)) (faults_
     (result : Result (Unit {0}) ChunkFault) (old new : W) (bytes : List ℕ) : Type 0 where
   pub bytes_written : Writes bytes result (written_of old) (written_of new)
   pub counts : CallCounts (IsErrOf result IoFault) faults_of failures_of old new
-
--- What writing this text as a chunk does. Where there is no memory for it, or it is empty, the writer is not
--- called.
-pub record IsWritten {W : Type 0} (written_of : W → Option (List ℕ)) (faults_of failures_of : W → ℕ)
-    (text : List ℕ) (result : Result (Unit {0}) ChunkFault) (old new : W) : Type 0 where
-  pub sent : WritesTo written_of faults_of failures_of result old new (text_chunks text)
-  pub memory : IsErrOf result NoMemory → new ≡ old
-  pub empty : text ≡ [] → (new ≡ old) × ¬ (IsErrOf result IoFault)

@@ -7,7 +7,6 @@ ghost use Rattle.hub_http.specs.Boxes.{Hands, HasLeft, pending_in, faults_in};
 use crate::output::Output;
 use crate::pending::Pending;
 use crate::tally::bump;
-use crate::text::Text;
 use std::alloc::{AllocError, Global};
 use std::io;
 use std::io::{ErrorKind, Write};
@@ -167,14 +166,6 @@ impl Output for Outbox {
         }
         self.moved = Pending::new(bytes);
         None
-    }
-
-    fn append_chunk<T: Text>(&mut self, text: &T, digits: usize) -> bool {
-        if self.moved.is_empty() {
-            self.texts.put_chunk(text, digits)
-        } else {
-            self.moved.put_chunk(text, digits)
-        }
     }
 
     fn flush(&mut self) -> io::Result<()> {

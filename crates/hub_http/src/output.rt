@@ -1,14 +1,12 @@
 //! Where replies go.
 ghost use Rattle.std.specs.Prelude.{◌≡◌, ℕ, List, [], Option, is_err};
-ghost use Rattle.std.specs.Prelude.{IfNone, IfSome, OnOk, IsErr, IsTrue, IsFalse, ◌<◌, length};
+ghost use Rattle.std.specs.Prelude.{IfNone, IfSome, OnOk, IsErr};
 ghost use Rattle.std.specs.Io.{WritesAtMost};
 ghost use Rattle.std.specs.IoError.{error_kind};
 ghost use Rattle.std.specs.Io.KnownBytes.{Keeps, Appends, WriteAppends};
 ghost use Rattle.hub_http.specs.Counts.{one_more_if, write_faulted, write_failed, call_failed};
 ghost use Rattle.hub_http.specs.Counts.{is_interruption, CallCounts, AppendsFront, SendsTo};
-ghost use Rattle.hub_http.specs.Chunks.{text_chunks};
 
-use crate::text::Text;
 use std::io;
 use std::io::ErrorKind;
 use thiserror::Error;
@@ -43,21 +41,6 @@ pub trait Output {
         ensures failures { failure_count self.new ≡ failure_count self.old }
     {
         Some(bytes)
-    }
-
-    /// Writes a text as one chunk whose size has so many digits (RFC 9112, section 7.1), where this writer
-    /// has what it is given in memory: the text is made there, and is not copied. `false` says that nothing
-    /// changed. The text is empty then, or its size has another number of digits, or there is no memory for
-    /// it; or the writer has nothing in memory, as this body says. It costs the text's length.
-    fn append_chunk<T: Text>(&mut self, text: &T, digits: usize) -> bool
-        ensures whole { IsTrue result
-            → Appends (written self.old) (written self.new) (text_chunks (T.bytes text.now)) }
-        ensures some { IsTrue result → 0 < length (T.bytes text.now) }
-        ensures same { IsFalse result → self.new ≡ self.old }
-        ensures faults { fault_count self.new ≡ fault_count self.old }
-        ensures failures { failure_count self.new ≡ failure_count self.old }
-    {
-        false
     }
 
     /// Hands on what was written and not handed on yet.

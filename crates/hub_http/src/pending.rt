@@ -1,12 +1,9 @@
 //! Bytes that are taken from their front.
-ghost use Rattle.std.specs.Prelude.{◌≡◌, ◌<◌, ◌≤◌, ◌+◌, ◌++◌, [], length, take, drop};
+ghost use Rattle.std.specs.Prelude.{◌≡◌, ◌<◌, ◌≤◌, ◌+◌, [], length, take, drop};
 ghost use Rattle.std.specs.Prelude.{min, max, IfOk, IsTrue, IsFalse, OnErr};
 ghost use Rattle.hub_document.specs.Appends.{AppendsWhole};
-ghost use Rattle.hub_http.specs.Chunks.{text_chunks};
 
 use crate::block::BLOCK;
-use crate::chunk::put_chunk;
-use crate::text::Text;
 use std::alloc::{AllocError, Global};
 use std::marker::Model;
 use std::mem;
@@ -118,22 +115,6 @@ impl Pending {
     {
         self.compact();
         self.bytes.extend_from_slice(bytes)
-    }
-
-    /// Puts the chunk of a text behind the bytes that are left, where its size has so many digits. `false` says
-    /// that nothing changed.
-    pub(crate) fn put_chunk<T: Text>(&mut self, text: &T, digits: usize) -> bool
-        ensures whole { IsTrue result → self.new ≡ self.old ++ text_chunks (T.bytes text.now) }
-        ensures some { IsTrue result → 0 < length (T.bytes text.now) }
-        ensures same { IsFalse result → self.new ≡ self.old }
-    {
-        self.compact();
-        let end = self.bytes.len();
-        let is_put = put_chunk(&mut self.bytes, text, digits);
-        if !is_put {
-            self.bytes.truncate(end);
-        }
-        is_put
     }
 
     /// Makes room for bytes of which so many are wanted, and answers how many may then be left: as many again

@@ -1,7 +1,6 @@
 //! Texts that are made in a buffer.
 
-ghost use Rattle.std.specs.Prelude.{ℕ, List};
-ghost use Rattle.hub_document.specs.Appends.{Appends};
+ghost use Rattle.std.specs.Prelude.{◌≡◌, ◌++◌, ℕ, List, OnOk};
 
 use std::alloc::AllocError;
 
@@ -10,10 +9,9 @@ pub trait Text {
     /// Its bytes.
     ghost bytes: { Self → List ℕ };
 
-    /// Appends the bytes. After an error what was held still stands in front, and a part of the text may
-    /// stand behind it. It costs the text's length.
+    /// Appends the bytes. After an error the buffer holds nothing of use. It costs the text's length.
     fn append(&self, buffer: &mut Vec<u8>) -> Result<(), AllocError>
-        ensures { Appends (bytes self.now) result buffer.old.items buffer.new.items };
+        ensures { OnOk result (buffer.new.items ≡ buffer.old.items ++ bytes self.now) };
 }
 
 impl Text for &[u8] {

@@ -1,22 +1,22 @@
-use Rattle.std.proofs.Common.{◌≡◌, ◌-◌, ◌∙◌, ◌++◌, ◌∷◌, [], ap, arith, rules}
+use Rattle.std.proofs.Common.{◌∷◌, [], ◌++◌, ◌<◌, drop, ap, ◌∙◌, arith, length, append_assoc}
 use Rattle.std.proofs.lemmas.Grind.{common_steps}
-use Rattle.hub_http.proofs.ChunkLemmas.{chunk_alone, front_parts, lent_whole, parts_put, parts_length}
+use Rattle.std.proofs.lemmas.List.{drop_at}
+use Rattle.hub_http.specs.Chunks.{text_chunks}
+use Rattle.hub_http.proofs.ChunkLemmas.{chunk_made, lent_whole}
 use Rattle.hub_http.proofs.chunk.ChunkWriter.put.Goals as goal
 
-pub returns-in-Some : goal.returns-in-Some
-returns-in-Some g c =
-    let text = g.T.Text.bytes c.args.text.now in
-    let all = c.put_parts.new.out.items in
-    let parts = front_parts 16 (omega arith) in
-    let held = c.clear.new.self.items in
-    let none : held ≡ [] = search rules in
-    let put : all ≡ [] ++ parts.0 ++ (13 ∷ 10 ∷ (text ++ 13 ∷ 10 ∷ [])) =
-    parts_put held parts.0 _ text all parts.2 c.in_ok-put_parts.ensures.ok
-    ∙ ap (λ l. l ++ parts.0 ++ (13 ∷ 10 ∷ (text ++ 13 ∷ 10 ∷ []))) none in
-    let long = parts_length [] parts.0 text all put in (
+pub returns : goal.returns
+returns g c =
+    let held = c.append.new.buffer.items in
+    let some : 18 < length held = omega (arith, c.len-size.ensures, c.if-size-eq0.false) in
+    let made =
+    ap (drop 18) c.in_ok-append.ensures
+    ∙ drop_at c.resize.new.self.items _ 18 (omega (arith, c.in_ok-resize.ensures.len)) in (
       grind (arith, common_steps),
-      lent_whole c.put_size.new.bytes _ _ c.put_parts.new.out.len c.in-Some.start (omega arith)
-          (chunk_alone parts.0 text c.as_mut_slice.result.now c.put_size.new.bytes c.in-Some.start (c.len.result - 18 - 2)
-          parts.1 (omega (arith, long, parts.1)) (omega (arith, c.if-size-eq0.false))
-          (c.as_mut_slice.ensures.value ∙ put) c.in-Some.ensures.written),
+      lent_whole c.put_head.new.bytes _ _ c.push-2.new.self.len c.put_head.result (omega arith)
+          (chunk_made held c.as_mut_slice.result.now _ c.put_head.result c.len-size.result some
+          (c.as_mut_slice.ensures.value ∙ c.in_ok-push-2.ensures.items
+          ∙ ap (λ l. l ++ 10 ∷ []) c.in_ok-push.ensures.items ∙ append_assoc held (13 ∷ []) (10 ∷ []))
+          (omega arith) c.put_head.ensures.written)
+          ∙ ap text_chunks made,
     )
