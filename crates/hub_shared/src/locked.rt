@@ -74,13 +74,16 @@ impl<S: HostView, C: Count, K: Outbox<S>> Model for Locked<S, C, K> {
 
 /// What only a subscriber has.
 impl<S: HostView, C: Count> Locked<S, C> {
-    // How many items a feed is handed in one holding at most, by `Subscriber::most`. It costs a search as
-    // `make_room`.
-    fn most(&self, feed: FeedId) -> u64 {
+    // How many items a feed is handed in one holding at most, by `Subscriber::most`, and how many may wait then:
+    // those that wait, and so many more, as far as the lane goes. It costs a search as `make_room`.
+    fn most(&self, feed: FeedId) -> (u64, usize) {
         let Some(at) = place_near(self.subscribers.as_slice(), self.near, feed.number) else {
-            return self.hold;
+            return (self.hold, self.lane);
         };
-        self.subscribers[at].1.most(self.hold)
+        let subscriber = &self.subscribers[at].1;
+        let most = subscriber.most(self.hold);
+        let room = subscriber.waiting().saturating_add(most as usize);
+        (most, self.lane.min(room))
     }
 
     /// The signals of a feed, if there is one of this number. A binary search.
@@ -149,8 +152,8 @@ impl<S: FeedHost, C: Count> Locked<S, C> {
             self.make_room(feed, self.lane)?;
             return Ok((self.beat(&Directly, feed), 0));
         }
-        let most = self.most(feed);
-        self.make_room(feed, self.lane.min(most as usize))?;
+        let (most, room) = self.most(feed);
+        self.make_room(feed, room)?;
         for sent in 0..most {
             match self.hand(&Directly, feed)? {
                 Handed::Row => {}

@@ -173,6 +173,13 @@ impl<S: HostView> Subscriber<S> {
         }
     }
 
+    /// How many items wait. Constant time.
+    pub(crate) fn waiting(&self) -> usize
+        ensures { result ≡ length self.now.waiting }
+    {
+        self.waiting.len()
+    }
+
     /// From here on this watch has the feed's news.
     pub(crate) fn watch(&mut self, watch: Arc<Watch, Global>)
         ensures { self.new ≡ self.old }
