@@ -193,8 +193,10 @@ impl Contents {
         }
     }
 
-    // Stores an edit of the document with this id.
-    fn store(&mut self, id: DocId, edit: Incoming) -> Result<Outcome<RevId>, AllocError>
+    /// Stores an edit of the document with this id. It costs a search of the id, what
+    /// `RevTree::look_extend` or `RevTree::look_merge` does, what `SeqIndex::move_to` does, and what
+    /// `RevTree::best` does.
+    pub(crate) fn store(&mut self, id: DocId, edit: Incoming) -> Result<Outcome<RevId>, AllocError>
         ensures { IsStore (stores_edit self.old.limits.journal self.old.journal id edit)
             (NeedsRoomFor self.old.journal id edit) self.old self.new result }
     {
@@ -219,10 +221,8 @@ impl Contents {
         }
     }
 
-    /// Stores one document: with `new_edits` its revision is made here. It costs a search of the id,
-    /// what `RevTree::look_extend` or `RevTree::look_merge` does, what `SeqIndex::move_to` does, and
-    /// what `RevTree::best` does.
-    pub(crate) fn write(&mut self, doc: Doc, new_edits: bool) -> Result<Outcome<RevId>, AllocError>
+    // Stores one document: with `new_edits` its revision is made here. It costs what `store` does.
+    fn write(&mut self, doc: Doc, new_edits: bool) -> Result<Outcome<RevId>, AllocError>
         ensures { IsStore (stores_doc new_edits self.old.limits.journal self.old.journal doc)
             (NeedsRoom new_edits self.old.journal doc) self.old self.new result }
     {

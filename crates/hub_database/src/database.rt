@@ -22,6 +22,7 @@ use crate::answers::{Diff, Info, Lookup, OpenRev};
 use crate::batch::{Batch, DbFault, Replies};
 use crate::contents::Contents;
 use crate::descending::Descending;
+use crate::document::{Incoming, Origin};
 use crate::listing::Listing;
 use crate::local::Local;
 use hub_document::{Asked, Doc, Limits, LocalDoc, OpenRevs, RevId};
@@ -269,8 +270,19 @@ impl DbState {
     {
         self.standing()?;
         self.listing.forget();
-        let outcome = self.contents.write(doc, true)?;
-        reply(outcome)
+        let Doc {
+            id,
+            rev,
+            path: _,
+            deleted,
+            body,
+        } = doc;
+        let edit = Incoming {
+            origin: Origin::Here(rev),
+            deleted,
+            body,
+        };
+        reply(self.contents.store(id, edit)?)
     }
 
     /// Deletes the database, and ends its open feeds: what is left of each is its end. It takes no

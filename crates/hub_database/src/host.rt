@@ -121,7 +121,10 @@ impl FeedHost for DbState {
 
     /// It costs a binary search among the feeds.
     fn beat_due(&self, feed: FeedId) -> bool {
-        self.feeds.beat_due(feed)
+        match self.feeds.find(feed) {
+            Some(state) => state.beat_due(),
+            None => false,
+        }
     }
 
     /// It costs a binary search among the feeds.
@@ -174,11 +177,14 @@ impl DbState {
     }
 
     /// Goes on behind the item that `next_item` gives now. It takes no memory, and constant time where
-    /// the last item was made for this feed.
+    /// the last call was for this feed.
     pub fn accept_item(&mut self, feed: FeedId, item: &Item<ChangeRow>)
         requires due { item_of_number (hosted_of self.old) feed.number ≡ Some item.now }
         ensures { self.new ≡ with_hosted self.old (hosted_after_hand (hosted_of self.old) feed.number) }
     {
-        self.feeds.accept_item(&self.contents, feed, item);
+        let Some(at) = self.feeds.place(feed) else {
+            return;
+        };
+        self.feeds.accept_at(&self.contents, feed, at, item);
     }
 }

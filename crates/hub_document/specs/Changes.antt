@@ -2,13 +2,13 @@
 use Rattle.std.specs.Prelude.{◌≡◌, ℕ, List, [], ◌∷◌, length}
 use Rattle.hex.specs.Hex.{IsBytes, encode_lower}
 use Rattle.hub_model.specs.Revision.{Revision}
-use Rattle.hub_document.specs.declared.changes.Kept.{Kept}
-use Rattle.hub_document.specs.declared.changes.Kept.TheVariants.{One, Many}
+use Rattle.hub_document.specs.declared.changes.ChangesRepr.{ChangesRepr}
+use Rattle.hub_document.specs.declared.changes.ChangesRepr.TheVariants.{One, Many}
 use Rattle.hub_document.specs.declared.changes.LentChanges.{LentChanges}
 use Rattle.hub_document.specs.declared.changes.LentChanges.TheVariants.{One as LentOne, Many as LentMany}
 
 -- the revisions that are kept
-abbrev pub changes_in : Kept → List Revision
+abbrev pub changes_in : ChangesRepr → List Revision
 changes_in (One rev) = rev ∷ []
 changes_in (Many revs) = revs
 

@@ -10,7 +10,7 @@ use std::marker::Model;
 
 // How they are kept.
 #[derive(Debug, Drop)]
-enum Kept {
+enum ChangesRepr {
     // One, which takes no memory.
     One(DigestRev),
     // Any.
@@ -21,7 +21,7 @@ enum Kept {
 /// text, as most rows have it, takes no memory of its own.
 #[derive(Debug)]
 pub struct Changes {
-    kept: Kept,
+    kept: ChangesRepr,
 }
 
 impl Drop for Changes {
@@ -61,7 +61,7 @@ impl Changes {
         ensures { result ≡ revs }
     {
         Changes {
-            kept: Kept::Many(revs),
+            kept: ChangesRepr::Many(revs),
         }
     }
 
@@ -70,7 +70,7 @@ impl Changes {
         ensures { result ≡ rev ∷ [] }
     {
         Changes {
-            kept: Kept::One(rev),
+            kept: ChangesRepr::One(rev),
         }
     }
 
@@ -90,8 +90,8 @@ impl Changes {
         ensures { lent_in result ≡ self.now }
     {
         match &self.kept {
-            Kept::One(rev) => LentChanges::One(rev),
-            Kept::Many(revs) => LentChanges::Many(revs.as_slice()),
+            ChangesRepr::One(rev) => LentChanges::One(rev),
+            ChangesRepr::Many(revs) => LentChanges::Many(revs.as_slice()),
         }
     }
 
@@ -100,8 +100,8 @@ impl Changes {
         ensures { result ≡ length self.now }
     {
         match &self.kept {
-            Kept::One(_) => 1,
-            Kept::Many(revs) => revs.as_slice().len(),
+            ChangesRepr::One(_) => 1,
+            ChangesRepr::Many(revs) => revs.as_slice().len(),
         }
     }
 
@@ -110,8 +110,8 @@ impl Changes {
         ensures { result ≡ slice_get self.now at }
     {
         match &self.kept {
-            Kept::One(rev) => (at == 0).then_some(rev.rev()),
-            Kept::Many(revs) => revs.as_slice().get(at).copied(),
+            ChangesRepr::One(rev) => (at == 0).then_some(rev.rev()),
+            ChangesRepr::Many(revs) => revs.as_slice().get(at).copied(),
         }
     }
 
@@ -121,8 +121,8 @@ impl Changes {
         ensures memory { OnErr result (0 < length self.now) }
     {
         match &self.kept {
-            Kept::One(rev) => Ok(Changes::of_digest(rev.copy())),
-            Kept::Many(revs) => Ok(Changes::new(revs.copy(alloc)?)),
+            ChangesRepr::One(rev) => Ok(Changes::of_digest(rev.copy())),
+            ChangesRepr::Many(revs) => Ok(Changes::new(revs.copy(alloc)?)),
         }
     }
 
@@ -133,8 +133,8 @@ impl Changes {
     {
         let Self { kept } = self;
         match kept {
-            Kept::One(rev) => list_of_one(alloc, rev.rev()),
-            Kept::Many(revs) => Ok(revs),
+            ChangesRepr::One(rev) => list_of_one(alloc, rev.rev()),
+            ChangesRepr::Many(revs) => Ok(revs),
         }
     }
 }

@@ -1,13 +1,13 @@
 //! The feeds that something keeps, by their numbers.
 
 ghost use Rattle.std.specs.Prelude.{◌≡◌, ◌<◌, ◌^◌, ◌+◌, ◌-◌, ◌||◌, ◌++◌, ◌∷◌, [], ℕ, length, map};
-ghost use Rattle.std.specs.Prelude.{nat_le, position, Some, None, IfSome, IfOk, OnOk, OnErr};
+ghost use Rattle.std.specs.Prelude.{nat_le, option_map, position, Some, None, IfSome, IfOk, OnOk, OnErr};
 ghost use Rattle.hub_model.specs.Entries.{with_change, entry_in, is_of, without};
 ghost use Rattle.hub_model.specs.Feed.{new_feed, expired_feed};
 ghost use Rattle.hub_params.specs.FeedModel.{params_of};
 ghost use Rattle.hub_feed.specs.Feeds.{AreBehind, IsChangedTo, IsReadyAt, ended_entry, feeds_of, over};
 ghost use Rattle.hub_feed.specs.Hand.{HandsTo, MayTake};
-ghost use Rattle.hub_feed.specs.Host.{next_of_number, hosted_after_next, due_of_number, hosted_after_hand, is_beat_allowed_if_any, item_of_number};
+ghost use Rattle.hub_feed.specs.Host.{next_of_number, hosted_after_next, due_of_number, hosted_after_hand, item_of_number};
 ghost use Rattle.hub_feed.specs.Next.{IsRowDue};
 ghost use Rattle.hub_feed.specs.declared.next.Next.TheVariants.{Nothing};
 
@@ -177,32 +177,27 @@ impl Feeds {
         state.1.hand(source, first, handle, sink)
     }
 
-    /// Goes on behind the item that `next_at` gives now. It takes no memory, and constant time where
-    /// the last item was made for this feed.
-    pub fn accept_item<S: Source>(&mut self, source: &S, feed: FeedId, item: &Item<S::Row>)
+    /// Goes on behind the item that `next_at` gives now to the feed that stands here. It takes no memory, and
+    /// constant time.
+    pub fn accept_at<S: Source>(&mut self, source: &S, feed: FeedId, at: usize, item: &Item<S::Row>)
+        requires placed { Some at ≡ position (is_of feed.number) self.old.feeds }
         requires due { item_of_number
             (over (S.length source.now) (S.current source.now) (S.shown source.now) self.old) feed.number
             ≡ Some item.now }
         ensures { IsChangedTo (hosted_after_hand (over (S.length source.now) (S.current source.now)
             (S.shown source.now) self.old) feed.number).feeds (S.length source.now) self.old self.new }
     {
-        let Some(at) = place_near(self.list.as_slice(), self.near, feed.number) else {
-            return;
-        };
-        let feed = &mut self.list[at];
-        feed.1.accept_item(source, item);
+        let state = &mut self.list[at];
+        state.1.accept_item(source, item);
     }
 
-    /// Whether a heartbeat may be handed to a feed now: one was asked for, and the feed is open and
-    /// waits. It takes no memory, and costs a binary search.
-    pub fn beat_due(&self, feed: FeedId) -> bool
-        ensures { result ≡ is_beat_allowed_if_any (entry_in feed.number self.now.feeds) }
+    /// The feed of this number, if there is one. It takes no memory, and costs a binary search.
+    pub fn find(&self, feed: FeedId) -> Option<&FeedState>
+        ensures { option_map (λ state. state.now) result ≡ entry_in feed.number self.now.feeds }
     {
-        let Some(at) = place_of(self.list.as_slice(), feed.number) else {
-            return false;
-        };
+        let at = place_of(self.list.as_slice(), feed.number)?;
         let feed = &self.list[at];
-        feed.1.beat_due()
+        Some(&feed.1)
     }
 
     /// A feed's time without an item is over: an open feed that waits is ending. It takes no memory,

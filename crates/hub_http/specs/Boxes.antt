@@ -3,8 +3,8 @@ use Rattle.std.specs.Prelude.{◌≡◌, ℕ, ◌<◌, ◌≤◌, Bool, List, []
 use Rattle.std.specs.Io.KnownBytes.{Keeps, Appends}
 use Rattle.hub_http.specs.declared.inbox.Inbox.{Inbox}
 use Rattle.hub_http.specs.declared.outbox.Outbox.{Outbox}
-use Rattle.hub_http.specs.declared.outbox.Handed.{Handed}
-use Rattle.hub_http.specs.declared.outbox.Handed.TheVariants.{Took, Again, Refused}
+use Rattle.hub_http.specs.declared.outbox.Transfer.{Transfer}
+use Rattle.hub_http.specs.declared.outbox.Transfer.TheVariants.{Took, Again, Refused}
 
 -- the bytes that came and that no request took yet
 abbrev pub arrived_bytes : Inbox → List ℕ
@@ -28,16 +28,16 @@ pub record HasLeft (bytes : List ℕ) (old new : Outbox) : Type 0 where
   pub faults : faults_in new ≡ faults_in old
 
 -- the bytes that a writer took of these, which were to go
-abbrev pub handed_of : Handed → List ℕ → List ℕ
-handed_of (Took n) old = take n old
-handed_of Again old = []
-handed_of Refused old = []
+abbrev pub transferred_bytes : Transfer → List ℕ → List ℕ
+transferred_bytes (Took n) old = take n old
+transferred_bytes Again old = []
+transferred_bytes Refused old = []
 
 -- A writer took a front of the bytes that were to go, of so many bytes: its known bytes grew by just these,
 -- and the others are to go. It took none only where there were none. Else nothing changed. Where abcd were to
 -- go and it took 3, its bytes grew by abc, and d is to go.
-abbrev pub Hands : Handed → List ℕ → List ℕ → Option (List ℕ) → Option (List ℕ) → Type 0
-Hands (Took n) old new before after =
+abbrev pub Transfers : Transfer → List ℕ → List ℕ → Option (List ℕ) → Option (List ℕ) → Type 0
+Transfers (Took n) old new before after =
     (n ≤ length old) × (0 < length old → 0 < n) × (new ≡ drop n old) × Appends before after (take n old)
-Hands Again old new before after = (new ≡ old) × Keeps before after
-Hands Refused old new before after = (new ≡ old) × Keeps before after
+Transfers Again old new before after = (new ≡ old) × Keeps before after
+Transfers Refused old new before after = (new ≡ old) × Keeps before after

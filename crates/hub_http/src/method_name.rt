@@ -7,7 +7,7 @@ use std::marker::Model;
 
 // How a name is kept.
 #[derive(Debug, Drop)]
-enum Kept {
+enum MethodRepr {
     Get,
     Head,
     Put,
@@ -20,7 +20,7 @@ enum Kept {
 /// no memory.
 #[derive(Debug, Drop)]
 pub struct MethodName {
-    kept: Kept,
+    kept: MethodRepr,
 }
 
 impl Model for MethodName {
@@ -38,12 +38,12 @@ impl MethodName {
         ensures { IfOk result (λ made. made ≡ name.now) }
     {
         let kept = match name {
-            [b'G', b'E', b'T'] => Kept::Get,
-            [b'P', b'U', b'T'] => Kept::Put,
-            [b'P', b'O', b'S', b'T'] => Kept::Post,
-            [b'H', b'E', b'A', b'D'] => Kept::Head,
-            [b'D', b'E', b'L', b'E', b'T', b'E'] => Kept::Delete,
-            _ => Kept::Other(Vec::from_slice(alloc, name)?),
+            [b'G', b'E', b'T'] => MethodRepr::Get,
+            [b'P', b'U', b'T'] => MethodRepr::Put,
+            [b'P', b'O', b'S', b'T'] => MethodRepr::Post,
+            [b'H', b'E', b'A', b'D'] => MethodRepr::Head,
+            [b'D', b'E', b'L', b'E', b'T', b'E'] => MethodRepr::Delete,
+            _ => MethodRepr::Other(Vec::from_slice(alloc, name)?),
         };
         Ok(MethodName { kept })
     }
@@ -53,12 +53,12 @@ impl MethodName {
         ensures { result.now ≡ self.now }
     {
         match &self.kept {
-            Kept::Get => b"GET",
-            Kept::Head => b"HEAD",
-            Kept::Put => b"PUT",
-            Kept::Post => b"POST",
-            Kept::Delete => b"DELETE",
-            Kept::Other(name) => name.as_slice(),
+            MethodRepr::Get => b"GET",
+            MethodRepr::Head => b"HEAD",
+            MethodRepr::Put => b"PUT",
+            MethodRepr::Post => b"POST",
+            MethodRepr::Delete => b"DELETE",
+            MethodRepr::Other(name) => name.as_slice(),
         }
     }
 }

@@ -2,7 +2,7 @@
 ghost use Rattle.std.specs.Prelude.{◌≡◌, ◌<◌, ◌≤◌, ◌++◌, ℕ, List, [], length, drop};
 ghost use Rattle.std.specs.Prelude.{Some, IfOk, IsTrue, IsFalse};
 ghost use Rattle.hub_document.specs.Appends.{AppendsWhole};
-ghost use Rattle.hub_http.specs.Boxes.{Hands, HasLeft, pending_in, faults_in};
+ghost use Rattle.hub_http.specs.Boxes.{Transfers, HasLeft, pending_in, faults_in};
 
 use crate::output::Output;
 use crate::pending::Pending;
@@ -17,7 +17,7 @@ const ROOM: usize = 256;
 
 /// What came of handing bytes to a writer.
 #[derive(Clone, Copy, Debug, PartialEq, Eq)]
-pub enum Handed {
+pub enum Transfer {
     /// So many were taken.
     Took(usize),
     /// None, and the same call may be made again: at once, or when the writer has room.
@@ -108,24 +108,24 @@ impl Outbox {
     }
 
     /// Hands a front of what is to go to a writer, by one write, and keeps what it did not take.
-    pub fn send_to<W: Write>(&mut self, writer: &mut W) -> Handed
-        ensures handed { Hands result (pending_in self.old) (pending_in self.new)
+    pub fn send_to<W: Write>(&mut self, writer: &mut W) -> Transfer
+        ensures handed { Transfers result (pending_in self.old) (pending_in self.new)
             (W.contents writer.old) (W.contents writer.new) }
         ensures faults { faults_in self.new ≡ faults_in self.old }
     {
         let front = self.front();
         if front.is_empty() {
-            return Handed::Took(0);
+            return Transfer::Took(0);
         }
         match writer.write(front) {
-            Ok(0) => Handed::Refused,
+            Ok(0) => Transfer::Refused,
             Ok(n) => {
                 self.sent(n);
-                Handed::Took(n)
+                Transfer::Took(n)
             }
             Err(e) => match e.kind() {
-                ErrorKind::Interrupted | ErrorKind::WouldBlock => Handed::Again,
-                _ => Handed::Refused,
+                ErrorKind::Interrupted | ErrorKind::WouldBlock => Transfer::Again,
+                _ => Transfer::Refused,
             },
         }
     }

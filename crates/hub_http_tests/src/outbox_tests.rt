@@ -1,5 +1,5 @@
 use crate::made_again::{again, same, same_bytes};
-use hub_http::{Handed, Outbox, Output, send_vec};
+use hub_http::{Transfer, Outbox, Output, send_vec};
 use std::alloc::{AllocError, Global};
 use std::io;
 use std::io::{ErrorKind, Write};
@@ -55,9 +55,9 @@ fn slowly(alloc: Global, outbox: &mut Outbox) -> Result<(usize, Vec<u8>), Fail> 
     let mut refusals = 0usize;
     for _ in 0..12 {
         match outbox.send_to(&mut writer) {
-            Handed::Took(_) => {}
-            Handed::Again => refusals = refusals.saturating_add(1),
-            Handed::Refused => return Err(Fail::new("refused")),
+            Transfer::Took(_) => {}
+            Transfer::Again => refusals = refusals.saturating_add(1),
+            Transfer::Refused => return Err(Fail::new("refused")),
         }
     }
     Ok((refusals, writer.held))
@@ -123,10 +123,10 @@ impl Write for Gone {
 #[test]
 fn refused_bytes_stay(rt: HostRuntime) -> Result<(), Fail> {
     let table = [
-        (Some(ErrorKind::BrokenPipe), Handed::Refused),
-        (Some(ErrorKind::Interrupted), Handed::Again),
-        (Some(ErrorKind::WouldBlock), Handed::Again),
-        (None, Handed::Refused),
+        (Some(ErrorKind::BrokenPipe), Transfer::Refused),
+        (Some(ErrorKind::Interrupted), Transfer::Again),
+        (Some(ErrorKind::WouldBlock), Transfer::Again),
+        (None, Transfer::Refused),
     ];
     for (kind, expected) in table {
         let mut outbox = three_texts(rt.alloc())?;

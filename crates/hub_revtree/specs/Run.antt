@@ -4,8 +4,8 @@
 use Rattle.std.specs.Prelude.{ℕ, ◌-◌, List, [], ◌∷◌, take}
 use Rattle.hex.specs.Hex.{encode_lower}
 use Rattle.hub_model.specs.Revision.{Revision}
-use Rattle.hub_revtree.specs.declared.run.Kept.{Kept}
-use Rattle.hub_revtree.specs.declared.run.Kept.TheVariants.{One, Digests, Shared, Texts}
+use Rattle.hub_revtree.specs.declared.run.RunRepr.{RunRepr}
+use Rattle.hub_revtree.specs.declared.run.RunRepr.TheVariants.{One, Digests, Shared, Texts}
 
 -- the revisions whose hashes are the texts of the digests, from this generation down
 abbrev pub revisions_from : ℕ → List (List ℕ) → List Revision
@@ -14,7 +14,7 @@ revisions_from newest (digest ∷ older) =
     record { generation = newest; hash = encode_lower digest } ∷ revisions_from (newest - 1) older
 
 -- the revisions that are kept
-abbrev pub kept_in : Kept → List Revision
+abbrev pub kept_in : RunRepr → List Revision
 kept_in (One newest digest) = revisions_from newest (digest ∷ [])
 kept_in (Digests newest digests) = revisions_from newest digests.items
 kept_in (Shared newest most digest line) = revisions_from newest (take most (digest ∷ line))

@@ -21,7 +21,7 @@ use std::marker::Model;
 
 // How revisions are kept, newest first. A digest stands for the hash that is its hexadecimal text.
 #[derive(Debug, Drop)]
-enum Kept {
+enum RunRepr {
     // One revision: its generation, and its digest.
     One(u16, [u8; 16]),
     // The newest one's generation, and the digests of all. The generations fall by one.
@@ -39,7 +39,7 @@ enum Kept {
 /// itself takes 32 bytes.
 #[derive(Debug, Drop)]
 pub(crate) struct Run {
-    kept: Kept,
+    kept: RunRepr,
 }
 
 impl Model for Run {
@@ -112,27 +112,27 @@ fn all_of(most: u16, newest: [u8; 16], line: Line) -> Option<Line>
 }
 
 // The digests of all revisions that are kept, where these are shared and are a whole path.
-fn line_in(kept: Kept) -> Option<Line>
+fn line_in(kept: RunRepr) -> Option<Line>
     ensures { IfSome result (λ line. map encode_lower line ≡ map (λ r. r.hash) (kept_in kept)) }
 {
     match kept {
-        Kept::Shared(_, most, digest, line) => all_of(most, digest, line),
+        RunRepr::Shared(_, most, digest, line) => all_of(most, digest, line),
         _ => None,
     }
 }
 
 // What keeps the first of the revisions, so many. It takes no memory.
-fn cut_kept(kept: Kept, count: usize) -> Kept
+fn cut_kept(kept: RunRepr, count: usize) -> RunRepr
     requires { 1 ≤ count }
     ensures { kept_in result ≡ take count (kept_in kept) }
 {
     match kept {
-        Kept::One(newest, digest) => Kept::One(newest, digest),
-        Kept::Digests(newest, digests) => Kept::Digests(newest, cut_list(digests, count)),
-        Kept::Shared(newest, most, digest, line) => {
-            Kept::Shared(newest, least(most, count), digest, line)
+        RunRepr::One(newest, digest) => RunRepr::One(newest, digest),
+        RunRepr::Digests(newest, digests) => RunRepr::Digests(newest, cut_list(digests, count)),
+        RunRepr::Shared(newest, most, digest, line) => {
+            RunRepr::Shared(newest, least(most, count), digest, line)
         }
-        Kept::Texts(revisions) => Kept::Texts(cut_list(revisions, count)),
+        RunRepr::Texts(revisions) => RunRepr::Texts(cut_list(revisions, count)),
     }
 }
 
@@ -155,7 +155,7 @@ impl Run {
         let newest = &revisions[0];
         if count == 1 {
             if let Some(digest) = newest.digest() {
-                let kept = Kept::One(newest.generation(), digest);
+                let kept = RunRepr::One(newest.generation(), digest);
                 return Ok(Run { kept });
             }
         }
@@ -171,7 +171,7 @@ impl Run {
         ensures { result ≡ rev.now ∷ [] }
     {
         Run {
-            kept: Kept::One(rev.generation(), rev.digest()),
+            kept: RunRepr::One(rev.generation(), rev.digest()),
         }
     }
 
@@ -181,7 +181,7 @@ impl Run {
         ensures { result ≡ revisions.items }
     {
         Run {
-            kept: Kept::Texts(revisions),
+            kept: RunRepr::Texts(revisions),
         }
     }
 
@@ -192,7 +192,7 @@ impl Run {
         ensures { result ≡ revisions_from newest digests.items }
     {
         Run {
-            kept: Kept::Digests(newest, digests),
+            kept: RunRepr::Digests(newest, digests),
         }
     }
 
@@ -203,7 +203,7 @@ impl Run {
     {
         let newest = rev.generation();
         Run {
-            kept: Kept::Shared(newest, newest, rev.digest(), line),
+            kept: RunRepr::Shared(newest, newest, rev.digest(), line),
         }
     }
 
@@ -231,10 +231,10 @@ impl Run {
         ensures { result ≡ length self.now }
     {
         match &self.kept {
-            Kept::One(_, _) => 1,
-            Kept::Digests(_, digests) => digests.len(),
-            Kept::Shared(_, most, _, line) => usize::from(*most).min(line.len().saturating_add(1)),
-            Kept::Texts(revisions) => revisions.len(),
+            RunRepr::One(_, _) => 1,
+            RunRepr::Digests(_, digests) => digests.len(),
+            RunRepr::Shared(_, most, _, line) => usize::from(*most).min(line.len().saturating_add(1)),
+            RunRepr::Texts(revisions) => revisions.len(),
         }
     }
 
@@ -243,10 +243,10 @@ impl Run {
         ensures { option_map (λ r. r.generation) (slice_get self.now 0) ≡ Some result }
     {
         match &self.kept {
-            Kept::One(newest, _) => *newest,
-            Kept::Digests(newest, _) => *newest,
-            Kept::Shared(newest, _, _, _) => *newest,
-            Kept::Texts(revisions) => revisions[0].generation(),
+            RunRepr::One(newest, _) => *newest,
+            RunRepr::Digests(newest, _) => *newest,
+            RunRepr::Shared(newest, _, _, _) => *newest,
+            RunRepr::Texts(revisions) => revisions[0].generation(),
         }
     }
 
@@ -256,14 +256,14 @@ impl Run {
         ensures { slice_get self.now place ≡ Some result }
     {
         match &self.kept {
-            Kept::One(newest, digest) => RevId::from_digest(*newest, digest),
-            Kept::Digests(newest, digests) => {
+            RunRepr::One(newest, digest) => RevId::from_digest(*newest, digest),
+            RunRepr::Digests(newest, digests) => {
                 RevId::from_digest(*newest - place as u16, &digests[place])
             }
-            Kept::Shared(newest, _, digest, line) => {
+            RunRepr::Shared(newest, _, digest, line) => {
                 RevId::from_digest(*newest - place as u16, digest_at(digest, line, place))
             }
-            Kept::Texts(revisions) => revisions[place],
+            RunRepr::Texts(revisions) => revisions[place],
         }
     }
 
@@ -274,10 +274,10 @@ impl Run {
         ensures { (r : Revision) → slice_get self.now place ≡ Some r → HasKey r.hash result }
     {
         match &self.kept {
-            Kept::One(_, digest) => Some(key_of(digest)),
-            Kept::Digests(_, digests) => Some(key_of(&digests[place])),
-            Kept::Shared(_, _, digest, line) => Some(key_of(digest_at(digest, line, place))),
-            Kept::Texts(revisions) => key_of_rev(&revisions[place]),
+            RunRepr::One(_, digest) => Some(key_of(digest)),
+            RunRepr::Digests(_, digests) => Some(key_of(&digests[place])),
+            RunRepr::Shared(_, _, digest, line) => Some(key_of(digest_at(digest, line, place))),
+            RunRepr::Texts(revisions) => key_of_rev(&revisions[place]),
         }
     }
 
@@ -287,16 +287,16 @@ impl Run {
         ensures memory { OnErr result (IsSomeAnd (slice_get self.now 0) (λ r. ¬ IsDigestText r.hash)) }
     {
         match &self.kept {
-            Kept::One(newest, digest) => {
+            RunRepr::One(newest, digest) => {
                 Ok(Changes::of_digest(DigestRev::new(*newest, *digest)))
             }
-            Kept::Digests(newest, digests) => {
+            RunRepr::Digests(newest, digests) => {
                 Ok(Changes::of_digest(DigestRev::new(*newest, digests[0])))
             }
-            Kept::Shared(newest, _, digest, _) => {
+            RunRepr::Shared(newest, _, digest, _) => {
                 Ok(Changes::of_digest(DigestRev::new(*newest, *digest)))
             }
-            Kept::Texts(revisions) => Changes::one(alloc, revisions[0]),
+            RunRepr::Texts(revisions) => Changes::one(alloc, revisions[0]),
         }
     }
 
@@ -306,16 +306,16 @@ impl Run {
         ensures { result ≡ is_first sought.now (drop place self.now) }
     {
         match &self.kept {
-            Kept::One(newest, digest) => is_of(*newest, digest, sought),
-            Kept::Digests(newest, digests) => {
+            RunRepr::One(newest, digest) => is_of(*newest, digest, sought),
+            RunRepr::Digests(newest, digests) => {
                 is_of(*newest - place as u16, &digests[place], sought)
             }
-            Kept::Shared(newest, _, digest, line) => is_of(
+            RunRepr::Shared(newest, _, digest, line) => is_of(
                 *newest - place as u16,
                 digest_at(digest, line, place),
                 sought,
             ),
-            Kept::Texts(revisions) => sought.rev().is_same(&revisions[place]),
+            RunRepr::Texts(revisions) => sought.rev().is_same(&revisions[place]),
         }
     }
 
@@ -325,7 +325,7 @@ impl Run {
         ensures absent { IfNone result (names self.now sought.now ≡ false) }
         ensures low { IfSome result (λ k. k < 2 ^ 16 - 1) }
     {
-        if let Kept::One(newest, digest) = &self.kept {
+        if let RunRepr::One(newest, digest) = &self.kept {
             return is_of(*newest, digest, sought).then_some(0);
         }
         let newest = self.generation();
@@ -364,10 +364,10 @@ impl Run {
             ≡ map encode_lower digests.old.items ++ map (λ r. r.hash) (drop at self.now)) }
     {
         match &self.kept {
-            Kept::One(_, digest) => digests.push(*digest)?,
-            Kept::Digests(_, all) => digests.extend_from_slice(&all[at..])?,
-            Kept::Shared(_, _, _, _) => return Ok(false),
-            Kept::Texts(_) => return Ok(false),
+            RunRepr::One(_, digest) => digests.push(*digest)?,
+            RunRepr::Digests(_, all) => digests.extend_from_slice(&all[at..])?,
+            RunRepr::Shared(_, _, _, _) => return Ok(false),
+            RunRepr::Texts(_) => return Ok(false),
         }
         Ok(true)
     }

@@ -1,6 +1,6 @@
 //! Sessions that are stepped.
 ghost use Rattle.std.specs.Prelude.{◌≡◌, ◌<◌, ◌⊎◌, [], false, length, IsSome, OnOk, OnErr};
-ghost use Rattle.hub_http.specs.Boxes.{Hands, arrived_bytes, faults_in, handed_of, is_over, pending_in};
+ghost use Rattle.hub_http.specs.Boxes.{Transfers, arrived_bytes, faults_in, transferred_bytes, is_over, pending_in};
 ghost use Rattle.hub_http.specs.Counts.{HasGrown};
 ghost use Rattle.hub_session.specs.Runs.{HasRun, IsGivenUp, IsStepFrom, IsStepped};
 ghost use Rattle.hub_session.specs.Runs.{RunsOn, TellsNoMemory, closing_at, new_run, offered_to};
@@ -11,7 +11,7 @@ use crate::closing::{Closing, StreamEnd};
 use crate::feed::{Sending, send_given};
 use crate::item::NextItem;
 use crate::service::Service;
-use hub_http::{ChunkWriter, Handed, HttpFault, Inbox, Next, Outbox};
+use hub_http::{ChunkWriter, Transfer, HttpFault, Inbox, Next, Outbox};
 use std::alloc::{AllocError, Global};
 use std::io::Write;
 
@@ -221,12 +221,12 @@ impl<S: Service> Session<S> {
     }
 
     /// Hands a front of what is to go to a writer, by one write, and keeps what it did not take.
-    pub fn send_to<W: Write>(&mut self, writer: &mut W) -> Handed
-        ensures handed { Hands result (session_view self.old).pending (session_view self.new).pending
+    pub fn send_to<W: Write>(&mut self, writer: &mut W) -> Transfer
+        ensures handed { Transfers result (session_view self.old).pending (session_view self.new).pending
             (W.contents writer.old) (W.contents writer.new) }
         ensures shown { session_view self.new
             ≡ record (session_view self.old) { pending = (session_view self.new).pending } }
-        ensures run { RunsOn S.rules (λ run. with_gone run (handed_of result (session_view self.old).pending))
+        ensures run { RunsOn S.rules (λ run. with_gone run (transferred_bytes result (session_view self.old).pending))
             (session_view self.old) (session_view self.new) }
     {
         let handed = self.outbox.send_to(writer);

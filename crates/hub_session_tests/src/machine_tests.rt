@@ -5,7 +5,7 @@ use crate::made_again::{REFUSED_LAST, Told, is_right, same};
 use crate::rows::{
     CREATED, EXCHANGES, Exchange, FEED_HEAD, NORMAL, Rows, VERSION, answers, asks, texts, two_rows,
 };
-use hub_http::{Handed, HttpFault, Outbox, Request};
+use hub_http::{Transfer, HttpFault, Outbox, Request};
 use hub_session::{Answer, Closing, NextItem, Service, Session, Step};
 use std::alloc::Global;
 use std::cell::Cell;
@@ -75,7 +75,7 @@ fn serve_want<S: Service>(
     match step {
         Step::Served | Step::WantsNews | Step::Ended(_) => {}
         Step::WantsRoom => {
-            if matches!(session.send_to(writer), Handed::Refused) {
+            if matches!(session.send_to(writer), Transfer::Refused) {
                 return None;
             }
         }
@@ -95,7 +95,7 @@ fn serve_want<S: Service>(
 /// Sends all that a session has to send.
 fn drain<S: Service>(session: &mut Session<S>, writer: &mut CutWriter) {
     for _ in 0..STEPS {
-        if session.send_to(writer) == Handed::Took(0) {
+        if session.send_to(writer) == Transfer::Took(0) {
             return;
         }
     }

@@ -2,15 +2,15 @@
 -- timeout).
 use Rattle.std.specs.Prelude.{ℕ, ◌-◌, Option, Some, None, nat_le, if◌then◌else◌}
 use Rattle.hub_shared.specs.declared.times.Times.{Times}
-use Rattle.hub_shared.specs.declared.times.Due.{Due}
-use Rattle.hub_shared.specs.declared.times.Due.TheVariants.{Beat, Expire, Wait}
+use Rattle.hub_shared.specs.declared.times.ClockDue.{ClockDue}
+use Rattle.hub_shared.specs.declared.times.ClockDue.TheVariants.{Beat, Expire, Wait}
 
 -- by its heartbeat, where it has one, and else by its timeout
-abbrev due_by : Option ℕ → ℕ → ℕ → Due
+abbrev due_by : Option ℕ → ℕ → ℕ → ClockDue
 due_by (Some every) timeout passed = if nat_le every passed then Beat else Wait (every - passed)
 due_by None timeout passed = if nat_le timeout passed then Expire else Wait (timeout - passed)
 
 -- Once so many milliseconds passed without an item. With a heartbeat of 100 it is a heartbeat after 100, and
 -- after 30 to wait 70 more; a feed without one whose timeout is 100 ends after 100.
-abbrev pub due_after : Times → ℕ → Due
+abbrev pub due_after : Times → ℕ → ClockDue
 due_after times passed = due_by times.heartbeat times.timeout passed

@@ -9,7 +9,7 @@ use crate::feed::HostFeed;
 use crate::gate::{Clock, Gate};
 use crate::label::FeedLabel;
 use crate::pumping::Turn;
-use crate::times::Due;
+use crate::times::ClockDue;
 use crate::watch::Watch;
 use hub_feed::{FeedHost, Handed};
 use hub_lane::Asks;
@@ -47,17 +47,17 @@ impl<S: FeedHost, C: Count> HostFeed<S, C> {
         let since = self.idle_since.unwrap_or(now);
         self.idle_since = Some(since);
         match self.signals.times.due_after(now.saturating_sub(since)) {
-            Due::Beat => {
+            ClockDue::Beat => {
                 self.idle_since = Some(now);
                 self.hold_own(rt, Turn::Beat, gate);
                 // Items go before the next heartbeat, however soon that is due.
                 self.is_behind = true;
             }
-            Due::Expire => {
+            ClockDue::Expire => {
                 self.hold_own(rt, Turn::Expire, gate);
                 self.is_behind = self.hold_own(rt, Turn::Hand, gate);
             }
-            Due::Wait(most) => {
+            ClockDue::Wait(most) => {
                 self.due = now.saturating_add(most);
                 self.is_behind = true;
             }

@@ -6,7 +6,7 @@ use crate::gate::{Clock, Gate, Point};
 use crate::host::Host;
 use crate::label::FeedLabel;
 use crate::signals::Signals;
-use crate::times::Due;
+use crate::times::ClockDue;
 use hub_feed::{FeedHost, FeedId, Handed};
 use hub_lane::Asks;
 use std::alloc::AllocError;
@@ -116,9 +116,9 @@ impl<'a, S: FeedHost, C: Count, K: Clock> PumpState<'a, S, C, K> {
             .times
             .due_after(now.saturating_sub(self.last_item))
         {
-            Due::Beat => Turn::Beat,
-            Due::Expire => Turn::Expire,
-            Due::Wait(most) => {
+            ClockDue::Beat => Turn::Beat,
+            ClockDue::Expire => Turn::Expire,
+            ClockDue::Wait(most) => {
                 self.host.wait_for_news(rt, news, most);
                 Turn::Hand
             }

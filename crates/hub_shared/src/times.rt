@@ -17,7 +17,7 @@ pub struct Times {
 
 /// What is to be done for a feed that had nothing to hand.
 #[derive(Clone, Copy, Debug, PartialEq, Eq)]
-pub(crate) enum Due {
+pub(crate) enum ClockDue {
     /// A heartbeat.
     Beat,
     /// Its time is over.
@@ -38,14 +38,14 @@ impl Times {
     }
 
     /// What is to be done once so many milliseconds passed without an item. Constant time.
-    pub(crate) fn due_after(self, passed: u64) -> Due
+    pub(crate) fn due_after(self, passed: u64) -> ClockDue
         ensures { result ≡ due_after self passed }
     {
         match self.heartbeat {
-            Some(every) if every <= passed => Due::Beat,
-            Some(every) => Due::Wait(every - passed),
-            None if self.timeout <= passed => Due::Expire,
-            None => Due::Wait(self.timeout - passed),
+            Some(every) if every <= passed => ClockDue::Beat,
+            Some(every) => ClockDue::Wait(every - passed),
+            None if self.timeout <= passed => ClockDue::Expire,
+            None => ClockDue::Wait(self.timeout - passed),
         }
     }
 }

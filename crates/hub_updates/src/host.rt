@@ -105,7 +105,10 @@ impl FeedHost for UpdatesState {
 
     /// It costs a binary search among the feeds.
     fn beat_due(&self, feed: FeedId) -> bool {
-        self.feeds.beat_due(feed)
+        match self.feeds.find(feed) {
+            Some(state) => state.beat_due(),
+            None => false,
+        }
     }
 
     /// It costs a binary search among the feeds.

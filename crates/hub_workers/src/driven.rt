@@ -2,7 +2,7 @@
 
 ghost use Rattle.hub_session.specs.Runs.{HasRun, Run, session_view};
 
-use hub_http::{Handed, Outbox};
+use hub_http::{Transfer, Outbox};
 use hub_session::{Service, Session};
 use mio::net::TcpStream;
 use std::alloc::{AllocError, Global};
@@ -39,9 +39,9 @@ impl<S: Service> Driven<S> {
 
     /// Hands a front of what is to go to a socket, by one write. One that was interrupted is made again:
     /// `Again` then says that there is no room.
-    pub(crate) fn hand(&mut self, stream: &mut TcpStream) -> Handed {
+    pub(crate) fn hand(&mut self, stream: &mut TcpStream) -> Transfer {
         match self.session.send_to(stream) {
-            Handed::Again => self.session.send_to(stream),
+            Transfer::Again => self.session.send_to(stream),
             handed => handed,
         }
     }

@@ -6,7 +6,7 @@ ghost use Rattle.hub_workers.specs.Sockets.{IsEndedHere};
 use crate::awaits::Awaits;
 use crate::budget::Budget;
 use crate::conn::Conn;
-use hub_http::Handed;
+use hub_http::Transfer;
 use hub_session::{Closing, Service, Step};
 use hub_shared::Watchable;
 use std::io::{ErrorKind, Read};
@@ -78,16 +78,16 @@ impl<S: Service + Watchable + Drop> Conn<S> {
     fn send(&mut self, budget: &mut Budget) -> Option<Awaits> {
         for _ in 0..u64::MAX {
             match self.driven.hand(&mut self.stream) {
-                Handed::Took(0) => return None,
-                Handed::Took(count) => {
+                Transfer::Took(0) => return None,
+                Transfer::Took(count) => {
                     self.is_renewed = true;
                     budget.spend(count);
                 }
-                Handed::Again if !self.readiness.hang_up => {
+                Transfer::Again if !self.readiness.hang_up => {
                     self.readiness.write = false;
                     return Some(Awaits::Room);
                 }
-                Handed::Again | Handed::Refused => return Some(self.give_up()),
+                Transfer::Again | Transfer::Refused => return Some(self.give_up()),
             }
             if budget.is_spent() {
                 break;

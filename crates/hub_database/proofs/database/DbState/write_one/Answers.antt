@@ -22,7 +22,7 @@ returns-clause-ok c =
       limits = z.limits;
       life = z.life;
     } in
-    let new = c.write.new.self in
+    let new = c.store.new.self in
     subst (λ (db : Database). IfOk c.reply.result (λ rev.
     one_draft_result db.deleted db.limits.journal db.journal c.args.doc
     ≡ record { outcome = Stored rev; journal = new.journal })) c.self.view_is
@@ -42,7 +42,7 @@ returns-clause-err c =
       limits = z.limits;
       life = z.life;
     } in
-    let new = c.write.new.self in
+    let new = c.store.new.self in
     subst (λ (db : Database). IfErr c.reply.result (λ e. (whole new ≡ db) × ((e ≡ NoMemory)
     ⊎ ((f : Fault) × (e ≡ Refused f)
     × (one_draft_result db.deleted db.limits.journal db.journal c.args.doc ≡ refusal_result db.journal f))))) c.self.view_is
@@ -53,7 +53,7 @@ returns-clause-err c =
 pub invariant_of-self-2 : goal.invariant_of-self-2
 invariant_of-self-2 c =
     let s = c.self.inside in
-    let grown : length s.contents.journal ≤ length c.write.new.self.journal =
+    let grown : length s.contents.journal ≤ length c.store.new.self.journal =
     write_grows true s.contents.limits.journal s.contents.journal c.args.doc c.in_ok-outcome.outcome
-    c.write.new.self.journal c.in_ok-outcome.ensures.ok in
+    c.store.new.self.journal c.in_ok-outcome.ensures.ok in
     search rules

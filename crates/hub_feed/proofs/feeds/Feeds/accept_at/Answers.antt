@@ -1,26 +1,12 @@
-use Rattle.std.proofs.Common.{◌≡◌, ◌∙◌, sym, subst, ap, ℕ, List, Some, None, nat_eq}
+use Rattle.std.proofs.Common.{◌≡◌, sym, subst, ap, ℕ, List, Some}
 use Rattle.std.specs.Prelude.{position, slice_set}
+use Rattle.hub_model.specs.Entries.{is_of}
 use Rattle.hub_model.specs.Feed.{Feed, next_due, feed_after_due}
-use Rattle.hub_model.proofs.Entries.{changed_absent, changed_here, entry_here, no_entry}
+use Rattle.hub_model.proofs.Entries.{changed_here, entry_here}
 use Rattle.hub_feed.specs.Feeds.{AreBehind, AreNumbered, FeedList, feeds_of, over}
 use Rattle.hub_feed.specs.Host.{hosted_after_hand, item_of_number}
 use Rattle.hub_feed.proofs.FeedsLemmas.{behind_changed, goes_behind, numbered_changed}
-use Rattle.hub_feed.proofs.feeds.Feeds.accept_item.Goals as goal
-
-pub returns-in_default : goal.returns-in_default
-returns-in_default g c =
-    let id = c.args.feed.number in
-    let none : position (λ (p : ℕ × Feed). nat_eq p.0 id) c.self.inside.list.items ≡ None =
-    rw c.as_slice.ensures.value at (sym c.place_near.ensures ∙ c.in_default.is) in
-    record {
-      new =
-          subst (λ (list : FeedList). list ≡ feeds_of (hosted_after_hand (over (g.S.Source.length c.args.source.now)
-          (g.S.Source.current c.args.source.now) (g.S.Source.shown c.args.source.now) list) id))
-          c.self.view_is
-          (ap (λ (fs : List (ℕ × Feed)). record { feeds = fs; next = c.self.inside.next })
-          (sym (changed_absent id _ c.self.inside.list.items (no_entry id c.self.inside.list.items none))));
-      behind = λ len least behind. behind;
-    }
+use Rattle.hub_feed.proofs.feeds.Feeds.accept_at.Goals as goal
 
 pub accept_item-requires : goal.accept_item-requires
 accept_item-requires g c =
@@ -28,15 +14,16 @@ accept_item-requires g c =
     let feeds = c.self.inside.list.items in
     let len = g.S.Source.length c.args.source.now in
     let rows = g.S.Source.current c.args.source.now in
-    let placed : Some c.in-Some.at ≡ position (λ (p : ℕ × Feed). nat_eq p.0 id) feeds =
-    rw c.as_slice.ensures.value at c.in-Some.ensures in
-    let p = c.index_mut-feed.result.now in
-    let is = c.index_mut-feed.ensures.value in
+    let placed = subst (λ (list : FeedList). Some c.args.at ≡ position (is_of id) list.feeds)
+    (sym c.self.view_is)
+    c.requires.placed in
+    let p = c.index_mut-state.result.now in
+    let is = c.index_mut-state.ensures.value in
     let asked =
     subst (λ (list : FeedList). item_of_number (over len rows (g.S.Source.shown c.args.source.now) list) id
     ≡ Some c.args.item.now)
     (sym c.self.view_is) c.requires.due in
-    record { due = rw (entry_here id feeds c.in-Some.at placed p is) at asked }
+    record { due = rw (entry_here id feeds c.args.at placed p is) at asked }
 
 pub invariant_of-self : goal.invariant_of-self
 invariant_of-self g c =
@@ -44,13 +31,14 @@ invariant_of-self g c =
     let feeds = c.self.inside.list.items in
     let len = g.S.Source.length c.args.source.now in
     let rows = g.S.Source.current c.args.source.now in
-    let placed : Some c.in-Some.at ≡ position (λ (p : ℕ × Feed). nat_eq p.0 id) feeds =
-    rw c.as_slice.ensures.value at c.in-Some.ensures in
-    let p = c.index_mut-feed.result.now in
-    let is = c.index_mut-feed.ensures.value in
+    let placed = subst (λ (list : FeedList). Some c.args.at ≡ position (is_of id) list.feeds)
+    (sym c.self.view_is)
+    c.requires.placed in
+    let p = c.index_mut-state.result.now in
+    let is = c.index_mut-state.ensures.value in
     let change : Feed → Feed = λ f. feed_after_due f (next_due rows f) len in
     subst (AreNumbered c.self.inside.next)
-    (sym (changed_here id feeds c.in-Some.at placed p is change c.accept_item.new.self
+    (sym (changed_here id feeds c.args.at placed p is change c.accept_item.new.self
     c.self.invariant.rising c.accept_item.ensures))
     (numbered_changed id change c.self.inside.next feeds c.self.invariant)
 
@@ -60,19 +48,20 @@ returns g c =
     let feeds = c.self.inside.list.items in
     let len = g.S.Source.length c.args.source.now in
     let rows = g.S.Source.current c.args.source.now in
-    let placed : Some c.in-Some.at ≡ position (λ (p : ℕ × Feed). nat_eq p.0 id) feeds =
-    rw c.as_slice.ensures.value at c.in-Some.ensures in
-    let p = c.index_mut-feed.result.now in
-    let is = c.index_mut-feed.ensures.value in
+    let placed = subst (λ (list : FeedList). Some c.args.at ≡ position (is_of id) list.feeds)
+    (sym c.self.view_is)
+    c.requires.placed in
+    let p = c.index_mut-state.result.now in
+    let is = c.index_mut-state.ensures.value in
     let change : Feed → Feed = λ f. feed_after_due f (next_due rows f) len in
     let now =
-    changed_here id feeds c.in-Some.at placed p is change c.accept_item.new.self
+    changed_here id feeds c.args.at placed p is change c.accept_item.new.self
     c.self.invariant.rising c.accept_item.ensures in
     record {
       new =
           subst (λ (list : FeedList). ◌≡◌ {A = FeedList}
           (record {
-            feeds = slice_set feeds c.in-Some.at (p.0, c.accept_item.new.self);
+            feeds = slice_set feeds c.args.at (p.0, c.accept_item.new.self);
             next = c.self.inside.next;
           })
           (feeds_of (hosted_after_hand (over len rows (g.S.Source.shown c.args.source.now) list) id))) c.self.view_is
