@@ -195,7 +195,9 @@ impl Feeds {
     pub fn find(&self, feed: FeedId) -> Option<&FeedState>
         ensures { option_map (λ state. state.now) result ≡ entry_in feed.number self.now.feeds }
     {
-        let at = place_of(self.list.as_slice(), feed.number)?;
+        let Some(at) = place_of(self.list.as_slice(), feed.number) else {
+            return None;
+        };
         let feed = &self.list[at];
         Some(&feed.1)
     }

@@ -1,6 +1,5 @@
 -- The row that is due by its sequence is a current one.
 use Rattle.std.proofs.Common.{◌≡◌, sym, ◌∙◌, ap, subst}
-use Rattle.hub_model.specs.Current.{Current}
 use Rattle.hub_model.specs.Feed.{Feed}
 use Rattle.hub_feed.specs.declared.next.Next.TheVariants.{Give}
 use Rattle.hub_feed.proofs.DueLemmas.{end_given, row_given, row_here}

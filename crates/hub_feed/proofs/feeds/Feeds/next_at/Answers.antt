@@ -1,6 +1,6 @@
-use Rattle.std.proofs.Common.{◌≡◌, sym, subst, ap, rules, ℕ, List, Some}
+use Rattle.std.proofs.Common.{◌≡◌, sym, subst, ap, ℕ, List, Some}
 use Rattle.std.specs.Prelude.{position, slice_set}
-use Rattle.hub_model.specs.Entries.{entry_in, is_of}
+use Rattle.hub_model.specs.Entries.{is_of}
 use Rattle.hub_model.specs.Feed.{Feed, next_due}
 use Rattle.hub_model.proofs.Entries.{changed_here, entry_here, stays_here}
 use Rattle.hub_feed.specs.Feeds.{AreBehind, AreNumbered, FeedList, feeds_of, over}
