@@ -282,7 +282,8 @@ impl DbState {
             deleted,
             body,
         };
-        reply(self.contents.store(id, edit)?)
+        let outcome = self.contents.store(id, edit)?;
+        reply(outcome)
     }
 
     /// Deletes the database, and ends its open feeds: what is left of each is its end. It takes no

@@ -1,4 +1,4 @@
-use Rattle.std.proofs.Common.{arith, sym, ◌∙◌}
+use Rattle.std.proofs.Common.{arith, sym}
 use Rattle.hub_index.proofs.IndexedLemmas.{last_nothing}
 use Rattle.hub_database.specs.Indexed.{latest_at}
 use Rattle.hub_database.specs.Documents.{files}

@@ -1,5 +1,5 @@
 -- What is found among the rows that are kept is the first in reach.
-use Rattle.std.proofs.Common.{◌<◌, AllPairs, map, string_bytes, refl, rules, subst, sym}
+use Rattle.std.proofs.Common.{◌<◌, AllPairs, map, string_bytes, refl, subst, sym}
 use Rattle.hub_model.specs.Current.{current}
 use Rattle.hub_model.specs.Entries.{entry_in}
 use Rattle.hub_model.specs.Filter.{DocIds}
