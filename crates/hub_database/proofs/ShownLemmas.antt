@@ -5,13 +5,15 @@ use Rattle.std.specs.Prelude.{Option, Some, None, Contains, map, find, option_ma
 use Rattle.std.specs.Prelude.{if◌then◌else◌}
 use Rattle.std.proofs.lemmas.Option.{same_Some, none-some, slice_get-map}
 use Rattle.hub_model.specs.Revision.{Revision}
-use Rattle.hub_model.specs.Path.{names, is_first}
+use Rattle.hub_model.specs.Path.{IsFirst, names, is_first}
 use Rattle.hub_model.specs.Journal.{Edit, IsLegal, edits_of, is_known}
 use Rattle.hub_model.specs.Leaves.{Leaf, leaves_among, best_first, leaves_of, revisions_of}
 use Rattle.hub_model.specs.Walk.{line_of, is_head, shown_edit, shown_of}
 use Rattle.hub_model.proofs.Lists.{contains_here}
 use Rattle.hub_model.proofs.Legal.{first_in}
-use Rattle.hub_model.proofs.Tests.{at_any, is_named, same_is}
+use Rattle.hub_model.specs.Row.{doc_of}
+use Rattle.hub_model.proofs.Tests.{at_any, is_named, known_is, same_is}
+use Rattle.hub_model.proofs.Walks.{line_of_walk}
 use Rattle.hub_model.proofs.Shown.{find_is, head_is}
 use Rattle.hub_document.specs.declared.doc.Doc.{Doc}
 use Rattle.hub_document.specs.declared.open_revs.OpenRevs.TheVariants.{All, Listed}
@@ -147,6 +149,107 @@ module _ (document : Document) (revision other : Revision) (deleted : Bool) (bod
       lent (find (is_head revision) (edits_of edits [])) (tip other deleted body)
       (option_map (take count) (path_to edits other)) same on
       (λ e found tips path. doc_of_edit e found tips count path revs history is_so)
+
+-- a document that is copied from the edit of a leaf, or of the winner
+module _ (document : Document) (legal : IsLegal document.tree.edits) where
+  abbrev own : List Edit
+  own = document.tree.edits
+
+  leaf_known : (leaf : Leaf) → Contains (leaves_of own []) leaf → is_known own [] leaf.rev ≡ true
+  leaf_known leaf c =
+      let is = find_is (is_head leaf.rev) (edits_of own []) leaf.edit (leaf_headed own [] legal leaf c) in
+      at_any (λ (f : Edit). names f.path leaf.rev) (edits_of own []) leaf.edit is.1
+      (is_named leaf.edit.path leaf.rev (first_in leaf.edit.path leaf.rev (head_is leaf.edit.path leaf.rev is.0)))
+
+  leaf_first : (leaf : Leaf) → Contains (leaves_of own []) leaf
+      → Some leaf.rev ≡ slice_get (line_of own [] leaf.rev) 0
+  leaf_first leaf c =
+      from (line_of own [] leaf.rev)
+      (line_of_walk own [] legal leaf.rev (known_is own [] leaf.rev (leaf_known leaf c))).0
+    where
+      from : (revisions : List Revision) → IsFirst revisions leaf.rev → Some leaf.rev ≡ slice_get revisions 0
+      from [] first = absurd first
+      from (x ∷ revisions) first = ap Some (sym first)
+
+  leaf_history : (leaf : Leaf) → Contains (leaves_of own []) leaf → (revs : Bool)
+      → history_of revs own leaf.rev ≡ (if revs then Some (line_of own [] leaf.rev) else None)
+  leaf_history leaf c true = ap (λ b. if b then Some (line_of own [] leaf.rev) else None) (leaf_known leaf c)
+  leaf_history leaf c false = refl
+
+  leaf_copied : (leaf : Leaf) → Contains (leaves_of own []) leaf → (revs : Bool)
+      → Some (record {
+        id = document.id;
+        rev = Some leaf.rev;
+        path = history_of revs own leaf.rev;
+        deleted = leaf.edit.deleted;
+        body = leaf.edit.body;
+      }) ≡ option_map (doc_shown revs) (shown_in document leaf.rev)
+  leaf_copied leaf c revs =
+      ap (λ (p : Option (List Revision)). Some (record {
+        id = document.id;
+        rev = Some leaf.rev;
+        path = p;
+        deleted = leaf.edit.deleted;
+        body = leaf.edit.body;
+      })) (leaf_history leaf c revs)
+      ∙ (ap (λ (o : Option Revision). Some (record {
+        id = document.id;
+        rev = o;
+        path = if revs then Some (line_of own [] leaf.rev) else None;
+        deleted = leaf.edit.deleted;
+        body = leaf.edit.body;
+      })) (leaf_first leaf c)
+      ∙ ap (λ o. option_map (doc_shown revs)
+      (option_map (edit_with_id document.id) (shown_of own [] leaf.rev o)))
+      (sym (leaf_headed own [] legal leaf c)))
+
+  pub winner_copied : (winner : Winner) → Some winner ≡ winner_of (leaves_of own []) → (body : List ℕ)
+      → Some body ≡ doc_of true (leaves_of own []) → (revs : Bool) (history : Option (List Revision))
+      → history ≡ history_of revs own winner.rev
+      → Some (record {
+        id = document.id;
+        rev = Some winner.rev;
+        path = history;
+        deleted = winner.deleted;
+        body = body;
+      }) ≡ option_map (doc_shown revs) (shown_in document winner.rev)
+  winner_copied winner is body held revs history is_so = from (leaves_of own []) refl is held
+    where
+      from : (leaves : List Leaf) → leaves_of own [] ≡ leaves → Some winner ≡ winner_of leaves
+          → Some body ≡ doc_of true leaves
+          → Some (record {
+            id = document.id;
+            rev = Some winner.rev;
+            path = history;
+            deleted = winner.deleted;
+            body = body;
+          }) ≡ option_map (doc_shown revs) (shown_in document winner.rev)
+      from [] q e h = absurd (none-some winner (sym e))
+      from (leaf ∷ leaves) q e h =
+          let there = subst (λ other. Contains other leaf) (sym q) (contains_here leaf leaves) in
+          let copied =
+          subst (λ (w : Winner). Some (record {
+            id = document.id;
+            rev = Some w.rev;
+            path = history_of revs own w.rev;
+            deleted = w.deleted;
+            body = leaf.edit.body;
+          }) ≡ option_map (doc_shown revs) (shown_in document w.rev))
+          (same_Some _ winner (sym e)) (leaf_copied leaf there revs) in
+          ap (λ (p : Option (List Revision)). Some (record {
+            id = document.id;
+            rev = Some winner.rev;
+            path = p;
+            deleted = winner.deleted;
+            body = body;
+          })) is_so
+          ∙ (ap (λ (b : List ℕ). Some (record {
+            id = document.id;
+            rev = Some winner.rev;
+            path = history_of revs own winner.rev;
+            deleted = winner.deleted;
+            body = b;
+          })) (same_Some body leaf.edit.body h) ∙ copied)
 
 -- what is shown of a leaf is of the edit that it heads
 module _ (journal : List Edit) (id : List ℕ) (legal : IsLegal journal) where

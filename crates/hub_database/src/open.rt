@@ -1,6 +1,9 @@
 //! Revisions that are asked for.
 
-ghost use Rattle.std.specs.Prelude.{◌≡◌, [], map, option_map, IfOk, OnErr};
+ghost use Rattle.std.specs.Prelude.{◌≡◌, [], Some, map, option_map, IfOk, OnErr};
+ghost use Rattle.hub_model.specs.Leaves.{leaves_of};
+ghost use Rattle.hub_revtree.specs.Tree.{IsRevTree};
+ghost use Rattle.hub_revtree.specs.Winner.{winner_of};
 ghost use Rattle.hub_database.specs.Found.{history_of, shown_if_any, shown_in};
 ghost use Rattle.hub_database.specs.Reads.{doc_shown, open_rev_of, open_revs as open_revs_of};
 
@@ -8,6 +11,7 @@ use crate::answers::OpenRev;
 use crate::contents::Contents;
 use crate::document::Document;
 use hub_document::{Doc, OpenRevs, Path, RevId};
+use hub_revtree::Winner;
 use std::alloc::{AllocError, Global};
 
 impl Document {
@@ -41,6 +45,30 @@ impl Document {
             path: self.history(alloc, rev, revs)?,
             deleted: edit.deleted,
             body: edit.body.copy(alloc)?,
+        }))
+    }
+
+    /// The winner, which is this, with its history where `revs` asks for it. It is not looked for: it costs a
+    /// copy.
+    pub(crate) fn winner_doc(
+        &self,
+        alloc: Global,
+        winner: &Winner,
+        revs: bool,
+    ) -> Result<Option<Doc>, AllocError>
+        requires tree { IsRevTree self.now.tree.edits }
+        requires winner { Some winner.now ≡ winner_of (leaves_of self.now.tree.edits []) }
+        ensures { IfOk result (λ doc. doc ≡ option_map (doc_shown revs) (shown_in self.now winner.now.rev)) }
+    {
+        let Some(body) = self.tree.winner_body() else {
+            return Ok(None);
+        };
+        Ok(Some(Doc {
+            id: self.id.copy()?,
+            rev: Some(winner.rev),
+            path: self.history(alloc, &winner.rev, revs)?,
+            deleted: winner.deleted,
+            body: body.copy(alloc)?,
         }))
     }
 

@@ -47,7 +47,7 @@ impl Contents {
         if winner.deleted {
             return Ok(Lookup::Deleted);
         }
-        match document.shown(self.alloc, &winner.rev, revs)? {
+        match document.winner_doc(self.alloc, &winner, revs)? {
             Some(doc) => Ok(Lookup::Found(doc)),
             None => Ok(Lookup::Unknown),
         }
