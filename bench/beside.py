@@ -20,6 +20,7 @@ import http.client
 import json
 import os
 import re
+import socket
 import statistics
 import subprocess
 import sys
@@ -149,22 +150,47 @@ class Batches:
         return documents / sum(took), 1e6 * (server.seconds() - before) / documents, 1e3 * max(took)
 
 
+def read_feed(port, path):
+    """Reads the answer to a GET up to its last chunk: its bytes, and the seconds that it took. Chunks are not taken
+    apart, so that the server and the sockets are measured, and not the client."""
+    room = memoryview(bytearray(1 << 20))
+    since = time.monotonic()
+    with socket.create_connection(("127.0.0.1", port)) as stream:
+        stream.sendall(("GET %s HTTP/1.1\r\nHost: h\r\n\r\n" % path).encode())
+        count, last = 0, b""
+        while not last.endswith(b"\r\n0\r\n\r\n"):
+            got = stream.recv_into(room)
+            if got == 0:
+                sys.exit("no whole feed: %d bytes" % count)
+            count += got
+            last = last[-7:] + bytes(room[max(got - 7, 0):got])
+    return count, time.monotonic() - since
+
+
+def curl_feed(port, path):
+    """The same by curl, which takes the chunks apart: the hub has one for each row, and hyper one for 512."""
+    words = ["curl", "-s", "-o", "/dev/null", "-w", "%{time_total} %{size_download} %{http_code}"]
+    words += ["http://127.0.0.1:%d%s" % (port, path)]
+    told = subprocess.run(words, stdout=subprocess.PIPE, check=True).stdout.decode().split()
+    if told[2] != "200":
+        sys.exit("no feed: %s" % told)
+    return int(told[1]), float(told[0])
+
+
 class Rows:
     """A normal feed of 100,000 rows, the median of seven."""
 
-    def __init__(self, name, query):
-        self.name, self.query = name, query
+    def __init__(self, name, query, read):
+        self.name, self.path, self.read = name, "/rows/_changes" + query, read
 
     def measure(self, server):
         """Rows a second, microseconds of the server for each, and the milliseconds of the median feed."""
         took, before = [], server.seconds()
         for _ in range(7):
-            words = ["curl", "-s", "-o", "/dev/null", "-w", "%{time_total} %{size_download} %{http_code}"]
-            words += ["http://127.0.0.1:%d/rows/_changes%s" % (server.port, self.query)]
-            told = subprocess.run(words, stdout=subprocess.PIPE, check=True).stdout.decode().split()
-            if told[2] != "200" or int(told[1]) < 80 * ROWS:
-                sys.exit("no whole feed: %s" % told)
-            took.append(float(told[0]))
+            count, seconds = self.read(server.port, self.path)
+            took.append(seconds)
+            if count < 80 * ROWS:
+                sys.exit("no whole feed: %d bytes" % count)
         spent = server.seconds() - before
         return ROWS / statistics.median(took), 1e6 * spent / ROWS / 7, 1e3 * statistics.median(took)
 
@@ -227,7 +253,9 @@ def main():
     asked = parser.parse_args()
     programs = dict(word.split("=", 1) for word in asked.programs)
     cases = [Wrk(kind, n, asked.seconds) for kind in ("PUT", "GET") for n in (1, 16, 64)]
-    cases += [Batches(), Rows("rows", ""), Rows("rows with documents", "?include_docs=true")]
+    cases += [Batches()]
+    for by, read in (("", read_feed), (" by curl", curl_feed)):
+        cases += [Rows("rows" + by, "", read), Rows("documents in rows" + by, "?include_docs=true", read)]
     cases = [case for case in cases if any(case.name.startswith(word) for word in asked.case or [""])]
     names, figures = list(programs), {}
     for round_ in range(asked.rounds):

@@ -115,15 +115,6 @@ fn put_from(out: &mut Vec<u8>, text: &[u8], at: usize) -> Result<(), AllocError>
     out.extend_from_slice(&text[at..])
 }
 
-// What stands between an id and the end of a row's only revision, which has this text.
-fn revision_part(text: &[u8; 36]) -> [u8; 56]
-    ensures { result ≡ codes "\",\"changes\":[{\"rev\":" ++ text.now }
-{
-    let mut part = *b"\",\"changes\":[{\"rev\":....................................";
-    part[20..].copy_from_slice(text.as_slice());
-    part
-}
-
 // Appends what stands behind the only revision of a row that brings no document.
 #[tactic(auto, unfolding(crate::specs::ChangeTexts::row_mark))]
 fn put_short_end(out: &mut Vec<u8>, deleted: bool) -> Result<(), AllocError>
@@ -183,13 +174,10 @@ impl PlainRow<'_, '_> {
         ensures { Appends (codes "\",\"changes\":[{\"rev\":" ++ quoted (text_of self.now.rev.now)) result
             out.old.items out.new.items }
     {
+        out.extend_from_slice(b"\",\"changes\":[{\"rev\":")?;
         match self.short {
-            Some(text) => out.extend_from_slice(revision_part(text).as_slice()),
-            None => {
-                out.extend_from_slice(b"\",\"changes\":[{\"rev\":")?;
-                self.rev.print_quoted(out)?;
-                Ok(())
-            }
+            Some(text) => out.extend_from_slice(text.as_slice()),
+            None => self.rev.print_quoted(out),
         }
     }
 

@@ -96,7 +96,8 @@ impl Sent {
     }
 
     /// Puts its next item into `next`, `None` where nothing hands it further: what is left stands behind it.
-    /// It costs what `Pumping::next_item` does; a row of a list that was made at once is moved out of it.
+    /// It costs what `Pumping::next_item` does; a row of a list that was made at once is moved out of it. A place
+    /// that has no item is not written.
     pub(crate) fn next<P: Pumping>(&mut self, pumping: &P, next: &mut NextItem)
         ensures { GoesOn self.old next.new self.new }
     {
@@ -109,7 +110,9 @@ impl Sent {
                 return;
             }
         }
-        next.update = None;
+        if next.update.is_some() {
+            next.update = None;
+        }
     }
 
     /// Gives back what it holds: a feed is forgotten by its host.
