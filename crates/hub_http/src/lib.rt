@@ -36,7 +36,7 @@ pub use input::Input;
 pub use item::item_text;
 pub use method_name::MethodName;
 pub use next::Next;
-pub use outbox::{Transfer, Outbox};
+pub use outbox::{Outbox, Transfer};
 pub use output::{IoFault, Output, send, send_vec, write_all};
 pub use refusal::Refusal;
 pub use reply::{Reply, head_end, reply_bytes};

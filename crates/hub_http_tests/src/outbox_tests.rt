@@ -1,5 +1,5 @@
 use crate::made_again::{again, same, same_bytes};
-use hub_http::{Transfer, Outbox, Output, send_vec};
+use hub_http::{Outbox, Output, Transfer, send_vec};
 use std::alloc::{AllocError, Global};
 use std::io;
 use std::io::{ErrorKind, Write};

@@ -233,7 +233,9 @@ impl Run {
         match &self.kept {
             RunRepr::One(_, _) => 1,
             RunRepr::Digests(_, digests) => digests.len(),
-            RunRepr::Shared(_, most, _, line) => usize::from(*most).min(line.len().saturating_add(1)),
+            RunRepr::Shared(_, most, _, line) => usize::from(*most).min(
+                line.len().saturating_add(1),
+            ),
             RunRepr::Texts(revisions) => revisions.len(),
         }
     }

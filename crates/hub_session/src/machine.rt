@@ -11,7 +11,7 @@ use crate::closing::{Closing, StreamEnd};
 use crate::feed::{Sending, send_given};
 use crate::item::NextItem;
 use crate::service::Service;
-use hub_http::{ChunkWriter, Transfer, HttpFault, Inbox, Next, Outbox};
+use hub_http::{ChunkWriter, HttpFault, Inbox, Next, Outbox, Transfer};
 use std::alloc::{AllocError, Global};
 use std::io::Write;
 

@@ -5,7 +5,7 @@ use crate::made_again::{REFUSED_LAST, Told, is_right, same};
 use crate::rows::{
     CREATED, EXCHANGES, Exchange, FEED_HEAD, NORMAL, Rows, VERSION, answers, asks, texts, two_rows,
 };
-use hub_http::{Transfer, HttpFault, Outbox, Request};
+use hub_http::{HttpFault, Outbox, Request, Transfer};
 use hub_session::{Answer, Closing, NextItem, Service, Session, Step};
 use std::alloc::Global;
 use std::cell::Cell;

@@ -2,7 +2,7 @@
 
 ghost use Rattle.hub_session.specs.Runs.{HasRun, Run, session_view};
 
-use hub_http::{Transfer, Outbox};
+use hub_http::{Outbox, Transfer};
 use hub_session::{Service, Session};
 use mio::net::TcpStream;
 use std::alloc::{AllocError, Global};
