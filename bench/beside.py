@@ -255,7 +255,7 @@ def main():
     cases = [Wrk(kind, n, asked.seconds) for kind in ("PUT", "GET") for n in (1, 16, 64)]
     cases += [Batches()]
     for by, read in (("", read_feed), (" by curl", curl_feed)):
-        cases += [Rows("rows" + by, "", read), Rows("documents in rows" + by, "?include_docs=true", read)]
+        cases += [Rows("rows" + by, "", read), Rows("rows with documents" + by, "?include_docs=true", read)]
     cases = [case for case in cases if any(case.name.startswith(word) for word in asked.case or [""])]
     names, figures = list(programs), {}
     for round_ in range(asked.rounds):
