@@ -5,24 +5,23 @@
 //! hold whichever one of their growths is refused; the growths of the tests themselves, as of a notice, are
 //! among them.
 
-mod surface;
-
 use crate::listed::{Listed, NoHandle};
 use crate::tests::Handed::{End, Full, Gone, Nothing, Row};
-use crate::tests::Step::{Beats, Expire, Finish, Hands, Length, Note, Open};
+use crate::tests::Step::{Beats, Expire, Finish, Hand, Heeds, Length, Note, Open};
 use hub_document::{Limits, UpdateRow};
 use hub_feed::{FeedHost, FeedId, Handed as Did, OpenFault};
-use hub_model::Item;
 use hub_model::UpdateKind::{self, Created, Deleted, Updated};
+use hub_model::{Item, Mode, Since, Style};
 use hub_params::FeedParams;
 use hub_updates::{NoteFault, Notice, UpdatesState};
 use std::alloc::{AllocError, Global};
-use std::fmt::Debug;
-use std::process::Abort;
 
-/// The value that was found is the one that is wanted. The comparison is proved here, and not in each test.
-pub(crate) fn same<T: PartialEq + Debug>(rt: &impl Abort, found: &T, wanted: &T) {
-    assert_eq!(rt; *found, *wanted);
+/// A log of nothing, and what is done to it.
+struct Case {
+    name: &'static str,
+    /// Whether the log may have one note and one feed alone.
+    narrow: bool,
+    steps: &'static [Step],
 }
 
 /// A step on a log, and its answer.
@@ -33,14 +32,16 @@ enum Step {
     Length(u64),
     /// The feed that this query asks for is opened.
     Open(&'static str, Result<FeedId, OpenFault>),
-    /// What a feed hands, one after the other.
-    Hands(FeedId, &'static [Handed]),
+    /// What a feed hands next.
+    Hand(FeedId, Handed),
     /// Whether a beat is due to a feed.
     Beats(FeedId, bool),
     /// The time of a feed is over.
     Expire(FeedId),
     /// A feed is finished.
     Finish(FeedId),
+    /// What a feed of a log heeds of this query.
+    Heeds(&'static str, Heeded),
 }
 
 /// What a feed hands.
@@ -58,83 +59,72 @@ enum Handed {
     Full,
 }
 
+/// What a feed of a log heeds of its parameters. It shows every row, upwards, with the winner and without
+/// a document.
+struct Heeded {
+    mode: Mode,
+    since: Since,
+    limit: Option<u64>,
+    heartbeat: Option<u64>,
+    timeout: u64,
+}
+
 // Feeds, by the order in which they are opened.
 
 const FIRST: FeedId = FeedId { number: 0 };
 
 const SECOND: FeedId = FeedId { number: 1 };
 
-// How often a call is made until it answers.
-const TRIES: u64 = 2;
-
-// What a log shows for which it takes no memory: how many notes it has, and whether beats are due to its
-// feeds.
-fn shown(state: &UpdatesState) -> (u64, bool, bool) {
-    (
-        state.update_seq(),
-        state.beat_due(FIRST),
-        state.beat_due(SECOND),
-    )
-}
-
-// Whether a call has its answer. One that finds no memory leaves what the log shows, and is made again.
-fn is_right<F>(state: &mut UpdatesState, call: F) -> bool
-where
-    F: Fn(&mut UpdatesState) -> Result<bool, AllocError>,
-    requires { F.IsAlwaysCallable call }
-{
-    for _ in 0..TRIES {
-        let before = shown(state);
-        if let Ok(answer) = call(state) {
-            return answer;
-        }
-        if shown(state) != before {
-            return false;
-        }
-    }
-    false
-}
-
-// Whether a notice of this has this answer. One that is handed back is the same, and lapses.
-fn notes(
+/// A log on trial.
+#[derive(Drop)]
+struct Trial {
     alloc: Global,
-    state: &mut UpdatesState,
-    kind: UpdateKind,
-    name: &str,
-    answer: Result<(), NoteFault>,
-) -> Result<bool, AllocError> {
-    match state.note(Notice::new(alloc, kind, name)?) {
-        Ok(()) => Ok(answer == Ok(())),
-        Err((notice, fault)) => {
-            let same = notice.kind() == kind && notice.name() == name;
-            notice.lapse();
-            if same && fault == NoteFault::NoMemory {
-                return Err(AllocError);
-            }
-            Ok(same && answer == Err(fault))
-        }
+    state: UpdatesState,
+}
+
+// Limits of a log, which may have one note and one feed alone where they are narrow.
+fn limits(narrow: bool) -> Limits {
+    let mut limits = Limits::full();
+    if narrow {
+        limits.journal = 1;
+        limits.feeds = 1;
+    }
+    limits
+}
+
+// The parameters that a query gives; an error where it finds no memory, and each time where it gives none.
+fn params_of(alloc: Global, query: &str) -> Result<FeedParams, AllocError> {
+    match FeedParams::read(alloc, query.as_bytes(), b"") {
+        Ok(params) => Ok(params),
+        Err(_) => Err(AllocError),
     }
 }
 
-// Whether an item is this.
-fn is_item(item: &Item<UpdateRow>, handed: &Handed) -> bool {
-    match (item, handed) {
-        (Item::Row(row), Row(kind, name, seq, seen)) => {
-            row.kind == *kind
-                && row.db_name.as_str() == *name
-                && row.seq == *seq
-                && row.seen == *seen
-        }
-        (Item::End { last_seq, pending }, End(last, rest)) => last_seq == last && pending == rest,
-        _ => false,
-    }
+// Whether the parameters are heeded so.
+fn is_heeded(params: &FeedParams, heeded: &Heeded) -> bool {
+    params.mode == heeded.mode
+        && params.since == heeded.since
+        && params.limit == heeded.limit
+        && params.heartbeat == heeded.heartbeat
+        && params.timeout == heeded.timeout
+        && !params.descending
+        && !params.include_docs
+        && params.style == Style::MainOnly
+        && params.filter.passes("d")
 }
 
 // Whether a hand that did this, to a list that has this first item now, handed so.
 fn is_hand(did: Did, item: Option<&Item<UpdateRow>>, handed: &Handed) -> bool {
     match (did, item, handed) {
-        (Did::Row, Some(item), Row(_, _, _, _)) => is_item(item, handed),
-        (Did::End, Some(item), End(_, _)) => is_item(item, handed),
+        (Did::Row, Some(Item::Row(row)), Row(kind, name, seq, seen)) => {
+            row.kind == *kind
+                && row.db_name.as_str() == *name
+                && row.seq == *seq
+                && row.seen == *seen
+        }
+        (Did::End, Some(Item::End { last_seq, pending }), End(last, rest)) => {
+            last_seq == last && pending == rest
+        }
         (Did::Full, None, Full) | (Did::Nothing, None, Nothing) | (Did::Gone, None, Gone) => true,
         _ => false,
     }
@@ -154,16 +144,6 @@ fn hands<H: FeedHost<Row = UpdateRow>>(
     Ok(is_hand(did, list.items().first(), handed))
 }
 
-// Whether a feed hands these, one after the other.
-fn hands_all(alloc: Global, state: &mut UpdatesState, feed: FeedId, all: &[Handed]) -> bool {
-    for handed in all {
-        if !is_right(state, |state| hands(alloc, state, feed, handed)) {
-            return false;
-        }
-    }
-    true
-}
-
 // Whether opening a feed of a host has this answer.
 fn opens<H: FeedHost>(
     alloc: Global,
@@ -171,55 +151,87 @@ fn opens<H: FeedHost>(
     query: &str,
     answer: Result<FeedId, OpenFault>,
 ) -> Result<bool, AllocError> {
-    let Ok(params) = FeedParams::read(alloc, query.as_bytes(), b"") else {
-        return Err(AllocError);
-    };
+    let params = params_of(alloc, query)?;
     match host.open_feed(params) {
         Err(OpenFault::NoMemory) => Err(AllocError),
         opened => Ok(opened == answer),
     }
 }
 
-// Whether a step has its answer, also where a growth of it is refused.
-fn holds(alloc: Global, state: &mut UpdatesState, step: &Step) -> bool {
-    match step {
-        Note(kind, name, answer) => {
-            is_right(state, |state| notes(alloc, state, *kind, name, *answer))
-        }
-        Length(length) => state.update_seq() == *length && state.length() == *length,
-        Open(query, answer) => is_right(state, |state| opens(alloc, state, query, *answer)),
-        Hands(feed, handed) => hands_all(alloc, state, *feed, handed),
-        Beats(feed, answer) => state.beat_due(*feed) == *answer,
-        Expire(feed) => {
-            state.expire(*feed);
-            true
-        }
-        Finish(feed) => {
-            state.finish(*feed);
-            true
+impl Trial {
+    // Whether a notice of this has this answer. One that is handed back is the same, and lapses.
+    fn notes(
+        &mut self,
+        kind: UpdateKind,
+        name: &str,
+        answer: Result<(), NoteFault>,
+    ) -> Result<bool, AllocError> {
+        match self.state.note(Notice::new(self.alloc, kind, name)?) {
+            Ok(()) => Ok(answer == Ok(())),
+            Err((notice, fault)) => {
+                let same = notice.kind() == kind && notice.name() == name;
+                notice.lapse();
+                if same && fault == NoteFault::NoMemory {
+                    return Err(AllocError);
+                }
+                Ok(same && answer == Err(fault))
+            }
         }
     }
-}
 
-// How many steps have their answers in a new log within these limits, before the first that has
-// another.
-fn count_within(alloc: Global, limits: Limits, steps: &[Step]) -> usize {
-    let mut state = UpdatesState::new(alloc, limits, 0);
-    let mut count = 0usize;
-    for step in steps {
-        if !holds(alloc, &mut state, step) {
-            return count;
+    // Whether a step has its answer; an error where it finds no memory.
+    fn holds(&mut self, step: &Step) -> Result<bool, AllocError> {
+        match step {
+            Note(kind, name, answer) => self.notes(*kind, name, *answer),
+            Length(length) => {
+                Ok(self.state.update_seq() == *length && self.state.length() == *length)
+            }
+            Open(query, answer) => opens(self.alloc, &mut self.state, query, *answer),
+            Hand(feed, handed) => hands(self.alloc, &mut self.state, *feed, handed),
+            Beats(feed, answer) => Ok(self.state.beat_due(*feed) == *answer),
+            Expire(feed) => {
+                self.state.expire(*feed);
+                Ok(true)
+            }
+            Finish(feed) => {
+                self.state.finish(*feed);
+                Ok(true)
+            }
+            Heeds(query, heeded) => {
+                let params = UpdatesState::effective(params_of(self.alloc, query)?);
+                Ok(is_heeded(&params, heeded))
+            }
         }
-        count = count.saturating_add(1);
     }
-    count
-}
 
-// Asserts that these steps, one at least, have their answers in a new log within these limits. Where
-// one has another, the count that the assertion shows is its place.
-fn assert_within(rt: &impl Abort, alloc: Global, limits: Limits, steps: &[Step]) {
-    let count = count_within(alloc, limits, steps);
-    same(rt, &(count, count > 0), &(steps.len(), true));
+    // The same, also where a growth of it is refused. One that finds no memory leaves what the log shows for
+    // which it takes none, how many notes it has and whether beats are due to its feeds, and is made again.
+    fn holds_again(&mut self, step: &Step) -> bool {
+        let notes = self.state.update_seq();
+        let first = self.state.beat_due(FIRST);
+        let second = self.state.beat_due(SECOND);
+        match self.holds(step) {
+            Ok(held) => held,
+            Err(AllocError) => {
+                self.state.update_seq() == notes
+                    && self.state.beat_due(FIRST) == first
+                    && self.state.beat_due(SECOND) == second
+                    && matches!(self.holds(step), Ok(true))
+            }
+        }
+    }
+
+    // How many steps have their answers, before the first that has another.
+    fn count_of(&mut self, steps: &[Step]) -> usize {
+        let mut count = 0usize;
+        for step in steps {
+            if !self.holds_again(step) {
+                return count;
+            }
+            count = count.saturating_add(1);
+        }
+        count
+    }
 }
 
 const AGAIN: &[Step] = &[
@@ -229,24 +241,14 @@ const AGAIN: &[Step] = &[
     Note(Created, "d", Ok(())),
     Length(4),
     Open("", Ok(FIRST)),
-    Hands(
-        FIRST,
-        &[
-            Row(Updated, "d", 2, 4),
-            Row(Deleted, "d", 3, 4),
-            Row(Created, "d", 4, 4),
-            End(4, 0),
-            Gone,
-        ],
-    ),
+    Hand(FIRST, Row(Updated, "d", 2, 4)),
+    Hand(FIRST, Row(Deleted, "d", 3, 4)),
+    Hand(FIRST, Row(Created, "d", 4, 4)),
+    Hand(FIRST, End(4, 0)),
+    Hand(FIRST, Gone),
     Finish(FIRST),
-    Hands(FIRST, &[Gone]),
+    Hand(FIRST, Gone),
 ];
-
-#[test]
-fn a_database_has_a_row_for_each_kind(rt: HostRuntime) {
-    assert_within(&rt, rt.alloc(), Limits::full(), AGAIN);
-}
 
 // A row in front of the feed's place gets a new sequence, above the feed's reach.
 const LEFT: &[Step] = &[
@@ -254,69 +256,45 @@ const LEFT: &[Step] = &[
     Note(Created, "d", Ok(())),
     Note(Updated, "", Ok(())),
     Open("since=1", Ok(FIRST)),
-    Hands(FIRST, &[Row(Created, "d", 2, 3)]),
+    Hand(FIRST, Row(Created, "d", 2, 3)),
     Note(Updated, "", Ok(())),
-    Hands(FIRST, &[End(3, 1), Gone]),
+    Hand(FIRST, End(3, 1)),
+    Hand(FIRST, Gone),
 ];
-
-#[test]
-fn a_row_leaves_the_reach_of_a_normal_feed(rt: HostRuntime) {
-    assert_within(&rt, rt.alloc(), Limits::full(), LEFT);
-}
 
 const FOLLOWED: &[Step] = &[
     Open("feed=continuous&heartbeat=1000", Ok(FIRST)),
-    Hands(FIRST, &[Nothing]),
+    Hand(FIRST, Nothing),
     Note(Created, "d", Ok(())),
-    Hands(FIRST, &[Row(Created, "d", 1, 1), Nothing]),
+    Hand(FIRST, Row(Created, "d", 1, 1)),
+    Hand(FIRST, Nothing),
     Note(Updated, "d", Ok(())),
     Note(Updated, "e", Ok(())),
     Note(Updated, "d", Ok(())),
-    Hands(
-        FIRST,
-        &[Row(Updated, "e", 3, 4), Row(Updated, "d", 4, 4), Nothing],
-    ),
+    Hand(FIRST, Row(Updated, "e", 3, 4)),
+    Hand(FIRST, Row(Updated, "d", 4, 4)),
+    Hand(FIRST, Nothing),
     Beats(FIRST, true),
     Expire(FIRST),
     Beats(FIRST, false),
-    Hands(FIRST, &[End(4, 0), Gone]),
+    Hand(FIRST, End(4, 0)),
+    Hand(FIRST, Gone),
 ];
-
-#[test]
-fn a_continuous_feed_hands_rows_as_they_come(rt: HostRuntime) {
-    assert_within(&rt, rt.alloc(), Limits::full(), FOLLOWED);
-}
 
 // A feed begins at a sequence of the log's life, 0, and with the first row at one of another life.
 const LIVES: &[Step] = &[
     Note(Created, "d", Ok(())),
     Note(Created, "e", Ok(())),
     Open("since=1-0", Ok(FIRST)),
-    Hands(FIRST, &[Row(Created, "e", 2, 2), End(2, 0), Gone]),
+    Hand(FIRST, Row(Created, "e", 2, 2)),
+    Hand(FIRST, End(2, 0)),
+    Hand(FIRST, Gone),
     Open("since=1-1", Ok(SECOND)),
-    Hands(
-        SECOND,
-        &[
-            Row(Created, "d", 1, 2),
-            Row(Created, "e", 2, 2),
-            End(2, 0),
-            Gone,
-        ],
-    ),
+    Hand(SECOND, Row(Created, "d", 1, 2)),
+    Hand(SECOND, Row(Created, "e", 2, 2)),
+    Hand(SECOND, End(2, 0)),
+    Hand(SECOND, Gone),
 ];
-
-#[test]
-fn a_sequence_of_a_database_is_none_of_the_log(rt: HostRuntime) {
-    assert_within(&rt, rt.alloc(), Limits::full(), LIVES);
-}
-
-// Limits within which a log has one note, and one feed.
-fn one_each() -> Limits {
-    let mut limits = Limits::full();
-    limits.journal = 1;
-    limits.feeds = 1;
-    limits
-}
 
 const FULL: &[Step] = &[
     Note(Created, "d", Ok(())),
@@ -324,13 +302,9 @@ const FULL: &[Step] = &[
     Note(Deleted, "e", Err(NoteFault::SequenceFull)),
     Length(1),
     Open("", Ok(FIRST)),
-    Hands(FIRST, &[Row(Created, "d", 1, 1), End(1, 0)]),
+    Hand(FIRST, Row(Created, "d", 1, 1)),
+    Hand(FIRST, End(1, 0)),
 ];
-
-#[test]
-fn a_full_log_hands_notices_back(rt: HostRuntime) {
-    assert_within(&rt, rt.alloc(), one_each(), FULL);
-}
 
 const LIMITED: &[Step] = &[
     Open("", Ok(FIRST)),
@@ -339,47 +313,136 @@ const LIMITED: &[Step] = &[
     Open("", Ok(SECOND)),
 ];
 
-#[test]
-fn feeds_are_limited(rt: HostRuntime) {
-    assert_within(&rt, rt.alloc(), one_each(), LIMITED);
-}
-
 const REFUSED: &[Step] = &[
     Note(Created, "d", Ok(())),
     Open("feed=continuous&heartbeat=1000", Ok(FIRST)),
-    Hands(FIRST, &[Full, Full, Row(Created, "d", 1, 1), Nothing]),
+    Hand(FIRST, Full),
+    Hand(FIRST, Full),
+    Hand(FIRST, Row(Created, "d", 1, 1)),
+    Hand(FIRST, Nothing),
     Note(Updated, "d", Ok(())),
-    Hands(FIRST, &[Full, Row(Updated, "d", 2, 2), Nothing]),
+    Hand(FIRST, Full),
+    Hand(FIRST, Row(Updated, "d", 2, 2)),
+    Hand(FIRST, Nothing),
     Expire(FIRST),
-    Hands(FIRST, &[Full, End(2, 0), Gone]),
+    Hand(FIRST, Full),
+    Hand(FIRST, End(2, 0)),
+    Hand(FIRST, Gone),
 ];
-
-#[test]
-fn a_full_list_leaves_a_feed_as_it_was(rt: HostRuntime) {
-    assert_within(&rt, rt.alloc(), Limits::full(), REFUSED);
-}
 
 const TAKEN: &[Step] = &[
     Note(Created, "d", Ok(())),
     Note(Deleted, "e", Ok(())),
     Open("", Ok(FIRST)),
-    Hands(FIRST, &[Row(Created, "d", 1, 2), Row(Deleted, "e", 2, 2)]),
+    Hand(FIRST, Row(Created, "d", 1, 2)),
+    Hand(FIRST, Row(Deleted, "e", 2, 2)),
 ];
-
-#[test]
-fn a_list_has_the_row_that_it_took(rt: HostRuntime) {
-    assert_within(&rt, rt.alloc(), Limits::full(), TAKEN);
-}
 
 const ABSENT: &[Step] = &[
     Note(Created, "d", Ok(())),
-    Hands(FIRST, &[Gone]),
+    Hand(FIRST, Gone),
     Open("", Ok(FIRST)),
-    Hands(SECOND, &[Gone]),
-    Hands(FIRST, &[Row(Created, "d", 1, 1)]),
+    Hand(SECOND, Gone),
+    Hand(FIRST, Row(Created, "d", 1, 1)),
 ];
 
+const LONGPOLL: Heeded = Heeded {
+    mode: Mode::Longpoll,
+    since: Since::Tagged(2, 0),
+    limit: Some(3),
+    heartbeat: Some(1000),
+    timeout: 5,
+};
+
+// What no parameter tells otherwise.
+const PLAIN: Heeded = Heeded {
+    mode: Mode::Normal,
+    since: Since::Plain(0),
+    limit: None,
+    heartbeat: None,
+    timeout: 60000,
+};
+
+// Those of documents are not heeded.
+const PARAMETERS: &[Step] = &[
+    Heeds(
+        "feed=longpoll&since=2-0&limit=3&heartbeat=1000&timeout=5",
+        LONGPOLL,
+    ),
+    Heeds(
+        "descending=true&style=all_docs&include_docs=true&filter=_design",
+        PLAIN,
+    ),
+];
+
+const CASES: &[Case] = &[
+    Case {
+        name: "a database has a row for each kind",
+        narrow: false,
+        steps: AGAIN,
+    },
+    Case {
+        name: "a row leaves the reach of a normal feed",
+        narrow: false,
+        steps: LEFT,
+    },
+    Case {
+        name: "a continuous feed hands rows as they come",
+        narrow: false,
+        steps: FOLLOWED,
+    },
+    Case {
+        name: "a sequence of a database is none of the log",
+        narrow: false,
+        steps: LIVES,
+    },
+    Case {
+        name: "a full log hands notices back",
+        narrow: true,
+        steps: FULL,
+    },
+    Case {
+        name: "feeds are limited",
+        narrow: true,
+        steps: LIMITED,
+    },
+    Case {
+        name: "a full list leaves a feed as it was",
+        narrow: false,
+        steps: REFUSED,
+    },
+    Case {
+        name: "a list has the row that it took",
+        narrow: false,
+        steps: TAKEN,
+    },
+    Case {
+        name: "a hand to no feed is gone",
+        narrow: false,
+        steps: ABSENT,
+    },
+    Case {
+        name: "parameters that are heeded",
+        narrow: false,
+        steps: PARAMETERS,
+    },
+];
+
+// The steps of each case, one at least, have their answers in a new log. Where one has another, the assertion
+// shows how many before it had theirs.
 #[test]
-fn a_hand_to_no_feed_is_gone(rt: HostRuntime) {
-    assert_within(&rt, rt.alloc(), Limits::full(), ABSENT);
+fn logs_answer_each_step(rt: HostRuntime) {
+    let alloc = rt.alloc();
+    for case in CASES {
+        let name = case.name;
+        let mut trial = Trial {
+            alloc,
+            state: UpdatesState::new(alloc, limits(case.narrow), 0),
+        };
+        let count = trial.count_of(case.steps);
+        assert!(rt;
+            count == case.steps.len() && count > 0,
+            "{name}: step {count}"
+        );
+    }
 }

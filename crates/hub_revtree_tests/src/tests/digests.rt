@@ -1,9 +1,8 @@
 //! Revisions whose hashes are 32 lower-case hexadecimal digits, and others.
 
+use crate::tests::Round::Once;
 use crate::tests::Step::{Deleted, Knows, Leaves, Merge, Missing, Nodes, Path, Winner};
-use crate::tests::{ADDED, KNOWN, Step, assert_steps};
-use hub_revtree::MergeFault;
-use std::test::Fail;
+use crate::tests::{ADDED, CONTRADICTS, Case, KNOWN, Step, assert_cases};
 
 // One such revision, and texts that are like its hash.
 const ALONE: &[Step] = &[
@@ -51,11 +50,6 @@ const ALONE: &[Step] = &[
         "1-0123456789abcdef0123456789abcde ",
     ),
 ];
-
-#[test]
-fn one_digest_is_kept(rt: HostRuntime) -> Result<(), Fail> {
-    assert_steps(&rt, rt.alloc(), ALONE)
-}
 
 // A history of three, and edits that stand on each of it.
 const TOGETHER: &[Step] = &[
@@ -120,7 +114,7 @@ const TOGETHER: &[Step] = &[
             r#""ffffffffffffffffffffffffffffffff","00000000000000000000000000000000","#,
             r#""0123456789abcdef0123456789abcdef"]}}"#
         ),
-        Err(MergeFault::Contradicts),
+        CONTRADICTS,
     ),
     Merge(
         concat!(
@@ -157,11 +151,6 @@ const TOGETHER: &[Step] = &[
     Knows("3-fedcba9876543210fedcba9876543210", false),
     Knows("2-0123456789abcdef0123456789abcdef", false),
 ];
-
-#[test]
-fn histories_of_digests_are_kept(rt: HostRuntime) -> Result<(), Fail> {
-    assert_steps(&rt, rt.alloc(), TOGETHER)
-}
 
 // Digests and other hashes in one history.
 const MIXED: &[Step] = &[
@@ -226,11 +215,26 @@ const MIXED: &[Step] = &[
             r#"{"_id":"d","_revisions":{"start":4,"ids":["q","b","#,
             r#""0123456789abcdef0123456789abcdef","fedcba9876543210fedcba9876543210"]}}"#
         ),
-        Err(MergeFault::Contradicts),
+        CONTRADICTS,
     ),
 ];
 
+const CASES: &[Case] = &[
+    Case {
+        name: "one digest is kept",
+        rounds: &[Once(ALONE)],
+    },
+    Case {
+        name: "histories of digests are kept",
+        rounds: &[Once(TOGETHER)],
+    },
+    Case {
+        name: "mixed histories are kept",
+        rounds: &[Once(MIXED)],
+    },
+];
+
 #[test]
-fn mixed_histories_are_kept(rt: HostRuntime) -> Result<(), Fail> {
-    assert_steps(&rt, rt.alloc(), MIXED)
+fn digests_are_kept(rt: HostRuntime) {
+    assert_cases(&rt, rt.alloc(), CASES);
 }

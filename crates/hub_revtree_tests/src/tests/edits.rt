@@ -1,13 +1,10 @@
 //! Edits that are made on trees. The hashes are the MD5s of the texts beside them.
 
-use crate::tests::Step::{Deleted, Leaves, Len, Make, Merge, Path, Winner};
-use crate::tests::{ADDED, Step, again, assert_steps, long_history, make, merge, same};
-use hub_document::RevId;
-use hub_revtree::{EditFault, Merged, RevTree};
-use std::alloc::Global;
-use std::test::Fail;
-
-const CONFLICT: Result<&str, EditFault> = Err(EditFault::Conflict);
+use crate::tests::Part::{Repeated, Text};
+use crate::tests::Round::Once;
+use crate::tests::Step::{Deleted, Leaves, Len, Make, Merge, MergeOf, Path, Winner};
+use crate::tests::{ADDED, CONFLICT, Case, Step, assert_cases};
+use hub_revtree::EditFault;
 
 // [false,null,"a",{}]
 const FIRST: &str = "1-dfddbf319adb018d1e5ac3465b83542c";
@@ -36,11 +33,6 @@ const LINE: &[Step] = &[
     ),
 ];
 
-#[test]
-fn edits_follow_one_another(rt: HostRuntime) -> Result<(), Fail> {
-    assert_steps(&rt, rt.alloc(), LINE)
-}
-
 const INNER: &[Step] = &[
     Merge(r#"{"_id":"a","_rev":"1-a"}"#, ADDED),
     Merge(
@@ -54,11 +46,6 @@ const INNER: &[Step] = &[
     Leaves("2-c 1-a "),
 ];
 
-#[test]
-fn only_leaves_are_extended(rt: HostRuntime) -> Result<(), Fail> {
-    assert_steps(&rt, rt.alloc(), INNER)
-}
-
 // [false,"1-a","a",{}]
 const ON_A: &str = "2-5b422ec71a54e904129dfa7cff6017b4";
 
@@ -68,11 +55,6 @@ const CONFLICTS: &[Step] = &[
     Make(Some("1-a"), false, Ok(ON_A)),
     Leaves("2-5b422ec71a54e904129dfa7cff6017b4 1-b "),
 ];
-
-#[test]
-fn conflicting_leaves_are_extended(rt: HostRuntime) -> Result<(), Fail> {
-    assert_steps(&rt, rt.alloc(), CONFLICTS)
-}
 
 // [true,"1-a","a",{}]
 const DELETED_ON_A: &str = "2-5bffa76456a463a52635906fedc1dd54";
@@ -91,36 +73,47 @@ const MADE_BEFORE: &[Step] = &[
     Len(3),
 ];
 
-#[test]
-fn made_revisions_that_are_known_conflict(rt: HostRuntime) -> Result<(), Fail> {
-    assert_steps(&rt, rt.alloc(), MADE_BEFORE)
-}
+// [false,"65534-a","a",{}]
+const LAST: &str = "65535-ac736bf6e3fe01959474ab89a4af1388";
 
-// Whether the generation before the last is extended once, and the last is not.
-fn is_last_behind(alloc: Global, tree: &mut RevTree) -> bool {
-    let Some(Ok(last)) = make(alloc, tree, tree.winner(), false) else {
-        return false;
-    };
-    let more = make(alloc, tree, Some(last), false);
-    last.generation() == 65535
-        && more == Some(Err(EditFault::GenerationLimit))
-        && tree.len() == 2
-        && tree.winner() == Some(last)
-}
+// The generation before the last is extended once, and the last is not.
+const LAST_BEHIND: &[Step] = &[
+    MergeOf(&[
+        Text(r#"{"_id":"a","_revisions":{"start":65534,"ids":["a""#),
+        Repeated(r#","a""#, 65533),
+        Text("]}}"),
+    ]),
+    Winner(Some("65534-a")),
+    Make(Some("65534-a"), false, Ok(LAST)),
+    Make(Some(LAST), false, Err(EditFault::GenerationLimit)),
+    Len(2),
+    Winner(Some(LAST)),
+];
+
+const CASES: &[Case] = &[
+    Case {
+        name: "edits follow one another",
+        rounds: &[Once(LINE)],
+    },
+    Case {
+        name: "only leaves are extended",
+        rounds: &[Once(INNER)],
+    },
+    Case {
+        name: "conflicting leaves are extended",
+        rounds: &[Once(CONFLICTS)],
+    },
+    Case {
+        name: "made revisions that are known conflict",
+        rounds: &[Once(MADE_BEFORE)],
+    },
+    Case {
+        name: "last generation is not extended",
+        rounds: &[Once(LAST_BEHIND)],
+    },
+];
 
 #[test]
-fn last_generation_is_not_extended(rt: HostRuntime) -> Result<(), Fail> {
-    let alloc = rt.alloc();
-    let Some(text) = again!(long_history(alloc, 65534)) else {
-        return Err(Fail::new("no history"));
-    };
-    let mut tree = RevTree::new(alloc);
-    same(
-        &rt,
-        &merge(alloc, &mut tree, text.as_str()),
-        &Some(Ok(Merged::Added)),
-    );
-    same(&rt, &tree.winner(), &RevId::read("65534-a"));
-    assert!(rt; is_last_behind(alloc, &mut tree));
-    Ok(())
+fn edits_are_made(rt: HostRuntime) {
+    assert_cases(&rt, rt.alloc(), CASES);
 }

@@ -1,42 +1,34 @@
 //! A tree with so many edits that it has an index.
 
-use crate::tests::Step::{Body, Deleted, Knows, Len, Merge, Missing, Nodes, Path};
-use crate::tests::{ADDED, KNOWN, Step, add_all, again, first_wrong, same};
-use hub_document::RevId;
-use hub_revtree::{MergeFault, RevTree};
-use std::alloc::{AllocError, Global};
-use std::test::Fail;
+use crate::tests::Part::{Digest, Number, Text};
+use crate::tests::Round::{Once, Times};
+use crate::tests::Step::{
+    self, Body, Deleted, Knows, KnowsOf, Len, Merge, MergeOf, Missing, Nodes, Path,
+};
+use crate::tests::{ADDED, CONTRADICTS, Case, KNOWN, assert_cases};
 
-// The digest of this number. Two numbers that differ by 600 have the same first eight bytes.
-fn digest_of(alloc: Global, number: usize) -> Result<String, AllocError> {
-    format!(in alloc; "{:016x}{number:016x}", number % 600)
-}
+// The edit of the second generation with the digest of the number, on the revision 1-0.. with the digest of
+// the number 0.
+const ON_FIRST: Step = MergeOf(&[
+    Text(r#"{"_id":"a","_revisions":{"start":2,"ids":[""#),
+    Digest { more: 0, same: 600 },
+    Text(r#"","00000000000000000000000000000000"]}}"#),
+]);
 
-// The document of the edit of the second generation with the digest of this number, on the revision 1-0..
-// with the digest of the number 0.
-fn on_first(alloc: Global, number: usize) -> Result<String, AllocError> {
-    let own = digest_of(alloc, number)?;
-    let first = digest_of(alloc, 0)?;
-    format!(in alloc; r#"{{"_id":"a","_revisions":{{"start":2,"ids":["{own}","{first}"]}}}}"#)
-}
-
-// Whether the revision of the second generation with the digest of this number is known.
-fn is_known(alloc: Global, tree: &RevTree, number: usize) -> Result<bool, AllocError> {
-    let digest = digest_of(alloc, number)?;
-    let text = format!(in alloc; "2-{digest}")?;
-    Ok(RevId::read(&text).is_some_and(|rev| tree.knows(&rev)))
-}
-
-// How many of so many numbers from 0 on are those of a revision of the second generation that is known.
-fn known(alloc: Global, tree: &RevTree, count: usize) -> usize {
-    let mut known = 0usize;
-    for number in 0..count {
-        if again!(is_known(alloc, tree, number)) == Some(true) {
-            known = known.saturating_add(1);
-        }
-    }
-    known
-}
+// Its revision is known, and that of a number which is higher by 700 is none.
+const ONE_OF_TWO: &[Step] = &[
+    KnowsOf(&[Text("2-"), Digest { more: 0, same: 600 }], true),
+    KnowsOf(
+        &[
+            Text("2-"),
+            Digest {
+                more: 700,
+                same: 600,
+            },
+        ],
+        false,
+    ),
+];
 
 // The numbers 0, 1, 50, 300, 600 and 650 are those of edits, 900 and 1250 of none.
 const AMONG_MANY: &[Step] = &[
@@ -69,7 +61,7 @@ const AMONG_MANY: &[Step] = &[
             r#"{"_id":"a","_revisions":{"start":3,"ids":["00000000000000010000000000000001","#,
             r#""000000000000012c000000000000012c","b"]}}"#
         ),
-        Err(MergeFault::Contradicts),
+        CONTRADICTS,
     ),
     Merge(
         concat!(
@@ -91,26 +83,19 @@ const AMONG_MANY: &[Step] = &[
     ),
 ];
 
-#[test]
-fn revisions_among_many(rt: HostRuntime) -> Result<(), Fail> {
-    let mut tree = RevTree::new(rt.alloc());
-    same(&rt, &add_all(rt.alloc(), &mut tree, 700, on_first), &700);
-    same(&rt, &known(rt.alloc(), &tree, 1400), &700);
-    same(&rt, &first_wrong(rt.alloc(), &mut tree, AMONG_MANY), &None);
-    Ok(())
-}
+// A revision alone, whose hash is the text of no digest.
+const TEXT_ALONE: Step = MergeOf(&[Text(r#"{"_id":"a","_rev":"2-x"#), Number, Text(r#""}"#)]);
 
-// The document of a revision alone, whose hash is the text of no digest.
-fn text_alone(alloc: Global, number: usize) -> Result<String, AllocError> {
-    format!(in alloc; r#"{{"_id":"a","_rev":"2-x{number}"}}"#)
-}
-
-// The document of an edit on it, which tells its parent.
-fn on_text(alloc: Global, number: usize) -> Result<String, AllocError> {
-    format!(in alloc;
-        r#"{{"_id":"a","_revisions":{{"start":3,"ids":["y{number}","x{number}","z{number}"]}}}}"#
-    )
-}
+// An edit on it, which tells its parent.
+const ON_TEXT: Step = MergeOf(&[
+    Text(r#"{"_id":"a","_revisions":{"start":3,"ids":["y"#),
+    Number,
+    Text(r#"","x"#),
+    Number,
+    Text(r#"","z"#),
+    Number,
+    Text(r#""]}}"#),
+]);
 
 // The numbers from 0 to 399 are those of edits.
 const AMONG_TEXTS: &[Step] = &[
@@ -135,7 +120,7 @@ const AMONG_TEXTS: &[Step] = &[
     ),
     Merge(
         r#"{"_id":"a","_revisions":{"start":3,"ids":["w","x5","q"]}}"#,
-        Err(MergeFault::Contradicts),
+        CONTRADICTS,
     ),
     Merge(
         r#"{"_id":"a","_revisions":{"start":3,"ids":["w","x5","z5"]}}"#,
@@ -145,11 +130,26 @@ const AMONG_TEXTS: &[Step] = &[
     Missing(&["2-x5", "2-x400", "1-z399", "3-w"], "2-x400 "),
 ];
 
+const CASES: &[Case] = &[
+    Case {
+        name: "revisions among many",
+        rounds: &[
+            Times(700, &[ON_FIRST]),
+            Times(700, ONE_OF_TWO),
+            Once(AMONG_MANY),
+        ],
+    },
+    Case {
+        name: "revisions that are no digests",
+        rounds: &[
+            Times(400, &[TEXT_ALONE]),
+            Times(400, &[ON_TEXT]),
+            Once(AMONG_TEXTS),
+        ],
+    },
+];
+
 #[test]
-fn revisions_that_are_no_digests(rt: HostRuntime) -> Result<(), Fail> {
-    let mut tree = RevTree::new(rt.alloc());
-    same(&rt, &add_all(rt.alloc(), &mut tree, 400, text_alone), &400);
-    same(&rt, &add_all(rt.alloc(), &mut tree, 400, on_text), &400);
-    same(&rt, &first_wrong(rt.alloc(), &mut tree, AMONG_TEXTS), &None);
-    Ok(())
+fn trees_with_an_index(rt: HostRuntime) {
+    assert_cases(&rt, rt.alloc(), CASES);
 }

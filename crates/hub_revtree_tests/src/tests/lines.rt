@@ -1,11 +1,10 @@
 //! Lines of edits, and what stands beside them.
 
+use crate::tests::Round::Once;
 use crate::tests::Step::{
     Ancestors, Body, Deleted, Knows, Leaves, Len, Make, Merge, Missing, Nodes, Path, Winner,
 };
-use crate::tests::{ADDED, Step, assert_steps};
-use hub_revtree::EditFault;
-use std::test::Fail;
+use crate::tests::{ADDED, CONFLICT, Case, Step, assert_cases};
 
 // A line 1-a 2-b 3-c that is deleted by 4-d, and beside it from 1-a on a line 2-a 3-e that is deleted
 // by 4-f; then the first goes on, and a deletion comes with two revisions that are new.
@@ -61,11 +60,6 @@ const BESIDE: &[Step] = &[
     Nodes(11),
 ];
 
-#[test]
-fn winner_of_a_line_with_a_conflict_beside_it(rt: HostRuntime) -> Result<(), Fail> {
-    assert_steps(&rt, rt.alloc(), BESIDE)
-}
-
 // [false,"3-c","a",{}]
 const ON_C: &str = "4-e4e0d18c32e6aa308b581d5741ad8080";
 
@@ -84,18 +78,29 @@ const ABOVE: &[Step] = &[
     Path("4-d", None),
     Deleted("4-d", None),
     Body("4-d", None),
-    Make(Some("4-d"), false, Err(EditFault::Conflict)),
-    Make(Some("3-d"), false, Err(EditFault::Conflict)),
-    Make(Some("2-b"), false, Err(EditFault::Conflict)),
+    Make(Some("4-d"), false, CONFLICT),
+    Make(Some("3-d"), false, CONFLICT),
+    Make(Some("2-b"), false, CONFLICT),
     Make(Some("3-c"), false, Ok(ON_C)),
     Knows(ON_C, true),
     Knows("5-d", false),
-    Make(Some("3-c"), false, Err(EditFault::Conflict)),
+    Make(Some("3-c"), false, CONFLICT),
     Winner(Some(ON_C)),
     Len(2),
 ];
 
+const CASES: &[Case] = &[
+    Case {
+        name: "winner of a line with a conflict beside it",
+        rounds: &[Once(BESIDE)],
+    },
+    Case {
+        name: "looks above the highest generation",
+        rounds: &[Once(ABOVE)],
+    },
+];
+
 #[test]
-fn looks_above_the_highest_generation(rt: HostRuntime) -> Result<(), Fail> {
-    assert_steps(&rt, rt.alloc(), ABOVE)
+fn lines_beside_others(rt: HostRuntime) {
+    assert_cases(&rt, rt.alloc(), CASES);
 }

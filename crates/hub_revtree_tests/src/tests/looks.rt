@@ -1,8 +1,8 @@
 //! What trees are asked.
 
+use crate::tests::Round::Once;
 use crate::tests::Step::{Ancestors, Body, Knows, Leaves, Merge, Missing, Path, Winner};
-use crate::tests::{ADDED, Step, assert_steps};
-use std::test::Fail;
+use crate::tests::{ADDED, Case, Step, assert_cases};
 
 // 1-a, and on it 2-c.
 
@@ -29,11 +29,6 @@ const LEAVES: &[Step] = &[
     Leaves("2-a 1-z 2-b "),
 ];
 
-#[test]
-fn leaves_stand_best_first(rt: HostRuntime) -> Result<(), Fail> {
-    assert_steps(&rt, rt.alloc(), LEAVES)
-}
-
 const MISSING: &[Step] = &[
     FIRST,
     SECOND,
@@ -41,11 +36,6 @@ const MISSING: &[Step] = &[
     Missing(&["2-d", "1-a", "2-d"], "2-d 2-d "),
     Missing(&["1-a"], ""),
 ];
-
-#[test]
-fn missing_revisions(rt: HostRuntime) -> Result<(), Fail> {
-    assert_steps(&rt, rt.alloc(), MISSING)
-}
 
 const ANCESTORS: &[Step] = &[
     FIRST,
@@ -58,11 +48,6 @@ const ANCESTORS: &[Step] = &[
     Ancestors(&["1-z"], ""),
     Ancestors(&[], ""),
 ];
-
-#[test]
-fn possible_ancestors_are_lower_leaves(rt: HostRuntime) -> Result<(), Fail> {
-    assert_steps(&rt, rt.alloc(), ANCESTORS)
-}
 
 const PATHS: &[Step] = &[
     FIRST,
@@ -77,11 +62,6 @@ const PATHS: &[Step] = &[
     Path("4-e", Some("4-e 3-d 2-c 1-a ")),
     Path("9-z", None),
 ];
-
-#[test]
-fn paths_of_known_revisions(rt: HostRuntime) -> Result<(), Fail> {
-    assert_steps(&rt, rt.alloc(), PATHS)
-}
 
 const BODIES: &[Step] = &[
     FIRST,
@@ -100,8 +80,34 @@ const INNER: &[Step] = &[
     Body("1-a", None),
 ];
 
+const CASES: &[Case] = &[
+    Case {
+        name: "leaves stand best first",
+        rounds: &[Once(LEAVES)],
+    },
+    Case {
+        name: "missing revisions",
+        rounds: &[Once(MISSING)],
+    },
+    Case {
+        name: "possible ancestors are lower leaves",
+        rounds: &[Once(ANCESTORS)],
+    },
+    Case {
+        name: "paths of known revisions",
+        rounds: &[Once(PATHS)],
+    },
+    Case {
+        name: "bodies of heads",
+        rounds: &[Once(BODIES)],
+    },
+    Case {
+        name: "an ancestor inside a history has no body",
+        rounds: &[Once(INNER)],
+    },
+];
+
 #[test]
-fn bodies_of_heads(rt: HostRuntime) -> Result<(), Fail> {
-    assert_steps(&rt, rt.alloc(), BODIES)?;
-    assert_steps(&rt, rt.alloc(), INNER)
+fn answers_of_trees(rt: HostRuntime) {
+    assert_cases(&rt, rt.alloc(), CASES);
 }

@@ -1,9 +1,8 @@
 //! Trees with their winners, known heads and contradictions.
 
+use crate::tests::Round::Once;
 use crate::tests::Step::{Deleted, Knows, Leaves, Len, Merge, Nodes, Path, Winner};
-use crate::tests::{ADDED, KNOWN, Step, assert_steps};
-use hub_revtree::MergeFault;
-use std::test::Fail;
+use crate::tests::{ADDED, CONTRADICTS, Case, KNOWN, Step, assert_cases};
 
 const WINNERS: &[Step] = &[
     Winner(None),
@@ -21,11 +20,6 @@ const WINNERS: &[Step] = &[
     Len(4),
 ];
 
-#[test]
-fn best_leaf_wins(rt: HostRuntime) -> Result<(), Fail> {
-    assert_steps(&rt, rt.alloc(), WINNERS)
-}
-
 const HEADS: &[Step] = &[
     Merge(
         r#"{"_id":"d","_revisions":{"start":2,"ids":["y","x"]}}"#,
@@ -42,11 +36,6 @@ const HEADS: &[Step] = &[
     Merge(r#"{"_id":"d","_rev":"1-x"}"#, KNOWN),
     Len(1),
 ];
-
-#[test]
-fn known_heads_change_nothing(rt: HostRuntime) -> Result<(), Fail> {
-    assert_steps(&rt, rt.alloc(), HEADS)
-}
 
 // Two edits on the same two revisions, of which the newer comes a third time, as a history of its own.
 const BRANCHES: &[Step] = &[
@@ -72,11 +61,6 @@ const BRANCHES: &[Step] = &[
     Len(2),
 ];
 
-#[test]
-fn branches_are_merged_on_what_is_known(rt: HostRuntime) -> Result<(), Fail> {
-    assert_steps(&rt, rt.alloc(), BRANCHES)
-}
-
 const CONTRADICTIONS: &[Step] = &[
     Merge(
         r#"{"_id":"d","_revisions":{"start":2,"ids":["y","x"]}}"#,
@@ -84,7 +68,7 @@ const CONTRADICTIONS: &[Step] = &[
     ),
     Merge(
         r#"{"_id":"d","_revisions":{"start":3,"ids":["w","y","q"]}}"#,
-        Err(MergeFault::Contradicts),
+        CONTRADICTS,
     ),
     Len(1),
     Winner(Some("2-y")),
@@ -92,7 +76,26 @@ const CONTRADICTIONS: &[Step] = &[
     Deleted("3-w", None),
 ];
 
+const CASES: &[Case] = &[
+    Case {
+        name: "best leaf wins",
+        rounds: &[Once(WINNERS)],
+    },
+    Case {
+        name: "known heads change nothing",
+        rounds: &[Once(HEADS)],
+    },
+    Case {
+        name: "branches are merged on what is known",
+        rounds: &[Once(BRANCHES)],
+    },
+    Case {
+        name: "contradictions change nothing",
+        rounds: &[Once(CONTRADICTIONS)],
+    },
+];
+
 #[test]
-fn contradictions_change_nothing(rt: HostRuntime) -> Result<(), Fail> {
-    assert_steps(&rt, rt.alloc(), CONTRADICTIONS)
+fn edits_are_merged(rt: HostRuntime) {
+    assert_cases(&rt, rt.alloc(), CASES);
 }
