@@ -2,20 +2,18 @@
 #![tactic(auto)]
 
 #[cfg(test)]
-mod interruption_tests;
+mod inbox_tests;
+#[cfg(test)]
+mod item_tests;
 #[cfg(test)]
 mod made_again;
 #[cfg(test)]
-mod offer_tests;
-#[cfg(test)]
 mod outbox_tests;
 #[cfg(test)]
-mod plain_row_tests;
+mod reader_tests;
+#[cfg(test)]
+mod reply_tests;
 #[cfg(test)]
 mod request_tests;
 #[cfg(test)]
-mod tally_tests;
-#[cfg(test)]
-mod text_tests;
-#[cfg(test)]
-mod update_tests;
+mod writer_tests;

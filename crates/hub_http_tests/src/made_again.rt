@@ -4,7 +4,7 @@
 //! that it has with ample memory.
 
 use hub_http::{HttpFault, Input, Request, Requests};
-use std::fmt::Debug;
+use std::alloc::{AllocError, Global};
 use std::process::Abort;
 use std::test::Fail;
 
@@ -36,12 +36,31 @@ pub(crate) fn some_of<R: Input>(requests: &mut Requests<R>) -> Result<Request, F
     }
 }
 
-/// The bytes that were found are those that are wanted. The comparison is proved here, and not in each test.
-pub(crate) fn same_bytes(rt: &impl Abort, found: &[u8], wanted: &[u8]) {
-    assert_eq!(rt; found, wanted);
+/// The bytes that were found in this case are those that are wanted.
+pub(crate) fn same(rt: &impl Abort, case: &str, found: &[u8], wanted: &[u8]) {
+    assert!(rt; found == wanted, "{case}: {}", found.escape_ascii());
 }
 
-/// The value that was found is the one that is wanted. The comparison is proved here, and not in each test.
-pub(crate) fn same<T: PartialEq + Debug>(rt: &impl Abort, found: &T, wanted: &T) {
-    assert_eq!(rt; *found, *wanted);
+/// The number that was found in this case is the one that is wanted.
+pub(crate) fn same_number(rt: &impl Abort, case: &str, found: u64, wanted: u64) {
+    assert!(rt; found == wanted, "{case}: {found}");
+}
+
+/// What stands behind this front; where another front stands, a text that is wanted nowhere.
+pub(crate) fn behind<'a>(found: &'a [u8], front: &str) -> &'a [u8] {
+    match found.strip_prefix(front.as_bytes()) {
+        Some(rest) => rest,
+        None => b"(another front)",
+    }
+}
+
+/// The text of parts, each so many times.
+pub(crate) fn text_of(alloc: Global, parts: &[(&str, usize)]) -> Result<Vec<u8>, AllocError> {
+    let mut text = Vec::new(alloc);
+    for (part, times) in parts {
+        for _ in 0..*times {
+            text.extend_from_slice(part.as_bytes())?;
+        }
+    }
+    Ok(text)
 }

@@ -1,59 +1,52 @@
-//! Readers and writers that are cut.
+//! Readers and writers that are slow, interrupted, cut.
 
-use std::alloc::Global;
 use std::io;
 use std::io::{ErrorKind, Read, Write};
 
-/// Gives parts of a text, one a read, of at most so many bytes. Behind so many reads it fails, or ends.
+/// Interruptions of calls: so many before each call that goes on.
 #[derive(Drop)]
-pub(crate) struct CutReader<'a> {
-    text: &'a [u8],
-    /// The most bytes of a read.
-    most: usize,
-    /// How many reads are left before the one that is cut.
-    reads: usize,
-    /// The read that is cut fails, in place of ending.
-    fails: bool,
+pub(crate) struct Pauses {
+    /// How often each call is interrupted.
+    pub(crate) each: u32,
+    /// How often the next one is.
+    pub(crate) left: u32,
 }
 
-impl<'a> CutReader<'a> {
-    /// A reader of the whole text.
-    pub(crate) fn whole(text: &'a [u8], most: usize) -> CutReader<'a> {
-        CutReader::ending(text, most, usize::MAX)
-    }
-
-    /// A reader that ends behind so many reads.
-    pub(crate) fn ending(text: &'a [u8], most: usize, reads: usize) -> CutReader<'a> {
-        CutReader {
-            text,
-            most,
-            reads,
-            fails: false,
+impl Pauses {
+    /// An error where a call is interrupted.
+    fn pause(&mut self) -> io::Result<()> {
+        match self.left.checked_sub(1) {
+            Some(left) => {
+                self.left = left;
+                Err(io::Error::from(ErrorKind::Interrupted))
+            }
+            None => {
+                self.left = self.each;
+                Ok(())
+            }
         }
     }
+}
 
-    /// A reader that fails behind so many reads.
-    pub(crate) fn failing(text: &'a [u8], most: usize, reads: usize) -> CutReader<'a> {
-        CutReader {
-            text,
-            most,
-            reads,
-            fails: true,
-        }
-    }
+/// Gives parts of a text, one a read, of at most so many bytes. Behind the text it fails, or ends.
+#[derive(Drop)]
+pub(crate) struct CutReader<'a> {
+    pub(crate) text: &'a [u8],
+    /// The most bytes of a read.
+    pub(crate) most: usize,
+    /// It fails, in place of ending.
+    pub(crate) fails: bool,
+    pub(crate) pauses: Pauses,
 }
 
 impl Read for CutReader<'_> {
     fn read(&mut self, buf: &mut [u8]) -> io::Result<usize> {
-        match self.reads.checked_sub(1) {
-            Some(reads) => {
-                self.reads = reads;
-                let size = buf.len().min(self.most);
-                self.text.read(&mut buf[..size])
-            }
-            None if self.fails => Err(io::Error::from(ErrorKind::ConnectionReset)),
-            None => Ok(0),
+        self.pauses.pause()?;
+        if self.fails && self.text.is_empty() {
+            return Err(io::Error::from(ErrorKind::ConnectionReset));
         }
+        let size = buf.len().min(self.most);
+        self.text.read(&mut buf[..size])
     }
 }
 
@@ -62,30 +55,19 @@ impl Read for CutReader<'_> {
 pub(crate) struct CutWriter {
     pub(crate) held: Vec<u8>,
     /// The most bytes of a write.
-    most: usize,
+    pub(crate) most: usize,
     /// How many bytes it still takes.
-    room: usize,
+    pub(crate) room: usize,
+    pub(crate) pauses: Pauses,
     /// How many writes took some.
     pub(crate) writes: usize,
     /// How many bytes it held at each flush.
     pub(crate) flushed: Vec<usize>,
 }
 
-impl CutWriter {
-    /// A writer that holds nothing.
-    pub(crate) fn new(alloc: Global, most: usize, room: usize) -> CutWriter {
-        CutWriter {
-            held: Vec::new(alloc),
-            most,
-            room,
-            writes: 0,
-            flushed: Vec::new(alloc),
-        }
-    }
-}
-
 impl Write for CutWriter {
     fn write(&mut self, buf: &[u8]) -> io::Result<usize> {
+        self.pauses.pause()?;
         let n = buf.len().min(self.room).min(self.most);
         if n == 0 {
             return Err(io::Error::from(ErrorKind::BrokenPipe));
@@ -97,6 +79,7 @@ impl Write for CutWriter {
     }
 
     fn flush(&mut self) -> io::Result<()> {
+        self.pauses.pause()?;
         self.flushed.push(self.held.len())?;
         Ok(())
     }

@@ -4,22 +4,18 @@
 #[cfg(test)]
 mod cut;
 #[cfg(test)]
-mod flush_tests;
-#[cfg(test)]
-mod interruption_tests;
-#[cfg(test)]
-mod machine_tests;
+mod held;
 #[cfg(test)]
 mod made_again;
 #[cfg(test)]
-mod reader_tests;
+mod plan;
+#[cfg(test)]
+mod plans;
 #[cfg(test)]
 mod rows;
+#[cfg(test)]
+mod stepped;
 #[cfg(test)]
 mod surface;
 #[cfg(test)]
 mod tests;
-#[cfg(test)]
-mod update_tests;
-#[cfg(test)]
-mod writer_tests;

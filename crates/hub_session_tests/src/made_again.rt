@@ -8,7 +8,6 @@
 use crate::rows::Exchange;
 use hub_http::HttpFault;
 use hub_session::Closing;
-use std::fmt::Debug;
 use std::process::Abort;
 
 /// The refusal that tells out of memory, behind which a session goes on.
@@ -38,9 +37,10 @@ pub(crate) struct Told {
     pub(crate) counted: bool,
 }
 
-/// The value that was found is the one that is wanted. The comparison is proved here, and not in each test.
-pub(crate) fn same<T: PartialEq + Debug>(rt: &impl Abort, found: &T, wanted: &T) {
-    assert_eq!(rt; *found, *wanted);
+/// Asserts that something is right at a place, as a row of a table or a byte. It is proved here, and not in
+/// each test.
+pub(crate) fn holds(rt: &impl Abort, is_right: bool, what: &str, place: usize) {
+    assert!(rt; is_right, "{what}, at {place}");
 }
 
 /// What a call gives, made again where it finds no memory.
@@ -98,10 +98,10 @@ fn is_front_with_refusals(output: &[u8], exchanges: &[Exchange]) -> bool {
 
 /// Whether a session may close so that met no memory, and with ample memory closes as the other says.
 fn is_closing(closing: Option<Closing>, ample: Option<Closing>) -> bool {
-    closing == ample
-        || closing == Some(Closing::Fault(HttpFault::NoMemory))
-        || closing == Some(Closing::Cut)
-        || closing == Some(Closing::Broken)
+    match closing {
+        Some(Closing::Fault(HttpFault::NoMemory) | Closing::Cut | Closing::Broken) => true,
+        _ => closing == ample,
+    }
 }
 
 /// Whether a session told these bytes and this end. None where it met no memory and wrote a front of the
@@ -121,16 +121,3 @@ pub(crate) fn judged(
     }
     Some(false)
 }
-
-/// Whether a session over these exchanges writes these bytes, and closes so. One that met no memory wrote a
-/// front of the answers, and is held again.
-macro_rules! is_right {
-    ($exchanges:expr, $expected:expr, $end:expr, $session:expr) => {
-        match $crate::made_again::judged($session, $exchanges, $expected, $end) {
-            Some(right) => right,
-            None => $crate::made_again::judged($session, $exchanges, $expected, $end) == Some(true),
-        }
-    };
-}
-
-pub(crate) use is_right;

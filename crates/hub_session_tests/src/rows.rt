@@ -1,23 +1,61 @@
-//! A service of one feed of two rows, what it is asked, and the texts of its answers.
+//! A service of a feed of two rows and of a feed of updates, what it is asked, and the texts of its answers.
 
-use crate::cut::CutWriter;
-use crate::made_again::{Told, grown};
-use hub_document::{ChangeRow, Changes, Doc, RevId, Revisions};
-use hub_http::{Output, Refusal, Reply, Request, Requests, StatusCode, Tally};
-use hub_model::{Item, Mode};
-use hub_session::{Answer, Closing, NextItem, Service, serve};
+use hub_document::{ChangeRow, Changes, Doc, RevId, Revisions, UpdateRow};
+use hub_http::{Refusal, Reply, Request, StatusCode};
+use hub_model::{Item, Mode, UpdateKind};
+use hub_session::{Answer, NextItem, Service};
 use std::alloc::{AllocError, Global};
-use std::io::Read;
 
 /// The body of an answer that a database was made.
 const DONE: &str = concat!(r#"{"ok":true}"#, "\n");
 
-/// Serves a feed of two rows, of a and of b, whose winner is deleted.
+/// The path of the database that is made.
+const PATH: &str = "/d";
+
+/// A feed that is served, and its path.
+struct Feed {
+    path: &'static str,
+    mode: Mode,
+    has_updates: bool,
+}
+
+const FEEDS: &[Feed] = &[
+    Feed {
+        path: "/normal",
+        mode: Mode::Normal,
+        has_updates: false,
+    },
+    Feed {
+        path: "/longpoll",
+        mode: Mode::Longpoll,
+        has_updates: false,
+    },
+    Feed {
+        path: "/continuous",
+        mode: Mode::Continuous,
+        has_updates: false,
+    },
+    Feed {
+        path: "/updates",
+        mode: Mode::Normal,
+        has_updates: true,
+    },
+    Feed {
+        path: "/updates/continuous",
+        mode: Mode::Continuous,
+        has_updates: true,
+    },
+];
+
+/// Serves a feed of two rows, of a and of b, whose winner is deleted, and a feed of updates of d, which was
+/// made, edited and removed.
 #[derive(Drop)]
 pub(crate) struct Rows {
-    alloc: Global,
-    mode: Mode,
-    next: u64,
+    pub(crate) alloc: Global,
+    pub(crate) mode: Mode,
+    /// What is sent are updates.
+    pub(crate) has_updates: bool,
+    pub(crate) next: u64,
     /// The numbers of the items that are not ready.
     pub(crate) late: &'static [u64],
     /// The stream stops in place of its End.
@@ -26,13 +64,15 @@ pub(crate) struct Rows {
     pub(crate) dropped: usize,
 }
 
-pub(crate) fn two_rows(alloc: Global) -> Rows {
+/// A service that was asked nothing.
+pub(crate) fn two_rows(alloc: Global, late: &'static [u64], stops: bool) -> Rows {
     Rows {
         alloc,
         mode: Mode::Normal,
+        has_updates: false,
         next: 0,
-        late: &[],
-        stops: false,
+        late,
+        stops,
         dropped: 0,
     }
 }
@@ -52,10 +92,48 @@ fn row(alloc: Global, seq: u64, doc: &str, rev: &str, deleted: bool) -> Option<I
 }
 
 impl Rows {
-    fn open(&mut self, mode: Mode) -> Answer {
+    /// A stream from its first item. The life of the updates is 0, that of the rows 1.
+    fn open(&mut self, mode: Mode, has_updates: bool) -> Answer {
         self.mode = mode;
+        self.has_updates = has_updates;
         self.next = 0;
-        Answer::Stream(mode, 1)
+        Answer::Stream(mode, if has_updates { 0 } else { 1 })
+    }
+
+    /// The item of this number of the rows.
+    fn change(&self, number: u64) -> Option<Item<ChangeRow>> {
+        match (number, self.mode) {
+            (0, Mode::Longpoll) => Some(Item::Beat),
+            (1, Mode::Longpoll) | (0, _) => row(self.alloc, 1, r#"{"_id":"a"}"#, "1-a", false),
+            (1, _) => row(self.alloc, 2, r#"{"_id":"b"}"#, "2-b", true),
+            (2, Mode::Continuous) => Some(Item::Beat),
+            _ if self.stops => None,
+            _ => Some(Item::End {
+                last_seq: 2,
+                pending: 0,
+            }),
+        }
+    }
+
+    /// The item at this sequence of the updates; None where its name finds no memory.
+    fn update(&self, seq: u64) -> Option<Item<UpdateRow>> {
+        let kind = match seq {
+            1 => UpdateKind::Created,
+            2 => UpdateKind::Updated,
+            3 => UpdateKind::Deleted,
+            _ => {
+                return Some(Item::End {
+                    last_seq: 3,
+                    pending: 7,
+                });
+            }
+        };
+        Some(Item::Row(UpdateRow {
+            db_name: "d".to_string(self.alloc).ok()?,
+            kind,
+            seq,
+            seen: 3,
+        }))
     }
 }
 
@@ -67,18 +145,21 @@ impl Service for Rows {
     } };
 
     fn answer(&mut self, request: &Request) -> Answer {
-        match request.target.as_slice() {
-            b"/normal" => self.open(Mode::Normal),
-            b"/longpoll" => self.open(Mode::Longpoll),
-            b"/continuous" => self.open(Mode::Continuous),
-            b"/d" => match Vec::from_slice(self.alloc, DONE.as_bytes()) {
-                Ok(body) => Answer::Whole(Reply::Done {
-                    status: StatusCode::CREATED,
-                    body,
-                }),
-                Err(_) => Answer::Whole(Reply::Refused(Refusal::NoMemory)),
-            },
-            _ => Answer::Whole(Reply::Refused(Refusal::Missing)),
+        let target = request.target.as_slice();
+        for feed in FEEDS {
+            if target == feed.path.as_bytes() {
+                return self.open(feed.mode, feed.has_updates);
+            }
+        }
+        if target != PATH.as_bytes() {
+            return Answer::Whole(Reply::Refused(Refusal::Missing));
+        }
+        match Vec::from_slice(self.alloc, DONE.as_bytes()) {
+            Ok(body) => Answer::Whole(Reply::Done {
+                status: StatusCode::CREATED,
+                body,
+            }),
+            Err(_) => Answer::Whole(Reply::Refused(Refusal::NoMemory)),
         }
     }
 
@@ -89,18 +170,12 @@ impl Service for Rows {
     fn item(&mut self, next: &mut NextItem) {
         let number = self.next;
         self.next = number.saturating_add(1);
-        next.update = None;
-        next.change = match (number, self.mode) {
-            (0, Mode::Longpoll) => Some(Item::Beat),
-            (1, Mode::Longpoll) | (0, _) => row(self.alloc, 1, r#"{"_id":"a"}"#, "1-a", false),
-            (1, _) => row(self.alloc, 2, r#"{"_id":"b"}"#, "2-b", true),
-            (2, Mode::Continuous) => Some(Item::Beat),
-            _ if self.stops => None,
-            _ => Some(Item::End {
-                last_seq: 2,
-                pending: 0,
-            }),
-        };
+        *next = NextItem::none();
+        if self.has_updates {
+            next.update = self.update(self.next);
+        } else {
+            next.change = self.change(number);
+        }
     }
 
     fn drop_stream(&mut self) {
@@ -168,10 +243,38 @@ pub(crate) const CONTINUOUS: &str = concat!(
     "0\r\n\r\n"
 );
 
-/// The last chunks of a feed: its End, and the chunk that closes it.
-pub(crate) const NORMAL_END: &str = concat!(
-    "22\r\n\n],\n",
-    r#""last_seq":"2-1","pending":0}"#,
+/// The chunks of the feed of updates, by mode.
+pub(crate) const UPDATES: &str = concat!(
+    "d\r\n",
+    r#"{"results":["#,
+    "\n\r\n",
+    "2c\r\n",
+    r#"{"db_name":"d","type":"created","seq":"1-0"}"#,
+    "\r\n",
+    "2e\r\n,\n",
+    r#"{"db_name":"d","type":"updated","seq":"2-0"}"#,
+    "\r\n",
+    "2e\r\n,\n",
+    r#"{"db_name":"d","type":"deleted","seq":"3-0"}"#,
+    "\r\n",
+    "16\r\n\n],\n",
+    r#""last_seq":"3-0"}"#,
+    "\n\r\n",
+    "0\r\n\r\n"
+);
+
+pub(crate) const CONTINUOUS_UPDATES: &str = concat!(
+    "2d\r\n",
+    r#"{"db_name":"d","type":"created","seq":"1-0"}"#,
+    "\n\r\n",
+    "2d\r\n",
+    r#"{"db_name":"d","type":"updated","seq":"2-0"}"#,
+    "\n\r\n",
+    "2d\r\n",
+    r#"{"db_name":"d","type":"deleted","seq":"3-0"}"#,
+    "\n\r\n",
+    "13\r\n",
+    r#"{"last_seq":"3-0"}"#,
     "\n\r\n",
     "0\r\n\r\n"
 );
@@ -197,77 +300,77 @@ pub(crate) const VERSION: &str = concat!(
 #[derive(Clone, Copy)]
 pub(crate) struct Exchange(pub(crate) &'static str, pub(crate) &'static [&'static str]);
 
+pub(crate) const MAKE: Exchange = Exchange("PUT /d HTTP/1.1\r\n\r\n", &[CREATED]);
+
+/// The same, with a body.
+const MAKE_WITH_BODY: Exchange = Exchange(
+    "PUT /d HTTP/1.1\r\nHost: h\r\ncontent-length: 2\r\n\r\n{}",
+    &[CREATED],
+);
+
+pub(crate) const FEED: Exchange = Exchange("GET /normal HTTP/1.1\r\n\r\n", &[FEED_HEAD, NORMAL]);
+
+pub(crate) const HEAD: Exchange = Exchange("HEAD /normal HTTP/1.1\r\n\r\n", &[FEED_HEAD]);
+
+const HEAD_OF_MISSING: Exchange = Exchange("HEAD /x HTTP/1.1\r\n\r\n", &[MISSING]);
+
+pub(crate) const LONGPOLL_FEED: Exchange = Exchange(
+    "GET /longpoll HTTP/1.1\r\n\r\n",
+    &[FEED_HEAD, LONGPOLL],
+);
+
+pub(crate) const CONTINUOUS_FEED: Exchange = Exchange(
+    "GET /continuous HTTP/1.1\r\n\r\n",
+    &[FEED_HEAD, CONTINUOUS],
+);
+
+/// A request that closes.
+pub(crate) const LAST: Exchange = Exchange("GET / HTTP/1.0\r\n\r\n", &[VERSION]);
+
 /// The exchanges of a session.
 pub(crate) const EXCHANGES: &[Exchange] = &[
-    Exchange(
-        "PUT /d HTTP/1.1\r\nHost: h\r\ncontent-length: 2\r\n\r\n{}",
-        &[CREATED],
-    ),
-    Exchange("GET /normal HTTP/1.1\r\n\r\n", &[FEED_HEAD, NORMAL]),
-    Exchange("HEAD /normal HTTP/1.1\r\n\r\n", &[FEED_HEAD]),
-    Exchange("HEAD /x HTTP/1.1\r\n\r\n", &[MISSING]),
-    Exchange("GET /longpoll HTTP/1.1\r\n\r\n", &[FEED_HEAD, LONGPOLL]),
-    Exchange("GET /continuous HTTP/1.1\r\n\r\n", &[FEED_HEAD, CONTINUOUS]),
-    Exchange("PUT /d HTTP/1.1\r\n\r\n", &[CREATED]),
+    MAKE_WITH_BODY,
+    FEED,
+    HEAD,
+    HEAD_OF_MISSING,
+    LONGPOLL_FEED,
+    CONTINUOUS_FEED,
+    MAKE,
 ];
 
-/// The requests of these exchanges, one behind the other.
-fn requests_of(alloc: Global, exchanges: &[Exchange]) -> Result<String, AllocError> {
-    let mut out = String::new(alloc);
-    for Exchange(request, _) in exchanges {
-        out.push_str(request)?;
-    }
-    Ok(out)
+/// The first two of them.
+pub(crate) const TWO_EXCHANGES: &[Exchange] = &[MAKE_WITH_BODY, FEED];
+
+/// All of them, and one that closes.
+pub(crate) const UP_TO_LAST: &[Exchange] = &[
+    MAKE_WITH_BODY,
+    FEED,
+    HEAD,
+    HEAD_OF_MISSING,
+    LONGPOLL_FEED,
+    CONTINUOUS_FEED,
+    MAKE,
+    LAST,
+];
+
+/// Requests and their answers, one behind the other.
+#[derive(Drop)]
+pub(crate) struct Texts {
+    pub(crate) asked: String,
+    pub(crate) answered: String,
 }
 
-/// The answers of these exchanges, one behind the other.
-fn answers_of(alloc: Global, exchanges: &[Exchange]) -> Result<String, AllocError> {
-    let mut out = String::new(alloc);
-    for Exchange(_, answer) in exchanges {
+/// The texts of these exchanges.
+pub(crate) fn texts_of(alloc: Global, exchanges: &[Exchange]) -> Result<Texts, AllocError> {
+    let mut texts = Texts {
+        asked: String::new(alloc),
+        answered: String::new(alloc),
+    };
+    for Exchange(request, answer) in exchanges {
+        texts.asked.push_str(request)?;
         for part in *answer {
-            out.push_str(part)?;
+            texts.answered.push_str(part)?;
         }
     }
-    Ok(out)
-}
-
-/// The requests of these exchanges, made again where they find no memory.
-pub(crate) fn asks(alloc: Global, exchanges: &[Exchange]) -> Result<String, AllocError> {
-    grown!(requests_of(alloc, exchanges))
-}
-
-/// The answers of these exchanges, made again where they find no memory.
-pub(crate) fn answers(alloc: Global, exchanges: &[Exchange]) -> Result<String, AllocError> {
-    grown!(answers_of(alloc, exchanges))
-}
-
-/// The requests of these exchanges, and their answers.
-pub(crate) fn texts(alloc: Global, exchanges: &[Exchange]) -> Result<(String, String), AllocError> {
-    Ok((asks(alloc, exchanges)?, answers(alloc, exchanges)?))
-}
-
-/// What became of a session over this reader.
-pub(crate) fn served<R: Drop + Read>(alloc: Global, reader: R, mut service: Rows) -> Told {
-    let mut requests = Requests::new(alloc, Tally::new(reader));
-    let mut writer = Tally::new(Vec::new(alloc));
-    let closing = serve(alloc, &mut requests, &mut writer, &mut service);
-    Told {
-        closing: Some(closing),
-        output: writer.into_inner(),
-        counted: true,
-    }
-}
-
-/// Why a session over these bytes closed, how often its writer faulted, and that writer.
-pub(crate) fn written(
-    alloc: Global,
-    input: &[u8],
-    writer: CutWriter,
-    service: &mut Rows,
-) -> (Closing, u64, CutWriter) {
-    let mut requests = Requests::new(alloc, Tally::new(input));
-    let mut writer = Tally::new(writer);
-    let closing = serve(alloc, &mut requests, &mut writer, service);
-    let faults = Output::faults(&writer);
-    (closing, faults, writer.into_inner())
+    Ok(texts)
 }

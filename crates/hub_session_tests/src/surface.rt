@@ -1,6 +1,6 @@
 //! A text of a user's own in chunks, and what a refusal tells.
 
-use crate::made_again::same;
+use crate::made_again::holds;
 use hub_http::{ChunkFault, ChunkWriter, Refusal, Tally, Text};
 use std::alloc::{AllocError, Global};
 use std::test::Fail;
@@ -31,6 +31,7 @@ fn chunks(alloc: Global) -> Result<Vec<u8>, ChunkFault> {
     Ok(writer.into_inner())
 }
 
+/// A text of a user's own is written in a chunk.
 #[test]
 fn texts_in_chunks(rt: HostRuntime) -> Result<(), Fail> {
     let written = match chunks(rt.alloc()) {
@@ -38,28 +39,58 @@ fn texts_in_chunks(rt: HostRuntime) -> Result<(), Fail> {
         Err(_) => chunks(rt.alloc())?,
     };
     let expected = b"e\r\nHello a client\r\n4\r\nBye\n\r\n";
-    same(&rt, &written.as_slice(), &expected.as_slice());
+    holds(
+        &rt,
+        written.as_slice() == expected.as_slice(),
+        "chunks",
+        written.len(),
+    );
     Ok(())
 }
 
-/// Refusals, and the status, the error and the reason that each tells.
-const REFUSALS: [(Refusal, u16, &str, &str); 4] = [
-    (Refusal::NotJson, 400, "bad_request", "not JSON"),
-    (
-        Refusal::Conflict,
-        409,
-        "conflict",
-        "Document update conflict.",
-    ),
-    (Refusal::BadName, 400, "illegal_database_name", "bad name"),
-    (Refusal::HeadTooLong, 431, "head_too_long", "head too long"),
+/// A refusal, and the status, the error and the reason that it tells.
+struct Told {
+    refusal: Refusal,
+    status: u16,
+    error: &'static str,
+    reason: &'static str,
+}
+
+const REFUSALS: &[Told] = &[
+    Told {
+        refusal: Refusal::NotJson,
+        status: 400,
+        error: "bad_request",
+        reason: "not JSON",
+    },
+    Told {
+        refusal: Refusal::Conflict,
+        status: 409,
+        error: "conflict",
+        reason: "Document update conflict.",
+    },
+    Told {
+        refusal: Refusal::BadName,
+        status: 400,
+        error: "illegal_database_name",
+        reason: "bad name",
+    },
+    Told {
+        refusal: Refusal::HeadTooLong,
+        status: 431,
+        error: "head_too_long",
+        reason: "head too long",
+    },
 ];
 
+/// A refusal tells its status, its error and its reason.
 #[test]
 fn refusals(rt: HostRuntime) {
-    for (refusal, status, error, reason) in REFUSALS {
-        let status_found = refusal.status().as_u16();
-        let found = (status_found, refusal.error(), refusal.reason());
-        same(&rt, &found, &(status, error, reason));
+    for number in 0..REFUSALS.len() {
+        let told = &REFUSALS[number];
+        let is_right = told.refusal.status().as_u16() == told.status
+            && told.refusal.error() == told.error
+            && told.refusal.reason() == told.reason;
+        holds(&rt, is_right, told.reason, number);
     }
 }

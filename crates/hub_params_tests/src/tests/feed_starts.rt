@@ -1,153 +1,143 @@
 //! Where feeds begin (`since`). The outcomes are those that the rules give, by hand.
 
-use crate::tests::feed_params::{MOST, beginning_at, try_bad, try_good};
-use crate::tests::same;
+use crate::tests::feed_params::Told::Begins;
+use crate::tests::feed_params::{MOST, Row, try_rows};
 use hub_model::Since;
-use hub_params::{ParamFault, read_tagged};
-use std::test::Fail;
+use hub_params::ParamFault::BadSince;
 
 // Numbers alone, and where nothing is said.
-const NUMBERS: [(&'static str, Since); 17] = [
-    ("", Since::Plain(0)),
-    ("&&", Since::Plain(0)),
-    ("x=since", Since::Plain(0)),
-    ("Since=5", Since::Plain(0)),
-    ("since=0", Since::Plain(0)),
-    ("since=3", Since::Plain(3)),
-    ("since=0003", Since::Plain(3)),
+const NUMBERS: &[Row] = &[
+    ("", Ok(Begins(Since::Plain(0)))),
+    ("&&", Ok(Begins(Since::Plain(0)))),
+    ("x=since", Ok(Begins(Since::Plain(0)))),
+    ("Since=5", Ok(Begins(Since::Plain(0)))),
+    ("since=0", Ok(Begins(Since::Plain(0)))),
+    ("since=3", Ok(Begins(Since::Plain(3)))),
+    ("since=0003", Ok(Begins(Since::Plain(3)))),
     (
         "since=00000000000000000000000000000000000012",
-        Since::Plain(12),
+        Ok(Begins(Since::Plain(12))),
     ),
-    ("since=18446744073709551615", Since::Plain(MOST)),
-    ("since=000018446744073709551615", Since::Plain(MOST)),
-    ("since=%31", Since::Plain(1)),
-    ("%73ince=7", Since::Plain(7)),
-    ("since=1&since=2", Since::Plain(2)),
-    ("since=x&since=2", Since::Plain(2)),
-    ("since=2&%73ince=9", Since::Plain(9)),
-    ("since=\"2\"", Since::Plain(2)),
-    ("since=2-1&since=3", Since::Plain(3)),
+    ("since=18446744073709551615", Ok(Begins(Since::Plain(MOST)))),
+    (
+        "since=000018446744073709551615",
+        Ok(Begins(Since::Plain(MOST))),
+    ),
+    ("since=%31", Ok(Begins(Since::Plain(1)))),
+    ("%73ince=7", Ok(Begins(Since::Plain(7)))),
+    ("since=1&since=2", Ok(Begins(Since::Plain(2)))),
+    ("since=x&since=2", Ok(Begins(Since::Plain(2)))),
+    ("since=2&%73ince=9", Ok(Begins(Since::Plain(9)))),
+    ("since=\"2\"", Ok(Begins(Since::Plain(2)))),
+    ("since=2-1&since=3", Ok(Begins(Since::Plain(3)))),
 ];
 
 // Numbers with the numbers of their lives, and `now`.
-const OTHERS: [(&'static str, Since); 16] = [
-    ("since=2-1", Since::Tagged(2, 1)),
-    ("since=%222-1%22", Since::Tagged(2, 1)),
-    ("since=\"2-1\"", Since::Tagged(2, 1)),
-    ("since=2%2D1", Since::Tagged(2, 1)),
-    ("since=2-7", Since::Tagged(2, 7)),
-    ("since=0-0", Since::Tagged(0, 0)),
-    ("since=002-0001", Since::Tagged(2, 1)),
-    ("since=18446744073709551615-1", Since::Tagged(MOST, 1)),
-    ("since=1-18446744073709551615", Since::Tagged(1, MOST)),
+const OTHERS: &[Row] = &[
+    ("since=2-1", Ok(Begins(Since::Tagged(2, 1)))),
+    ("since=%222-1%22", Ok(Begins(Since::Tagged(2, 1)))),
+    ("since=\"2-1\"", Ok(Begins(Since::Tagged(2, 1)))),
+    ("since=2%2D1", Ok(Begins(Since::Tagged(2, 1)))),
+    ("since=2-7", Ok(Begins(Since::Tagged(2, 7)))),
+    ("since=0-0", Ok(Begins(Since::Tagged(0, 0)))),
+    ("since=002-0001", Ok(Begins(Since::Tagged(2, 1)))),
+    (
+        "since=18446744073709551615-1",
+        Ok(Begins(Since::Tagged(MOST, 1))),
+    ),
+    (
+        "since=1-18446744073709551615",
+        Ok(Begins(Since::Tagged(1, MOST))),
+    ),
     (
         "since=18446744073709551615-18446744073709551615",
-        Since::Tagged(MOST, MOST),
+        Ok(Begins(Since::Tagged(MOST, MOST))),
     ),
-    ("since=x&since=2-1", Since::Tagged(2, 1)),
-    ("since=now", Since::Now),
-    ("since=n%6fw", Since::Now),
-    ("since=%22now%22", Since::Now),
-    ("since=\"now\"", Since::Now),
-    ("since=2&x=3&since=now", Since::Now),
+    ("since=x&since=2-1", Ok(Begins(Since::Tagged(2, 1)))),
+    ("since=now", Ok(Begins(Since::Now))),
+    ("since=n%6fw", Ok(Begins(Since::Now))),
+    ("since=%22now%22", Ok(Begins(Since::Now))),
+    ("since=\"now\"", Ok(Begins(Since::Now))),
+    ("since=2&x=3&since=now", Ok(Begins(Since::Now))),
 ];
 
-#[test]
-fn starts(rt: HostRuntime) -> Result<(), Fail> {
-    for table in [&NUMBERS[..], &OTHERS[..]] {
-        for (query, since) in table {
-            try_good(&rt, query, "", beginning_at(*since))?;
-        }
-    }
-    Ok(())
-}
-
 // What is no number, or a greater one.
-const NO_NUMBERS: [&'static str; 21] = [
-    "since",
-    "since=",
-    "since=x",
-    "since=+1",
-    "since=%2B1",
-    "since=-1",
-    "since=1+",
-    "since=1%20",
-    "since=1.0",
-    "since=1e3",
-    "since=0x1",
-    "since=Now",
-    "since=now+",
-    "since==1",
-    "since=%FF",
-    "since=18446744073709551616",
-    "since=00018446744073709551616",
-    "since=99999999999999999999999999",
-    "since=1&since=",
-    "since=1&since",
-    "since=x&limit=x",
+const NO_NUMBERS: &[Row] = &[
+    ("since", Err(BadSince)),
+    ("since=", Err(BadSince)),
+    ("since=x", Err(BadSince)),
+    ("since=+1", Err(BadSince)),
+    ("since=%2B1", Err(BadSince)),
+    ("since=-1", Err(BadSince)),
+    ("since=1+", Err(BadSince)),
+    ("since=1%20", Err(BadSince)),
+    ("since=1.0", Err(BadSince)),
+    ("since=1e3", Err(BadSince)),
+    ("since=0x1", Err(BadSince)),
+    ("since=Now", Err(BadSince)),
+    ("since=now+", Err(BadSince)),
+    ("since==1", Err(BadSince)),
+    ("since=%FF", Err(BadSince)),
+    ("since=18446744073709551616", Err(BadSince)),
+    ("since=00018446744073709551616", Err(BadSince)),
+    ("since=99999999999999999999999999", Err(BadSince)),
+    ("since=1&since=", Err(BadSince)),
+    ("since=1&since", Err(BadSince)),
+    ("since=x&limit=x", Err(BadSince)),
 ];
 
 // A life that is none, or no life in front of the line.
-const NO_LIVES: [&'static str; 12] = [
-    "since=2-",
-    "since=-",
-    "since=2-x",
-    "since=x-1",
-    "since=2--1",
-    "since=2-1-1",
-    "since=2-now",
-    "since=now-1",
-    "since=2- 1",
-    "since=2-%2B1",
-    "since=18446744073709551616-1",
-    "since=1-18446744073709551616",
+const NO_LIVES: &[Row] = &[
+    ("since=2-", Err(BadSince)),
+    ("since=-", Err(BadSince)),
+    ("since=2-x", Err(BadSince)),
+    ("since=x-1", Err(BadSince)),
+    ("since=2--1", Err(BadSince)),
+    ("since=2-1-1", Err(BadSince)),
+    ("since=2-now", Err(BadSince)),
+    ("since=now-1", Err(BadSince)),
+    ("since=2- 1", Err(BadSince)),
+    ("since=2-%2B1", Err(BadSince)),
+    ("since=18446744073709551616-1", Err(BadSince)),
+    ("since=1-18446744073709551616", Err(BadSince)),
 ];
 
 // No pair of quotes, more than one, or none round the whole.
-const NO_QUOTES: [&'static str; 11] = [
-    "since=\"",
-    "since=\"\"",
-    "since=\"2",
-    "since=2\"",
-    "since=\"2-1",
-    "since=2-1\"",
-    "since=\"\"2\"\"",
-    "since=\"\"now\"\"",
-    "since=\"2\"-\"1\"",
-    "since=%22%222-1%22%22",
-    "since='2'",
+const NO_QUOTES: &[Row] = &[
+    ("since=\"", Err(BadSince)),
+    ("since=\"\"", Err(BadSince)),
+    ("since=\"2", Err(BadSince)),
+    ("since=2\"", Err(BadSince)),
+    ("since=\"2-1", Err(BadSince)),
+    ("since=2-1\"", Err(BadSince)),
+    ("since=\"\"2\"\"", Err(BadSince)),
+    ("since=\"\"now\"\"", Err(BadSince)),
+    ("since=\"2\"-\"1\"", Err(BadSince)),
+    ("since=%22%222-1%22%22", Err(BadSince)),
+    ("since='2'", Err(BadSince)),
 ];
 
 #[test]
-fn bad_starts(rt: HostRuntime) {
-    for table in [&NO_NUMBERS[..], &NO_LIVES[..], &NO_QUOTES[..]] {
-        for query in table {
-            try_bad(&rt, query, "", ParamFault::BadSince);
-        }
-    }
+fn starts_of_numbers(rt: HostRuntime) {
+    try_rows(&rt, NUMBERS);
 }
 
-// The sequence and the life that a text writes: here no quotes are dropped.
-const TAGGED: [(&'static str, Option<(u64, u64)>); 10] = [
-    ("12-3", Some((12, 3))),
-    ("0-0", Some((0, 0))),
-    ("012-03", Some((12, 3))),
-    (
-        "18446744073709551615-18446744073709551615",
-        Some((MOST, MOST)),
-    ),
-    ("18446744073709551616-3", None),
-    ("12-18446744073709551616", None),
-    ("12", None),
-    ("", None),
-    ("12-3-4", None),
-    ("\"12-3\"", None),
-];
+#[test]
+fn starts_of_lives(rt: HostRuntime) {
+    try_rows(&rt, OTHERS);
+}
 
 #[test]
-fn tagged_texts(rt: HostRuntime) {
-    for (text, wanted) in TAGGED {
-        same(&rt, &(text, read_tagged(text)), &(text, wanted));
-    }
+fn bad_numbers(rt: HostRuntime) {
+    try_rows(&rt, NO_NUMBERS);
+}
+
+#[test]
+fn bad_lives(rt: HostRuntime) {
+    try_rows(&rt, NO_LIVES);
+}
+
+#[test]
+fn bad_quotes(rt: HostRuntime) {
+    try_rows(&rt, NO_QUOTES);
 }

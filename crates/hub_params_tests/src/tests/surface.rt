@@ -1,24 +1,20 @@
 //! The words that parameters are made of, as their users ask them.
 
-use crate::tests::feed_params::read;
-use crate::tests::{same, same_text};
+use crate::tests::feed_params::MOST;
 use hub_filter::Filter;
 use hub_model::{Mode, Since};
+use hub_params::{FeedParams, ParamFault, read_tagged};
+use std::alloc::Global;
 use std::test::Fail;
 
-#[test]
-fn modes_that_wait(rt: HostRuntime) {
-    for (mode, waits) in [
-        (Mode::Normal, false),
-        (Mode::Longpoll, true),
-        (Mode::Continuous, true),
-    ] {
-        same(&rt, &(mode, mode.waits()), &(mode, waits));
-    }
-}
+const WAITING: &[(Mode, bool)] = &[
+    (Mode::Normal, false),
+    (Mode::Longpoll, true),
+    (Mode::Continuous, true),
+];
 
 // Where feeds begin of which there are 9 edits, in the life 3.
-const BEGINNINGS: [(Since, u64); 8] = [
+const BEGINNINGS: &[(Since, u64)] = &[
     (Since::Now, 9),
     (Since::Plain(0), 0),
     (Since::Plain(4), 4),
@@ -29,24 +25,57 @@ const BEGINNINGS: [(Since, u64); 8] = [
     (Since::Tagged(10, 0), 0),
 ];
 
+// The sequence and the life that a text writes: here no quotes are dropped.
+const TAGGED: &[(&str, Option<(u64, u64)>)] = &[
+    ("12-3", Some((12, 3))),
+    ("0-0", Some((0, 0))),
+    ("012-03", Some((12, 3))),
+    (
+        "18446744073709551615-18446744073709551615",
+        Some((MOST, MOST)),
+    ),
+    ("18446744073709551616-3", None),
+    ("12-18446744073709551616", None),
+    ("12", None),
+    ("", None),
+    ("12-3-4", None),
+    ("\"12-3\"", None),
+];
+
 #[test]
-fn beginnings_within_a_life(rt: HostRuntime) {
+fn words_have_their_meaning(rt: HostRuntime) {
+    for (mode, waits) in WAITING {
+        assert!(rt; mode.waits() == *waits, "{mode:?}");
+    }
     for (since, begins) in BEGINNINGS {
-        same(&rt, &(since, since.within(9, 3)), &(since, begins));
+        assert!(rt; since.within(9, 3) == *begins, "{since:?}");
+    }
+    for (text, wanted) in TAGGED {
+        assert!(rt; read_tagged(*text) == *wanted, "at {text}");
+    }
+}
+
+// What a query gives, read again where no memory is found.
+fn read(alloc: Global, query: &[u8]) -> Result<FeedParams, ParamFault> {
+    match FeedParams::read(alloc, query, b"") {
+        Err(ParamFault::NoMemory) => FeedParams::read(alloc, query, b""),
+        found => found,
     }
 }
 
 #[test]
 fn listed_ids_in_order(rt: HostRuntime) -> Result<(), Fail> {
     let query = br#"filter=_doc_ids&doc_ids=["b","_design/x","a","b"]"#;
-    let params = read(rt.alloc(), query, b"")?;
+    let params = read(rt.alloc(), query)?;
     let Filter::DocIds(ids) = &params.filter else {
         return Err(Fail::new("no ids"));
     };
-    let wanted = ["_design/x", "a", "b", "b"];
-    same(&rt, &ids.as_slice().len(), &wanted.len());
-    for (id, other) in ids.as_slice().iter().zip(wanted.iter()) {
-        same_text(&rt, id.as_str(), *other);
-    }
+    let is_so = match ids.as_slice() {
+        [x, a, b, c] => {
+            x.as_str() == "_design/x" && a.as_str() == "a" && b.as_str() == "b" && c.as_str() == "b"
+        }
+        _ => false,
+    };
+    assert!(rt; is_so);
     Ok(())
 }
