@@ -2,59 +2,166 @@
 //!
 //! The rows of these edits take no memory. A list of ids takes some: where it finds none it is made again.
 
+ghost use Rattle.std.specs.Prelude.{length};
+ghost use Rattle.hub_feed_tests.specs.Edits.{IsWithin};
+
 mod edits;
 
-use crate::tests::Passing::{All, Design, Listed};
-use crate::tests::Step::{Beats, Delete, End, Expire, Follow, Gone, Nothing, Row};
 use edits::{Edits, Shown};
 use hub_feed::{FeedState, Next, Source};
 use hub_filter::{DocIds, Filter};
 use hub_model::{Item, Mode, Since, Style};
 use hub_params::FeedParams;
 use std::alloc::{AllocError, Global};
+use std::fmt::Debug;
+use std::process::Abort;
+use std::test::Fail;
 
-/// A feed that is opened on edits, and its steps. It shows every leaf, with its document.
-struct Case {
-    name: &'static str,
-    mode: Mode,
-    since: Since,
-    limit: Option<u64>,
-    /// Whether heartbeats are asked for.
-    beats: bool,
-    passing: Passing,
-    edits: &'static [Option<&'static str>],
-    steps: &'static [Step],
+// The value that was found is the one that is wanted. The comparison is proved here, and not in each test.
+fn same<T: PartialEq + Debug>(rt: &impl Abort, found: &T, wanted: &T) {
+    assert_eq!(rt; *found, *wanted);
 }
 
-/// Which documents a feed shows.
-enum Passing {
-    All,
-    Design,
-    /// Those of these ids.
-    Listed(&'static [&'static str]),
-}
-
-/// A step of a feed, and its answer.
+// What a feed hands in one step.
+#[derive(Clone, Copy, Debug, PartialEq, Eq)]
 enum Step {
-    /// It hands the row of this sequence.
-    Row(u64),
-    /// It hands its end: the last sequence and how many rows are pending.
+    Row(Shown),
+    Beat,
     End(u64, u64),
-    /// It hands nothing.
     Nothing,
-    /// It is finished.
     Gone,
-    /// Whether a heartbeat is due.
-    Beats(bool),
-    /// Its time is over.
-    Expire,
-    /// What it follows is deleted.
-    Delete,
-    /// What it follows has these edits.
-    Follow(&'static [Option<&'static str>]),
 }
 
-// The ids, in this order.
+// Parameters of a feed that shows every document.
+fn params(mode: Mode, since: Since, limit: Option<u64>) -> FeedParams {
+    FeedParams {
+        mode,
+        since,
+        limit,
+        descending: false,
+        style: Style::AllDocs,
+        include_docs: true,
+        filter: Filter::All,
+        heartbeat: None,
+        timeout: 60_000,
+    }
+}
+
+// A row, as those parameters ask for it.
+fn row(seq: u64) -> Step {
+    Step::Row(Shown {
+        seq,
+        style: Style::AllDocs,
+        include_docs: true,
+    })
+}
+
+fn step_of(item: &Item<Shown>) -> Step {
+    match item {
+        Item::Row(shown) => Step::Row(*shown),
+        Item::Beat => Step::Beat,
+        Item::End { last_seq, pending } => Step::End(*last_seq, *pending),
+    }
+}
+
+fn next_step_of(next: &Next<Shown>) -> Step {
+    match next {
+        Next::Give(item) => step_of(item),
+        Next::Nothing => Step::Nothing,
+        Next::Gone => Step::Gone,
+    }
+}
+
+// A feed that is opened on the edits.
+fn begin(params: FeedParams, edits: &Edits) -> FeedState
+    ensures { IsWithin result (length edits.now.ids.now) }
+{
+    FeedState::begin(params, edits.length(), edits.life())
+}
+
+// What the feed hands now, without taking it.
+fn look(feed: &mut FeedState, edits: &Edits) -> Result<Step, AllocError>
+    requires { IsWithin feed.old (length edits.now.ids.now) }
+    ensures { IsWithin feed.new (length edits.now.ids.now) }
+{
+    let next = feed.next_item(edits)?;
+    Ok(next_step_of(&next))
+}
+
+// Takes what the feed hands now.
+fn take(feed: &mut FeedState, edits: &Edits) -> Result<Step, AllocError>
+    requires { IsWithin feed.old (length edits.now.ids.now) }
+    ensures { IsWithin feed.new (length edits.now.ids.now) }
+{
+    let next = feed.next_item(edits)?;
+    let step = next_step_of(&next);
+    if let Next::Give(item) = &next {
+        feed.accept_item(edits, item);
+    }
+    Ok(step)
+}
+
+// The feed hands these, step by step, each again until it is taken.
+fn walk(rt: &impl Abort, feed: &mut FeedState, edits: &Edits, wanted: &[Step]) -> Result<(), Fail>
+    requires { IsWithin feed.old (length edits.now.ids.now) }
+    ensures { IsWithin feed.new (length edits.now.ids.now) }
+{
+    for step in wanted {
+        let looked = look(feed, edits)?;
+        let taken = take(feed, edits)?;
+        same(rt, &(looked, taken), &(*step, *step));
+    }
+    Ok(())
+}
+
+// Three documents in five edits.
+const THREE: Edits = Edits {
+    ids: &[None, Some("a"), Some("_design/b"), None, Some("c")],
+};
+
+#[test]
+fn a_normal_feed_shows_what_is_there(rt: HostRuntime) -> Result<(), Fail> {
+    let mut feed = begin(params(Mode::Normal, Since::Plain(0), None), &THREE);
+    walk(
+        &rt,
+        &mut feed,
+        &THREE,
+        &[
+            row(2),
+            row(3),
+            row(5),
+            Step::End(5, 0),
+            Step::Gone,
+            Step::Gone,
+        ],
+    )
+}
+
+#[test]
+fn since_and_limit_cut_a_feed(rt: HostRuntime) -> Result<(), Fail> {
+    let ended = Step::End(5, 0);
+    for (since, limit, first, second) in [
+        (Since::Plain(1), Some(1), row(2), Step::End(2, 2)),
+        (Since::Plain(2), Some(1), row(3), Step::End(3, 1)),
+        (Since::Plain(2), Some(0), row(3), Step::End(3, 1)),
+        (Since::Plain(3), Some(1), row(5), Step::End(5, 0)),
+        (Since::Plain(3), None, row(5), ended),
+        (Since::Plain(5), None, ended, Step::Gone),
+        (Since::Plain(6), None, ended, Step::Gone),
+        (Since::Plain(u64::MAX), Some(1), ended, Step::Gone),
+        (Since::Now, None, ended, Step::Gone),
+        (Since::Tagged(2, 4), Some(1), row(3), Step::End(3, 1)),
+        (Since::Tagged(6, 4), None, ended, Step::Gone),
+        (Since::Tagged(2, 7), Some(1), row(2), Step::End(2, 2)),
+        (Since::Tagged(u64::MAX, 0), Some(1), row(2), Step::End(2, 2)),
+    ] {
+        let mut feed = begin(params(Mode::Normal, since, limit), &THREE);
+        walk(&rt, &mut feed, &THREE, &[first, second, Step::Gone])?;
+    }
+    Ok(())
+}
+
+// The ids, in this order, where memory is found.
 fn list_of(alloc: Global, ids: &[&str]) -> Result<DocIds, AllocError> {
     let mut texts = Vec::new(alloc);
     for id in ids {
@@ -63,345 +170,113 @@ fn list_of(alloc: Global, ids: &[&str]) -> Result<DocIds, AllocError> {
     Ok(DocIds::new(texts))
 }
 
-// The filter of a case.
-fn filter_of(alloc: Global, passing: &Passing) -> Result<Filter, AllocError> {
-    match passing {
-        All => Ok(Filter::All),
-        Design => Ok(Filter::Design),
-        Listed(ids) => Ok(Filter::DocIds(list_of(alloc, ids)?)),
+// The ids, in this order, made again where no memory is found.
+fn listed(alloc: Global, ids: &[&str]) -> Result<DocIds, AllocError> {
+    match list_of(alloc, ids) {
+        Ok(list) => Ok(list),
+        Err(AllocError) => list_of(alloc, ids),
     }
 }
 
-// The feed of a case, opened on its edits.
-fn begin(case: &Case, filter: Filter) -> FeedState {
-    let edits = Edits { ids: case.edits };
-    let params = FeedParams {
-        mode: case.mode,
-        since: case.since,
-        limit: case.limit,
-        descending: false,
-        style: Style::AllDocs,
-        include_docs: true,
-        filter,
-        heartbeat: if case.beats { Some(1_000) } else { None },
-        timeout: 60_000,
-    };
-    FeedState::begin(params, edits.length(), edits.life())
-}
-
-// Whether what a feed hands is what the step says, a row as the feed asks for it.
-fn is_next(next: &Next<Shown>, step: &Step) -> bool {
-    match (next, step) {
-        (Next::Give(Item::Row(shown)), Row(seq)) => {
-            shown.seq == *seq && shown.style == Style::AllDocs && shown.include_docs
-        }
-        (Next::Give(Item::End { last_seq, pending }), End(last, rest)) => {
-            last_seq == last && pending == rest
-        }
-        (Next::Nothing, Nothing) | (Next::Gone, Gone) => true,
-        _ => false,
-    }
-}
-
-// Whether the feed is not beyond the edits, and hands what the step says, which it takes or not.
-fn hands(
-    feed: &mut FeedState,
-    edits: &Edits,
-    step: &Step,
-    takes: bool,
-) -> Result<bool, AllocError> {
-    if feed.place() > edits.length() {
-        return Ok(false);
-    }
-    let next = feed.next_item(edits)?;
-    if let Next::Give(item) = &next {
-        if takes {
-            feed.accept_item(edits, item);
-        }
-    }
-    Ok(is_next(&next, step))
-}
-
-// Whether no bound of the feed is beyond the edits.
-fn is_bound_within(feed: &FeedState, edits: &Edits) -> bool {
-    match feed.bound() {
-        Some(bound) => bound <= edits.length(),
-        None => true,
-    }
-}
-
-// Whether the feed has the step's answer. What it hands it hands again until that is taken.
-fn holds(feed: &mut FeedState, edits: &Edits, step: &Step) -> Result<bool, AllocError> {
-    match step {
-        Beats(due) => Ok(feed.beat_due() == *due),
-        Expire => {
-            feed.expire();
-            Ok(true)
-        }
-        Delete => {
-            feed.end();
-            Ok(true)
-        }
-        _ => Ok(
-            is_bound_within(feed, edits)
-                && hands(feed, edits, step, false)?
-                && hands(feed, edits, step, true)?,
-        ),
-    }
-}
-
-// How many steps of a case have their answers, before the first that has another.
-fn count_of(alloc: Global, case: &Case) -> Result<usize, AllocError> {
-    let filter = match filter_of(alloc, &case.passing) {
-        Err(AllocError) => filter_of(alloc, &case.passing),
-        made => made,
-    };
-    let mut feed = begin(case, filter?);
-    let mut edits = Edits { ids: case.edits };
-    let mut count = 0usize;
-    for step in case.steps {
-        if let Follow(ids) = step {
-            edits = Edits { ids };
-        } else if !holds(&mut feed, &edits, step)? {
-            return Ok(count);
-        }
-        count = count.saturating_add(1);
-    }
-    Ok(count)
-}
-
-// Three documents in five edits.
-const THREE: &[Option<&str>] = &[None, Some("a"), Some("_design/b"), None, Some("c")];
-
-// What no row of a table says otherwise.
-const NORMAL: Case = Case {
-    name: "a normal feed shows what is there",
-    mode: Mode::Normal,
-    since: Since::Plain(0),
-    limit: None,
-    beats: false,
-    passing: All,
-    edits: THREE,
-    steps: &[Row(2), Row(3), Row(5), End(5, 0), Gone, Gone],
-};
-
-const SINCE: &[Case] = &[
-    NORMAL,
-    Case {
-        name: "after 1, one row",
-        since: Since::Plain(1),
-        limit: Some(1),
-        steps: &[Row(2), End(2, 2), Gone],
-        ..NORMAL
-    },
-    Case {
-        name: "after 2, one row",
-        since: Since::Plain(2),
-        limit: Some(1),
-        steps: &[Row(3), End(3, 1), Gone],
-        ..NORMAL
-    },
-    Case {
-        name: "after 2, no row",
-        since: Since::Plain(2),
-        limit: Some(0),
-        steps: &[Row(3), End(3, 1), Gone],
-        ..NORMAL
-    },
-    Case {
-        name: "after 3, one row",
-        since: Since::Plain(3),
-        limit: Some(1),
-        steps: &[Row(5), End(5, 0), Gone],
-        ..NORMAL
-    },
-    Case {
-        name: "after 3",
-        since: Since::Plain(3),
-        steps: &[Row(5), End(5, 0), Gone],
-        ..NORMAL
-    },
-    Case {
-        name: "after the last",
-        since: Since::Plain(5),
-        steps: &[End(5, 0), Gone, Gone],
-        ..NORMAL
-    },
-    Case {
-        name: "after one more than the last",
-        since: Since::Plain(6),
-        steps: &[End(5, 0), Gone, Gone],
-        ..NORMAL
-    },
-    Case {
-        name: "after the greatest number",
-        since: Since::Plain(u64::MAX),
-        limit: Some(1),
-        steps: &[End(5, 0), Gone, Gone],
-        ..NORMAL
-    },
-    Case {
-        name: "from now on",
-        since: Since::Now,
-        steps: &[End(5, 0), Gone, Gone],
-        ..NORMAL
-    },
-    Case {
-        name: "after 2 of this life, one row",
-        since: Since::Tagged(2, 4),
-        limit: Some(1),
-        steps: &[Row(3), End(3, 1), Gone],
-        ..NORMAL
-    },
-    Case {
-        name: "after 6 of this life",
-        since: Since::Tagged(6, 4),
-        steps: &[End(5, 0), Gone, Gone],
-        ..NORMAL
-    },
-    Case {
-        name: "after 2 of another life, one row",
-        since: Since::Tagged(2, 7),
-        limit: Some(1),
-        steps: &[Row(2), End(2, 2), Gone],
-        ..NORMAL
-    },
-    Case {
-        name: "after the greatest number of another life, one row",
-        since: Since::Tagged(u64::MAX, 0),
-        limit: Some(1),
-        steps: &[Row(2), End(2, 2), Gone],
-        ..NORMAL
-    },
-];
-
-const PASSING: &[Case] = &[
-    Case {
-        name: "a limit counts design documents alone",
-        limit: Some(1),
-        passing: Design,
-        steps: &[Row(3), End(3, 1), Gone],
-        ..NORMAL
-    },
-    Case {
-        name: "a limit counts listed documents alone",
-        limit: Some(2),
-        passing: Listed(&["c", "x"]),
-        steps: &[Row(5), End(5, 0), Gone],
-        ..NORMAL
-    },
-    Case {
-        name: "nothing moves a feed to the end",
-        mode: Mode::Continuous,
-        passing: Design,
-        steps: &[Row(3), Nothing, Expire, End(5, 0), Gone],
-        ..NORMAL
-    },
-];
-
-const WAITING: &[Case] = &[
-    Case {
-        name: "a longpoll feed waits for a row",
-        mode: Mode::Longpoll,
-        since: Since::Now,
-        edits: &[None, Some("a")],
-        steps: &[
-            Nothing,
-            Nothing,
-            Follow(THREE),
-            Row(3),
-            Follow(&[None, Some("a"), Some("b"), Some("c"), Some("d"), Some("e")]),
-            Row(4),
-            Row(5),
-            End(5, 1),
-            Gone,
-        ],
-        ..NORMAL
-    },
-    Case {
-        name: "a continuous feed goes on",
-        mode: Mode::Continuous,
-        beats: true,
-        edits: &[],
-        steps: &[
-            Nothing,
-            Follow(THREE),
-            Row(2),
-            Row(3),
-            Row(5),
-            Nothing,
-            Beats(true),
-            Expire,
-            Beats(false),
-            End(5, 0),
-            Gone,
-            Beats(false),
-        ],
-        ..NORMAL
-    },
-];
-
-// Feeds end at their places.
-const DELETED: &[Step] = &[Row(2), Beats(false), Delete, End(2, 2), Gone];
-
-// Only feeds that wait expire.
-const EXPIRED: &[Step] = &[Row(2), Beats(true), Expire, End(2, 2)];
-
-const ENDING: &[Case] = &[
-    Case {
-        name: "a normal feed ends at its place",
-        steps: DELETED,
-        ..NORMAL
-    },
-    Case {
-        name: "a longpoll feed ends at its place",
-        mode: Mode::Longpoll,
-        steps: DELETED,
-        ..NORMAL
-    },
-    Case {
-        name: "a continuous feed ends at its place",
-        mode: Mode::Continuous,
-        steps: DELETED,
-        ..NORMAL
-    },
-    Case {
-        name: "a normal feed does not expire",
-        beats: true,
-        steps: &[Row(2), Beats(false), Expire, Row(3)],
-        ..NORMAL
-    },
-    Case {
-        name: "a longpoll feed expires",
-        mode: Mode::Longpoll,
-        beats: true,
-        steps: EXPIRED,
-        ..NORMAL
-    },
-    Case {
-        name: "a continuous feed expires",
-        mode: Mode::Continuous,
-        beats: true,
-        steps: EXPIRED,
-        ..NORMAL
-    },
-];
-
-const TABLES: &[&[Case]] = &[SINCE, PASSING, WAITING, ENDING];
-
-// The steps of each case, one at least, have their answers. Where one has another, the assertion shows how
-// many before it had theirs.
 #[test]
-fn feeds_answer_each_step(rt: HostRuntime) -> Result<(), AllocError> {
-    for cases in TABLES {
-        for case in *cases {
-            let name = case.name;
-            let count = count_of(rt.alloc(), case)?;
-            assert!(rt;
-                count == case.steps.len() && count > 0,
-                "{name}: step {count}"
-            );
-        }
+fn a_limit_counts_rows_that_pass(rt: HostRuntime) -> Result<(), Fail> {
+    let mut asked = params(Mode::Normal, Since::Plain(0), Some(1));
+    asked.filter = Filter::Design;
+    let mut feed = begin(asked, &THREE);
+    walk(
+        &rt,
+        &mut feed,
+        &THREE,
+        &[row(3), Step::End(3, 1), Step::Gone],
+    )?;
+
+    let mut asked = params(Mode::Normal, Since::Plain(0), Some(2));
+    asked.filter = Filter::DocIds(listed(rt.alloc(), &["c", "x"])?);
+    let mut feed = begin(asked, &THREE);
+    walk(
+        &rt,
+        &mut feed,
+        &THREE,
+        &[row(5), Step::End(5, 0), Step::Gone],
+    )
+}
+
+#[test]
+fn a_longpoll_feed_waits_for_a_row(rt: HostRuntime) -> Result<(), Fail> {
+    let two = Edits {
+        ids: &[None, Some("a")],
+    };
+    let six = Edits {
+        ids: &[None, Some("a"), Some("b"), Some("c"), Some("d"), Some("e")],
+    };
+    let mut feed = begin(params(Mode::Longpoll, Since::Now, None), &two);
+    walk(&rt, &mut feed, &two, &[Step::Nothing, Step::Nothing])?;
+    walk(&rt, &mut feed, &THREE, &[row(3)])?;
+    walk(
+        &rt,
+        &mut feed,
+        &six,
+        &[row(4), row(5), Step::End(5, 1), Step::Gone],
+    )
+}
+
+#[test]
+fn a_continuous_feed_goes_on(rt: HostRuntime) -> Result<(), Fail> {
+    let none = Edits { ids: &[] };
+    let mut asked = params(Mode::Continuous, Since::Plain(0), None);
+    asked.heartbeat = Some(1_000);
+    let mut feed = begin(asked, &none);
+    walk(&rt, &mut feed, &none, &[Step::Nothing])?;
+    walk(
+        &rt,
+        &mut feed,
+        &THREE,
+        &[row(2), row(3), row(5), Step::Nothing],
+    )?;
+    same(&rt, &feed.beat_due(), &true);
+    feed.expire();
+    same(&rt, &feed.beat_due(), &false);
+    walk(&rt, &mut feed, &THREE, &[Step::End(5, 0), Step::Gone])?;
+    same(&rt, &feed.beat_due(), &false);
+    Ok(())
+}
+
+#[test]
+fn nothing_moves_a_feed_to_the_end(rt: HostRuntime) -> Result<(), Fail> {
+    let mut asked = params(Mode::Continuous, Since::Plain(0), None);
+    asked.filter = Filter::Design;
+    let mut feed = begin(asked, &THREE);
+    walk(&rt, &mut feed, &THREE, &[row(3), Step::Nothing])?;
+    feed.expire();
+    walk(&rt, &mut feed, &THREE, &[Step::End(5, 0), Step::Gone])
+}
+
+#[test]
+fn feeds_end_at_their_places(rt: HostRuntime) -> Result<(), Fail> {
+    for mode in [Mode::Normal, Mode::Longpoll, Mode::Continuous] {
+        let mut feed = begin(params(mode, Since::Plain(0), None), &THREE);
+        walk(&rt, &mut feed, &THREE, &[row(2)])?;
+        same(&rt, &feed.beat_due(), &false);
+        feed.end();
+        walk(&rt, &mut feed, &THREE, &[Step::End(2, 2), Step::Gone])?;
+    }
+    Ok(())
+}
+
+#[test]
+fn only_feeds_that_wait_expire(rt: HostRuntime) -> Result<(), Fail> {
+    for (mode, second) in [
+        (Mode::Normal, row(3)),
+        (Mode::Longpoll, Step::End(2, 2)),
+        (Mode::Continuous, Step::End(2, 2)),
+    ] {
+        let mut asked = params(mode, Since::Plain(0), None);
+        asked.heartbeat = Some(1_000);
+        let mut feed = begin(asked, &THREE);
+        walk(&rt, &mut feed, &THREE, &[row(2)])?;
+        same(&rt, &feed.beat_due(), &(mode != Mode::Normal));
+        feed.expire();
+        walk(&rt, &mut feed, &THREE, &[second])?;
     }
     Ok(())
 }

@@ -15,7 +15,7 @@ pub struct Edits<'a> {
 }
 
 /// A row, and how it was asked for.
-#[derive(Drop)]
+#[derive(Clone, Copy, Debug, PartialEq, Eq)]
 pub struct Shown {
     pub seq: u64,
     pub style: Style,
