@@ -1,0 +1,154 @@
+//! Tests as texts: a transcript says what is asked of a subject, and what it answers.
+//!
+//! ```text
+//! # a document is found
+//! > put d 1
+//! stored d 1
+//! > get d
+//! d 1
+//! > get e
+//! ```
+//!
+//! A line that begins with `# ` names a case, and each case has a subject of its own. A line that begins with
+//! `> ` is a command. The lines behind a command are its answer, word for word: `get e` has none. Empty lines
+//! at the end of an answer say nothing. A text begins with a line feed, so that its first case does too.
+#![tactic(auto)]
+
+use std::alloc::Global;
+use std::process::Abort;
+use std::test::Fail;
+
+/// What the commands of a case are put to. `R` is the runtime of the test.
+pub trait Subject<R>: Drop {
+    /// The subject of a case, before its first command. It may look at the name of the case.
+    fn begin(rt: &R, alloc: Global, case: &str) -> Result<Self, Fail>;
+
+    /// Carries out one command, and appends its answer: a line each, with or without a last line feed.
+    fn answer(&mut self, rt: &R, command: &str, answer: &mut String) -> Result<(), Fail>;
+}
+
+/// Replays a transcript: each command has the answer that stands behind it. The message of an answer that
+/// differs names its case and its command. A text that does not begin with a case fails, and so does a case
+/// with no command, since it would say nothing.
+pub fn replay<S: Subject<R>, R: Abort>(
+    rt: &R,
+    alloc: Global,
+    transcript: &str,
+) -> Result<(), Fail> {
+    assert!(rt; transcript.starts_with("\n# "), "no case is first");
+    for case in transcript.split("\n# ").skip(1) {
+        let (name, _) = case.split_once('\n').unwrap_or((case, ""));
+        assert!(rt; case.contains("\n> "), "{name}: no command");
+        let mut subject = S::begin(rt, alloc, name)?;
+        for step in case.split("\n> ").skip(1) {
+            let (command, wanted) = step.split_once('\n').unwrap_or((step, ""));
+            let mut answer = String::new(alloc);
+            subject.answer(rt, command, &mut answer)?;
+            compare(rt, name, command, answer.as_str(), wanted);
+        }
+    }
+    Ok(())
+}
+
+/// The words of a command, which stand behind one another with a blank between them.
+#[derive(Drop)]
+pub struct Words<'a> {
+    rest: &'a str,
+}
+
+impl<'a> Words<'a> {
+    /// All words of a command.
+    pub fn of(command: &'a str) -> Words<'a> {
+        Words { rest: command }
+    }
+
+    /// The next word, or an empty one where there is none.
+    pub fn word(&mut self) -> &'a str {
+        let (word, rest) = self.rest.split_once(' ').unwrap_or((self.rest, ""));
+        self.rest = rest;
+        word
+    }
+
+    /// The next word as a number, or 0 where it is none.
+    pub fn number(&mut self) -> u64 {
+        self.word().parse().unwrap_or(0)
+    }
+
+    /// The words that are left, as they stand in the command.
+    pub fn rest(&self) -> &'a str {
+        self.rest
+    }
+}
+
+// Ends the test where a command has another answer than the one that stands behind it.
+fn compare(rt: &impl Abort, case: &str, command: &str, answer: &str, wanted: &str) {
+    assert_eq!(rt; answer.trim_end(), wanted.trim_end(), "{case}: {command}");
+}
+
+#[cfg(test)]
+mod tests {
+    use super::*;
+    use std::fmt::Write;
+
+    /// The commands so far, which it says again.
+    #[derive(Drop)]
+    struct Echo {
+        commands: u64,
+    }
+
+    impl<R> Subject<R> for Echo {
+        fn begin(_: &R, _: Global, case: &str) -> Result<Echo, Fail> {
+            Ok(Echo {
+                commands: case.len() as u64,
+            })
+        }
+
+        fn answer(&mut self, _: &R, command: &str, answer: &mut String) -> Result<(), Fail> {
+            self.commands = self.commands.saturating_add(1);
+            if command != "nothing" {
+                writeln!(answer, "{}\n{command}", self.commands)?;
+            }
+            Ok(())
+        }
+    }
+
+    #[test]
+    fn each_case_has_a_subject(rt: HostRuntime) -> Result<(), Fail> {
+        let transcript = "
+# one
+> a b
+4
+a b
+
+> nothing
+> c
+6
+c
+# three
+> d
+6
+d";
+        replay::<Echo, _>(&rt, rt.alloc(), transcript)
+    }
+
+    #[test]
+    #[should_panic(expected = "one: c")]
+    fn another_answer_fails(rt: HostRuntime) {
+        compare(&rt, "one", "c", "5\nc", "5\nd");
+    }
+
+    #[test]
+    fn words_and_numbers(rt: HostRuntime) {
+        let mut words = Words::of("put 17 x y z");
+        assert_eq!(rt; words.word(), "put");
+        assert_eq!(rt; words.number(), 17);
+        assert_eq!(rt; words.number(), 0);
+        assert_eq!(rt; words.rest(), "y z");
+        assert_eq!(rt; Words::of("").word(), "");
+    }
+
+    #[test]
+    fn an_answer_may_end_in_line_feeds(rt: HostRuntime) {
+        compare(&rt, "one", "c", "5\nc\n", "5\nc\n\n");
+    }
+}
