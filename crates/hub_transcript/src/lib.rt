@@ -14,17 +14,52 @@
 //! at the end of an answer say nothing. A text begins with a line feed, so that its first case does too.
 #![tactic(auto)]
 
-use std::alloc::Global;
+use std::alloc::{AllocError, Global};
+use std::fmt::{Display, Write};
 use std::process::Abort;
 use std::test::Fail;
 
 /// What the commands of a case are put to. `R` is the runtime of the test.
 pub trait Subject<R>: Drop {
     /// The subject of a case, before its first command. It may look at the name of the case.
-    fn begin(rt: &R, alloc: Global, case: &str) -> Result<Self, Fail>;
+    fn begin(rt: &R, alloc: Global, case: &str) -> Result<Self, AllocError>;
 
-    /// Carries out one command, and appends its answer: a line each, with or without a last line feed.
-    fn answer(&mut self, rt: &R, command: &str, answer: &mut String) -> Result<(), Fail>;
+    /// Carries out one command, and writes its answer. Any one growth may be refused: a command that finds no
+    /// memory leaves its subject as it was, says so, and is given once more.
+    fn answer(&mut self, rt: &R, command: &str, answer: &mut Answer) -> Result<(), AllocError>;
+}
+
+/// What a command is answered, a line each. It has its room before the command is carried out, so a call that
+/// was made does not fail for its answer: `ROOM` bytes.
+#[derive(Drop)]
+pub struct Answer {
+    text: String,
+}
+
+const ROOM: usize = 65_536;
+
+impl Answer {
+    // An empty answer, with its room; asked for again where it is refused.
+    fn new(alloc: Global) -> Result<Answer, AllocError> {
+        let text = match String::with_capacity(alloc, ROOM) {
+            Err(AllocError) => String::with_capacity(alloc, ROOM)?,
+            Ok(text) => text,
+        };
+        Ok(Answer { text })
+    }
+
+    /// Writes a line.
+    pub fn line<D: Display + Drop>(&mut self, line: D) -> Result<(), AllocError> {
+        match writeln!(self.text, "{line}") {
+            Ok(()) => Ok(()),
+            Err(_) => Err(AllocError),
+        }
+    }
+
+    /// Writes a text as it is: some lines, or a part of one.
+    pub fn text(&mut self, text: &str) -> Result<(), AllocError> {
+        self.text.push_str(text)
+    }
 }
 
 /// Replays a transcript: each command has the answer that stands behind it. The message of an answer that
@@ -35,19 +70,44 @@ pub fn replay<S: Subject<R>, R: Abort>(
     alloc: Global,
     transcript: &str,
 ) -> Result<(), Fail> {
+    let mut answer = Answer::new(alloc)?;
     assert!(rt; transcript.starts_with("\n# "), "no case is first");
     for case in transcript.split("\n# ").skip(1) {
         let (name, _) = case.split_once('\n').unwrap_or((case, ""));
         assert!(rt; case.contains("\n> "), "{name}: no command");
-        let mut subject = S::begin(rt, alloc, name)?;
+        let mut subject: S = begun(rt, alloc, name)?;
         for step in case.split("\n> ").skip(1) {
             let (command, wanted) = step.split_once('\n').unwrap_or((step, ""));
-            let mut answer = String::new(alloc);
-            subject.answer(rt, command, &mut answer)?;
-            compare(rt, name, command, answer.as_str(), wanted);
+            put_to(&mut subject, rt, command, &mut answer)?;
+            compare(rt, name, command, answer.text.as_str(), wanted);
         }
     }
     Ok(())
+}
+
+// The subject of a case, begun again where it finds no memory.
+fn begun<S: Subject<R>, R>(rt: &R, alloc: Global, case: &str) -> Result<S, AllocError> {
+    match S::begin(rt, alloc, case) {
+        Err(AllocError) => S::begin(rt, alloc, case),
+        begun => begun,
+    }
+}
+
+// Puts a command to a subject, and once more where it finds no memory.
+fn put_to<S: Subject<R>, R>(
+    subject: &mut S,
+    rt: &R,
+    command: &str,
+    answer: &mut Answer,
+) -> Result<(), AllocError> {
+    answer.text.clear();
+    match subject.answer(rt, command, answer) {
+        Err(AllocError) => {
+            answer.text.clear();
+            subject.answer(rt, command, answer)
+        }
+        made => made,
+    }
 }
 
 /// The words of a command, which stand behind one another with a blank between them.
@@ -88,25 +148,33 @@ fn compare(rt: &impl Abort, case: &str, command: &str, answer: &str, wanted: &st
 #[cfg(test)]
 mod tests {
     use super::*;
-    use std::fmt::Write;
 
-    /// The commands so far, which it says again.
+    /// How many commands there were, to which the case's first has the number of its name's bytes. It finds
+    /// no memory for every command the first time.
     #[derive(Drop)]
     struct Echo {
         commands: u64,
+        refused: bool,
     }
 
     impl<R> Subject<R> for Echo {
-        fn begin(_: &R, _: Global, case: &str) -> Result<Echo, Fail> {
+        fn begin(_: &R, _: Global, case: &str) -> Result<Echo, AllocError> {
             Ok(Echo {
                 commands: case.len() as u64,
+                refused: false,
             })
         }
 
-        fn answer(&mut self, _: &R, command: &str, answer: &mut String) -> Result<(), Fail> {
+        fn answer(&mut self, _: &R, command: &str, answer: &mut Answer) -> Result<(), AllocError> {
+            self.refused = !self.refused;
+            if self.refused {
+                answer.text("a part")?;
+                return Err(AllocError);
+            }
             self.commands = self.commands.saturating_add(1);
             if command != "nothing" {
-                writeln!(answer, "{}\n{command}", self.commands)?;
+                answer.line(self.commands)?;
+                answer.line(command)?;
             }
             Ok(())
         }
@@ -138,6 +206,11 @@ d";
     }
 
     #[test]
+    fn an_answer_may_end_in_line_feeds(rt: HostRuntime) {
+        compare(&rt, "one", "c", "5\nc\n", "5\nc\n\n");
+    }
+
+    #[test]
     fn words_and_numbers(rt: HostRuntime) {
         let mut words = Words::of("put 17 x y z");
         assert_eq!(rt; words.word(), "put");
@@ -145,10 +218,5 @@ d";
         assert_eq!(rt; words.number(), 0);
         assert_eq!(rt; words.rest(), "y z");
         assert_eq!(rt; Words::of("").word(), "");
-    }
-
-    #[test]
-    fn an_answer_may_end_in_line_feeds(rt: HostRuntime) {
-        compare(&rt, "one", "c", "5\nc\n", "5\nc\n\n");
     }
 }
