@@ -9,3 +9,5 @@ mod id_tests;
 mod page_tests;
 #[cfg(test)]
 mod tests;
+#[cfg(test)]
+mod tried;
