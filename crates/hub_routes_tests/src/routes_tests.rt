@@ -1,449 +1,446 @@
-//! Where requests go, a line a request.
-//!
-//! Any one growth of a request or its route may be refused. The call that met it says so, and made again it
-//! has the answer that it has with ample memory. A request whose path is ASCII without an escape is asked
-//! once: its route takes no memory, so no growth of it can be refused.
+//! Where requests go, as a transcript.
 
 use hub_http::{MethodName, Refusal, Request};
-use hub_routes::{Call, Route, RouteFault, Routes};
+use hub_routes::{Route, RouteFault, Routes};
+use hub_transcript::{Answer, Subject, Words, replay};
 use std::alloc::{AllocError, Global};
 use std::borrow::CowStr;
-use std::process::Abort;
 use std::str;
 use std::test::Fail;
 
-const WITH_LENGTH: bool = true;
-
-const NO_LENGTH: bool = false;
-
-const SERVER: [(&str, &[u8], bool, &str); 31] = [
-    ("GET", b"/", NO_LENGTH, "welcome"),
-    ("GET", b"/?x", NO_LENGTH, "welcome"),
-    ("HEAD", b"/", NO_LENGTH, "method not allowed"),
-    ("PUT", b"/", NO_LENGTH, "method not allowed"),
-    ("POST", b"/", WITH_LENGTH, "method not allowed"),
-    ("get", b"/", NO_LENGTH, "method not allowed"),
-    ("GET", b"/_all_dbs", NO_LENGTH, "list"),
-    ("GET", b"/_all_dbs?x=%ff", WITH_LENGTH, "list"),
-    ("HEAD", b"/_all_dbs", NO_LENGTH, "method not allowed"),
-    ("PUT", b"/_all_dbs", NO_LENGTH, "method not allowed"),
-    ("POST", b"/_all_dbs", WITH_LENGTH, "method not allowed"),
-    ("DELETE", b"/_all_dbs", NO_LENGTH, "method not allowed"),
-    ("BREW", b"/_all_dbs", NO_LENGTH, "method not allowed"),
-    ("GET", b"/_all_dbs/", NO_LENGTH, "get _all_dbs"),
-    ("GET", b"/%5Fall_dbs", NO_LENGTH, "get _all_dbs"),
-    ("GET", b"/_db_updates", NO_LENGTH, "updates ?"),
-    (
-        "GET",
-        b"/_db_updates?since=1",
-        NO_LENGTH,
-        "updates ?since=1",
-    ),
-    (
-        "GET",
-        b"/_db_updates?since=%30&a=+?b",
-        WITH_LENGTH,
-        "updates ?since=%30&a=+?b",
-    ),
-    ("HEAD", b"/_db_updates", NO_LENGTH, "method not allowed"),
-    ("PUT", b"/_db_updates", NO_LENGTH, "method not allowed"),
-    ("POST", b"/_db_updates", WITH_LENGTH, "method not allowed"),
-    ("DELETE", b"/_db_updates", NO_LENGTH, "method not allowed"),
-    ("BREW", b"/_db_updates", NO_LENGTH, "method not allowed"),
-    ("DELETE", b"/", NO_LENGTH, "method not allowed"),
-    ("DELETE", b"//", NO_LENGTH, "missing"),
-    ("GET", b"/_db_updates/x/y", NO_LENGTH, "missing"),
-    ("PUT", b"//", NO_LENGTH, "missing"),
-    ("GET", b"//", NO_LENGTH, "missing"),
-    ("GET", b"*", NO_LENGTH, "missing"),
-    ("GET", b"", NO_LENGTH, "missing"),
-    ("BREW", b"*", NO_LENGTH, "missing"),
-];
-
-const DATABASES: [(&str, &[u8], bool, &str); 57] = [
-    ("GET", b"/d", NO_LENGTH, "get d"),
-    ("GET", b"/d/", NO_LENGTH, "get d"),
-    ("HEAD", b"/d", NO_LENGTH, "get d"),
-    ("HEAD", b"/d/?x", NO_LENGTH, "get d"),
-    ("GET", b"/a%2Fb+c", NO_LENGTH, "get a/b+c"),
-    ("PUT", b"/d", NO_LENGTH, "put d"),
-    ("PUT", b"/d/", NO_LENGTH, "put d"),
-    ("PUT", b"/d?x=1", NO_LENGTH, "put d"),
-    ("PUT", b"/a%2Fb", NO_LENGTH, "put a/b"),
-    ("PUT", b"/d%2f_changes", NO_LENGTH, "put d/_changes"),
-    ("PUT", b"/a+b", NO_LENGTH, "put a+b"),
-    ("PUT", b"/%zz", NO_LENGTH, "put %zz"),
-    ("PUT", b"/\xc3\xa9", NO_LENGTH, "put \u{e9}"),
-    ("PUT", b"/%C3%a9", NO_LENGTH, "put \u{e9}"),
-    ("PUT", b"/%ff", NO_LENGTH, "bad name"),
-    ("PUT", b"/\xff", NO_LENGTH, "bad name"),
-    ("GET", b"/%ff/", NO_LENGTH, "bad name"),
-    ("DELETE", b"/d", NO_LENGTH, "delete d"),
-    ("DELETE", b"/d/", NO_LENGTH, "delete d"),
-    ("DELETE", b"/d?x=1", NO_LENGTH, "delete d"),
-    ("DELETE", b"/a%2Fb", NO_LENGTH, "delete a/b"),
-    ("DELETE", b"/%ff", NO_LENGTH, "bad name"),
-    ("delete", b"/d", NO_LENGTH, "method not allowed"),
-    ("POST", b"/d", WITH_LENGTH, "method not allowed"),
-    ("put", b"/d", NO_LENGTH, "method not allowed"),
-    ("BREW", b"/d", NO_LENGTH, "method not allowed"),
-    ("POST", b"/%ff", WITH_LENGTH, "method not allowed"),
-    ("PUT", b"/d//", NO_LENGTH, "missing"),
-    ("POST", b"/d/_bulk_docs", WITH_LENGTH, "bulk d"),
-    ("POST", b"/a%2Fb/_bulk_docs?x", WITH_LENGTH, "bulk a/b"),
-    ("POST", b"/d/_bulk_docs", NO_LENGTH, "no Content-Length"),
-    ("POST", b"/%ff/_bulk_docs", NO_LENGTH, "bad name"),
-    ("GET", b"/%ff/_bulk_docs", NO_LENGTH, "method not allowed"),
-    ("PUT", b"/d/_bulk_docs", WITH_LENGTH, "method not allowed"),
-    ("POST", b"//_bulk_docs", WITH_LENGTH, "missing"),
-    ("POST", b"/d/_bulk_docs/", WITH_LENGTH, "missing"),
-    ("GET", b"/d/_changes", NO_LENGTH, "changes d ?"),
-    ("GET", b"/d/_changes?", NO_LENGTH, "changes d ?"),
-    (
-        "GET",
-        b"/d/_changes?since=%30&a=+?b",
-        NO_LENGTH,
-        "changes d ?since=%30&a=+?b",
-    ),
-    ("GET", b"/_e/_changes", WITH_LENGTH, "changes _e ?"),
-    ("HEAD", b"/d/_changes", NO_LENGTH, "method not allowed"),
-    ("PUT", b"/d/_changes", NO_LENGTH, "method not allowed"),
-    ("DELETE", b"/d/_changes", NO_LENGTH, "method not allowed"),
-    ("POST", b"/d/_changes", WITH_LENGTH, "changes d ?"),
-    (
-        "POST",
-        b"/d/_changes?since=1",
-        NO_LENGTH,
-        "changes d ?since=1",
-    ),
-    ("POST", b"/%ff/_changes", WITH_LENGTH, "bad name"),
-    ("GET", b"/%ff/_changes", NO_LENGTH, "bad name"),
-    ("GET", b"/d/_changes/", NO_LENGTH, "missing"),
-    ("POST", b"/d/_revs_diff", WITH_LENGTH, "diff d"),
-    ("POST", b"/d/_revs_diff", NO_LENGTH, "no Content-Length"),
-    ("POST", b"/%ff/_revs_diff", NO_LENGTH, "bad name"),
-    ("GET", b"/d/_revs_diff", NO_LENGTH, "method not allowed"),
-    ("GET", b"/d/_revs_diff/", NO_LENGTH, "missing"),
-    ("POST", b"/d/_ensure_full_commit", WITH_LENGTH, "commit d"),
-    ("POST", b"/d/_ensure_full_commit", NO_LENGTH, "commit d"),
-    ("POST", b"/%ff/_ensure_full_commit", NO_LENGTH, "bad name"),
-    (
-        "GET",
-        b"/d/_ensure_full_commit",
-        NO_LENGTH,
-        "method not allowed",
-    ),
-];
-
-const DOCUMENTS: [(&str, &[u8], bool, &str); 30] = [
-    ("GET", b"/d/a", NO_LENGTH, "get d a ?"),
-    (
-        "GET",
-        b"/d/a?rev=1-a&x=%20",
-        NO_LENGTH,
-        "get d a ?rev=1-a&x=%20",
-    ),
-    ("PUT", b"/d/a", NO_LENGTH, "put d a ?"),
-    (
-        "PUT",
-        b"/d/a?new_edits=false",
-        WITH_LENGTH,
-        "put d a ?new_edits=false",
-    ),
-    ("DELETE", b"/d/a?rev=1-a", NO_LENGTH, "delete d a ?rev=1-a"),
-    ("GET", b"/a%2Fb/c%2fd", NO_LENGTH, "get a/b c/d ?"),
-    ("GET", b"/d/a+b%20c", NO_LENGTH, "get d a+b c ?"),
-    ("PUT", b"/d/\xc3\xa9", NO_LENGTH, "put d \u{e9} ?"),
-    ("GET", b"/d/%", NO_LENGTH, "get d % ?"),
-    ("GET", b"/d/a%3fb", NO_LENGTH, "get d a?b ?"),
-    ("GET", b"/d/a_", NO_LENGTH, "get d a_ ?"),
-    ("GET", b"/d/changes", NO_LENGTH, "get d changes ?"),
-    ("HEAD", b"/d/a", NO_LENGTH, "method not allowed"),
-    ("POST", b"/d/a", WITH_LENGTH, "method not allowed"),
-    ("COPY", b"/d/a", NO_LENGTH, "method not allowed"),
-    ("delete", b"/d/a", NO_LENGTH, "method not allowed"),
-    ("GET", b"/d/a/", NO_LENGTH, "missing"),
-    ("GET", b"/d/a/b", NO_LENGTH, "missing"),
-    ("PUT", b"//a", NO_LENGTH, "missing"),
-    ("GET", b"/d/_design/a", NO_LENGTH, "get d _design/a ?"),
-    (
-        "PUT",
-        b"/d/_design/a%2Fb?x",
-        NO_LENGTH,
-        "put d _design/a/b ?x",
-    ),
-    ("DELETE", b"/d/_design/a", NO_LENGTH, "delete d _design/a ?"),
-    ("GET", b"/d/_design%2Fa", NO_LENGTH, "get d _design/a ?"),
-    (
-        "DELETE",
-        b"/d/%5fdesign%2fa",
-        NO_LENGTH,
-        "delete d _design/a ?",
-    ),
-    ("GET", b"/d/_design/_a", NO_LENGTH, "get d _design/_a ?"),
-    ("GET", b"/d/_design/%2F", NO_LENGTH, "get d _design// ?"),
-    ("HEAD", b"/d/_design/a", NO_LENGTH, "method not allowed"),
-    ("POST", b"/d/_design%2Fa", WITH_LENGTH, "method not allowed"),
-    ("GET", b"/d/_design/", NO_LENGTH, "missing"),
-    ("GET", b"/d/_design/a/b", NO_LENGTH, "missing"),
-];
-
-const LOCAL_DOCUMENTS: [(&str, &[u8], bool, &str); 12] = [
-    ("GET", b"/d/_local/a", NO_LENGTH, "get local d _local/a"),
-    (
-        "GET",
-        b"/d/_local/a%2fb?x",
-        NO_LENGTH,
-        "get local d _local/a/b",
-    ),
-    ("PUT", b"/d/_local/a", WITH_LENGTH, "put local d _local/a"),
-    ("GET", b"/d/_local%2Fa", NO_LENGTH, "get local d _local/a"),
-    ("PUT", b"/d/%5Flocal%2Fa", NO_LENGTH, "put local d _local/a"),
-    ("DELETE", b"/d/_local/a", NO_LENGTH, "method not allowed"),
-    ("DELETE", b"/d/_local%2Fa", NO_LENGTH, "method not allowed"),
-    ("HEAD", b"/d/_local/a", NO_LENGTH, "method not allowed"),
-    ("POST", b"/d/_local%2Fa", WITH_LENGTH, "method not allowed"),
-    (
-        "DELETE",
-        b"/d/_local%2F%ff",
-        NO_LENGTH,
-        "method not allowed",
-    ),
-    ("GET", b"/d/_local/", NO_LENGTH, "missing"),
-    ("GET", b"/d/_local/a/b", NO_LENGTH, "missing"),
-];
-
-const IDS: [(&str, &[u8], bool, &str); 23] = [
-    ("GET", b"/d/_a", NO_LENGTH, "bad id"),
-    ("PUT", b"/d/_", NO_LENGTH, "bad id"),
-    ("DELETE", b"/d/_design", NO_LENGTH, "bad id"),
-    ("GET", b"/d/_design%2F", NO_LENGTH, "bad id"),
-    ("GET", b"/d/_designs%2Fa", NO_LENGTH, "bad id"),
-    ("GET", b"/d/_Design%2Fa", NO_LENGTH, "bad id"),
-    ("GET", b"/d/_local", NO_LENGTH, "bad id"),
-    ("DELETE", b"/d/_local%2F", NO_LENGTH, "bad id"),
-    ("GET", b"/d/_localx", NO_LENGTH, "bad id"),
-    ("GET", b"/d/%5Fchanges", NO_LENGTH, "bad id"),
-    (
-        "POST",
-        b"/d/%5Fbulk_docs",
-        WITH_LENGTH,
-        "method not allowed",
-    ),
-    ("GET", b"/d/_all_docs", NO_LENGTH, "bad id"),
-    ("GET", b"/d/%ff", NO_LENGTH, "bad id"),
-    ("PUT", b"/d/a\xff", NO_LENGTH, "bad id"),
-    ("GET", b"/d/_design/%ff", NO_LENGTH, "bad id"),
-    ("PUT", b"/d/_local/%ff", NO_LENGTH, "bad id"),
-    ("GET", b"/d/_local%2F%ff", NO_LENGTH, "bad id"),
-    ("GET", b"/%ff/%ff", NO_LENGTH, "bad name"),
-    ("GET", b"/%ff/_a", NO_LENGTH, "bad name"),
-    ("PUT", b"/%ff/_local/%ff", NO_LENGTH, "bad name"),
-    ("POST", b"/%ff/%ff", NO_LENGTH, "method not allowed"),
-    ("POST", b"/d/%ff", NO_LENGTH, "method not allowed"),
-    ("GET", b"/%ff/a/b", NO_LENGTH, "missing"),
-];
-
-fn asking(
+/// The table of routes. A command is a request: its method, its target and, where it has a `Content-Length`,
+/// `with a length`. In a target `\` is the byte 255, which no text has. The answer is the call, the name of
+/// the database, the document's id and the query, or the reason of a refusal. Behind `db` and `id` stands `*`
+/// where this is a text of its own.
+///
+/// A request whose path is ASCII without an escape takes no memory for its route, so a route that finds none
+/// is its answer.
+#[derive(Drop)]
+struct Session {
     alloc: Global,
-    method: &str,
-    target: &[u8],
-    has_length: bool,
-) -> Result<Request, AllocError> {
-    Ok(Request {
-        method: MethodName::new(alloc, method.as_bytes())?,
-        target: Vec::from_slice(alloc, target)?,
-        has_length,
-        close: false,
-        body: Vec::new(alloc),
-    })
+    routes: Routes,
 }
 
-fn text(bytes: &[u8]) -> &str {
-    str::from_utf8(bytes).unwrap_or("no text")
-}
-
-fn gone(alloc: Global, route: &Route<'_>) -> Result<String, AllocError> {
-    let Route {
-        call,
-        db,
-        id,
-        query,
-    } = route;
-    let query = text(query);
-    match call {
-        Call::Welcome => format!(in alloc; "welcome"),
-        Call::AllDbs => format!(in alloc; "list"),
-        Call::DbUpdates => format!(in alloc; "updates ?{query}"),
-        Call::Info => format!(in alloc; "get {db}"),
-        Call::PutDatabase => format!(in alloc; "put {db}"),
-        Call::DeleteDatabase => format!(in alloc; "delete {db}"),
-        Call::BulkDocs => format!(in alloc; "bulk {db}"),
-        Call::Changes => format!(in alloc; "changes {db} ?{query}"),
-        Call::RevsDiff => format!(in alloc; "diff {db}"),
-        Call::FullCommit => format!(in alloc; "commit {db}"),
-        Call::GetDocument => format!(in alloc; "get {db} {id} ?{query}"),
-        Call::PutDocument => format!(in alloc; "put {db} {id} ?{query}"),
-        Call::DeleteDocument => format!(in alloc; "delete {db} {id} ?{query}"),
-        Call::GetLocal => format!(in alloc; "get local {db} {id}"),
-        Call::PutLocal => format!(in alloc; "put local {db} {id}"),
+impl<R> Subject<R> for Session {
+    fn begin(_: &R, alloc: Global, _: &str) -> Result<Session, AllocError> {
+        let routes = Routes::new(alloc)?;
+        Ok(Session { alloc, routes })
     }
-}
 
-fn shown(alloc: Global, answer: &Result<Route<'_>, RouteFault>) -> Result<String, AllocError> {
-    match answer {
-        Ok(route) => gone(alloc, route),
-        Err(fault) => format!(in alloc; "{}", Refusal::from(*fault).reason()),
-    }
-}
-
-// What a call gives, made again where it finds no memory.
-macro_rules! again {
-    ($call:expr) => {
-        match $call {
-            Ok(found) => Ok(found),
-            Err(std::alloc::AllocError) => $call,
+    fn answer(&mut self, _: &R, command: &str, answer: &mut Answer) -> Result<(), AllocError> {
+        let mut words = Words::of(command);
+        let request = Request {
+            method: MethodName::new(self.alloc, words.word().as_bytes())?,
+            target: target_of(self.alloc, words.word())?,
+            has_length: words.rest() == "with a length",
+            close: false,
+            body: Vec::new(self.alloc),
+        };
+        match self.routes.route(self.alloc, &request) {
+            Ok(route) => answer.text(shown(self.alloc, &route)?.as_str()),
+            Err(RouteFault::NoMemory) if !is_plain(request.target.as_slice()) => Err(AllocError),
+            Err(fault) => answer.line(Refusal::from(fault).reason()),
         }
-    };
+    }
 }
 
-// A request, made again where it finds no memory.
-fn asked(
-    alloc: Global,
-    method: &str,
-    target: &[u8],
-    has_length: bool,
-) -> Result<Request, AllocError> {
-    match asking(alloc, method, target, has_length) {
-        Ok(request) => Ok(request),
-        Err(AllocError) => asking(alloc, method, target, has_length),
+// The target that is written so.
+fn target_of(alloc: Global, text: &str) -> Result<Vec<u8>, AllocError> {
+    let mut target = Vec::from_slice(alloc, text.as_bytes())?;
+    for byte in &mut target {
+        if *byte == b'\\' {
+            *byte = 0xff;
+        }
     }
+    Ok(target)
 }
 
 // Whether the path of a target is ASCII without an escape.
 fn is_plain(target: &[u8]) -> bool {
-    target
-        .iter()
-        .take_while(|b| **b != b'?')
-        .all(|b| b.is_ascii() && *b != b'%')
-}
-
-// Where a request goes. One that is not plain is asked again where no memory is found; the answer of a route
-// that never finds any is the fault.
-fn routed<'r>(
-    alloc: Global,
-    routes: &Routes,
-    request: &'r Request,
-) -> Result<Route<'r>, RouteFault> {
-    match routes.route(alloc, request) {
-        Err(RouteFault::NoMemory) if !is_plain(request.target.as_slice()) => {
-            routes.route(alloc, request)
+    for byte in target {
+        if *byte == b'?' {
+            return true;
         }
-        answer => answer,
+        if *byte == b'%' || !byte.is_ascii() {
+            return false;
+        }
+    }
+    true
+}
+
+// What stands behind the name of a text: a star where it is one of its own.
+fn mark(text: &CowStr<'_>) -> &'static str {
+    match text {
+        CowStr::Owned(_) => "*",
+        CowStr::Borrowed(_) => "",
     }
 }
 
-fn go(rt: &impl Abort, alloc: Global, requests: &[(&str, &[u8], bool, &str)]) -> Result<(), Fail> {
-    let routes = again!(Routes::new(alloc))?;
-    for (method, target, has_length, want) in requests {
-        let request = asked(alloc, method, target, *has_length)?;
-        let answer = routed(alloc, &routes, &request);
-        let text = again!(shown(alloc, &answer))?;
-        assert_eq!(rt; text.as_str(), *want);
-    }
-    Ok(())
+fn shown(alloc: Global, route: &Route<'_>) -> Result<String, AllocError> {
+    let (db, id) = (mark(&route.db), mark(&route.id));
+    let query = str::from_utf8(route.query).unwrap_or("no text");
+    format!(in alloc;
+        "{:?} db{db}={} id{id}={} query={query}",
+        route.call, route.db, route.id
+    )
 }
+
+const ROUTES: &str = r#"
+# of the server
+> GET /
+Welcome db= id= query=
+> GET /?x
+Welcome db= id= query=x
+> HEAD /
+method not allowed
+> PUT /
+method not allowed
+> POST / with a length
+method not allowed
+> get /
+method not allowed
+> GET /_all_dbs
+AllDbs db=_all_dbs id= query=
+> GET /_all_dbs?x=%ff with a length
+AllDbs db=_all_dbs id= query=x=%ff
+> HEAD /_all_dbs
+method not allowed
+> PUT /_all_dbs
+method not allowed
+> POST /_all_dbs with a length
+method not allowed
+> DELETE /_all_dbs
+method not allowed
+> BREW /_all_dbs
+method not allowed
+> GET /_all_dbs/
+Info db=_all_dbs id= query=
+> GET /%5Fall_dbs
+Info db*=_all_dbs id= query=
+> GET /_db_updates
+DbUpdates db=_db_updates id= query=
+> GET /_db_updates?since=1
+DbUpdates db=_db_updates id= query=since=1
+> GET /_db_updates?since=%30&a=+?b with a length
+DbUpdates db=_db_updates id= query=since=%30&a=+?b
+> HEAD /_db_updates
+method not allowed
+> PUT /_db_updates
+method not allowed
+> POST /_db_updates with a length
+method not allowed
+> DELETE /_db_updates
+method not allowed
+> BREW /_db_updates
+method not allowed
+> DELETE /
+method not allowed
+> DELETE //
+missing
+> GET /_db_updates/x/y
+missing
+> PUT //
+missing
+> GET //
+missing
+> GET *
+missing
+> GET
+missing
+> BREW *
+missing
+# of databases
+> GET /d
+Info db=d id= query=
+> GET /d/
+Info db=d id= query=
+> HEAD /d
+Info db=d id= query=
+> HEAD /d/?x
+Info db=d id= query=x
+> GET /a%2Fb+c
+Info db*=a/b+c id= query=
+> PUT /d
+PutDatabase db=d id= query=
+> PUT /d/
+PutDatabase db=d id= query=
+> PUT /d?x=1
+PutDatabase db=d id= query=x=1
+> PUT /a%2Fb
+PutDatabase db*=a/b id= query=
+> PUT /d%2f_changes
+PutDatabase db*=d/_changes id= query=
+> PUT /a+b
+PutDatabase db=a+b id= query=
+> PUT /%zz
+PutDatabase db=%zz id= query=
+> PUT /é
+PutDatabase db=é id= query=
+> PUT /%C3%a9
+PutDatabase db*=é id= query=
+> PUT /%ff
+bad name
+> PUT /\
+bad name
+> GET /%ff/
+bad name
+> DELETE /d
+DeleteDatabase db=d id= query=
+> DELETE /d/
+DeleteDatabase db=d id= query=
+> DELETE /d?x=1
+DeleteDatabase db=d id= query=x=1
+> DELETE /a%2Fb
+DeleteDatabase db*=a/b id= query=
+> DELETE /%ff
+bad name
+> delete /d
+method not allowed
+> POST /d with a length
+method not allowed
+> put /d
+method not allowed
+> BREW /d
+method not allowed
+> POST /%ff with a length
+method not allowed
+> PUT /d//
+missing
+> POST /d/_bulk_docs with a length
+BulkDocs db=d id= query=
+> POST /a%2Fb/_bulk_docs?x with a length
+BulkDocs db*=a/b id= query=x
+> POST /d/_bulk_docs
+no Content-Length
+> POST /%ff/_bulk_docs
+bad name
+> GET /%ff/_bulk_docs
+method not allowed
+> PUT /d/_bulk_docs with a length
+method not allowed
+> POST //_bulk_docs with a length
+missing
+> POST /d/_bulk_docs/ with a length
+missing
+> GET /d/_changes
+Changes db=d id= query=
+> GET /d/_changes?
+Changes db=d id= query=
+> GET /d/_changes?since=%30&a=+?b
+Changes db=d id= query=since=%30&a=+?b
+> GET /_e/_changes with a length
+Changes db=_e id= query=
+> HEAD /d/_changes
+method not allowed
+> PUT /d/_changes
+method not allowed
+> DELETE /d/_changes
+method not allowed
+> POST /d/_changes with a length
+Changes db=d id= query=
+> POST /d/_changes?since=1
+Changes db=d id= query=since=1
+> POST /%ff/_changes with a length
+bad name
+> GET /%ff/_changes
+bad name
+> GET /d/_changes/
+missing
+> POST /d/_revs_diff with a length
+RevsDiff db=d id= query=
+> POST /d/_revs_diff
+no Content-Length
+> POST /%ff/_revs_diff
+bad name
+> GET /d/_revs_diff
+method not allowed
+> GET /d/_revs_diff/
+missing
+> POST /d/_ensure_full_commit with a length
+FullCommit db=d id= query=
+> POST /d/_ensure_full_commit
+FullCommit db=d id= query=
+> POST /%ff/_ensure_full_commit
+bad name
+> GET /d/_ensure_full_commit
+method not allowed
+# of documents
+> GET /d/a
+GetDocument db=d id=a query=
+> GET /d/a?rev=1-a&x=%20
+GetDocument db=d id=a query=rev=1-a&x=%20
+> PUT /d/a
+PutDocument db=d id=a query=
+> PUT /d/a?new_edits=false with a length
+PutDocument db=d id=a query=new_edits=false
+> DELETE /d/a?rev=1-a
+DeleteDocument db=d id=a query=rev=1-a
+> GET /a%2Fb/c%2fd
+GetDocument db*=a/b id*=c/d query=
+> GET /d/a+b%20c
+GetDocument db=d id*=a+b c query=
+> PUT /d/é
+PutDocument db=d id=é query=
+> GET /d/%
+GetDocument db=d id=% query=
+> GET /d/a%3fb
+GetDocument db=d id*=a?b query=
+> GET /d/a_
+GetDocument db=d id=a_ query=
+> GET /d/changes
+GetDocument db=d id=changes query=
+> HEAD /d/a
+method not allowed
+> POST /d/a with a length
+method not allowed
+> COPY /d/a
+method not allowed
+> delete /d/a
+method not allowed
+> GET /d/a/
+missing
+> GET /d/a/b
+missing
+> PUT //a
+missing
+> GET /d/_design/a
+GetDocument db=d id=_design/a query=
+> PUT /d/_design/a%2Fb?x
+PutDocument db=d id*=_design/a/b query=x
+> DELETE /d/_design/a
+DeleteDocument db=d id=_design/a query=
+> GET /d/_design%2Fa
+GetDocument db=d id*=_design/a query=
+> DELETE /d/%5fdesign%2fa
+DeleteDocument db=d id*=_design/a query=
+> GET /d/_design/_a
+GetDocument db=d id=_design/_a query=
+> GET /d/_design/%2F
+GetDocument db=d id*=_design// query=
+> HEAD /d/_design/a
+method not allowed
+> POST /d/_design%2Fa with a length
+method not allowed
+> GET /d/_design/
+missing
+> GET /d/_design/a/b
+missing
+# of local documents
+> GET /d/_local/a
+GetLocal db=d id=_local/a query=
+> GET /d/_local/a%2fb?x
+GetLocal db=d id*=_local/a/b query=x
+> PUT /d/_local/a with a length
+PutLocal db=d id=_local/a query=
+> GET /d/_local%2Fa
+GetLocal db=d id*=_local/a query=
+> PUT /d/%5Flocal%2Fa
+PutLocal db=d id*=_local/a query=
+> DELETE /d/_local/a
+method not allowed
+> DELETE /d/_local%2Fa
+method not allowed
+> HEAD /d/_local/a
+method not allowed
+> POST /d/_local%2Fa with a length
+method not allowed
+> DELETE /d/_local%2F%ff
+method not allowed
+> GET /d/_local/
+missing
+> GET /d/_local/a/b
+missing
+# of ids
+> GET /d/_a
+bad id
+> PUT /d/_
+bad id
+> DELETE /d/_design
+bad id
+> GET /d/_design%2F
+bad id
+> GET /d/_designs%2Fa
+bad id
+> GET /d/_Design%2Fa
+bad id
+> GET /d/_local
+bad id
+> DELETE /d/_local%2F
+bad id
+> GET /d/_localx
+bad id
+> GET /d/%5Fchanges
+bad id
+> POST /d/%5Fbulk_docs with a length
+method not allowed
+> GET /d/_all_docs
+bad id
+> GET /d/%ff
+bad id
+> PUT /d/a\
+bad id
+> GET /d/_design/%ff
+bad id
+> PUT /d/_local/%ff
+bad id
+> GET /d/_local%2F%ff
+bad id
+> GET /%ff/%ff
+bad name
+> GET /%ff/_a
+bad name
+> PUT /%ff/_local/%ff
+bad name
+> POST /%ff/%ff
+method not allowed
+> POST /d/%ff
+method not allowed
+> GET /%ff/a/b
+missing
+# plain requests take no memory
+> GET /_db_updates?since=%30
+DbUpdates db=_db_updates id= query=since=%30
+> PUT /d
+PutDatabase db=d id= query=
+> DELETE /d?x=%ff
+DeleteDatabase db=d id= query=x=%ff
+> HEAD /d/
+Info db=d id= query=
+> POST /d/_bulk_docs with a length
+BulkDocs db=d id= query=
+> GET /d/_changes?since=%30
+Changes db=d id= query=since=%30
+> GET /d/a?rev=1-a
+GetDocument db=d id=a query=rev=1-a
+> PUT /d/_design/a
+PutDocument db=d id=_design/a query=
+> PUT /d/_design/a+b
+PutDocument db=d id=_design/a+b query=
+> DELETE /d/a
+DeleteDocument db=d id=a query=
+> GET /d/_local/a
+GetLocal db=d id=_local/a query=
+> PUT /d/_local/a?x=%20
+PutLocal db=d id=_local/a query=x=%20
+# each part with an escape takes memory
+> PUT /%64
+PutDatabase db*=d id= query=
+> DELETE /a%2Fb
+DeleteDatabase db*=a/b id= query=
+> GET /a%2fb/_changes
+Changes db*=a/b id= query=
+> GET /%64/a
+GetDocument db*=d id=a query=
+> GET /d/%61
+GetDocument db=d id*=a query=
+> DELETE /d/_design%2Fa
+DeleteDocument db=d id*=_design/a query=
+> PUT /d/_local/%61
+PutLocal db=d id*=_local/a query=
+> GET /%64/_local%2Fa
+GetLocal db*=d id*=_local/a query="#;
 
 #[test]
-fn of_the_server(rt: HostRuntime) -> Result<(), Fail> {
-    go(&rt, rt.alloc(), &SERVER)
-}
-
-#[test]
-fn of_databases(rt: HostRuntime) -> Result<(), Fail> {
-    go(&rt, rt.alloc(), &DATABASES)
-}
-
-#[test]
-fn of_documents(rt: HostRuntime) -> Result<(), Fail> {
-    go(&rt, rt.alloc(), &DOCUMENTS)
-}
-
-#[test]
-fn of_local_documents(rt: HostRuntime) -> Result<(), Fail> {
-    go(&rt, rt.alloc(), &LOCAL_DOCUMENTS)
-}
-
-#[test]
-fn of_ids(rt: HostRuntime) -> Result<(), Fail> {
-    go(&rt, rt.alloc(), &IDS)
-}
-
-const PLAIN: [(&str, &[u8], bool); 12] = [
-    ("GET", b"/_db_updates?since=%30", NO_LENGTH),
-    ("PUT", b"/d", NO_LENGTH),
-    ("DELETE", b"/d?x=%ff", NO_LENGTH),
-    ("HEAD", b"/d/", NO_LENGTH),
-    ("POST", b"/d/_bulk_docs", WITH_LENGTH),
-    ("GET", b"/d/_changes?since=%30", NO_LENGTH),
-    ("GET", b"/d/a?rev=1-a", NO_LENGTH),
-    ("PUT", b"/d/_design/a", NO_LENGTH),
-    ("PUT", b"/d/_design/a+b", NO_LENGTH),
-    ("DELETE", b"/d/a", NO_LENGTH),
-    ("GET", b"/d/_local/a", NO_LENGTH),
-    ("PUT", b"/d/_local/a?x=%20", NO_LENGTH),
-];
-
-const ESCAPED: [(&str, &[u8], bool, bool); 8] = [
-    ("PUT", b"/%64", OWNED, LENT),
-    ("DELETE", b"/a%2Fb", OWNED, LENT),
-    ("GET", b"/a%2fb/_changes", OWNED, LENT),
-    ("GET", b"/%64/a", OWNED, LENT),
-    ("GET", b"/d/%61", LENT, OWNED),
-    ("DELETE", b"/d/_design%2Fa", LENT, OWNED),
-    ("PUT", b"/d/_local/%61", LENT, OWNED),
-    ("GET", b"/%64/_local%2Fa", OWNED, OWNED),
-];
-
-const LENT: bool = false;
-
-const OWNED: bool = true;
-
-fn is_owned(text: &CowStr<'_>) -> bool {
-    matches!(text, CowStr::Owned(_))
-}
-
-// Whether a route has a name of its own, and whether it has an id of its own.
-fn own_texts(route: &Route<'_>) -> (bool, bool) {
-    (is_owned(&route.db), is_owned(&route.id))
-}
-
-#[test]
-fn plain_requests_take_no_memory(rt: HostRuntime) -> Result<(), Fail> {
-    let routes = again!(Routes::new(rt.alloc()))?;
-    for (method, target, has_length) in &PLAIN {
-        let request = asked(rt.alloc(), method, target, *has_length)?;
-        let route = routes.route(rt.alloc(), &request);
-        assert!(rt;
-            route
-                .as_ref()
-                .is_ok_and(|route| own_texts(route) == (LENT, LENT))
-        );
-    }
-    Ok(())
-}
-
-#[test]
-fn each_escaped_part_takes_memory(rt: HostRuntime) -> Result<(), Fail> {
-    let routes = again!(Routes::new(rt.alloc()))?;
-    for (method, target, name, id) in &ESCAPED {
-        let request = asked(rt.alloc(), method, target, NO_LENGTH)?;
-        let route = routed(rt.alloc(), &routes, &request);
-        assert!(rt;
-            route
-                .as_ref()
-                .is_ok_and(|route| own_texts(route) == (*name, *id))
-        );
-    }
-    Ok(())
+fn requests_and_their_routes(rt: HostRuntime) -> Result<(), Fail> {
+    replay::<Session, _>(&rt, rt.alloc(), ROUTES)
 }

@@ -1,42 +1,80 @@
-//! Ids and texts of local documents.
+//! Local documents and their ids.
 
-// What is read of each: its id, its body, and its id again.
-pub(super) const CONTENTS: &str = r#"_local/x | {} => _local/x {} _local/x
-_local/x | {"_id":"_local/x","b":1,"a":[]} => _local/x {"a":[],"b":1} _local/x
-_local/x | {"_rev":"0-7","v":1} => _local/x {"v":1} _local/x
-_local/x | {"_rev":7} => _local/x {} _local/x
-_local/x | {"_rev":null} => _local/x {} _local/x
-_local/x | {"_deleted":false} => _local/x {} _local/x
-_local/x | {"_revisions":1,"_attachments":{}} => _local/x {} _local/x"#;
+use super::session::Session;
+use hub_transcript::replay;
+use std::test::Fail;
 
-// Of several faults the first is told.
-pub(super) const FAULTS: &str = r#"_local/x | { => NotJson
-_local/x | [] => NotObject
-_local/x | {"v":1.5} => BadNumber
-x | {} => BadId
- | {} => BadId
-_local | {} => BadId
-_local/ | {} => BadId
-_design/x | {} => BadId
-_local/x | {"_id":"_local/y"} => BadId
-_local/x | {"_id":"x"} => BadId
-_local/x | {"_id":7} => BadId
-_local/x | {"_deleted":true} => BadMember
-_local/x | {"_deleted":1} => BadMember
-_local/x | {"_x":1} => BadMember
-x | { => NotJson
-x | [1.5] => NotObject
-x | {"v":1.5} => BadNumber
-x | {"_deleted":true} => BadId"#;
+const LOCALS: &str = r#"
+# what is written of one, its members and its id
+> local 1 _local/x | {}
+text {"_id":"_local/x","_rev":"0-1"} body {} id _local/x
+> local 1 _local/x | {"_id":"_local/x","b":1,"a":[]}
+text {"_id":"_local/x","_rev":"0-1","a":[],"b":1} body {"a":[],"b":1} id _local/x
+> local 1 _local/x | {"_rev":"0-7","v":1}
+text {"_id":"_local/x","_rev":"0-1","v":1} body {"v":1} id _local/x
+> local 1 _local/x | {"_rev":7}
+text {"_id":"_local/x","_rev":"0-1"} body {} id _local/x
+> local 1 _local/x | {"_rev":null}
+text {"_id":"_local/x","_rev":"0-1"} body {} id _local/x
+> local 1 _local/x | {"_deleted":false}
+text {"_id":"_local/x","_rev":"0-1"} body {} id _local/x
+> local 1 _local/x | {"_revisions":1,"_attachments":{}}
+text {"_id":"_local/x","_rev":"0-1"} body {} id _local/x
+# of several faults the first is told
+> local 1 _local/x | {
+not JSON
+> local 1 _local/x | []
+not an object
+> local 1 _local/x | {"v":1.5}
+number out of profile
+> local 1 x | {}
+bad id
+> local 1  | {}
+bad id
+> local 1 _local | {}
+bad id
+> local 1 _local/ | {}
+bad id
+> local 1 _design/x | {}
+bad id
+> local 1 _local/x | {"_id":"_local/y"}
+bad id
+> local 1 _local/x | {"_id":"x"}
+bad id
+> local 1 _local/x | {"_id":7}
+bad id
+> local 1 _local/x | {"_deleted":true}
+bad member
+> local 1 _local/x | {"_deleted":1}
+bad member
+> local 1 _local/x | {"_x":1}
+bad member
+> local 1 x | {
+not JSON
+> local 1 x | [1.5]
+not an object
+> local 1 x | {"v":1.5}
+number out of profile
+> local 1 x | {"_deleted":true}
+bad id
+# the greatest count
+> local 18446744073709551615 _local/q" | {"v":{"w":7},"b":""}
+text {"_id":"_local/q\"","_rev":"0-18446744073709551615","b":"","v":{"w":7}} body {"b":"","v":{"w":7}} id _local/q"
+# texts that are no ids of local documents
+> local-id
+no id
+> local-id x
+no id
+> local-id _local
+no id
+> local-id _design/x
+no id
+> local-id _local_/x
+no id
+> local-id /_local/x
+no id"#;
 
-// What is written of one behind a blank, with the greatest count.
-pub(super) const LARGE: &str =
-    r#"_local/q" | {"v":{"w":7},"b":""} =>  {"_id":"_local/q\"","_rev":"0-18446744073709551615","b":"","v":{"w":7}}"#;
-
-// Texts that are no ids of local documents.
-pub(super) const NO_IDS: &str = r#" => no id
-x => no id
-_local => no id
-_design/x => no id
-_local_/x => no id
-/_local/x => no id"#;
+#[test]
+fn local_documents(rt: HostRuntime) -> Result<(), Fail> {
+    replay::<Session, _>(&rt, rt.alloc(), LOCALS)
+}

@@ -1,147 +1,146 @@
-//! Texts of revisions, and revisions of digests.
+//! Revisions, the rows that list them, and texts in quotes.
 
-use super::tables::{grown, same};
-use hub_document::{Changes, DigestRev, LentChanges, RevId, Revisions};
-use std::alloc::{AllocError, Global};
+use super::session::Session;
+use hub_transcript::replay;
 use std::test::Fail;
 
-/// Revisions, their generations and their hashes.
-const TEXTS: &[(&str, u16, &str)] = &[
-    ("1-a", 1, "a"),
-    ("10-0aZ", 10, "0aZ"),
-    ("65535-9", 65535, "9"),
-    (
-        "2-0123456789012345678901234567890123456789012345678901234567890123",
-        2,
-        "0123456789012345678901234567890123456789012345678901234567890123",
-    ),
-];
-
-// What is printed of a revision behind a blank.
-fn printed(alloc: Global, rev: &RevId) -> Result<Vec<u8>, AllocError> {
-    let mut out = Vec::from_slice(alloc, b" ")?;
-    rev.print(&mut out)?;
-    Ok(out)
-}
-
-/// Texts that are no revisions.
-const NONE: &[&str] = &[
-    "",
-    "1",
-    "a",
-    "-a",
-    "1-",
-    "0-a",
-    "01-a",
-    "+1-a",
-    " 1-a",
-    "1-a ",
-    "1-a-b",
-    "1-é",
-    "65536-a",
-    "18446744073709551617-a",
-    "2-01234567890123456789012345678901234567890123456789012345678901234",
-];
-
-fn has_parts(rev: &RevId, generation: u16, hash: &[u8]) -> bool {
-    rev.generation() == generation
-        && rev.hash() == hash
-        && RevId::from_parts(generation, hash) == Some(*rev)
-}
+const REVISIONS: &str = concat!(
+    r#"
+# texts of revisions
+> rev 1-a
+text 1-a hash a parts 1-a generation 1
+> rev 10-0aZ
+text 10-0aZ hash 0aZ parts 10-0aZ generation 10
+> rev 65535-9
+text 65535-9 hash 9 parts 65535-9 generation 65535
+> rev 2-0123456789012345678901234567890123456789012345678901234567890123
+text 2-0123456789012345678901234567890123456789012345678901234567890123 hash 0123456789012345678901234567890123456789012345678901234567890123 parts 2-0123456789012345678901234567890123456789012345678901234567890123 generation 2
+# texts that are no revisions
+> rev
+none
+> rev 1
+none
+> rev a
+none
+> rev -a
+none
+> rev 1-
+none
+> rev 0-a
+none
+> rev 01-a
+none
+> rev +1-a
+none
+> rev  1-a
+none
+> add 1 1-a
+> byte 1 32
+> rev $
+none
+> rev 1-a-b
+none
+> rev 1-é
+none
+> rev 65536-a
+none
+> rev 18446744073709551617-a
+none
+> rev 2-01234567890123456789012345678901234567890123456789012345678901234
+none
+# a revision whose hash is the text of a digest, and others that are not
+> one 3-d41d8cd98f00b204e9800998ecf8427e
+same has it digest 3-d41d8cd98f00b204e9800998ecf8427e one 3-d41d8cd98f00b204e9800998ecf8427e at 3-d41d8cd98f00b204e9800998ecf8427e none none list 3-d41d8cd98f00b204e9800998ecf8427e len 1
+> one 3-D41D8CD98F00B204E9800998ECF8427E
+many 3-D41D8CD98F00B204E9800998ECF8427E at 3-D41D8CD98F00B204E9800998ECF8427E none none list 3-D41D8CD98F00B204E9800998ECF8427E len 1
+> one 3-d41d8cd98f00b204e9800998ecf8427
+many 3-d41d8cd98f00b204e9800998ecf8427 at 3-d41d8cd98f00b204e9800998ecf8427 none none list 3-d41d8cd98f00b204e9800998ecf8427 len 1
+> one 3-a
+many 3-a at 3-a none none list 3-a len 1
+# revisions in little memory
+> digest 3
+rev 3-d41d8cd98f00b204e9800998ecf8427e digest 3-d41d8cd98f00b204e9800998ecf8427e quoted "3-d41d8cd98f00b204e9800998ecf8427e" "3-d41d8cd98f00b204e9800998ecf8427e" one 3-d41d8cd98f00b204e9800998ecf8427e at 3-d41d8cd98f00b204e9800998ecf8427e none none list 3-d41d8cd98f00b204e9800998ecf8427e len 1
+> digest 65535
+rev 65535-d41d8cd98f00b204e9800998ecf8427e digest 65535-d41d8cd98f00b204e9800998ecf8427e quoted "65535-d41d8cd98f00b204e9800998ecf8427e" "65535-d41d8cd98f00b204e9800998ecf8427e" one 65535-d41d8cd98f00b204e9800998ecf8427e at 65535-d41d8cd98f00b204e9800998ecf8427e none none list 65535-d41d8cd98f00b204e9800998ecf8427e len 1
+# no revisions, and several
+> changes
+many at none none none list len 0
+> changes 1-x 1-b
+many 1-x 1-b at 1-x 1-b none list 1-x 1-b len 2
+# rows of changes and what is written of them
+> row deleted
+a seq 3 deleted true seen 4 many at none none none list len 0
+members {"v":7} text {"_id":"a","_deleted":true,"v":7}
+members {} text {"_id":"a","_deleted":true}
+local {"_id":"_local/x","_rev":"0-1"}
+> row live 1-x 1-b
+a seq 3 deleted false seen 4 many 1-x 1-b at 1-x 1-b none list 1-x 1-b len 2
+members {"v":7} text {"_id":"a","_rev":"1-x","v":7}
+members {} text {"_id":"a","_rev":"1-x"}
+local {"_id":"_local/x","_rev":"0-1"}
+> row deleted 1-x 1-b
+a seq 3 deleted true seen 4 many 1-x 1-b at 1-x 1-b none list 1-x 1-b len 2
+members {"v":7} text {"_id":"a","_rev":"1-x","_deleted":true,"v":7}
+members {} text {"_id":"a","_rev":"1-x","_deleted":true}
+local {"_id":"_local/x","_rev":"0-1"}
+# rows of updates
+> update created 1 1
+UpdateRow { db_name: "", kind: Created, seq: 1, seen: 1 }
+> update updated 3 4 d
+UpdateRow { db_name: "d", kind: Updated, seq: 3, seen: 4 }
+> update deleted 18446744073709551615 18446744073709551615 team/mail-1
+UpdateRow { db_name: "team/mail-1", kind: Deleted, seq: 18446744073709551615, seen: 18446744073709551615 }
+# limits of a hub that serves
+> limits
+Limits { body: 8388608, head: 16384, headers: 64, databases: 256, feeds: 1024, lane: 64, hold: 64, journal: 4294967295, history: 50 }
+# the reason where there is no memory
+> no-memory
+out of memory
+# sequences in quotes
+> sequence 0 0
+"0-0"
+> sequence 18446744073709551615 12
+"18446744073709551615-12"
+# texts in quotes, of each length round those that are looked at in one step
+> quote "q\"\\\n\u0001"
+escaped "q\"\\\n\u0001"
+> quote "é/漢"
+plain "é/漢"
+> quote ""
+plain ""
+> quote "é漢😀\u007f"
+plain "é漢😀"#,
+    "\u{7f}",
+    r#""
+> quote "abcdefg"
+plain "abcdefg"
+> quote "abcdefgh"
+plain "abcdefgh"
+> quote "abcdefghijklmnop"
+plain "abcdefghijklmnop"
+> quote "abcdefghijklmnopq"
+plain "abcdefghijklmnopq"
+> quote "abcdefghijklmnopqrstuvwxyzabcdefghi"
+plain "abcdefghijklmnopqrstuvwxyzabcdefghi"
+> quote "\""
+escaped "\""
+> quote "\\"
+escaped "\\"
+> quote "\u001f"
+escaped "\u001f"
+> quote "abcdefg\""
+escaped "abcdefg\""
+> quote "\u0000bcdefghijklmnop"
+escaped "\u0000bcdefghijklmnop"
+> quote "abcdefghijklmno\\"
+escaped "abcdefghijklmno\\"
+> quote "abcdefghijklmnop\n"
+escaped "abcdefghijklmnop\n"
+> quote "abcdefghijklmnopq\"stuvwxyzabcdefghi"
+escaped "abcdefghijklmnopq\"stuvwxyzabcdefghi""#
+);
 
 #[test]
-fn texts_of_revisions(rt: HostRuntime) -> Result<(), Fail> {
-    for (text, generation, hash) in TEXTS {
-        let rev = RevId::read(text).expect(&rt, "a revision");
-        assert!(rt; has_parts(&rev, *generation, hash.as_bytes()), "{text}");
-        let found = grown!(printed(rt.alloc(), &rev))?;
-        let rest = found.as_slice().strip_prefix(b" ").unwrap_or(b"");
-        same(&rt, text, rest, text.as_bytes());
-    }
-    Ok(())
-}
-
-#[test]
-fn texts_that_are_no_revisions(rt: HostRuntime) {
-    for text in NONE {
-        assert!(rt; RevId::read(text).is_none(), "{text}");
-    }
-}
-
-// The MD5 of no bytes (RFC 1321, A.5), and a revision that has its text.
-const DIGEST: [u8; 16] = [
-    0xd4, 0x1d, 0x8c, 0xd9, 0x8f, 0x00, 0xb2, 0x04, 0xe9, 0x80, 0x09, 0x98, 0xec, 0xf8, 0x42, 0x7e,
-];
-
-const MADE: &str = "3-d41d8cd98f00b204e9800998ecf8427e";
-
-/// Revisions, and whether their hashes are the text of that digest.
-const HASHES: &[(&str, bool)] = &[
-    (MADE, true),
-    ("3-D41D8CD98F00B204E9800998ECF8427E", false),
-    ("3-d41d8cd98f00b204e9800998ecf8427", false),
-    ("3-a", false),
-];
-
-// Whether a row's revisions are lent as one of a digest, and the first of them.
-fn lent_first(changes: &Changes) -> (bool, Option<RevId>) {
-    match changes.lent() {
-        LentChanges::One(rev) => (true, Some(rev.rev())),
-        LentChanges::Many(revs) => (false, revs.first().copied()),
-    }
-}
-
-// Whether a revision has that digest, or has none.
-fn has_digest(rev: &RevId, is_made: bool) -> bool {
-    rev.is_same(&RevId::from_digest(3, &DIGEST)) == is_made
-        && rev.has_digest(&DIGEST) == is_made
-        && rev.digest() == is_made.then_some(DIGEST)
-}
-
-// Whether the one revision of a row is lent so.
-fn has_one(changes: &Changes, rev: RevId, is_made: bool) -> bool {
-    lent_first(changes) == (is_made, Some(rev))
-        && changes.get(0) == Some(rev)
-        && changes.get(1).is_none()
-}
-
-#[test]
-fn revisions_with_digests(rt: HostRuntime) -> Result<(), Fail> {
-    for (text, is_made) in HASHES {
-        let rev = RevId::read(text).expect(&rt, "a revision");
-        assert!(rt; has_digest(&rev, *is_made), "{text}");
-        let changes = grown!(Changes::one(rt.alloc(), rev))?;
-        assert!(rt; has_one(&changes, rev, *is_made), "{text}");
-    }
-    Ok(())
-}
-
-// The list of a row's revisions, of a copy of them.
-fn list_of(alloc: Global, changes: &Changes) -> Result<Revisions, AllocError> {
-    let copy = changes.copy(alloc)?;
-    copy.into_revisions(alloc)
-}
-
-// Whether a revision in little memory, and its copy, is this one.
-fn is_kept(made: RevId) -> bool {
-    let copy = DigestRev::new(3, DIGEST).copy();
-    copy.generation() == 3 && copy.digest() == DIGEST && copy.rev() == made
-}
-
-#[test]
-fn revisions_in_little_memory(rt: HostRuntime) -> Result<(), Fail> {
-    let made = RevId::read(MADE).expect(&rt, "a revision");
-    assert!(rt; is_kept(made));
-    let changes = Changes::of_digest(DigestRev::new(3, DIGEST));
-    assert!(rt; has_one(&changes, made, true));
-    let list = grown!(list_of(rt.alloc(), &changes))?;
-    assert!(rt; list.as_slice() == [made].as_slice());
-    Ok(())
-}
-
-#[test]
-fn a_copy_of_no_revisions(rt: HostRuntime) -> Result<(), Fail> {
-    let copy = grown!(Revisions::new(Vec::new(rt.alloc())).copy(rt.alloc()))?;
-    assert!(rt; copy.as_slice().is_empty());
-    Ok(())
+fn revisions_and_rows(rt: HostRuntime) -> Result<(), Fail> {
+    replay::<Session, _>(&rt, rt.alloc(), REVISIONS)
 }

@@ -1,123 +1,154 @@
 //! What is shown of a document.
 
-use hub_document::{Doc, Path, RevId, Revisions, rev_of_edit};
+use hub_document::{Doc, DocFault, Path, RevId, Revisions, rev_of_edit};
 use std::alloc::{AllocError, Global};
 
-/// What is shown of a document.
-#[derive(Clone, Copy)]
-pub(super) enum Shown {
-    /// `ID | REV | MARKS | BODY`, where REV is empty for no revision, and MARKS are `deleted` and `path`.
-    Whole,
-    Body,
-    CopyOfBody,
-    /// What is written of it behind a blank.
-    Text,
-    /// What is written of its copy behind a blank.
-    TextOfCopy,
-    /// The head of its path, all revisions, the first two, and the list of all and a copy of it.
-    Path,
-    /// The revision that an edit of it makes, on its revision.
-    Edit,
+/// What a command is answered. It has room for each answer, and what finds none there is left out.
+#[derive(Drop)]
+pub(super) struct Out {
+    pub(super) bytes: Vec<u8>,
 }
 
-/// Appends a text and another one behind it.
-pub(super) fn put_both(out: &mut Vec<u8>, first: &[u8], second: &[u8]) -> Result<(), AllocError> {
-    out.extend_from_slice(first)?;
-    out.extend_from_slice(second)
-}
-
-/// Appends the head and the texts of the revisions, each behind a blank.
-pub(super) fn put_revs(out: &mut Vec<u8>, head: &[u8], revs: &[RevId]) -> Result<(), AllocError> {
-    out.extend_from_slice(head)?;
-    for rev in revs {
-        out.push(b' ')?;
-        rev.print(out)?;
+impl Out {
+    /// An empty answer, with its room.
+    pub(super) fn new(alloc: Global) -> Result<Out, AllocError> {
+        let bytes = Vec::with_capacity(alloc, 65_536)?;
+        Ok(Out { bytes })
     }
+
+    /// Appends a text.
+    pub(super) fn put(&mut self, text: &str) {
+        let _ = self.bytes.extend_from_slice(text.as_bytes());
+    }
+
+    /// Appends a text and the bytes behind it.
+    pub(super) fn both(&mut self, text: &str, bytes: &[u8]) {
+        self.put(text);
+        let _ = self.bytes.extend_from_slice(bytes);
+    }
+
+    /// Appends a text and a revision behind a blank.
+    pub(super) fn rev(&mut self, text: &str, rev: &RevId) {
+        self.both(text, b" ");
+        let _ = rev.print(&mut self.bytes);
+    }
+
+    /// Appends a text and each revision behind a blank.
+    pub(super) fn revs(&mut self, text: &str, revs: &[RevId]) {
+        self.put(text);
+        for rev in revs {
+            self.rev("", rev);
+        }
+    }
+
+    /// Appends a document: its id, `rev REV`, `deleted`, `path REV ..` and its members.
+    pub(super) fn whole(&mut self, doc: &Doc) {
+        self.put(doc.id.as_str());
+        if let Some(rev) = &doc.rev {
+            self.rev(" rev", rev);
+        }
+        if doc.deleted {
+            self.put(" deleted");
+        }
+        if let Some(path) = &doc.path {
+            self.revs(" path", path.revisions());
+        }
+        self.both(" ", doc.body.as_bytes());
+    }
+}
+
+fn body(alloc: Global, doc: &Doc, out: &mut Out) -> Result<(), DocFault> {
+    let body = doc.body.copy(alloc)?;
+    out.both("", body.as_bytes());
     Ok(())
 }
 
-fn marks(doc: &Doc) -> &'static [u8] {
-    match (doc.deleted, doc.path.is_some()) {
-        (false, false) => b"",
-        (false, true) => b"path",
-        (true, false) => b"deleted",
-        (true, true) => b"deleted path",
-    }
+// What is written of a document behind a blank.
+fn written(alloc: Global, doc: &Doc, out: &mut Out) -> Result<(), DocFault> {
+    let mut text = Vec::from_slice(alloc, b" ")?;
+    doc.write(&mut text)?;
+    out.both("text", text.as_slice());
+    Ok(())
 }
 
-fn whole(doc: &Doc, out: &mut Vec<u8>) -> Result<(), AllocError> {
-    put_both(out, doc.id.as_str().as_bytes(), b" | ")?;
-    if let Some(rev) = &doc.rev {
-        rev.print(out)?;
-    }
-    put_both(out, b" | ", marks(doc))?;
-    put_both(out, b" | ", doc.body.as_bytes())
-}
-
-fn copy_of_body(alloc: Global, doc: &Doc, out: &mut Vec<u8>) -> Result<(), AllocError> {
-    let body = doc.body.copy(alloc)?;
-    out.extend_from_slice(body.as_bytes())
-}
-
-fn text_of_copy(alloc: Global, doc: &Doc, out: &mut Vec<u8>) -> Result<(), AllocError> {
+fn copied(alloc: Global, doc: &Doc, out: &mut Out) -> Result<(), DocFault> {
     let copy = doc.copy(alloc)?;
-    copy.write(out)
+    written(alloc, &copy, out)
 }
 
 // The first two revisions of a copy of the path.
-fn put_front(alloc: Global, path: &Path, out: &mut Vec<u8>) -> Result<(), AllocError> {
+fn front(alloc: Global, path: &Path, out: &mut Out) -> Result<(), DocFault> {
     let front = path.copy(alloc)?.front(2);
-    put_revs(out, b" |", front.revisions())
+    out.revs("front", front.revisions());
+    Ok(())
 }
 
-// The list of the revisions of a copy of the path, and a copy of that.
-fn put_lists(alloc: Global, path: &Path, out: &mut Vec<u8>) -> Result<(), AllocError> {
+// The list of the revisions of a copy of the path, of a copy of it.
+fn list(alloc: Global, path: &Path, out: &mut Out) -> Result<(), DocFault> {
     let list = Revisions::new(path.copy(alloc)?.into_revisions());
-    put_revs(out, b" |", list.as_slice())?;
     let copy = list.copy(alloc)?;
-    put_revs(out, b" |", copy.as_slice())
+    out.revs("list", copy.as_slice());
+    Ok(())
 }
 
-fn path_of(alloc: Global, doc: &Doc, out: &mut Vec<u8>) -> Result<(), AllocError> {
-    let Some(path) = &doc.path else {
-        return out.extend_from_slice(b"no path");
-    };
-    path.head().print(out)?;
-    put_revs(out, b":", path.revisions())?;
-    put_front(alloc, path, out)?;
-    put_lists(alloc, path, out)
-}
-
-fn edit(alloc: Global, doc: &Doc, out: &mut Vec<u8>) -> Result<(), AllocError> {
+fn edit(alloc: Global, doc: &Doc, out: &mut Out) -> Result<(), DocFault> {
     if let Some(rev) = &doc.rev
         && rev.generation() == 65535
     {
-        return out.extend_from_slice(b"no edit");
+        out.put("no edit");
+        return Ok(());
     }
     let made = rev_of_edit(alloc, doc.deleted, doc.rev, &doc.id, &doc.body)?;
-    made.rev().print(out)
+    out.rev("edit", &made.rev());
+    Ok(())
 }
 
-/// Appends what is shown of a document.
+/// Shows a part of the document that was read last, or answers `?`:
+/// - `show body` is a copy of its members;
+/// - `show text` is what is written of it, and `show copy` what is written of a copy;
+/// - `show head`, `show front` and `show list` are the head of its path, the first two revisions, and a list
+///   of all;
+/// - `show edit` is the revision that an edit of it makes, on its revision.
 pub(super) fn show(
     alloc: Global,
-    doc: &Doc,
-    shown: Shown,
-    out: &mut Vec<u8>,
-) -> Result<(), AllocError> {
-    match shown {
-        Shown::Whole => whole(doc, out),
-        Shown::Body => out.extend_from_slice(doc.body.as_bytes()),
-        Shown::CopyOfBody => copy_of_body(alloc, doc, out),
-        Shown::Text => {
-            out.push(b' ')?;
-            doc.write(out)
-        }
-        Shown::TextOfCopy => {
-            out.push(b' ')?;
-            text_of_copy(alloc, doc, out)
-        }
-        Shown::Path => path_of(alloc, doc, out),
-        Shown::Edit => edit(alloc, doc, out),
+    doc: &Option<Doc>,
+    what: &str,
+    out: &mut Out,
+) -> Result<(), DocFault> {
+    let Some(doc) = doc else {
+        return unknown(out);
+    };
+    if what == "body" {
+        return body(alloc, doc, out);
     }
+    if what == "text" {
+        return written(alloc, doc, out);
+    }
+    if what == "copy" {
+        return copied(alloc, doc, out);
+    }
+    if what == "edit" {
+        return edit(alloc, doc, out);
+    }
+    match &doc.path {
+        Some(path) => show_path(alloc, path, what, out),
+        None => unknown(out),
+    }
+}
+
+fn show_path(alloc: Global, path: &Path, what: &str, out: &mut Out) -> Result<(), DocFault> {
+    if what == "front" {
+        return front(alloc, path, out);
+    }
+    if what == "list" {
+        return list(alloc, path, out);
+    }
+    out.rev("head", &path.head());
+    Ok(())
+}
+
+/// Answers an unknown command.
+pub(super) fn unknown(out: &mut Out) -> Result<(), DocFault> {
+    out.put("?");
+    Ok(())
 }
