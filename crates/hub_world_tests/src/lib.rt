@@ -2,7 +2,11 @@
 #![tactic(auto)]
 
 #[cfg(test)]
+mod made;
+#[cfg(test)]
 mod random_tests;
+#[cfg(test)]
+mod shell;
 #[cfg(test)]
 mod tests;
 #[cfg(test)]

@@ -1,9 +1,11 @@
 //! A held database holds no other call, also while a write waits for it.
 
-use crate::tests::{FIRST, created, docs, hub, params, stored};
 use hub_databases::{Hub, HubDb};
-use hub_document::Doc;
-use hub_shared::{Clock, Gate, Point, pump};
+use hub_document::{Doc, Limits};
+use hub_model::Outcome;
+use hub_params::FeedParams;
+use hub_shared::{Clock, Feed, Gate, Plain, Point, pump};
+use std::alloc::Global;
 use std::sync::Wait;
 use std::sync::atomic::{AtomicBool, Ordering};
 use std::test::Fail;
@@ -59,16 +61,49 @@ impl Clock for Still {
     }
 }
 
+// A new database.
+fn created<R: Wait>(rt: &R, hub: &Hub, name: &str) -> Result<HubDb, Fail> {
+    let _made = hub.create(rt, name);
+    match hub.find(rt, name) {
+        Ok(db) => Ok(db),
+        Err(_) => Err(Fail::new("no database")),
+    }
+}
+
+// A feed of a database.
+fn feed<R: Wait>(rt: &R, alloc: Global, db: &HubDb) -> Result<Feed<Plain>, Fail> {
+    let Ok(params) = FeedParams::read(alloc, b"", b"") else {
+        return Err(Fail::new("no parameters"));
+    };
+    match db.handle()?.open_feed(rt, params) {
+        Ok(feed) => Ok(feed),
+        Err(_) => Err(Fail::new("no feed")),
+    }
+}
+
+// One document.
+fn docs(alloc: Global) -> Result<Vec<Doc>, Fail> {
+    let doc = Doc::read(alloc, br#"{"_id":"a","_rev":"1-a"}"#, false)?;
+    Ok(vec![in alloc; doc]?)
+}
+
+// Whether a hub stores and notes the document in a database.
+fn writes<R: Wait>(rt: &R, hub: &Hub, db: &HubDb, docs: Vec<Doc>) -> bool {
+    match hub.write(rt, db, docs, false) {
+        Ok(written) => {
+            written.lapsed.is_none()
+                && matches!(written.batch.replies.as_slice(), [Outcome::Stored(_)])
+        }
+        Err(_) => false,
+    }
+}
+
 // Whether a hub answers: a write to a database, and calls on its names.
 fn answers<R: Wait>(rt: &R, hub: &Hub, docs: Vec<Doc>) -> bool {
     let Ok(db) = hub.find(rt, "b") else {
         return false;
     };
-    let Ok(written) = hub.write(rt, &db, docs, false) else {
-        return false;
-    };
-    let is_noted = stored(&written) == 1 && written.lapsed.is_none();
-    is_noted
+    writes(rt, hub, &db, docs)
         && hub.create(rt, "c").is_ok()
         && hub.remove(rt, "c").is_ok()
         && hub.find(rt, "a").is_ok()
@@ -95,10 +130,7 @@ fn write_held<R: Wait, K: time::Clock>(
 ) -> bool {
     wait_for(rt, &gate.is_reached);
     gate.is_writing.store(true, Ordering::SeqCst);
-    match hub.write(rt, db, docs, false) {
-        Ok(written) => stored(&written) == 1,
-        Err(_) => false,
-    }
+    writes(rt, hub, db, docs)
 }
 
 // Asks a hub once a write waits for the held database, which it is given 20 milliseconds for, and opens the
@@ -119,14 +151,12 @@ fn ask_and_open<R: Wait, K: time::Clock>(
 #[test]
 fn a_held_database_holds_no_other_call(rt: HostRuntime) -> Result<(), Fail> {
     let alloc = rt.alloc();
-    let hub = hub(alloc)?;
+    let hub = Hub::new(alloc, Limits::full())?;
     let held = created(&rt, &hub, "a")?;
     let _other = created(&rt, &hub, "b")?;
-    let Ok(feed) = held.handle()?.open_feed(&rt, params(alloc, "")?) else {
-        return Err(Fail::new("no feed"));
-    };
-    let (id, gate) = (feed.id(), Held::new(rt));
-    let (waiting, other) = (docs(alloc, FIRST)?, docs(alloc, FIRST)?);
+    let id = feed(&rt, alloc, &held)?.id();
+    let gate = Held::new(rt);
+    let (waiting, other) = (docs(alloc)?, docs(alloc)?);
     let (is_ok, (is_written, is_answered)) = thread::join(
         &rt,
         || pump(&rt, held.db(), id, &gate, &Still).is_ok(),

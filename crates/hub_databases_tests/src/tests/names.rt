@@ -1,253 +1,253 @@
 //! Which names have databases, and what the calls on them refuse.
 
-use crate::tests::names::Call::{Create, Find, List, Remove};
-use crate::tests::{
-    FIRST, again, create, created, edits, found, hub, hub_within, remove, same, shown, stored,
-    write,
-};
-use hub_databases::{Hub, HubDb, HubFault, is_name};
-use hub_document::Limits;
-use hub_model::{Fault, Outcome};
-use hub_updates::NoteFault;
-use std::alloc::{AllocError, Global};
-use std::process::Abort;
-use std::sync::Wait;
+use crate::tests::shell::Shell;
+use hub_transcript::replay;
 use std::test::Fail;
 
-// A call on the names of a hub, and its answer.
-enum Call {
-    Create(&'static str, Result<(), HubFault>),
-    Find(&'static str, Result<(), HubFault>),
-    Remove(&'static str, Result<(), HubFault>),
-    // The names that there are.
-    List(&'static [&'static str]),
-}
-
-// Whether a hub lists these names; an error where it finds no memory.
-fn lists<R: Wait>(rt: &R, hub: &Hub, names: &[&str]) -> Result<bool, AllocError> {
-    let list = hub.list(rt)?;
-    Ok(
-        list.len() == names.len()
-            && list
-                .iter()
-                .zip(names.iter())
-                .all(|(one, other)| one.as_str() == *other),
-    )
-}
-
-// Whether a name is found, and the database found has it.
-fn finds<R: Wait>(rt: &R, hub: &Hub, name: &str) -> Result<(), HubFault> {
-    let db = hub.find(rt, name)?;
-    if db.name() != name {
-        return Err(HubFault::Absent);
-    }
-    Ok(())
-}
-
-// Whether a call has its answer, also where a growth of it is refused; an error where it finds no memory each
-// time.
-fn answers<R: Wait>(rt: &R, hub: &Hub, call: &Call) -> Result<bool, AllocError> {
-    match call {
-        Create(name, answer) => Ok(create(rt, hub, name)? == *answer),
-        Find(name, answer) => Ok(finds(rt, hub, name) == *answer),
-        Remove(name, answer) => Ok(remove(rt, hub, name)? == *answer),
-        List(names) => again!(lists(rt, hub, *names)),
-    }
-}
-
-// How many calls have their answers, before the first that has another.
-fn count<R: Wait>(rt: &R, hub: &Hub, calls: &[Call]) -> usize {
-    for (number, call) in calls.iter().enumerate() {
-        match answers(rt, hub, call) {
-            Ok(true) => {}
-            _ => return number,
-        }
-    }
-    calls.len()
-}
-
-// Asserts that these calls have their answers. Where one has another, the count that the assertion shows is
-// its place.
-fn assert_calls<R: Abort + Wait>(rt: &R, hub: &Hub, calls: &[Call]) {
-    same(rt, &count(rt, hub, calls), &calls.len());
-}
-
-const TWO: &[Call] = &[
-    List(&[]),
-    Create("", Err(HubFault::BadName)),
-    Create("B", Err(HubFault::BadName)),
-    Find("B", Err(HubFault::BadName)),
-    Remove("B", Err(HubFault::BadName)),
-    Find("b", Err(HubFault::Absent)),
-    Remove("b", Err(HubFault::Absent)),
-    Create("b", Ok(())),
-    Find("b", Ok(())),
-    Create("b", Err(HubFault::Exists)),
-    Create("a/$(1)+_-", Ok(())),
-    List(&["a/$(1)+_-", "b"]),
-    Create("B", Err(HubFault::BadName)),
-    Create("b", Err(HubFault::Exists)),
-    Create("c", Err(HubFault::TooMany)),
-    Find("c", Err(HubFault::Absent)),
-    Remove("b", Ok(())),
-    Remove("b", Err(HubFault::Absent)),
-    Create("c", Ok(())),
-    List(&["a/$(1)+_-", "c"]),
-];
+const TWO: &str = "
+# there is room for two databases
+> limits 2 4294967295
+> list
+> create
+BadName
+> create B
+BadName
+> find B
+BadName
+> remove B
+BadName
+> find b
+Absent
+> remove b
+Absent
+> create b
+ok
+> find b
+b
+> create b
+Exists
+> create a/$(1)+_-
+ok
+> list
+a/$(1)+_-
+b
+> create B
+BadName
+> create b
+Exists
+> create c
+TooMany
+> find c
+Absent
+> remove b
+ok
+> remove b
+Absent
+> create c
+ok
+> list
+a/$(1)+_-
+c
+";
 
 #[test]
 fn names_are_refused_in_order(rt: HostRuntime) -> Result<(), Fail> {
-    let mut limits = Limits::full();
-    limits.databases = 2;
-    let hub = hub_within(rt.alloc(), limits)?;
-    assert_calls(&rt, &hub, TWO);
-    Ok(())
+    replay::<Shell, _>(&rt, rt.alloc(), TWO)
 }
-
-const ONE: &[Call] = &[
-    Create("a", Ok(())),
-    Create("a", Err(HubFault::Exists)),
-    Create("b", Err(HubFault::SequenceFull)),
-    Find("b", Err(HubFault::Absent)),
-    Remove("a", Err(HubFault::SequenceFull)),
-    Find("a", Ok(())),
-    List(&["a"]),
-];
 
 // Where the log is full, what it has no note of is not done; but an edit stands.
+const ONE: &str = r#"
+# there is room for one note
+> limits 256 1
+> create a
+ok
+> create a
+Exists
+> create b
+SequenceFull
+> find b
+Absent
+> remove a
+SequenceFull
+> find a
+a
+> list
+a
+> write {"_id":"a","_rev":"1-a"}
+1-a
+not noted: SequenceFull
+> info
+Ok(Info { doc_count: 1, doc_del_count: 0, update_seq: 1, life: 1 })
+"#;
+
 #[test]
 fn a_full_log_refuses_what_it_would_note(rt: HostRuntime) -> Result<(), Fail> {
-    let mut limits = Limits::full();
-    limits.journal = 1;
-    let hub = hub_within(rt.alloc(), limits)?;
-    assert_calls(&rt, &hub, ONE);
-    let db = found(&rt, &hub, "a")?;
-    let written = write(&rt, rt.alloc(), &hub, &db, FIRST)?;
-    let told = (written.lapsed, stored(&written));
-    same(&rt, &told, &(Some(NoteFault::SequenceFull), 1));
-    same(&rt, &edits(&rt, &db), &Some(1));
-    Ok(())
+    replay::<Shell, _>(&rt, rt.alloc(), ONE)
 }
 
-// There is room for one name, and for one note.
-const FULL: &[Call] = &[
-    Create("a", Ok(())),
-    Create("B", Err(HubFault::BadName)),
-    Create("a", Err(HubFault::Exists)),
-    Create("b", Err(HubFault::TooMany)),
-    Remove("b", Err(HubFault::Absent)),
-    Remove("a", Err(HubFault::SequenceFull)),
-    List(&["a"]),
-];
+const FULL: &str = "
+# there is room for one name, and for one note
+> limits 1 1
+> create a
+ok
+> create B
+BadName
+> create a
+Exists
+> create b
+TooMany
+> remove b
+Absent
+> remove a
+SequenceFull
+> list
+a
+";
 
 // That a log is full is told behind every other refusal.
 #[test]
 fn too_many_names_are_told_before_a_full_log(rt: HostRuntime) -> Result<(), Fail> {
-    let mut limits = Limits::full();
-    limits.databases = 1;
-    limits.journal = 1;
-    let hub = hub_within(rt.alloc(), limits)?;
-    assert_calls(&rt, &hub, FULL);
-    Ok(())
+    replay::<Shell, _>(&rt, rt.alloc(), FULL)
 }
 
-const REFUSED: &[Call] = &[
-    Create("d", Err(HubFault::Exists)),
-    Create("D", Err(HubFault::BadName)),
-    Create("e", Err(HubFault::TooMany)),
-];
+const LIVES: &str = "
+# a life is the number of a creation among those that succeeded, from 1
+> limits 1 4294967295
+> create d
+ok
+> find d
+d
+> create d
+Exists
+> create D
+BadName
+> create e
+TooMany
+> info
+Ok(Info { doc_count: 0, doc_del_count: 0, update_seq: 0, life: 1 })
+> remove d
+ok
+> create d
+ok
+> create d
+Exists
+> create D
+BadName
+> create e
+TooMany
+> find d
+d
+> info
+Ok(Info { doc_count: 0, doc_del_count: 0, update_seq: 0, life: 2 })
+> remove d
+ok
+> create d
+ok
+> create d
+Exists
+> create D
+BadName
+> create e
+TooMany
+> find d
+d
+> info
+Ok(Info { doc_count: 0, doc_del_count: 0, update_seq: 0, life: 3 })
+> remove d
+ok
+> create d
+ok
+> create d
+Exists
+> create D
+BadName
+> create e
+TooMany
+> find d
+d
+> info
+Ok(Info { doc_count: 0, doc_del_count: 0, update_seq: 0, life: 4 })
+";
 
-const AGAIN: &[Call] = &[Remove("d", Ok(())), Create("d", Ok(()))];
-
-// The life of a database.
-fn life<R: Wait>(rt: &R, db: &HubDb) -> Option<u64> {
-    Some(shown(rt, db)?.life)
-}
-
-// A life is the number of a creation among those that succeeded, from 1.
 #[test]
 fn lives_are_numbered_as_databases_are_made(rt: HostRuntime) -> Result<(), Fail> {
-    let mut limits = Limits::full();
-    limits.databases = 1;
-    let hub = hub_within(rt.alloc(), limits)?;
-    let first = created(&rt, &hub, "d")?;
-    assert_calls(&rt, &hub, REFUSED);
-    same(&rt, &life(&rt, &first), &Some(1));
-    for made in 2..5 {
-        assert_calls(&rt, &hub, AGAIN);
-        assert_calls(&rt, &hub, REFUSED);
-        same(&rt, &life(&rt, &found(&rt, &hub, "d")?), &Some(made));
-    }
-    Ok(())
+    replay::<Shell, _>(&rt, rt.alloc(), LIVES)
 }
 
-const UNORDERED: &[Call] = &[
-    Create("b", Ok(())),
-    Create("a_", Ok(())),
-    Create("ab", Ok(())),
-    Create("a-", Ok(())),
-    Create("a", Ok(())),
-    Create("a0", Ok(())),
-    List(&["a", "a-", "a0", "a_", "ab", "b"]),
-];
+const NAMES: &str = r#"
+# names are listed in the order of their bytes
+> create b
+ok
+> create a_
+ok
+> create ab
+ok
+> create a-
+ok
+> create a
+ok
+> create a0
+ok
+> list
+a
+a-
+a0
+a_
+ab
+b
+
+# a removed database refuses writes, and a new one of its name is another
+> create a
+ok
+> find a
+a
+> remove a
+ok
+> create a
+ok
+> write {"_id":"a","_rev":"1-a"}
+Refused(Deleted)
+> info
+Err(Refused(Deleted))
+> find a
+a
+> info
+Ok(Info { doc_count: 0, doc_del_count: 0, update_seq: 0, life: 2 })
+
+# texts that are names
+> is_name a
+yes
+> is_name z09
+yes
+> is_name a_$()+/-
+yes
+> letters 238
+yes
+
+# texts that are none
+> is_name
+no
+> is_name A
+no
+> is_name 0
+no
+> is_name _a
+no
+> is_name /a
+no
+> is_name aB
+no
+> is_name a.b
+no
+> is_name a b
+no
+> is_name aé
+no
+> letters 239
+no
+"#;
 
 #[test]
-fn names_are_listed_in_byte_order(rt: HostRuntime) -> Result<(), Fail> {
-    let hub = hub(rt.alloc())?;
-    assert_calls(&rt, &hub, UNORDERED);
-    Ok(())
-}
-
-// What was found before goes on with its database, and a new one under the same name is another.
-#[test]
-fn a_removed_database_refuses_writes(rt: HostRuntime) -> Result<(), Fail> {
-    let hub = hub(rt.alloc())?;
-    let old = created(&rt, &hub, "a")?;
-    same(&rt, &remove(&rt, &hub, "a")?, &Ok(()));
-    let new = created(&rt, &hub, "a")?;
-    let written = write(&rt, rt.alloc(), &hub, &old, FIRST)?;
-    let replies = written.batch.replies.as_slice();
-    let told = (replies.len(), replies.first().copied());
-    same(&rt, &told, &(1, Some(Outcome::Refused(Fault::Deleted))));
-    assert!(rt; written.lapsed.is_none());
-    same(&rt, &edits(&rt, &new), &Some(0));
-    Ok(())
-}
-
-// Texts, and whether they may name databases.
-const TEXTS: [(&str, bool); 12] = [
-    ("a", true),
-    ("z09", true),
-    ("a_$()+/-", true),
-    ("", false),
-    ("A", false),
-    ("0", false),
-    ("_a", false),
-    ("/a", false),
-    ("aB", false),
-    ("a.b", false),
-    ("a b", false),
-    ("aé", false),
-];
-
-// A text of so many letters.
-fn long_text(alloc: Global, count: u64) -> Result<String, AllocError> {
-    let mut text = String::new(alloc);
-    for _ in 0..count {
-        text.push('a')?;
-    }
-    Ok(text)
-}
-
-#[test]
-fn texts_that_are_names(rt: HostRuntime) -> Result<(), Fail> {
-    for (text, is_one) in TEXTS {
-        same(&rt, &(text, is_name(text)), &(text, is_one));
-    }
-    let alloc = rt.alloc();
-    for (count, is_one) in [(238, true), (239, false)] {
-        let text = again!(long_text(alloc, count))?;
-        same(&rt, &(count, is_name(text.as_str())), &(count, is_one));
-    }
-    Ok(())
+fn names_and_their_databases(rt: HostRuntime) -> Result<(), Fail> {
+    replay::<Shell, _>(&rt, rt.alloc(), NAMES)
 }
