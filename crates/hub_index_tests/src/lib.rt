@@ -9,5 +9,3 @@ mod id_tests;
 mod page_tests;
 #[cfg(test)]
 mod tests;
-#[cfg(test)]
-mod tried;

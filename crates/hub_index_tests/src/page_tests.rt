@@ -3,10 +3,8 @@
 ghost use Rattle.std.specs.Prelude.{◌≡◌, ◌+◌, ◌^◌, ◌<◌, ◌≤◌, ◌∷◌, [], IfOk, OnOk};
 ghost use Rattle.std.specs.List.{All};
 
-use crate::tests::{move_again, move_both, room_for, same, seq_in};
-use crate::tried::TriedPages;
+use crate::tests::{four_moves, move_again, move_both, room_for, same, seq_in};
 use hub_index::{PageIndex, SeqIndex, TreeIndex};
-use hub_transcript::replay;
 use std::alloc::{AllocError, Global};
 use std::test::Fail;
 
@@ -22,145 +20,60 @@ fn border_rows(alloc: Global) -> Result<PageIndex, AllocError>
     Ok(index)
 }
 
-// Rows around the borders of pages of 256 sequences, the pages that go with their last row, and an index of
-// one row.
-const PAGES: &str = "
-# rows are read across borders
-> move 1 256
-> move 2 257
-> move 3 512
-> move 4 513
-> next 0
-256: 1
-> last 0
-none
-> count 0
-4
-> next 255
-256: 1
-> last 255
-none
-> count 255
-4
-> next 256
-257: 2
-> last 256
-none
-> count 256
-3
-> next 257
-512: 3
-> last 257
-256: 1
-> count 257
-2
-> next 258
-512: 3
-> last 258
-257: 2
-> count 258
-2
-> next 511
-512: 3
-> last 511
-257: 2
-> count 511
-2
-> next 512
-513: 4
-> last 512
-257: 2
-> count 512
-1
-> next 513
-none
-> last 513
-512: 3
-> count 513
-0
-> next 514
-none
-> last 514
-513: 4
-> count 514
-0
-> next 18446744073709551615
-none
-> last 18446744073709551615
-513: 4
-> count 18446744073709551615
-0
-# bounds end rows within a page
-> move 1 256
-> move 2 257
-> move 3 512
-> move 4 513
-> within 0 255
-none
-> within 0 256
-256: 1
-> within 256 256
-none
-> within 256 257
-257: 2
-> within 257 300
-none
-> within 257 511
-none
-> within 257 512
-512: 3
-> within 512 512
-none
-> within 513 18446744073709551615
-none
-# a page goes with its last row
-> move 1 256
-> move 2 257
-> move 3 512
-> move 4 513
-> pages
-3
-> move 1 514
-> pages
-2
-> next 0
-257: 2
-> move 2 515
-> move 3 516
-> pages
-1
-> next 0
-513: 4
-# an index may have one row
-> pages
-0
-> move 7 256
-> move 7 257
-> last 257
-none
-> move 7 258
-> pages
-1
-> move 7 18446744073709551615
-> pages
-1
-> next 18446744073709551614
-18446744073709551615: 7
-> last 18446744073709551614
-none
-> count 18446744073709551614
-1
-> next 18446744073709551615
-none
-> last 18446744073709551615
-none
-> count 18446744073709551615
-0
-";
+// The first row behind a place, the last before it, and how many there are behind it.
+fn around(index: &PageIndex, place: u64) -> (Option<(u64, u32)>, Option<(u64, u32)>, u64) {
+    (
+        index.next_after(place, None),
+        index.last_before(place),
+        index.count_after(place),
+    )
+}
 
 #[test]
-fn rows_in_pages(rt: HostRuntime) -> Result<(), Fail> {
-    replay::<TriedPages, _>(&rt, rt.alloc(), PAGES)
+fn rows_are_read_across_borders(rt: HostRuntime) -> Result<(), Fail> {
+    let index = border_rows(rt.alloc())?;
+    for (place, next, last, count) in [
+        (0u64, Some((256u64, 1u32)), None, 4u64),
+        (255, Some((256, 1)), None, 4),
+        (256, Some((257, 2)), None, 3),
+        (257, Some((512, 3)), Some((256u64, 1u32)), 2),
+        (258, Some((512, 3)), Some((257, 2)), 2),
+        (511, Some((512, 3)), Some((257, 2)), 2),
+        (512, Some((513, 4)), Some((257, 2)), 1),
+        (513, None, Some((512, 3)), 0),
+        (514, None, Some((513, 4)), 0),
+        (u64::MAX, None, Some((513, 4)), 0),
+    ] {
+        same(
+            &rt,
+            &(place, around(&index, place)),
+            &(place, (next, last, count)),
+        );
+    }
+    Ok(())
+}
+
+#[test]
+fn bounds_end_rows_within_a_page(rt: HostRuntime) -> Result<(), Fail> {
+    let index = border_rows(rt.alloc())?;
+    for (place, bound, wanted) in [
+        (0u64, 255u64, None),
+        (0, 256, Some((256u64, 1u32))),
+        (256, 256, None),
+        (256, 257, Some((257, 2))),
+        (257, 300, None),
+        (257, 511, None),
+        (257, 512, Some((512, 3))),
+        (512, 512, None),
+        (513, u64::MAX, None),
+    ] {
+        same(
+            &rt,
+            &(place, bound, index.next_after(place, Some(bound))),
+            &(place, bound, wanted),
+        );
+    }
+    Ok(())
 }
 
 // Removes the row at a sequence: how many pages and rows are left.
@@ -185,6 +98,35 @@ fn rows_are_removed_with_their_pages(rt: HostRuntime) -> Result<(), Fail> {
 // How many pages there are, and the first row.
 fn front(index: &PageIndex) -> (u64, Option<(u64, u32)>) {
     (index.pages(), index.next_after(0, None))
+}
+
+#[test]
+fn a_page_goes_with_its_last_row(rt: HostRuntime) -> Result<(), Fail> {
+    let mut index = border_rows(rt.alloc())?;
+    same(&rt, &index.pages(), &3);
+    move_again(&mut index, 1, Some(256), 514)?;
+    same(&rt, &front(&index), &(2, Some((257, 2))));
+    move_again(&mut index, 2, Some(257), 515)?;
+    move_again(&mut index, 3, Some(512), 516)?;
+    same(&rt, &front(&index), &(1, Some((513, 4))));
+    Ok(())
+}
+
+#[test]
+fn an_index_may_have_one_row(rt: HostRuntime) -> Result<(), Fail> {
+    let mut index = PageIndex::new(rt.alloc());
+    same(&rt, &index.pages(), &0);
+    move_again(&mut index, 7, None, 256)?;
+    move_again(&mut index, 7, Some(256), 257)?;
+    same(&rt, &index.last_before(257), &None);
+    move_again(&mut index, 7, Some(257), 258)?;
+    same(&rt, &index.pages(), &1);
+    move_again(&mut index, 7, Some(258), u64::MAX)?;
+    same(&rt, &index.pages(), &1);
+    let last = u64::MAX;
+    same(&rt, &around(&index, last - 1), &(Some((last, 7)), None, 1));
+    same(&rt, &around(&index, last), &(None, None, 0));
+    Ok(())
 }
 
 // Moves the documents 1 to `count` behind all rows, in their order: document 1 goes to `from` + 1.
@@ -247,6 +189,23 @@ fn move_in_both(
     let old = seq_in(plain.as_slice(), document);
     move_again(pages, document, old, new)?;
     move_both(tree, plain, document, new)?;
+    Ok(())
+}
+
+#[test]
+fn rows_of_a_page_agree_with_a_tree(rt: HostRuntime) -> Result<(), Fail> {
+    let mut tree = TreeIndex::new(rt.alloc());
+    let mut pages = PageIndex::new(rt.alloc());
+    four_moves(&mut tree)?;
+    four_moves(&mut pages)?;
+    for place in [0, 1, 2, 3, 4, u64::MAX] {
+        for bound in [0, 1, 2, 3, 4, u64::MAX] {
+            assert!(rt;
+                agree(&tree, &pages, place, bound),
+                "after {place}, up to {bound}"
+            );
+        }
+    }
     Ok(())
 }
 

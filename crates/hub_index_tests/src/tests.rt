@@ -7,9 +7,7 @@ ghost use Rattle.std.specs.Prelude.{◌≡◌, ◌<◌, ◌≤◌, [], IfOk, OnO
 ghost use Rattle.std.specs.List.{All};
 ghost use Rattle.hub_index.specs.Rows.{seq_of, rows_after_move};
 
-use crate::tried::{TriedPages, TriedTree};
 use hub_index::{SeqIndex, TreeIndex};
-use hub_transcript::replay;
 use std::alloc::{AllocError, Global};
 use std::fmt::Debug;
 use std::process::Abort;
@@ -20,13 +18,18 @@ pub(crate) fn same<T: PartialEq + Debug>(rt: &impl Abort, found: &T, wanted: &T)
     assert_eq!(rt; *found, *wanted);
 }
 
+// The first row of any index, and the last.
+fn first_row<I: SeqIndex>(index: &I) -> Option<(u64, u32)> {
+    index.next_after(0, None)
+}
+
+fn last_row<I: SeqIndex>(index: &I) -> Option<(u64, u32)> {
+    index.last_before(u64::MAX)
+}
+
 // What an index shows: its first row, its last, and how many there are.
 fn shown<I: SeqIndex>(index: &I) -> (Option<(u64, u32)>, Option<(u64, u32)>, u64) {
-    (
-        index.next_after(0, None),
-        index.last_before(u64::MAX),
-        index.count_after(0),
-    )
+    (first_row(index), last_row(index), index.count_after(0))
 }
 
 // Moves a document, and moves it again where no memory is found and the index shows the same as before.
@@ -58,107 +61,102 @@ pub(crate) fn room_for(alloc: Global, count: usize) -> Result<Vec<(u64, u32)>, A
     }
 }
 
-// Rows of few documents, as both kinds of index have them.
-const ROWS: &str = "
-# an empty index has no row
-> next 0
-none
-> within 0 9
-none
-> last 9
-none
-> count 0
-0
-# rows come in order
-> move 7 1
-> move 8 2
-> move 9 3
-> move 7 4
-> next 0
-2: 8
-> next 1
-2: 8
-> next 2
-3: 9
-> next 3
-4: 7
-> next 4
-none
-> next 18446744073709551615
-none
-# bounds end the rows
-> move 7 1
-> move 8 2
-> move 9 3
-> move 7 4
-> within 2 3
-3: 9
-> within 2 2
-none
-> within 2 1
-none
-> within 2 0
-none
-> within 2 4
-3: 9
-> within 3 4
-4: 7
-> within 3 3
-none
-> within 3 18446744073709551615
-4: 7
-> within 4 18446744073709551615
-none
-> within 0 1
-none
-> within 0 2
-2: 8
-# rows come from the end
-> move 7 1
-> move 8 2
-> move 9 3
-> move 7 4
-> last 0
-none
-> last 1
-none
-> last 2
-none
-> last 3
-2: 8
-> last 4
-3: 9
-> last 5
-4: 7
-> last 18446744073709551615
-4: 7
-# rows above are counted
-> move 7 1
-> move 8 2
-> move 9 3
-> move 7 4
-> count 0
-3
-> count 1
-3
-> count 2
-2
-> count 3
-1
-> count 4
-0
-> count 18446744073709551615
-0
-";
-
-#[test]
-fn rows_of_a_tree(rt: HostRuntime) -> Result<(), Fail> {
-    replay::<TriedTree, _>(&rt, rt.alloc(), ROWS)
+// Documents 7, 8 and 9 at the sequences 1, 2 and 3, of which the first is then moved to 4.
+pub(crate) fn four_moves<I: SeqIndex>(index: &mut I) -> Result<(), AllocError>
+    requires { I.rows index.old ≡ [] }
+{
+    move_again(index, 7, None, 1)?;
+    move_again(index, 8, None, 2)?;
+    move_again(index, 9, None, 3)?;
+    move_again(index, 7, Some(1), 4)?;
+    Ok(())
 }
 
 #[test]
-fn rows_of_pages(rt: HostRuntime) -> Result<(), Fail> {
-    replay::<TriedPages, _>(&rt, rt.alloc(), ROWS)
+fn rows_come_in_order(rt: HostRuntime) -> Result<(), Fail> {
+    let mut index = TreeIndex::new(rt.alloc());
+    four_moves(&mut index)?;
+    same(&rt, &first_row(&index), &Some((2, 8)));
+    for (place, wanted) in [
+        (0u64, Some((2u64, 8u32))),
+        (1, Some((2, 8))),
+        (2, Some((3, 9))),
+        (3, Some((4, 7))),
+        (4, None),
+        (u64::MAX, None),
+    ] {
+        same(
+            &rt,
+            &(place, index.next_after(place, None)),
+            &(place, wanted),
+        );
+    }
+    Ok(())
+}
+
+#[test]
+fn bounds_end_the_rows(rt: HostRuntime) -> Result<(), Fail> {
+    let mut index = TreeIndex::new(rt.alloc());
+    four_moves(&mut index)?;
+    for (place, bound, wanted) in [
+        (2u64, 3u64, Some((3u64, 9u32))),
+        (2, 2, None),
+        (2, 1, None),
+        (2, 0, None),
+        (2, 4, Some((3, 9))),
+        (3, 4, Some((4, 7))),
+        (3, 3, None),
+        (3, u64::MAX, Some((4, 7))),
+        (4, u64::MAX, None),
+        (0, 1, None),
+        (0, 2, Some((2, 8))),
+    ] {
+        same(
+            &rt,
+            &(place, bound, index.next_after(place, Some(bound))),
+            &(place, bound, wanted),
+        );
+    }
+    Ok(())
+}
+
+#[test]
+fn rows_come_from_the_end(rt: HostRuntime) -> Result<(), Fail> {
+    let mut index = TreeIndex::new(rt.alloc());
+    four_moves(&mut index)?;
+    same(&rt, &last_row(&index), &Some((4, 7)));
+    for (place, wanted) in [
+        (0u64, None),
+        (1, None),
+        (2, None),
+        (3, Some((2u64, 8u32))),
+        (4, Some((3, 9))),
+        (5, Some((4, 7))),
+        (u64::MAX, Some((4, 7))),
+    ] {
+        same(&rt, &(place, index.last_before(place)), &(place, wanted));
+    }
+    Ok(())
+}
+
+#[test]
+fn rows_above_are_counted(rt: HostRuntime) -> Result<(), Fail> {
+    let mut index = TreeIndex::new(rt.alloc());
+    four_moves(&mut index)?;
+    for (place, wanted) in [(0u64, 3u64), (1, 3), (2, 2), (3, 1), (4, 0), (u64::MAX, 0)] {
+        same(&rt, &(place, index.count_after(place)), &(place, wanted));
+    }
+    Ok(())
+}
+
+#[test]
+fn an_empty_index_has_no_row(rt: HostRuntime) -> Result<(), Fail> {
+    let index = TreeIndex::new(rt.alloc());
+    let rows = (first_row(&index), index.next_after(0, Some(9)));
+    same(&rt, &rows, &(None, None));
+    let others = (index.last_before(9), index.count_after(0));
+    same(&rt, &others, &(None, 0));
+    Ok(())
 }
 
 // The sequence of a document in a plain list of rows.
