@@ -1,7 +1,7 @@
 //! Each body, byte for byte, as a transcript.
 
 use hub_database::{Diff, Info, Local, OpenRev};
-use hub_document::{Doc, DocFault, RevId, Revisions, read_value};
+use hub_document::{Doc, RevId, Revisions, read_value};
 use hub_http::Refusal;
 use hub_replies::{
     BatchReply, batch_body, commit_body, diffs_body, doc_body, edit_body, edit_front, info_body,
@@ -12,22 +12,29 @@ use std::alloc::{AllocError, Global};
 use std::str;
 use std::test::Fail;
 
-/// Makes bodies. A command is what a body is made of, and answers it without the line feed at its end, or the
-/// reason of a fault. `ODD` stands for a text with bytes that need an escape.
-/// - `names NAME ..`: names of databases;
-/// - `info NAME DOCUMENTS DELETED SEQ LIFE`: what a database says of itself;
-/// - `edit ID REV` and `local-edit ID COUNT`: the answers to edits;
-/// - `document TEXT`: a document;
-/// - `local ID TEXT`: a local document with this document's members and twelve edits;
-/// - `open-revs REV | TEXT ..`: revisions that are missing, and documents that are found;
-/// - `diffs ID REV .. / REV .. | ID ..`: documents, their missing revisions, and the ancestors that they may
-///   have;
-/// - `say REV`, `say REASON` and `say nothing`: what is said of the next element of a batch, with no answer;
-/// - `batch LIST`: the answer to a batch of these elements;
-/// - `welcome`, `ok` and `commit`: bodies that are always the same.
+/// Makes bodies, which are answered without the line feed at their ends. `ODD` stands for a text with bytes
+/// that need an escape. A text that is no document ends the test.
+///
+/// These note what a body is made of, and answer nothing:
+/// - `name NAME`: a name of a database;
+/// - `missing REV` and `found TEXT`: a revision that is missing, or a document that is found;
+/// - `diff ID REV .. / REV ..`: a document, its missing revisions, and the ancestors that they may have;
+/// - `say REV`, `say REASON` and `say nothing`: what is said of the next element of a batch.
+///
+/// These make a body:
+/// - `names`, `open-revs` and `diffs`: of what was noted;
+/// - `batch LIST`: of a batch of these elements, and what is said of them;
+/// - `info NAME DOCUMENTS DELETED SEQ LIFE`: of what a database says of itself;
+/// - `edit ID REV` and `local-edit ID COUNT`: of an edit;
+/// - `document TEXT`: of a document;
+/// - `local ID TEXT`: of a local document with this document's members and twelve edits;
+/// - `welcome`, `ok` and `commit`: those that are always the same.
 #[derive(Drop)]
 struct Session {
     alloc: Global,
+    names: Vec<String>,
+    revs: Vec<OpenRev>,
+    diffs: Vec<Diff>,
     said: Vec<Option<BatchReply>>,
 }
 
@@ -35,17 +42,29 @@ impl<R> Subject<R> for Session {
     fn begin(_: &R, alloc: Global, _: &str) -> Result<Session, AllocError> {
         Ok(Session {
             alloc,
+            names: Vec::new(alloc),
+            revs: Vec::new(alloc),
+            diffs: Vec::new(alloc),
             said: Vec::new(alloc),
         })
     }
 
     fn answer(&mut self, _: &R, command: &str, answer: &mut Answer) -> Result<(), AllocError> {
         let (verb, rest) = command.split_once(' ').unwrap_or((command, ""));
-        match self.body(verb, rest) {
-            Ok(body) => answer.line(line_of(body.as_slice())),
-            Err(DocFault::NoMemory) => Err(AllocError),
-            Err(fault) => answer.line(fault),
+        if verb == "name" {
+            return self.name(rest);
         }
+        if verb == "missing" || verb == "found" {
+            return self.open_rev(rest);
+        }
+        if verb == "diff" {
+            return self.diff(rest);
+        }
+        if verb == "say" {
+            return self.say(rest);
+        }
+        let body = self.body(verb, rest)?;
+        answer.line(line_of(body.as_slice()))
     }
 }
 
@@ -66,16 +85,16 @@ fn text_of(word: &str) -> &str {
     if word == "ODD" { ODD } else { word }
 }
 
-// A body that is made without a fault but want of memory.
-fn made(body: Result<Vec<u8>, AllocError>) -> Result<Vec<u8>, DocFault> {
-    match body {
-        Ok(body) => Ok(body),
-        Err(AllocError) => Err(DocFault::NoMemory),
+// The document that a text is; an error where it finds no memory, and each time where it is none.
+fn doc_of(alloc: Global, text: &str) -> Result<Doc, AllocError> {
+    match Doc::read(alloc, text.as_bytes(), false) {
+        Ok(doc) => Ok(doc),
+        Err(_) => Err(AllocError),
     }
 }
 
 // The revisions of these words, which are few.
-fn revisions(alloc: Global, words: &str) -> Result<Revisions, DocFault> {
+fn revisions(alloc: Global, words: &str) -> Result<Revisions, AllocError> {
     let mut list = Vec::with_capacity(alloc, 8)?;
     for word in words.split(" ") {
         if let Some(rev) = RevId::read(word) {
@@ -85,24 +104,7 @@ fn revisions(alloc: Global, words: &str) -> Result<Revisions, DocFault> {
     Ok(Revisions::new(list))
 }
 
-fn names_of(alloc: Global, words: &str) -> Result<Vec<String>, DocFault> {
-    let mut list = Vec::with_capacity(alloc, 8)?;
-    if words.is_empty() {
-        return Ok(list);
-    }
-    for word in words.split(" ") {
-        let name = String::from_str(alloc, text_of(word))?;
-        let _ = list.push(name);
-    }
-    Ok(list)
-}
-
-fn names(alloc: Global, words: &str) -> Result<Vec<u8>, DocFault> {
-    let list = names_of(alloc, words)?;
-    made(names_body(alloc, list.as_slice()))
-}
-
-fn info(alloc: Global, rest: &str) -> Result<Vec<u8>, DocFault> {
+fn info(alloc: Global, rest: &str) -> Result<Vec<u8>, AllocError> {
     let mut words = Words::of(rest);
     let name = text_of(words.word());
     let info = Info {
@@ -111,89 +113,34 @@ fn info(alloc: Global, rest: &str) -> Result<Vec<u8>, DocFault> {
         update_seq: words.number(),
         life: words.number(),
     };
-    made(info_body(alloc, name, &info))
+    info_body(alloc, name, &info)
 }
 
-fn edit(alloc: Global, rest: &str) -> Result<Vec<u8>, DocFault> {
+fn edit(alloc: Global, rest: &str) -> Result<Vec<u8>, AllocError> {
     let (id, rev) = rest.split_once(' ').unwrap_or((rest, ""));
     let Some(rev) = RevId::read(rev) else {
-        return Err(DocFault::BadRev);
+        return Err(AllocError);
     };
     let front = edit_front(alloc, text_of(id))?;
-    made(edit_body(front, &rev))
+    edit_body(front, &rev)
 }
 
-fn local_edit(alloc: Global, rest: &str) -> Result<Vec<u8>, DocFault> {
+fn local_edit(alloc: Global, rest: &str) -> Result<Vec<u8>, AllocError> {
     let mut words = Words::of(rest);
     let front = edit_front(alloc, text_of(words.word()))?;
-    made(local_edit_body(front, words.number()))
+    local_edit_body(front, words.number())
 }
 
-fn document(alloc: Global, rest: &str) -> Result<Vec<u8>, DocFault> {
-    let doc = Doc::read(alloc, rest.as_bytes(), false)?;
-    made(doc_body(alloc, &doc))
+fn document(alloc: Global, rest: &str) -> Result<Vec<u8>, AllocError> {
+    let doc = doc_of(alloc, rest)?;
+    doc_body(alloc, &doc)
 }
 
-fn local(alloc: Global, rest: &str) -> Result<Vec<u8>, DocFault> {
+fn local(alloc: Global, rest: &str) -> Result<Vec<u8>, AllocError> {
     let (id, text) = rest.split_once(' ').unwrap_or((rest, ""));
-    let Doc { body, .. } = Doc::read(alloc, text.as_bytes(), false)?;
+    let Doc { body, .. } = doc_of(alloc, text)?;
     let local = Local { count: 12, body };
-    made(local_doc_body(alloc, text_of(id), &local))
-}
-
-// A revision that is missing, or a document that is found.
-fn open_rev(alloc: Global, text: &str) -> Result<OpenRev, DocFault> {
-    match RevId::read(text) {
-        Some(rev) => Ok(OpenRev::Missing(rev)),
-        None => Ok(OpenRev::Found(Doc::read(alloc, text.as_bytes(), false)?)),
-    }
-}
-
-fn all_open(alloc: Global, rest: &str) -> Result<Vec<OpenRev>, DocFault> {
-    let mut revs = Vec::with_capacity(alloc, 8)?;
-    if rest.is_empty() {
-        return Ok(revs);
-    }
-    for text in rest.split(" | ") {
-        let rev = open_rev(alloc, text)?;
-        let _ = revs.push(rev);
-    }
-    Ok(revs)
-}
-
-fn open_revs(alloc: Global, rest: &str) -> Result<Vec<u8>, DocFault> {
-    let revs = all_open(alloc, rest)?;
-    made(open_revs_body(alloc, revs.as_slice()))
-}
-
-fn diff(alloc: Global, text: &str) -> Result<Diff, DocFault> {
-    let (id, revs) = text.split_once(' ').unwrap_or((text, ""));
-    let (missing, ancestors) = revs.split_once(" / ").unwrap_or((revs, ""));
-    let missing = revisions(alloc, missing)?;
-    let possible_ancestors = revisions(alloc, ancestors)?;
-    let id = String::from_str(alloc, text_of(id))?;
-    Ok(Diff {
-        id,
-        missing,
-        possible_ancestors,
-    })
-}
-
-fn all_diffs(alloc: Global, rest: &str) -> Result<Vec<Diff>, DocFault> {
-    let mut diffs = Vec::with_capacity(alloc, 8)?;
-    if rest.is_empty() {
-        return Ok(diffs);
-    }
-    for text in rest.split(" | ") {
-        let diff = diff(alloc, text)?;
-        let _ = diffs.push(diff);
-    }
-    Ok(diffs)
-}
-
-fn diffs(alloc: Global, rest: &str) -> Result<Vec<u8>, DocFault> {
-    let diffs = all_diffs(alloc, rest)?;
-    made(diffs_body(alloc, diffs.as_slice()))
+    local_doc_body(alloc, text_of(id), &local)
 }
 
 // What is said of an element of a batch: its revision, or the refusal of this reason.
@@ -214,52 +161,76 @@ fn said(word: &str) -> Option<BatchReply> {
 }
 
 impl Session {
-    // What is said of the next element of a batch.
-    fn say(&mut self, rest: &str) -> Result<Vec<u8>, DocFault> {
-        let line = Vec::from_slice(self.alloc, b"\n")?;
+    fn name(&mut self, rest: &str) -> Result<(), AllocError> {
+        self.names.reserve(1)?;
+        let name = String::from_str(self.alloc, text_of(rest))?;
+        let _ = self.names.push(name);
+        Ok(())
+    }
+
+    // A revision that is missing, or a document that is found.
+    fn open_rev(&mut self, rest: &str) -> Result<(), AllocError> {
+        self.revs.reserve(1)?;
+        let rev = match RevId::read(rest) {
+            Some(rev) => OpenRev::Missing(rev),
+            None => OpenRev::Found(doc_of(self.alloc, rest)?),
+        };
+        let _ = self.revs.push(rev);
+        Ok(())
+    }
+
+    fn diff(&mut self, rest: &str) -> Result<(), AllocError> {
+        let (id, revs) = rest.split_once(' ').unwrap_or((rest, ""));
+        let (missing, ancestors) = revs.split_once(" / ").unwrap_or((revs, ""));
+        self.diffs.reserve(1)?;
+        let diff = Diff {
+            id: String::from_str(self.alloc, text_of(id))?,
+            missing: revisions(self.alloc, missing)?,
+            possible_ancestors: revisions(self.alloc, ancestors)?,
+        };
+        let _ = self.diffs.push(diff);
+        Ok(())
+    }
+
+    fn say(&mut self, rest: &str) -> Result<(), AllocError> {
         self.said.reserve(1)?;
         let _ = self.said.push(said(rest));
-        Ok(line)
+        Ok(())
     }
 
-    fn batch(&self, rest: &str) -> Result<Vec<u8>, DocFault> {
-        let list = read_value(self.alloc, rest.as_bytes())?;
+    fn batch(&self, rest: &str) -> Result<Vec<u8>, AllocError> {
+        let Ok(list) = read_value(self.alloc, rest.as_bytes()) else {
+            return Err(AllocError);
+        };
         match list.as_array() {
-            Some(elements) => made(batch_body(
-                self.alloc,
-                elements.as_slice(),
-                self.said.as_slice(),
-            )),
-            None => Err(DocFault::NotObject),
+            Some(elements) => batch_body(self.alloc, elements.as_slice(), self.said.as_slice()),
+            None => Err(AllocError),
         }
     }
 
-    // The body of a command.
-    fn body(&mut self, verb: &str, rest: &str) -> Result<Vec<u8>, DocFault> {
+    // The body that a command makes.
+    fn body(&self, verb: &str, rest: &str) -> Result<Vec<u8>, AllocError> {
         if verb == "names" {
-            return names(self.alloc, rest);
-        }
-        if verb == "info" {
-            return info(self.alloc, rest);
+            return names_body(self.alloc, self.names.as_slice());
         }
         if verb == "open-revs" {
-            return open_revs(self.alloc, rest);
+            return open_revs_body(self.alloc, self.revs.as_slice());
         }
         if verb == "diffs" {
-            return diffs(self.alloc, rest);
-        }
-        if verb == "say" {
-            return self.say(rest);
+            return diffs_body(self.alloc, self.diffs.as_slice());
         }
         if verb == "batch" {
             return self.batch(rest);
         }
-        document_body(self.alloc, verb, rest)
+        body_of(self.alloc, verb, rest)
     }
 }
 
-// The body of a command on a document, or one that is always the same.
-fn document_body(alloc: Global, verb: &str, rest: &str) -> Result<Vec<u8>, DocFault> {
+// A body of one thing, or one that is always the same.
+fn body_of(alloc: Global, verb: &str, rest: &str) -> Result<Vec<u8>, AllocError> {
+    if verb == "info" {
+        return info(alloc, rest);
+    }
     if verb == "edit" {
         return edit(alloc, rest);
     }
@@ -272,7 +243,7 @@ fn document_body(alloc: Global, verb: &str, rest: &str) -> Result<Vec<u8>, DocFa
     if verb == "local" {
         return local(alloc, rest);
     }
-    made(Vec::from_slice(alloc, fixed(verb)))
+    Vec::from_slice(alloc, fixed(verb))
 }
 
 // A body that is always the same.
@@ -293,11 +264,14 @@ const BODIES: &str = r#"
 # names of databases
 > names
 []
-> names b/c
+> name b/c
+> names
 ["b/c"]
-> names b/c a
+> name a
+> names
 ["b/c","a"]
-> names b/c a ODD
+> name ODD
+> names
 ["b/c","a","\"\\\n\u0001é😀"]
 # what a database says of itself
 > info d 2 0 3 1
@@ -323,16 +297,22 @@ const BODIES: &str = r#"
 # revisions that are asked for
 > open-revs
 []
-> open-revs 9-z
+> missing 9-z
+> open-revs
 [{"missing":"9-z"}]
-> open-revs 9-z | {"_id":"d","_rev":"1-a","_deleted":true,"k":1} | 9-z
+> found {"_id":"d","_rev":"1-a","_deleted":true,"k":1}
+> missing 9-z
+> open-revs
 [{"missing":"9-z"},{"ok":{"_id":"d","_rev":"1-a","_deleted":true,"_revisions":{"start":1,"ids":["a"]},"k":1}},{"missing":"9-z"}]
 # missing revisions and possible ancestors
 > diffs
 {}
-> diffs a 2-d 3-e / 2-c
+> diff a 2-d 3-e / 2-c
+> diffs
 {"a":{"missing":["2-d","3-e"],"possible_ancestors":["2-c"]}}
-> diffs a 2-d 3-e / 2-c | z 1-q | ODD 4-w / 3-y 3-x
+> diff z 1-q
+> diff ODD 4-w / 3-y 3-x
+> diffs
 {"a":{"missing":["2-d","3-e"],"possible_ancestors":["2-c"]},"z":{"missing":["1-q"]},"\"\\\n\u0001é😀":{"missing":["4-w"],"possible_ancestors":["3-y","3-x"]}}
 # a batch of known documents, of others, and of elements that are none; one element has no reply of its own
 > say nothing

@@ -28,20 +28,34 @@ impl<R> Subject<R> for Session {
     }
 
     fn answer(&mut self, _: &R, command: &str, answer: &mut Answer) -> Result<(), AllocError> {
-        let mut words = Words::of(command);
-        let request = Request {
-            method: MethodName::new(self.alloc, words.word().as_bytes())?,
-            target: target_of(self.alloc, words.word())?,
-            has_length: words.rest() == "with a length",
-            close: false,
-            body: Vec::new(self.alloc),
-        };
-        match self.routes.route(self.alloc, &request) {
-            Ok(route) => answer.text(shown(self.alloc, &route)?.as_str()),
+        let request = request_of(self.alloc, command)?;
+        self.go(&request, answer)
+    }
+}
+
+impl Session {
+    // Answers where a request goes.
+    fn go(&self, request: &Request, answer: &mut Answer) -> Result<(), AllocError> {
+        match self.routes.route(self.alloc, request) {
+            Ok(route) => put(self.alloc, &route, answer),
             Err(RouteFault::NoMemory) if !is_plain(request.target.as_slice()) => Err(AllocError),
             Err(fault) => answer.line(Refusal::from(fault).reason()),
         }
     }
+}
+
+// The request that is written so.
+fn request_of(alloc: Global, command: &str) -> Result<Request, AllocError> {
+    let mut words = Words::of(command);
+    let method = words.word();
+    let target = target_of(alloc, words.word())?;
+    Ok(Request {
+        method: MethodName::new(alloc, method.as_bytes())?,
+        target,
+        has_length: words.rest() == "with a length",
+        close: false,
+        body: Vec::new(alloc),
+    })
 }
 
 // The target that is written so.
@@ -76,13 +90,17 @@ fn mark(text: &CowStr<'_>) -> &'static str {
     }
 }
 
-fn shown(alloc: Global, route: &Route<'_>) -> Result<String, AllocError> {
-    let (db, id) = (mark(&route.db), mark(&route.id));
-    let query = str::from_utf8(route.query).unwrap_or("no text");
-    format!(in alloc;
-        "{:?} db{db}={} id{id}={} query={query}",
-        route.call, route.db, route.id
-    )
+fn put(alloc: Global, route: &Route<'_>, answer: &mut Answer) -> Result<(), AllocError> {
+    let Route {
+        call,
+        db,
+        id,
+        query,
+    } = route;
+    let query = str::from_utf8(query).unwrap_or("no text");
+    let (own_db, own_id) = (mark(db), mark(id));
+    let text = format!(in alloc; "{call:?} db{own_db}={db} id{own_id}={id} query={query}")?;
+    answer.text(text.as_str())
 }
 
 const ROUTES: &str = r#"

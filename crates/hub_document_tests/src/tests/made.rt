@@ -32,8 +32,8 @@ fn put_at(
     put_doc(alloc, id, rev, new_edits, &value)
 }
 
-// What a word stands for.
-fn bytes_of<'a>(built: &'a [u8], word: &'a str) -> &'a [u8] {
+/// What a word stands for.
+pub(super) fn bytes_of<'a>(built: &'a [u8], word: &'a str) -> &'a [u8] {
     if word == "$" { built } else { word.as_bytes() }
 }
 

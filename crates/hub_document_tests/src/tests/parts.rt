@@ -249,7 +249,8 @@ pub(super) fn part(alloc: Global, verb: &str, rest: &str, out: &mut Out) -> Resu
 fn more(alloc: Global, verb: &str, rest: &str, out: &mut Out) -> Result<(), DocFault> {
     let mut words = Words::of(rest);
     if verb == "digest" {
-        return digest(alloc, words.number() as u16, out);
+        let generation = u16::try_from(words.number()).unwrap_or(0);
+        return digest(alloc, generation, out);
     }
     if verb == "sequence" {
         let _ = put_sequence(&mut out.bytes, words.number(), words.number());

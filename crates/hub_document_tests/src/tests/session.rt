@@ -1,6 +1,6 @@
 //! The interpreter of transcripts.
 
-use super::made::{put, room_value, value};
+use super::made::{bytes_of, put, room_value, value};
 use super::shown::{Out, show};
 use super::texts::text;
 use hub_document::{Doc, DocFault, JsonRoom};
@@ -87,7 +87,9 @@ impl Session {
             return self.add(words.number(), words.rest().as_bytes());
         }
         if verb == "byte" {
-            return self.add(words.number(), &[words.number() as u8]);
+            let count = words.number();
+            let byte = u8::try_from(words.number()).unwrap_or(0);
+            return self.add(count, &[byte]);
         }
         self.read(verb, rest)
     }
@@ -95,11 +97,7 @@ impl Session {
     // Reads a document.
     fn read(&mut self, verb: &str, rest: &str) -> Result<(), DocFault> {
         let alloc = self.alloc;
-        let bytes = if rest == "$" {
-            self.built.as_slice()
-        } else {
-            rest.as_bytes()
-        };
+        let bytes = bytes_of(self.built.as_slice(), rest);
         let read = if verb == "new" {
             Doc::read(alloc, bytes, true)
         } else if verb == "came" {

@@ -1,24 +1,29 @@
 //! What a tree is asked.
 
 use super::session::{Session, put, put_rev, revs_of};
-use hub_document::{Body, Path, RevId};
+use hub_document::{Path, RevId};
 use hub_revtree::StoredEdit;
 use hub_transcript::Words;
 use std::alloc::{AllocError, Global};
+use std::str;
 
 // Writes an edit as a tree shows it.
 fn put_edit(alloc: Global, edit: &StoredEdit<'_>, out: &mut Vec<u8>) -> Result<(), AllocError> {
     let head = format!(in alloc; " deleted {} of {} ", edit.deleted, edit.count)?;
     put_rev(out, "edit", &edit.rev);
     put(out, head.as_str());
-    put_body(out, edit.body);
+    let _ = out.extend_from_slice(edit.body.as_bytes());
     Ok(())
 }
 
-// Writes members and the end of a line.
-fn put_body(out: &mut Vec<u8>, body: &Body) {
-    let _ = out.extend_from_slice(body.as_bytes());
-    put(out, "\n");
+// The edit that a tree shows, if there is one.
+fn stored(alloc: Global, edit: &Option<StoredEdit<'_>>) -> Result<Vec<u8>, AllocError> {
+    let mut text = Vec::with_capacity(alloc, 512)?;
+    match edit {
+        Some(edit) => put_edit(alloc, edit, &mut text)?,
+        None => put(&mut text, "none"),
+    }
+    Ok(text)
 }
 
 // Whether these are revisions with this hash, from the generation of the first down to 1.
@@ -210,8 +215,7 @@ impl Session {
             return self.whole(rest);
         }
         if verb == "edit" {
-            let edit = self.tree.edit(Words::of(rest).number() as usize);
-            return say_stored(self.alloc, edit, &mut self.out);
+            return self.edit_at(Words::of(rest).number() as usize);
         }
         if verb == "rev" || verb == "knows" || verb == "headed" {
             return self.ask_of(verb, rest);
@@ -225,6 +229,18 @@ impl Session {
         self.say("?")
     }
 
+    // The edit of this number.
+    fn edit_at(&mut self, at: usize) -> Result<(), AllocError> {
+        let text = stored(self.alloc, &self.tree.edit(at))?;
+        self.say(str::from_utf8(text.as_slice()).unwrap_or("no text"))
+    }
+
+    // The edit of this revision.
+    fn edit_of(&mut self, rev: &RevId) -> Result<(), AllocError> {
+        let text = stored(self.alloc, &self.tree.headed(rev))?;
+        self.say(str::from_utf8(text.as_slice()).unwrap_or("no text"))
+    }
+
     // Asks the tree of a revision.
     fn ask_of(&mut self, verb: &str, rest: &str) -> Result<(), AllocError> {
         let Some(rev) = RevId::read(rest) else {
@@ -234,24 +250,9 @@ impl Session {
             return self.rev(&rev);
         }
         if verb == "headed" {
-            return say_stored(self.alloc, self.tree.headed(&rev), &mut self.out);
+            return self.edit_of(&rev);
         }
         let known = self.tree.knows(&rev);
         self.say(if known { "known" } else { "unknown" })
-    }
-}
-
-// Answers the edit that a tree shows, if there is one.
-fn say_stored(
-    alloc: Global,
-    edit: Option<StoredEdit<'_>>,
-    out: &mut Vec<u8>,
-) -> Result<(), AllocError> {
-    match &edit {
-        Some(edit) => put_edit(alloc, edit, out),
-        None => {
-            put(out, "none\n");
-            Ok(())
-        }
     }
 }

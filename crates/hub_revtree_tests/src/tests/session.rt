@@ -404,10 +404,15 @@ impl Session {
         Ok(())
     }
 
-    // Carries out a command.
+    // Carries out a command at the number of the time.
     fn made(&mut self, command: &str) -> Result<(), AllocError> {
         let command = self.filled(command)?;
         let (verb, rest) = command.split_once(' ').unwrap_or((command.as_str(), ""));
+        self.carry_out(verb, rest)
+    }
+
+    // Carries out a command.
+    fn carry_out(&mut self, verb: &str, rest: &str) -> Result<(), AllocError> {
         if verb == "merge" {
             return self.merge(rest.as_bytes());
         }
