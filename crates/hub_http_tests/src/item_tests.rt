@@ -1,164 +1,55 @@
 //! The texts of items, in feeds of changes and of updates, and the names of methods.
 
-use crate::made_again::{again, behind, same};
+use crate::texts::{Shown, place_of, undone};
 use hub_document::{ChangeRow, Changes, Doc, DocFault, RevId, Revisions, UpdateRow};
 use hub_http::{MethodName, RowText, item_text};
 use hub_model::{Item, Mode, UpdateKind};
+use hub_transcript::{Answer, Subject, Words, replay};
 use std::alloc::{AllocError, Global};
 use std::test::Fail;
 
-/// An item of a feed of changes.
-#[derive(Clone, Copy)]
-enum Told {
-    /// The row of a sequence and a document, with a further revision or none, and whether it brings the document.
-    Row(u64, &'static str, &'static str, bool),
-    /// The last sequence, and how many rows are pending.
-    End(u64, u64),
-    Beat,
-}
-
-/// An item, how many rows came before, the life of its database, and its text.
-struct Case {
+/// A feed, and the texts of its items.
+///
+/// - `feed MODE ROWS LIFE`: a feed of this mode that wrote so many rows, of a database in this life.
+/// - `row SEQ REV DOC`: the row of a sequence and a document, with a further revision where it is one. `doc
+///   SEQ REV DOC`: the same of a row that brings the document. `end SEQ PENDING`, `beat`: the end and a
+///   heartbeat.
+/// - `update KIND SEQ NAME`: what happened to a database, in a feed of updates. `end_of_updates SEQ PENDING`,
+///   `beat_of_updates`: its end and a heartbeat.
+/// - `method NAME`: the name of a method.
+#[derive(Drop)]
+struct Feed {
+    alloc: Global,
     mode: Mode,
     rows_before: u64,
     life: u64,
-    item: Told,
-    text: &'static str,
 }
 
-const ITEMS: &[Case] = &[
-    Case {
-        mode: Mode::Normal,
-        rows_before: 0,
-        life: 1,
-        item: Told::Row(1, r#"{"_id":"a","_rev":"1-a"}"#, "", false),
-        text: r#"{"seq":"1-1","id":"a","changes":[{"rev":"1-a"}]}"#,
-    },
-    Case {
-        mode: Mode::Normal,
-        rows_before: 1,
-        life: 1,
-        item: Told::Row(2, r#"{"_id":"b","_rev":"1-b"}"#, "", false),
-        text: ",\n{\"seq\":\"2-1\",\"id\":\"b\",\"changes\":[{\"rev\":\"1-b\"}]}",
-    },
-    Case {
-        mode: Mode::Normal,
-        rows_before: 2,
-        life: 1,
-        item: Told::End(2, 0),
-        text: "\n],\n\"last_seq\":\"2-1\",\"pending\":0}\n",
-    },
-    Case {
-        mode: Mode::Continuous,
-        rows_before: 3,
-        life: 1,
-        item: Told::Row(
-            u64::MAX,
-            r#"{"_id":"a\"\\\u0001\n\u00e9/","_rev":"1-Z9z","_deleted":true}"#,
-            "65535-0",
-            false,
-        ),
-        text: concat!(
-            r#"{"seq":"18446744073709551615-1","id":"a\"\\\u0001\n"#,
-            "\u{e9}",
-            r#"/","changes":[{"rev":"1-Z9z"},{"rev":"65535-0"}],"deleted":true}"#,
-            "\n"
-        ),
-    },
-    Case {
-        mode: Mode::Continuous,
-        rows_before: 0,
-        life: u64::MAX,
-        item: Told::Row(u64::MAX, r#"{"_id":"a","_rev":"1-a"}"#, "", false),
-        text: concat!(
-            r#"{"seq":"18446744073709551615-18446744073709551615","id":"a","changes":[{"rev":"1-a"}]}"#,
-            "\n"
-        ),
-    },
-    Case {
-        mode: Mode::Continuous,
-        rows_before: 1,
-        life: u64::MAX,
-        item: Told::End(u64::MAX, 0),
-        text: concat!(
-            r#"{"last_seq":"18446744073709551615-18446744073709551615","pending":0}"#,
-            "\n"
-        ),
-    },
-    Case {
-        mode: Mode::Continuous,
-        rows_before: 2,
-        life: 1,
-        item: Told::End(9, 7),
-        text: "{\"last_seq\":\"9-1\",\"pending\":7}\n",
-    },
-    Case {
-        mode: Mode::Longpoll,
-        rows_before: 2,
-        life: 1,
-        item: Told::End(9, 7),
-        text: "\n],\n\"last_seq\":\"9-1\",\"pending\":7}\n",
-    },
-    Case {
-        mode: Mode::Normal,
-        rows_before: 1,
-        life: 1,
-        item: Told::Beat,
-        text: "\n",
-    },
-    Case {
-        mode: Mode::Longpoll,
-        rows_before: 1,
-        life: 1,
-        item: Told::Beat,
-        text: "\n",
-    },
-    Case {
-        mode: Mode::Continuous,
-        rows_before: 1,
-        life: 1,
-        item: Told::Beat,
-        text: "\n",
-    },
-    Case {
-        mode: Mode::Normal,
-        rows_before: 0,
-        life: 1,
-        item: Told::Row(7, r#"{"_id":"a","_rev":"1-x","v":7}"#, "", true),
-        text: r#"{"seq":"7-1","id":"a","changes":[{"rev":"1-x"}],"doc":{"_id":"a","_rev":"1-x","v":7}}"#,
-    },
-    Case {
-        mode: Mode::Continuous,
-        rows_before: 4,
-        life: 1,
-        item: Told::Row(7, r#"{"_id":"a","_rev":"1-x","v":7}"#, "", true),
-        text: concat!(
-            r#"{"seq":"7-1","id":"a","changes":[{"rev":"1-x"}],"doc":{"_id":"a","_rev":"1-x","v":7}}"#,
-            "\n"
-        ),
-    },
-    Case {
-        mode: Mode::Normal,
-        rows_before: 0,
-        life: 1,
-        item: Told::Row(7, r#"{"_id":"b","_rev":"2-y","_deleted":true}"#, "", true),
-        text: concat!(
-            r#"{"seq":"7-1","id":"b","changes":[{"rev":"2-y"}],"deleted":true,"#,
-            r#""doc":{"_id":"b","_rev":"2-y","_deleted":true}}"#
-        ),
-    },
-    Case {
-        mode: Mode::Continuous,
-        rows_before: 4,
-        life: 1,
-        item: Told::Row(7, r#"{"_id":"b","_rev":"2-y","_deleted":true}"#, "", true),
-        text: concat!(
-            r#"{"seq":"7-1","id":"b","changes":[{"rev":"2-y"}],"deleted":true,"#,
-            r#""doc":{"_id":"b","_rev":"2-y","_deleted":true}}"#,
-            "\n"
-        ),
-    },
-];
+fn mode_of(name: &str) -> Option<Mode> {
+    if name == "normal" {
+        return Some(Mode::Normal);
+    }
+    if name == "longpoll" {
+        return Some(Mode::Longpoll);
+    }
+    if name == "continuous" {
+        return Some(Mode::Continuous);
+    }
+    None
+}
+
+fn kind_of(name: &str) -> Option<UpdateKind> {
+    if name == "created" {
+        return Some(UpdateKind::Created);
+    }
+    if name == "updated" {
+        return Some(UpdateKind::Updated);
+    }
+    if name == "deleted" {
+        return Some(UpdateKind::Deleted);
+    }
+    None
+}
 
 // The revisions of a row, of which the second may be none.
 fn changes(alloc: Global, rev: RevId, other: Option<RevId>) -> Result<Changes, AllocError> {
@@ -168,240 +59,295 @@ fn changes(alloc: Global, rev: RevId, other: Option<RevId>) -> Result<Changes, A
     }
 }
 
-fn row(
-    alloc: Global,
-    seq: u64,
-    text: &str,
-    other: &str,
-    brings_doc: bool,
-) -> Result<Item<ChangeRow>, DocFault> {
-    let doc = Doc::read(alloc, text.as_bytes(), true)?;
+// A row of these words: its sequence, a further revision, and its document, which it may bring.
+fn row_of(alloc: Global, command: &str, brings: bool) -> Result<ChangeRow, DocFault> {
+    let mut words = Words::of(command);
+    let seq = words.number();
+    let other = RevId::read(words.word());
+    let doc = Doc::read(alloc, words.rest().as_bytes(), true)?;
     let Some(rev) = doc.rev else {
         return Err(DocFault::BadRev);
     };
-    Ok(Item::Row(ChangeRow {
+    Ok(ChangeRow {
         seq,
         id: doc.id,
-        changes: changes(alloc, rev, RevId::read(other))?,
+        changes: changes(alloc, rev, other)?,
         deleted: doc.deleted,
-        doc: if brings_doc { Some(doc.body) } else { None },
+        doc: if brings { Some(doc.body) } else { None },
         seen: seq,
-    }))
+    })
 }
 
-fn item_of(alloc: Global, told: Told) -> Result<Item<ChangeRow>, DocFault> {
-    match told {
-        Told::Row(seq, text, other, brings_doc) => row(alloc, seq, text, other, brings_doc),
-        Told::End(last_seq, pending) => Ok(Item::End { last_seq, pending }),
-        Told::Beat => Ok(Item::Beat),
-    }
-}
-
-// An item's text, behind what was held.
-fn text_of<R: RowText>(
-    alloc: Global,
-    mode: Mode,
-    rows_before: u64,
-    life: u64,
-    item: &Item<R>,
-) -> Result<Vec<u8>, AllocError> {
-    let mut out = Vec::from_slice(alloc, b"held")?;
-    item_text(&mut out, mode, rows_before, life, item)?;
-    Ok(out)
-}
-
-fn text_of_case(alloc: Global, case: &Case) -> Result<Vec<u8>, DocFault> {
-    let item = item_of(alloc, case.item)?;
-    Ok(text_of(alloc, case.mode, case.rows_before, case.life, &item)?)
-}
-
-#[test]
-fn items_of_changes(rt: HostRuntime) -> Result<(), Fail> {
-    for case in ITEMS {
-        let text = again!(text_of_case(rt.alloc(), case))?;
-        same(
-            &rt,
-            case.text,
-            behind(text.as_slice(), "held"),
-            case.text.as_bytes(),
-        );
-    }
-    Ok(())
-}
-
-/// Documents of one revision with a digest's hash, as most are, whether the row brings them, and the text of the
-/// row behind that revision.
-const PLAIN: &[(&str, bool, &str)] = &[
-    (
-        r#"{"_id":"a b","_rev":"3-00112233445566778899aabbccddeeff","v":7}"#,
-        false,
-        "}",
-    ),
-    (
-        r#"{"_id":"a b","_rev":"3-00112233445566778899aabbccddeeff","_deleted":true,"v":7}"#,
-        false,
-        r#","deleted":true}"#,
-    ),
-    (
-        r#"{"_id":"a b","_rev":"3-00112233445566778899aabbccddeeff","v":7}"#,
-        true,
-        r#","doc":{"_id":"a b","_rev":"3-00112233445566778899aabbccddeeff","v":7}}"#,
-    ),
-    (
-        r#"{"_id":"a b","_rev":"3-00112233445566778899aabbccddeeff","_deleted":true,"v":7}"#,
-        true,
-        concat!(
-            r#","deleted":true,"doc":{"_id":"a b","_rev":"3-00112233445566778899aabbccddeeff","#,
-            r#""_deleted":true,"v":7}}"#
-        ),
-    ),
-];
-
-/// Lives, and the text of a row as far as its revision.
-const LIVES: &[(u64, &str)] = &[
-    (
-        0,
-        concat!(
-            "held,\n",
-            r#"{"seq":"12-0","id":"a b","changes":[{"rev":"3-00112233445566778899aabbccddeeff"}]"#
-        ),
-    ),
-    (
-        9,
-        concat!(
-            "held,\n",
-            r#"{"seq":"12-9","id":"a b","changes":[{"rev":"3-00112233445566778899aabbccddeeff"}]"#
-        ),
-    ),
-    (
-        10,
-        concat!(
-            "held,\n",
-            r#"{"seq":"12-10","id":"a b","changes":[{"rev":"3-00112233445566778899aabbccddeeff"}]"#
-        ),
-    ),
-    (
-        123,
-        concat!(
-            "held,\n",
-            r#"{"seq":"12-123","id":"a b","changes":[{"rev":"3-00112233445566778899aabbccddeeff"}]"#
-        ),
-    ),
-];
-
-#[test]
-fn plain_rows_of_several_lives(rt: HostRuntime) -> Result<(), Fail> {
-    for (doc, brings_doc, end) in PLAIN {
-        let item = again!(row(rt.alloc(), 12, doc, "", *brings_doc))?;
-        for (life, front) in LIVES {
-            let text = again!(text_of(rt.alloc(), Mode::Normal, 1, *life, &item))?;
-            same(&rt, front, behind(text.as_slice(), front), end.as_bytes());
+impl Feed {
+    // Shows an item's text, which stands behind what was held.
+    fn tell<R: RowText>(&self, item: &Item<R>, answer: &mut Answer) -> Result<(), AllocError> {
+        let mut out = Vec::from_slice(self.alloc, b"held")?;
+        item_text(&mut out, self.mode, self.rows_before, self.life, item)?;
+        match out.strip_prefix(b"held".as_slice()) {
+            Some(text) => answer.line(Shown(text)),
+            None => answer.text("what was held is lost\n"),
         }
     }
-    Ok(())
-}
 
-// A name, what happened to the database, a sequence, and the object that says so.
-const ROWS: &[(&str, UpdateKind, u64, &str)] = &[
-    (
-        "d",
-        UpdateKind::Created,
-        1,
-        r#"{"db_name":"d","type":"created","seq":"1-0"}"#,
-    ),
-    (
-        "team/mail-1",
-        UpdateKind::Updated,
-        20,
-        r#"{"db_name":"team/mail-1","type":"updated","seq":"20-0"}"#,
-    ),
-    (
-        "a\"b\\c\n\u{1}",
-        UpdateKind::Deleted,
-        18446744073709551615,
-        r#"{"db_name":"a\"b\\c\n\u0001","type":"deleted","seq":"18446744073709551615-0"}"#,
-    ),
-];
-
-// A mode, how many rows came before, and what stands before and behind the object.
-const PLACES: &[(Mode, u64, &str, &str)] = &[
-    (Mode::Normal, 0, "", ""),
-    (Mode::Normal, 1, ",\n", ""),
-    (Mode::Longpoll, 0, "", ""),
-    (Mode::Longpoll, 2, ",\n", ""),
-    (Mode::Continuous, 0, "", "\n"),
-    (Mode::Continuous, 3, "", "\n"),
-];
-
-// A mode, the last sequence, and the text of the end.
-const ENDS: &[(Mode, u64, &str)] = &[
-    (Mode::Normal, 9, "\n],\n\"last_seq\":\"9-0\"}\n"),
-    (Mode::Longpoll, 0, "\n],\n\"last_seq\":\"0-0\"}\n"),
-    (
-        Mode::Continuous,
-        18446744073709551615,
-        "{\"last_seq\":\"18446744073709551615-0\"}\n",
-    ),
-];
-
-fn update(
-    alloc: Global,
-    name: &str,
-    kind: UpdateKind,
-    seq: u64,
-) -> Result<Item<UpdateRow>, AllocError> {
-    Ok(Item::Row(UpdateRow {
-        db_name: name.to_string(alloc)?,
-        kind,
-        seq,
-        seen: 0,
-    }))
-}
-
-#[test]
-fn rows_of_updates(rt: HostRuntime) -> Result<(), Fail> {
-    for (name, kind, seq, object) in ROWS {
-        let item = again!(update(rt.alloc(), name, *kind, *seq))?;
-        for (mode, rows_before, before, after) in PLACES {
-            let text = again!(text_of(rt.alloc(), *mode, *rows_before, 0, &item))?;
-            let rest = behind(behind(text.as_slice(), "held"), before);
-            same(&rt, object, behind(rest, object), after.as_bytes());
-        }
-    }
-    Ok(())
-}
-
-/// In each mode the end has its text, and a heartbeat is a line feed.
-#[test]
-fn ends_and_heartbeats_of_updates(rt: HostRuntime) -> Result<(), Fail> {
-    let beat: Item<UpdateRow> = Item::Beat;
-    for (mode, last_seq, wanted) in ENDS {
-        let end: Item<UpdateRow> = Item::End {
-            last_seq: *last_seq,
-            pending: 7,
+    fn set(&mut self, command: &str, answer: &mut Answer) -> Result<(), AllocError> {
+        let mut words = Words::of(command);
+        let Some(mode) = mode_of(words.word()) else {
+            return answer.text("no mode\n");
         };
-        let text = again!(text_of(rt.alloc(), *mode, 2, 0, &end))?;
-        same(
-            &rt,
-            wanted,
-            behind(text.as_slice(), "held"),
-            wanted.as_bytes(),
-        );
-        let text = again!(text_of(rt.alloc(), *mode, 2, 0, &beat))?;
-        same(&rt, "a heartbeat", text.as_slice(), b"held\n");
+        self.mode = mode;
+        self.rows_before = words.number();
+        self.life = words.number();
+        Ok(())
     }
-    Ok(())
+
+    fn row(&self, brings: bool, command: &str, answer: &mut Answer) -> Result<(), AllocError> {
+        match row_of(self.alloc, command, brings) {
+            Ok(row) => self.tell(&Item::Row(row), answer),
+            Err(DocFault::NoMemory) => Err(AllocError),
+            Err(fault) => answer.line(fault),
+        }
+    }
+
+    fn update(&self, command: &str, answer: &mut Answer) -> Result<(), AllocError> {
+        let mut words = Words::of(command);
+        let Some(kind) = kind_of(words.word()) else {
+            return answer.text("no kind\n");
+        };
+        let seq = words.number();
+        let name = undone(self.alloc, words.rest())?;
+        let Ok(db_name) = String::from_utf8(name) else {
+            return answer.text("no name\n");
+        };
+        let row = UpdateRow {
+            db_name,
+            kind,
+            seq,
+            seen: 0,
+        };
+        self.tell(&Item::Row(row), answer)
+    }
+
+    fn end<R: RowText + Drop>(&self, command: &str, answer: &mut Answer) -> Result<(), AllocError> {
+        let mut words = Words::of(command);
+        let end: Item<R> = Item::End {
+            last_seq: words.number(),
+            pending: words.number(),
+        };
+        self.tell(&end, answer)
+    }
+
+    fn beat<R: RowText + Drop>(&self, answer: &mut Answer) -> Result<(), AllocError> {
+        let beat: Item<R> = Item::Beat;
+        self.tell(&beat, answer)
+    }
+
+    fn method(&self, name: &str, answer: &mut Answer) -> Result<(), AllocError> {
+        let made = MethodName::new(self.alloc, name.as_bytes())?;
+        answer.line(Shown(made.as_slice()))
+    }
 }
 
-const NAMES: &[&str] = &[
-    "GET", "HEAD", "PUT", "POST", "DELETE", "get", "PATCH", "GETS", "",
-];
+/// The commands, in the order in which they are looked up.
+const VERBS: &str = "feed row doc end beat update end_of_updates beat_of_updates method";
+
+impl<R> Subject<R> for Feed {
+    fn begin(_: &R, alloc: Global, _: &str) -> Result<Feed, AllocError> {
+        Ok(Feed {
+            alloc,
+            mode: Mode::Normal,
+            rows_before: 0,
+            life: 0,
+        })
+    }
+
+    fn answer(&mut self, _: &R, command: &str, answer: &mut Answer) -> Result<(), AllocError> {
+        let (verb, rest) = command.split_once(' ').unwrap_or((command, ""));
+        match place_of(verb, VERBS) {
+            0 => self.set(rest, answer),
+            1 => self.row(false, rest, answer),
+            2 => self.row(true, rest, answer),
+            3 => self.end::<ChangeRow>(rest, answer),
+            4 => self.beat::<ChangeRow>(answer),
+            5 => self.update(rest, answer),
+            6 => self.end::<UpdateRow>(rest, answer),
+            7 => self.beat::<UpdateRow>(answer),
+            8 => self.method(rest, answer),
+            _ => answer.text("?\n"),
+        }
+    }
+}
+
+const ITEMS: &str = r#"
+# a normal feed
+> feed normal 0 1
+> row 1 - {"_id":"a","_rev":"1-a"}
+{"seq":"1-1","id":"a","changes":[{"rev":"1-a"}]}
+> feed normal 1 1
+> row 2 - {"_id":"b","_rev":"1-b"}
+,\n{"seq":"2-1","id":"b","changes":[{"rev":"1-b"}]}
+> beat
+\n
+> feed normal 2 1
+> end 2 0
+\n],\n"last_seq":"2-1","pending":0}\n
+
+# a longpoll feed
+> feed longpoll 1 1
+> beat
+\n
+> feed longpoll 2 1
+> end 9 7
+\n],\n"last_seq":"9-1","pending":7}\n
+
+# a continuous feed
+> feed continuous 3 1
+> row 18446744073709551615 65535-0 {"_id":"a\"\\\u0001\n\u00e9/","_rev":"1-Z9z","_deleted":true}
+{"seq":"18446744073709551615-1","id":"a\\"\\\\\\u0001\\n\xc3\xa9/","changes":[{"rev":"1-Z9z"},{"rev":"65535-0"}],"deleted":true}\n
+> feed continuous 0 18446744073709551615
+> row 18446744073709551615 - {"_id":"a","_rev":"1-a"}
+{"seq":"18446744073709551615-18446744073709551615","id":"a","changes":[{"rev":"1-a"}]}\n
+> feed continuous 1 18446744073709551615
+> end 18446744073709551615 0
+{"last_seq":"18446744073709551615-18446744073709551615","pending":0}\n
+> feed continuous 2 1
+> end 9 7
+{"last_seq":"9-1","pending":7}\n
+> feed continuous 1 1
+> beat
+\n
+
+# rows that bring their documents
+> feed normal 0 1
+> doc 7 - {"_id":"a","_rev":"1-x","v":7}
+{"seq":"7-1","id":"a","changes":[{"rev":"1-x"}],"doc":{"_id":"a","_rev":"1-x","v":7}}
+> doc 7 - {"_id":"b","_rev":"2-y","_deleted":true}
+{"seq":"7-1","id":"b","changes":[{"rev":"2-y"}],"deleted":true,"doc":{"_id":"b","_rev":"2-y","_deleted":true}}
+> feed continuous 4 1
+> doc 7 - {"_id":"a","_rev":"1-x","v":7}
+{"seq":"7-1","id":"a","changes":[{"rev":"1-x"}],"doc":{"_id":"a","_rev":"1-x","v":7}}\n
+> doc 7 - {"_id":"b","_rev":"2-y","_deleted":true}
+{"seq":"7-1","id":"b","changes":[{"rev":"2-y"}],"deleted":true,"doc":{"_id":"b","_rev":"2-y","_deleted":true}}\n
+
+# rows of one revision with a digest's hash, as most are, of several lives
+> feed normal 1 0
+> row 12 - {"_id":"a b","_rev":"3-00112233445566778899aabbccddeeff","v":7}
+,\n{"seq":"12-0","id":"a b","changes":[{"rev":"3-00112233445566778899aabbccddeeff"}]}
+> row 12 - {"_id":"a b","_rev":"3-00112233445566778899aabbccddeeff","_deleted":true,"v":7}
+,\n{"seq":"12-0","id":"a b","changes":[{"rev":"3-00112233445566778899aabbccddeeff"}],"deleted":true}
+> doc 12 - {"_id":"a b","_rev":"3-00112233445566778899aabbccddeeff","v":7}
+,\n{"seq":"12-0","id":"a b","changes":[{"rev":"3-00112233445566778899aabbccddeeff"}],"doc":{"_id":"a b","_rev":"3-00112233445566778899aabbccddeeff","v":7}}
+> doc 12 - {"_id":"a b","_rev":"3-00112233445566778899aabbccddeeff","_deleted":true,"v":7}
+,\n{"seq":"12-0","id":"a b","changes":[{"rev":"3-00112233445566778899aabbccddeeff"}],"deleted":true,"doc":{"_id":"a b","_rev":"3-00112233445566778899aabbccddeeff","_deleted":true,"v":7}}
+> feed normal 1 9
+> row 12 - {"_id":"a b","_rev":"3-00112233445566778899aabbccddeeff","v":7}
+,\n{"seq":"12-9","id":"a b","changes":[{"rev":"3-00112233445566778899aabbccddeeff"}]}
+> row 12 - {"_id":"a b","_rev":"3-00112233445566778899aabbccddeeff","_deleted":true,"v":7}
+,\n{"seq":"12-9","id":"a b","changes":[{"rev":"3-00112233445566778899aabbccddeeff"}],"deleted":true}
+> doc 12 - {"_id":"a b","_rev":"3-00112233445566778899aabbccddeeff","v":7}
+,\n{"seq":"12-9","id":"a b","changes":[{"rev":"3-00112233445566778899aabbccddeeff"}],"doc":{"_id":"a b","_rev":"3-00112233445566778899aabbccddeeff","v":7}}
+> doc 12 - {"_id":"a b","_rev":"3-00112233445566778899aabbccddeeff","_deleted":true,"v":7}
+,\n{"seq":"12-9","id":"a b","changes":[{"rev":"3-00112233445566778899aabbccddeeff"}],"deleted":true,"doc":{"_id":"a b","_rev":"3-00112233445566778899aabbccddeeff","_deleted":true,"v":7}}
+> feed normal 1 10
+> row 12 - {"_id":"a b","_rev":"3-00112233445566778899aabbccddeeff","v":7}
+,\n{"seq":"12-10","id":"a b","changes":[{"rev":"3-00112233445566778899aabbccddeeff"}]}
+> row 12 - {"_id":"a b","_rev":"3-00112233445566778899aabbccddeeff","_deleted":true,"v":7}
+,\n{"seq":"12-10","id":"a b","changes":[{"rev":"3-00112233445566778899aabbccddeeff"}],"deleted":true}
+> doc 12 - {"_id":"a b","_rev":"3-00112233445566778899aabbccddeeff","v":7}
+,\n{"seq":"12-10","id":"a b","changes":[{"rev":"3-00112233445566778899aabbccddeeff"}],"doc":{"_id":"a b","_rev":"3-00112233445566778899aabbccddeeff","v":7}}
+> doc 12 - {"_id":"a b","_rev":"3-00112233445566778899aabbccddeeff","_deleted":true,"v":7}
+,\n{"seq":"12-10","id":"a b","changes":[{"rev":"3-00112233445566778899aabbccddeeff"}],"deleted":true,"doc":{"_id":"a b","_rev":"3-00112233445566778899aabbccddeeff","_deleted":true,"v":7}}
+> feed normal 1 123
+> row 12 - {"_id":"a b","_rev":"3-00112233445566778899aabbccddeeff","v":7}
+,\n{"seq":"12-123","id":"a b","changes":[{"rev":"3-00112233445566778899aabbccddeeff"}]}
+> row 12 - {"_id":"a b","_rev":"3-00112233445566778899aabbccddeeff","_deleted":true,"v":7}
+,\n{"seq":"12-123","id":"a b","changes":[{"rev":"3-00112233445566778899aabbccddeeff"}],"deleted":true}
+> doc 12 - {"_id":"a b","_rev":"3-00112233445566778899aabbccddeeff","v":7}
+,\n{"seq":"12-123","id":"a b","changes":[{"rev":"3-00112233445566778899aabbccddeeff"}],"doc":{"_id":"a b","_rev":"3-00112233445566778899aabbccddeeff","v":7}}
+> doc 12 - {"_id":"a b","_rev":"3-00112233445566778899aabbccddeeff","_deleted":true,"v":7}
+,\n{"seq":"12-123","id":"a b","changes":[{"rev":"3-00112233445566778899aabbccddeeff"}],"deleted":true,"doc":{"_id":"a b","_rev":"3-00112233445566778899aabbccddeeff","_deleted":true,"v":7}}
+
+# rows of updates in each mode
+> feed normal 0 0
+> update created 1 d
+{"db_name":"d","type":"created","seq":"1-0"}
+> update updated 20 team/mail-1
+{"db_name":"team/mail-1","type":"updated","seq":"20-0"}
+> update deleted 18446744073709551615 a"b\\c\n\1
+{"db_name":"a\\"b\\\\c\\n\\u0001","type":"deleted","seq":"18446744073709551615-0"}
+> feed normal 1 0
+> update created 1 d
+,\n{"db_name":"d","type":"created","seq":"1-0"}
+> update updated 20 team/mail-1
+,\n{"db_name":"team/mail-1","type":"updated","seq":"20-0"}
+> update deleted 18446744073709551615 a"b\\c\n\1
+,\n{"db_name":"a\\"b\\\\c\\n\\u0001","type":"deleted","seq":"18446744073709551615-0"}
+> feed longpoll 0 0
+> update created 1 d
+{"db_name":"d","type":"created","seq":"1-0"}
+> update updated 20 team/mail-1
+{"db_name":"team/mail-1","type":"updated","seq":"20-0"}
+> update deleted 18446744073709551615 a"b\\c\n\1
+{"db_name":"a\\"b\\\\c\\n\\u0001","type":"deleted","seq":"18446744073709551615-0"}
+> feed longpoll 2 0
+> update created 1 d
+,\n{"db_name":"d","type":"created","seq":"1-0"}
+> update updated 20 team/mail-1
+,\n{"db_name":"team/mail-1","type":"updated","seq":"20-0"}
+> update deleted 18446744073709551615 a"b\\c\n\1
+,\n{"db_name":"a\\"b\\\\c\\n\\u0001","type":"deleted","seq":"18446744073709551615-0"}
+> feed continuous 0 0
+> update created 1 d
+{"db_name":"d","type":"created","seq":"1-0"}\n
+> update updated 20 team/mail-1
+{"db_name":"team/mail-1","type":"updated","seq":"20-0"}\n
+> update deleted 18446744073709551615 a"b\\c\n\1
+{"db_name":"a\\"b\\\\c\\n\\u0001","type":"deleted","seq":"18446744073709551615-0"}\n
+> feed continuous 3 0
+> update created 1 d
+{"db_name":"d","type":"created","seq":"1-0"}\n
+> update updated 20 team/mail-1
+{"db_name":"team/mail-1","type":"updated","seq":"20-0"}\n
+> update deleted 18446744073709551615 a"b\\c\n\1
+{"db_name":"a\\"b\\\\c\\n\\u0001","type":"deleted","seq":"18446744073709551615-0"}\n
+
+# ends and heartbeats of updates
+> feed normal 2 0
+> end_of_updates 9 7
+\n],\n"last_seq":"9-0"}\n
+> beat_of_updates
+\n
+> feed longpoll 2 0
+> end_of_updates 0 7
+\n],\n"last_seq":"0-0"}\n
+> beat_of_updates
+\n
+> feed continuous 2 0
+> end_of_updates 18446744073709551615 7
+{"last_seq":"18446744073709551615-0"}\n
+> beat_of_updates
+\n
+
+# names of methods
+> method GET
+GET
+> method HEAD
+HEAD
+> method PUT
+PUT
+> method POST
+POST
+> method DELETE
+DELETE
+> method get
+get
+> method PATCH
+PATCH
+> method GETS
+GETS
+> method
+"#;
 
 #[test]
-fn names_of_methods(rt: HostRuntime) -> Result<(), Fail> {
-    for name in NAMES {
-        let made = again!(MethodName::new(rt.alloc(), name.as_bytes()))?;
-        same(&rt, name, made.as_slice(), name.as_bytes());
-    }
-    Ok(())
+fn items(rt: HostRuntime) -> Result<(), Fail> {
+    replay::<Feed, _>(&rt, rt.alloc(), ITEMS)
 }

@@ -1,112 +1,221 @@
 //! Bytes that wait to be sent.
 
-use crate::made_again::{again, same};
-use crate::writer_tests::Sink;
-use hub_http::{Outbox, Output, Transfer, send_vec};
-use std::alloc::Global;
+use crate::sink::Sink;
+use crate::texts::{Shown, place_of, undone};
+use hub_http::{Outbox, Output, send_vec};
+use hub_transcript::{Answer, Subject, Words, replay};
+use std::alloc::{AllocError, Global};
 use std::io::ErrorKind;
-use std::process::Abort;
 use std::test::Fail;
 
-/// An outbox to which two texts were written, with a vector between them.
-fn three_texts(alloc: Global) -> Result<Outbox, Fail> {
-    let vector = again!(Vec::from_slice(alloc, b"defgh"))?;
-    let mut outbox = again!(Outbox::new(alloc))?;
-    outbox.write(b"abc")?;
-    send_vec(&mut outbox, vector)?;
-    if outbox.write(b"ij").is_err() {
-        outbox.write(b"ij")?;
-    }
-    Ok(outbox)
+/// An outbox, and a writer that it is handed to.
+///
+/// - `write TEXT`: a text is written, again where no memory is found: how many bytes. `vector TEXT`: a vector
+///   of a text is sent, which the outbox may keep: how that ends.
+/// - `front`: a front of what is to go. `holds N`: whether so many bytes are to go. `empty`: whether none
+///   are.
+/// - `sent N`: so many bytes went, where so many are there.
+/// - `writer MOST REFUSALS ERROR`: a writer that takes at most so many bytes a write, and has so many errors
+///   before each.
+/// - `hand N`: what is to go is handed to the writer so often: what becomes of each transfer. `held`: what
+///   the writer took.
+#[derive(Drop)]
+struct Waiting {
+    alloc: Global,
+    outbox: Outbox,
+    sink: Sink,
 }
 
-// How often a writer has no room in twelve writes of an outbox.
-fn waits(outbox: &mut Outbox, sink: &mut Sink) -> Result<u32, Fail> {
-    let mut waits = 0u32;
-    for _ in 0..12 {
-        match outbox.send_to(sink) {
-            Transfer::Took(_) => {}
-            Transfer::Again => waits = waits.saturating_add(1),
-            Transfer::Refused => return Err(Fail::new("refused")),
+// A number, or 0 where it is none.
+fn number_of(text: &str) -> usize {
+    text.parse().unwrap_or(0)
+}
+
+// The kind of this name, of the three that a writer of these tests has, or another.
+fn kind_of(name: &str) -> ErrorKind {
+    if name == "BrokenPipe" {
+        return ErrorKind::BrokenPipe;
+    }
+    if name == "Interrupted" {
+        return ErrorKind::Interrupted;
+    }
+    if name == "WouldBlock" {
+        return ErrorKind::WouldBlock;
+    }
+    ErrorKind::Other
+}
+
+impl Waiting {
+    // A write that finds no memory takes nothing.
+    fn write(&mut self, text: &[u8], answer: &mut Answer) -> Result<(), AllocError> {
+        match self.outbox.write(text) {
+            Ok(count) => answer.line(count),
+            Err(_) => Err(AllocError),
         }
     }
-    Ok(waits)
-}
 
-/// A writer takes at most two bytes at every second write, and has no room at the others. What it takes is each
-/// byte once, in order, and nothing is left.
-#[test]
-fn two_bytes_a_write(rt: HostRuntime) -> Result<(), Fail> {
-    let mut outbox = three_texts(rt.alloc())?;
-    let mut sink = Sink::new(rt.alloc(), 1, 1);
-    sink.most = 2;
-    sink.error = ErrorKind::WouldBlock;
-    sink.held = again!(Vec::with_capacity(rt.alloc(), 10))?;
-    assert_eq!(rt; waits(&mut outbox, &mut sink)?, 6);
-    assert!(rt; outbox.is_empty());
-    same(&rt, "held", sink.held.as_slice(), b"abcdefghij");
-    Ok(())
-}
-
-/// An outbox begins with this text, of which so many bytes go.
-fn goes(rt: &impl Abort, outbox: &mut Outbox, front: &str, count: usize) -> Result<(), Fail> {
-    same(rt, front, outbox.front(), front.as_bytes());
-    if !outbox.holds(count) {
-        return Err(Fail::new("fewer bytes"));
+    fn vector(&mut self, text: &str, answer: &mut Answer) -> Result<(), AllocError> {
+        let vector = undone(self.alloc, text)?;
+        let outcome = send_vec(&mut self.outbox, vector);
+        answer.line(format_args!("{outcome:?}"))
     }
-    outbox.sent(count);
-    Ok(())
-}
 
-/// A text that goes behind a part of another keeps its place.
-#[test]
-fn parts_and_texts_by_turns(rt: HostRuntime) -> Result<(), Fail> {
-    let mut outbox = three_texts(rt.alloc())?;
-    goes(&rt, &mut outbox, "abc", 2)?;
-    goes(&rt, &mut outbox, "c", 3)?;
-    assert!(rt; outbox.holds(5) && !outbox.holds(6));
-    goes(&rt, &mut outbox, "fghij", 5)?;
-    assert!(rt; outbox.is_empty());
-    Ok(())
-}
-
-/// An error of a writer, or none where it takes nothing for good, and what becomes of a transfer.
-const REFUSALS: &[(&str, Option<ErrorKind>, Transfer)] = &[
-    (
-        "a broken pipe",
-        Some(ErrorKind::BrokenPipe),
-        Transfer::Refused,
-    ),
-    (
-        "an interruption",
-        Some(ErrorKind::Interrupted),
-        Transfer::Again,
-    ),
-    ("no room", Some(ErrorKind::WouldBlock), Transfer::Again),
-    ("nothing taken", None, Transfer::Refused),
-];
-
-// A writer that takes nothing.
-fn closed(alloc: Global, error: Option<ErrorKind>) -> Sink {
-    let mut sink = Sink::new(alloc, 0, 0);
-    sink.most = 0;
-    if let Some(error) = error {
-        sink.error = error;
-        sink.left = u32::MAX;
+    fn went(&mut self, count: usize, answer: &mut Answer) -> Result<(), AllocError> {
+        if !self.outbox.holds(count) {
+            return answer.text("fewer bytes\n");
+        }
+        self.outbox.sent(count);
+        Ok(())
     }
-    sink
+
+    // The writer has its room from the beginning.
+    fn refuse(&mut self, command: &str) -> Result<(), AllocError> {
+        let mut words = Words::of(command);
+        let (most, times) = (words.number(), words.number());
+        let mut sink = Sink::new(self.alloc, times, times, 0);
+        sink.held.reserve(64)?;
+        sink.most = most as usize;
+        sink.error = kind_of(words.rest());
+        self.sink = sink;
+        Ok(())
+    }
+
+    fn hand(&mut self, times: usize, answer: &mut Answer) -> Result<(), AllocError> {
+        for _ in 0..times {
+            let transfer = self.outbox.send_to(&mut self.sink);
+            answer.line(format_args!("{transfer:?}"))?;
+        }
+        Ok(())
+    }
 }
 
-/// What a writer refuses stays in the outbox.
-#[test]
-fn refused_bytes_stay(rt: HostRuntime) -> Result<(), Fail> {
-    for (name, error, wanted) in REFUSALS {
-        let mut outbox = three_texts(rt.alloc())?;
-        let handed = outbox.send_to(&mut closed(rt.alloc(), *error));
-        assert!(rt;
-            handed == *wanted && outbox.holds(10) && !outbox.holds(11),
-            "{name}"
-        );
+impl<R> Subject<R> for Waiting {
+    fn begin(_: &R, alloc: Global, _: &str) -> Result<Waiting, AllocError> {
+        Ok(Waiting {
+            alloc,
+            outbox: Outbox::new(alloc)?,
+            sink: Sink::new(alloc, 0, 0, 0),
+        })
     }
-    Ok(())
+
+    fn answer(&mut self, _: &R, command: &str, answer: &mut Answer) -> Result<(), AllocError> {
+        let (verb, rest) = command.split_once(' ').unwrap_or((command, ""));
+        match place_of(verb, "write vector front holds empty sent writer hand held") {
+            0 => self.write(rest.as_bytes(), answer),
+            1 => self.vector(rest, answer),
+            2 => answer.line(Shown(self.outbox.front())),
+            3 => answer.line(self.outbox.holds(number_of(rest))),
+            4 => answer.line(self.outbox.is_empty()),
+            5 => self.went(number_of(rest), answer),
+            6 => self.refuse(rest),
+            7 => self.hand(number_of(rest), answer),
+            8 => answer.line(Shown(self.sink.held.as_slice())),
+            _ => answer.text("?\n"),
+        }
+    }
+}
+
+const OUTBOXES: &str = "
+# a writer of two bytes at every second write takes each byte once, in order
+> write abc
+3
+> vector defgh
+Ok(())
+> write ij
+2
+> writer 2 1 WouldBlock
+> empty
+false
+> hand 12
+Again
+Took(2)
+Again
+Took(1)
+Again
+Took(2)
+Again
+Took(2)
+Again
+Took(2)
+Again
+Took(1)
+> empty
+true
+> held
+abcdefghij
+> hand 1
+Took(0)
+
+# a text that goes behind a part of another keeps its place
+> write abc
+3
+> vector defgh
+Ok(())
+> write ij
+2
+> front
+abc
+> holds 10
+true
+> holds 11
+false
+> sent 11
+fewer bytes
+> sent 2
+> front
+c
+> sent 3
+> holds 5
+true
+> holds 6
+false
+> front
+fghij
+> sent 5
+> empty
+true
+> front
+
+# what a writer refuses stays
+> write abc
+3
+> vector defgh
+Ok(())
+> write ij
+2
+> writer 0 1 BrokenPipe
+> hand 1
+Refused
+> holds 10
+true
+> holds 11
+false
+> writer 0 1 Interrupted
+> hand 1
+Again
+> holds 10
+true
+> holds 11
+false
+> writer 0 1 WouldBlock
+> hand 1
+Again
+> holds 10
+true
+> holds 11
+false
+> writer 0 0 WouldBlock
+> hand 1
+Refused
+> holds 10
+true
+> holds 11
+false
+> held
+
+";
+
+#[test]
+fn bytes_that_wait(rt: HostRuntime) -> Result<(), Fail> {
+    replay::<Waiting, _>(&rt, rt.alloc(), OUTBOXES)
 }

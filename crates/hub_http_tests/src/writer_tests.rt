@@ -1,160 +1,124 @@
 //! Texts that are written to writers that are interrupted and that refuse.
 
-use crate::made_again::{again, same, same_number};
+use crate::sink::Sink;
+use crate::texts::{Shown, undone};
 use hub_http::{IoFault, Output, Tally, send, write_all};
-use std::alloc::Global;
-use std::io;
-use std::io::{ErrorKind, Write};
+use hub_transcript::{Answer, Subject, Words, replay};
+use std::alloc::{AllocError, Global};
 use std::test::Fail;
 
-/// How often a call that is interrupted is made.
-const TRIES: u32 = 1_000_000;
-
-/// Takes at most so many bytes a write. It refuses by this error before: so often before the first write, so often
-/// before each other, and so often before a flush.
+/// Writers of one byte a write. A writer is interrupted LEFT times before the first write, TIMES times before
+/// each other, and FLUSH times before a flush.
+///
+/// - `write LEFT TIMES FLUSH TEXT`: all of a text is written. `send LEFT TIMES FLUSH TEXT`: it is sent. Each
+///   answers how it ends, how many flushes are made, and what is taken.
+/// - `memory TEXT`: a text is written to memory, and flushed: how many bytes are taken, whether it is
+///   flushed, how often it faults, and what it is then.
 #[derive(Drop)]
-pub(crate) struct Sink {
-    pub(crate) held: Vec<u8>,
-    pub(crate) most: usize,
-    pub(crate) error: ErrorKind,
-    pub(crate) left: u32,
-    pub(crate) times: u32,
-    pub(crate) flush_left: u32,
-    pub(crate) flushes: u32,
+struct Writing {
+    alloc: Global,
 }
 
-impl Sink {
-    /// A writer that takes one byte a write, and is interrupted so often before the first, and so often before each
-    /// other.
-    pub(crate) fn new(alloc: Global, left: u32, times: u32) -> Sink {
-        Sink {
-            held: Vec::new(alloc),
-            most: 1,
-            error: ErrorKind::Interrupted,
-            left,
-            times,
-            flush_left: 0,
-            flushes: 0,
-        }
-    }
-}
-
-// An error, where some are left.
-fn refuse(left: &mut u32, error: ErrorKind) -> io::Result<()> {
-    if *left == 0 {
-        return Ok(());
-    }
-    *left -= 1;
-    Err(io::Error::from(error))
-}
-
-impl Write for Sink {
-    fn write(&mut self, buf: &[u8]) -> io::Result<usize> {
-        refuse(&mut self.left, self.error)?;
-        self.left = self.times;
-        let n = buf.len().min(self.most);
-        self.held.extend_from_slice(&buf[..n])?;
-        Ok(n)
-    }
-
-    fn flush(&mut self) -> io::Result<()> {
-        refuse(&mut self.flush_left, self.error)?;
-        self.flushes = self.flushes.saturating_add(1);
-        Ok(())
-    }
-}
-
-const TEXT: &[u8] = b"PUT /d HTTP/1.1\r\nContent-Length: 3\r\n\r\nabcGET /e HTTP/1.1\r\n\r\n";
-
-// How `write_all` ends where the writer is interrupted so often, and what it took.
-fn written(alloc: Global, left: u32, times: u32) -> (Result<(), IoFault>, Vec<u8>) {
-    let mut writer = Tally::new(Sink::new(alloc, left, times));
-    let outcome = write_all(&mut writer, TEXT);
-    (outcome, writer.into_inner().held)
-}
-
-/// Whether the text is written whole. A writer that finds no memory holds a front of it, and the text is
-/// written again.
-fn is_written(alloc: Global, left: u32, times: u32) -> bool {
-    for _ in 0..2 {
-        let (outcome, held) = written(alloc, left, times);
-        if outcome == Ok(()) {
-            return held.as_slice() == TEXT;
-        }
-        if !TEXT.starts_with(held.as_slice()) {
-            return false;
-        }
-    }
-    false
-}
-
-/// How often a writer is interrupted before its first byte, and before each other.
-const INTERRUPTED: &[(u32, u32)] = &[(1, 1), (3, 3), (TRIES - 1, 0)];
-
-#[test]
-fn interrupted_writes(rt: HostRuntime) {
-    for (left, times) in INTERRUPTED {
-        assert!(rt; is_written(rt.alloc(), *left, *times), "{left}");
-    }
-}
-
-#[test]
-fn writes_interrupted_too_often(rt: HostRuntime) {
-    let (outcome, held) = written(rt.alloc(), TRIES, 0);
-    assert!(rt; outcome == Err(IoFault) && held.is_empty());
-}
-
-// How `send` ends where the flush is interrupted so often, and how many bytes were taken and flushes made.
-fn sent(alloc: Global, times: u32) -> (Result<(), IoFault>, usize, u32) {
-    let mut sink = Sink::new(alloc, 0, 1);
-    sink.flush_left = times;
+// Writes a text, or sends it.
+fn written(sends: bool, sink: Sink, text: &[u8]) -> (Result<(), IoFault>, Sink) {
     let mut writer = Tally::new(sink);
-    let outcome = send(&mut writer, b"abc");
-    let Sink { held, flushes, .. } = writer.into_inner();
-    (outcome, held.len(), flushes)
+    let outcome = if sends {
+        send(&mut writer, text)
+    } else {
+        write_all(&mut writer, text)
+    };
+    (outcome, writer.into_inner())
 }
 
-// The same of a writer that finds memory: one that does not takes no byte, and another is sent to.
-fn sent_at_last(alloc: Global, times: u32) -> (Result<(), IoFault>, usize, u32) {
-    match sent(alloc, times) {
-        (Err(IoFault), 0, 0) => sent(alloc, times),
-        found => found,
+impl Writing {
+    // A writer that finds no memory holds a front of the text. The command is given again.
+    fn put(&self, sends: bool, command: &str, answer: &mut Answer) -> Result<(), AllocError> {
+        let mut words = Words::of(command);
+        let (left, times, flush_left) = (words.number(), words.number(), words.number());
+        let text = undone(self.alloc, words.rest())?;
+        let sink = Sink::new(self.alloc, left, times, flush_left);
+        let (outcome, sink) = written(sends, sink, text.as_slice());
+        let (flushes, held) = (sink.flushes, sink.held.as_slice());
+        if sink.lacks_memory && text.starts_with(held) {
+            return Err(AllocError);
+        }
+        answer.line(format_args!("{outcome:?} {flushes} {}", Shown(held)))
     }
 }
 
-/// How often a flush is interrupted, how the sending ends, and how many flushes are made.
-const FLUSHES: &[(u32, Result<(), IoFault>, u32)] = &[
-    (0, Ok(()), 1),
-    (3, Ok(()), 1),
-    (TRIES - 1, Ok(()), 1),
-    (TRIES, Err(IoFault), 0),
-];
-
-#[test]
-fn interrupted_flushes(rt: HostRuntime) {
-    for (times, wanted, made) in FLUSHES {
-        let (outcome, held, flushes) = sent_at_last(rt.alloc(), *times);
-        assert!(rt;
-            outcome == *wanted && held == 3 && flushes == *made,
-            "{times}"
-        );
-    }
-}
-
-// How many of three bytes memory took, which was flushed, and what it is then.
-fn kept(alloc: Global) -> io::Result<(usize, Tally<Vec<u8>>)> {
+// Writes to memory.
+fn keep(alloc: Global, text: &[u8], answer: &mut Answer) -> Result<(), AllocError> {
     let mut output = Tally::new(Vec::new(alloc));
-    let count = Output::write(&mut output, b"abc")?;
-    Output::flush(&mut output)?;
-    Ok((count, output))
+    let Ok(count) = Output::write(&mut output, text) else {
+        return Err(AllocError);
+    };
+    let flushed = Output::flush(&mut output).is_ok();
+    let faults = Output::faults(&output);
+    let held = output.into_inner();
+    answer.line(format_args!("{count} {flushed} {faults} {}", Shown(held.as_slice())))
 }
 
+impl<R> Subject<R> for Writing {
+    fn begin(_: &R, alloc: Global, _: &str) -> Result<Writing, AllocError> {
+        Ok(Writing { alloc })
+    }
+
+    fn answer(&mut self, _: &R, command: &str, answer: &mut Answer) -> Result<(), AllocError> {
+        let (verb, rest) = command.split_once(' ').unwrap_or((command, ""));
+        if verb == "write" || verb == "send" {
+            return self.put(verb == "send", rest, answer);
+        }
+        if verb == "memory" {
+            return keep(self.alloc, rest.as_bytes(), answer);
+        }
+        answer.text("?\n")
+    }
+}
+
+// 1,000,000 interruptions in a row are too many.
+const WRITES: &str = r"
+# writes are interrupted
+> write 1 1 0 PUT /d HTTP/1.1\r\nContent-Length: 3\r\n\r\nabcGET /e HTTP/1.1\r\n\r\n
+Ok(()) 0 PUT /d HTTP/1.1\r\nContent-Length: 3\r\n\r\nabcGET /e HTTP/1.1\r\n\r\n
+> write 3 3 0 PUT /d HTTP/1.1\r\nContent-Length: 3\r\n\r\nabcGET /e HTTP/1.1\r\n\r\n
+Ok(()) 0 PUT /d HTTP/1.1\r\nContent-Length: 3\r\n\r\nabcGET /e HTTP/1.1\r\n\r\n
+> write 999999 0 0 PUT /d HTTP/1.1\r\nContent-Length: 3\r\n\r\nabcGET /e HTTP/1.1\r\n\r\n
+Ok(()) 0 PUT /d HTTP/1.1\r\nContent-Length: 3\r\n\r\nabcGET /e HTTP/1.1\r\n\r\n
+
+# memory is written to
+> memory abc
+3 true 0 abc
+";
+
 #[test]
-fn writes_memory(rt: HostRuntime) -> Result<(), Fail> {
-    let (count, output) = again!(kept(rt.alloc()))?;
-    assert_eq!(rt; count, 3);
-    same_number(&rt, "faults", Output::faults(&output), 0);
-    let held = output.into_inner();
-    same(&rt, "memory", held.as_slice(), b"abc");
-    Ok(())
+fn writes_that_are_interrupted(rt: HostRuntime) -> Result<(), Fail> {
+    replay::<Writing, _>(&rt, rt.alloc(), WRITES)
+}
+
+const TOO_OFTEN: &str = r"
+# writes are interrupted too often
+> write 1000000 0 0 PUT /d HTTP/1.1\r\nContent-Length: 3\r\n\r\nabcGET /e HTTP/1.1\r\n\r\n
+Err(IoFault) 0
+";
+
+#[test]
+fn writes_that_are_interrupted_too_often(rt: HostRuntime) -> Result<(), Fail> {
+    replay::<Writing, _>(&rt, rt.alloc(), TOO_OFTEN)
+}
+
+const FLUSHES: &str = r"
+# flushes are interrupted
+> send 0 1 0 abc
+Ok(()) 1 abc
+> send 0 1 3 abc
+Ok(()) 1 abc
+> send 0 1 999999 abc
+Ok(()) 1 abc
+> send 0 1 1000000 abc
+Err(IoFault) 0 abc
+";
+
+#[test]
+fn flushes_that_are_interrupted(rt: HostRuntime) -> Result<(), Fail> {
+    replay::<Writing, _>(&rt, rt.alloc(), FLUSHES)
 }

@@ -1,228 +1,495 @@
-//! Parameters of feeds.
+//! What feeds are asked. The outcomes are those that the rules give, by hand.
 
-use hub_filter::Filter;
-use hub_model::{Mode, Since, Style};
-use hub_params::{FeedParams, ParamFault};
-use std::alloc::{AllocError, Global};
-use std::process::Abort;
+use crate::tests::asked::Asked;
+use hub_transcript::replay;
+use std::test::Fail;
 
-/// Which documents are shown.
-#[derive(Clone, Copy)]
-pub(crate) enum Shows {
-    Every,
-    Designs,
-    Ids(&'static [&'static str]),
-}
+const FEEDS: &str = r#"
+# parameters together
+> read since=3&limit=0&style=all_docs&x=1
+since: Plain(3)
+limit: Some(1)
+style: AllDocs
+> read feed=continuous&since=now&limit=25&descending=false&style=all_docs&include_docs=true&filter=_design&heartbeat=1000&timeout=10
+FeedParams { mode: Continuous
+since: Now
+limit: Some(25)
+style: AllDocs
+include_docs: true
+filter: Design
+heartbeat: Some(1000)
+timeout: 10 }
+> whole feed=continuous&since=now&limit=25&descending=false&style=all_docs&include_docs=true&filter=_design&heartbeat=1000&timeout=10
+FeedParams { mode: Continuous, since: Now, limit: Some(25), descending: false, style: AllDocs, include_docs: true, filter: Design, heartbeat: Some(1000), timeout: 10 }
+> body not read
+> read timeout=10&heartbeat=1000&filter=_design&include_docs=true&style=all_docs&descending=false&limit=25&since=now&feed=continuous
+FeedParams { mode: Continuous
+since: Now
+limit: Some(25)
+style: AllDocs
+include_docs: true
+filter: Design
+heartbeat: Some(1000)
+timeout: 10 }
 
-/// The parameters that a query gives.
-#[derive(Clone, Copy)]
-pub(crate) struct Wanted {
-    pub(crate) mode: Mode,
-    pub(crate) since: Since,
-    pub(crate) limit: Option<u64>,
-    pub(crate) descending: bool,
-    pub(crate) style: Style,
-    pub(crate) include_docs: bool,
-    pub(crate) shows: Shows,
-    pub(crate) heartbeat: Option<u64>,
-    pub(crate) timeout: u64,
-}
+# limits
+> read limit=0
+limit: Some(1)
+> read limit=000
+limit: Some(1)
+> read limit=1
+limit: Some(1)
+> read limit=2
+limit: Some(2)
+> read limit=007
+limit: Some(7)
+> read limit=18446744073709551615
+limit: Some(18446744073709551615)
+> read limit=x&limit=4
+limit: Some(4)
+> read Limit=4
+> read limit=
+bad limit
+> read limit=x
+bad limit
+> read limit=-1
+bad limit
+> read limit=%2B1
+bad limit
+> read limit=now
+bad limit
+> read limit=18446744073709551616
+bad limit
+> read limit=4&limit=x
+bad limit
 
-/// In what the parameters differ from those of a query that names none.
-#[derive(Clone, Copy)]
-pub(crate) enum Told {
-    Plain,
-    Begins(Since),
-    Limit(Option<u64>),
-    Lists(Style),
-    Lasts(Mode),
-    Beats(Option<u64>),
-    Waits(u64),
-    /// Whether the newest row comes first, and whether rows bring their documents.
-    Flags(bool, bool),
-    Designs,
-    Ids(&'static [&'static str]),
-    Exactly(Wanted),
-}
+# styles
+> read style=main_only
+> read style=all_docs
+style: AllDocs
+> read style=all%5Fdocs
+style: AllDocs
+> read style=all_docs&style=main_only
+> read style=
+bad style
+> read style=all
+bad style
+> read style=All_docs
+bad style
+> read style=all_docs+
+bad style
+> read style=true
+bad style
 
-/// A query, and what it gives.
-pub(crate) type Row = (&'static str, Result<Told, ParamFault>);
+# modes
+> read feed=normal
+> read feed=longpoll
+FeedParams { mode: Longpoll
+> read feed=continuous
+FeedParams { mode: Continuous
+> read feed=continuous&feed=longpoll
+FeedParams { mode: Longpoll
+> read feed=
+bad feed
+> read feed=eventsource
+bad feed
+> read feed=Normal
+bad feed
+> read feed=long+poll
+bad feed
 
-/// A query and a body, and what they give.
-pub(crate) type RowWithBody = (&'static str, &'static str, Result<Told, ParamFault>);
+# heartbeats and timeouts
+> read heartbeat=1
+heartbeat: Some(1)
+> read heartbeat=0001
+heartbeat: Some(1)
+> read heartbeat=60001
+heartbeat: Some(60001)
+> read heartbeat=18446744073709551615
+heartbeat: Some(18446744073709551615)
+> read heartbeat=true
+heartbeat: Some(60000)
+> read heartbeat=false
+> read heartbeat=5&heartbeat=false
+> read heartbeat=0&heartbeat=5
+heartbeat: Some(5)
+> read timeout=0
+timeout: 0 }
+> read timeout=1
+timeout: 1 }
+> read timeout=0059999
+timeout: 59999 }
+> read timeout=60000
+> read timeout=60001
+> read timeout=18446744073709551615
+> read timeout=5&timeout=6
+timeout: 6 }
 
-/// The greatest number that is read.
-pub(crate) const MOST: u64 = 18_446_744_073_709_551_615;
+# bad heartbeats and timeouts
+> read heartbeat=
+bad heartbeat
+> read heartbeat=0
+bad heartbeat
+> read heartbeat=000
+bad heartbeat
+> read heartbeat=-1
+bad heartbeat
+> read heartbeat=True
+bad heartbeat
+> read heartbeat=18446744073709551616
+bad heartbeat
+> read timeout=
+bad heartbeat
+> read timeout=true
+bad heartbeat
+> read timeout=false
+bad heartbeat
+> read timeout=-1
+bad heartbeat
+> read timeout=18446744073709551616
+bad heartbeat
+> read heartbeat=1&timeout=x
+bad heartbeat
+> read heartbeat=x&timeout=1
+bad heartbeat
 
-// What a query gives that names no parameter.
-const PLAIN: Wanted = Wanted {
-    mode: Mode::Normal,
-    since: Since::Plain(0),
-    limit: None,
-    descending: false,
-    style: Style::MainOnly,
-    include_docs: false,
-    shows: Shows::Every,
-    heartbeat: None,
-    timeout: 60_000,
-};
+# flags
+> read descending=true
+descending: true
+> read descending=false
+> read descending=tru%65&feed=normal
+descending: true
+> read descending=true&descending=false
+> read include_docs=true
+include_docs: true
+> read include_docs=false
+> read descending=true&include_docs=true
+descending: true
+include_docs: true
+> read include_docs=x&include_docs=true
+include_docs: true
+> read descending=
+bad flag
+> read descending=1
+bad flag
+> read descending=True
+bad flag
+> read descending=x&feed=longpoll
+bad flag
+> read include_docs=
+bad flag
+> read include_docs=yes
+bad flag
+> read include_docs
+bad flag
+> read descending=false&include_docs=x&feed=continuous
+bad flag
 
-fn wanted_of(told: Told) -> Wanted {
-    let mut wanted = PLAIN;
-    match told {
-        Told::Plain => {}
-        Told::Begins(since) => wanted.since = since,
-        Told::Limit(limit) => wanted.limit = limit,
-        Told::Lists(style) => wanted.style = style,
-        Told::Lasts(mode) => wanted.mode = mode,
-        Told::Beats(heartbeat) => wanted.heartbeat = heartbeat,
-        Told::Waits(timeout) => wanted.timeout = timeout,
-        Told::Flags(descending, include_docs) => {
-            wanted.descending = descending;
-            wanted.include_docs = include_docs;
-        }
-        Told::Designs => wanted.shows = Shows::Designs,
-        Told::Ids(ids) => wanted.shows = Shows::Ids(ids),
-        Told::Exactly(all) => wanted = all,
-    }
-    wanted
-}
+# descending feeds that last
+> read descending=true&feed=longpoll
+descending needs feed=normal
+> read descending=true&feed=continuous
+descending needs feed=normal
+> read descending=true&include_docs=x&feed=longpoll
+descending needs feed=normal
+> read descending=x&descending=true&feed=continuous
+descending needs feed=normal
 
-const PROBES: &[&str] = &["", "a", "b", "c", "A", "é", "a b", "_design/a", "_design"];
+# filters without ids
+> read filter=_design
+filter: Design
+> shows filter=_design
+_design/a
+> body not read
+> read filter=_design
+filter: Design
+> shows filter=_design
+_design/a
+> body
+> read filter=_design&doc_ids=x
+filter: Design
+> shows filter=_design&doc_ids=x
+_design/a
+> read doc_ids=x
+> shows doc_ids=x
 
-fn is_listed(ids: &[&str], id: &str) -> bool {
-    for listed in ids {
-        if *listed == id {
-            return true;
-        }
-    }
-    false
-}
+a
+b
+c
+A
+é
+a b
+_design/a
+_design
+> body not read
+> read
+> shows
 
-// Whether a filter passes those of the probes that are to be shown, and no other.
-fn agrees(filter: &Filter, wanted: Shows) -> bool {
-    for id in PROBES {
-        let is_shown = match wanted {
-            Shows::Every => true,
-            Shows::Designs => *id == "_design/a",
-            Shows::Ids(ids) => is_listed(ids, *id),
-        };
-        if filter.passes(*id) != is_shown {
-            return false;
-        }
-    }
-    true
-}
+a
+b
+c
+A
+é
+a b
+_design/a
+_design
 
-fn is_same(found: &FeedParams, wanted: &Wanted) -> bool {
-    found.mode == wanted.mode
-        && found.since == wanted.since
-        && found.limit == wanted.limit
-        && found.descending == wanted.descending
-        && found.style == wanted.style
-        && found.include_docs == wanted.include_docs
-        && found.heartbeat == wanted.heartbeat
-        && found.timeout == wanted.timeout
-        && agrees(&found.filter, wanted.shows)
-}
+# bad filters
+> read filter=
+bad filter
+> read filter=_view
+bad filter
+> read filter=_doc_id
+bad filter
+> read filter=app/important
+bad filter
+> read filter=_design/
+bad filter
 
-// Whether a query and a body give these parameters, and so does a copy, or have this fault; an error where
-// no memory is found.
-fn gives(
-    alloc: Global,
-    query: &[u8],
-    body: &[u8],
-    wanted: Result<Told, ParamFault>,
-) -> Result<bool, AllocError> {
-    match (&FeedParams::read(alloc, query, body), wanted) {
-        (Ok(found), Ok(told)) => {
-            let wanted = wanted_of(told);
-            Ok(is_same(found, &wanted) && is_same(&found.copy(alloc)?, &wanted))
-        }
-        (Err(ParamFault::NoMemory), _) => Err(AllocError),
-        (Err(fault), Err(other)) => Ok(*fault == other),
-        _ => Ok(false),
-    }
-}
+# ids in the query
+> read filter=_doc_ids&doc_ids=[]
+filter: DocIds(DocIds { sorted: [] })
+> shows filter=_doc_ids&doc_ids=[]
+> read filter=_doc_ids&doc_ids=["a"]
+filter: DocIds(DocIds { sorted: ["a"] })
+> shows filter=_doc_ids&doc_ids=["a"]
+a
+> read filter=_doc_ids&doc_ids=%5B%22b%22,+%22a%22%5D
+filter: DocIds(DocIds { sorted: ["a"
+"b"] })
+> shows filter=_doc_ids&doc_ids=%5B%22b%22,+%22a%22%5D
+a
+b
+> read filter=_doc_ids&doc_ids=["c","a","c","_design/a"]
+filter: DocIds(DocIds { sorted: ["_design/a"
+"a"
+"c"
+"c"] })
+> shows filter=_doc_ids&doc_ids=["c","a","c","_design/a"]
+a
+c
+_design/a
+> read filter=_doc_ids&doc_ids=["%C3%A9",""]
+filter: DocIds(DocIds { sorted: [""
+"é"] })
+> shows filter=_doc_ids&doc_ids=["%C3%A9",""]
 
-// The same, tried again where no memory is found.
-fn holds(alloc: Global, query: &[u8], body: &[u8], wanted: Result<Told, ParamFault>) -> bool {
-    match gives(alloc, query, body, wanted) {
-        Err(AllocError) => gives(alloc, query, body, wanted) == Ok(true),
-        given => given == Ok(true),
-    }
-}
+é
+> read filter=_doc_ids&doc_ids=["a+b"]
+filter: DocIds(DocIds { sorted: ["a b"] })
+> shows filter=_doc_ids&doc_ids=["a+b"]
+a b
+> read doc_ids=["a"]&filter=_doc_ids&doc_ids=["b"]
+filter: DocIds(DocIds { sorted: ["b"] })
+> shows doc_ids=["a"]&filter=_doc_ids&doc_ids=["b"]
+b
+> read filter=x&filter=_doc_ids&doc_ids=["c"]
+filter: DocIds(DocIds { sorted: ["c"] })
+> shows filter=x&filter=_doc_ids&doc_ids=["c"]
+c
 
-/// Tries each row, without a body.
-pub(crate) fn try_rows<R: Abort + AllocGlobal>(rt: &R, rows: &[Row]) {
-    for (query, wanted) in rows {
-        let is_so = holds(rt.alloc(), query.as_bytes(), b"", *wanted);
-        assert!(rt; is_so, "at {query}");
-    }
-}
+# ids in the body
+> body {"doc_ids":["a","b"]}
+> read filter=_doc_ids
+filter: DocIds(DocIds { sorted: ["a"
+"b"] })
+> shows filter=_doc_ids
+a
+b
+> body {"x":1,"doc_ids":[]}
+> read filter=_doc_ids
+filter: DocIds(DocIds { sorted: [] })
+> shows filter=_doc_ids
+> body {"doc_ids":["a"]}
+> read filter=_doc_ids&doc_ids=["c"]
+filter: DocIds(DocIds { sorted: ["a"] })
+> shows filter=_doc_ids&doc_ids=["c"]
+a
+> read filter=_doc_ids&doc_ids=x
+filter: DocIds(DocIds { sorted: ["a"] })
+> shows filter=_doc_ids&doc_ids=x
+a
+> body {}
+> read filter=_doc_ids&doc_ids=["c"]
+filter: DocIds(DocIds { sorted: ["c"] })
+> shows filter=_doc_ids&doc_ids=["c"]
+c
+> body  {"ids":["a"]}
+> byte 32
+> read filter=_doc_ids&doc_ids=["c"]
+filter: DocIds(DocIds { sorted: ["c"] })
+> shows filter=_doc_ids&doc_ids=["c"]
+c
 
-/// Tries each row, with its body.
-pub(crate) fn try_bodies<R: Abort + AllocGlobal>(rt: &R, rows: &[RowWithBody]) {
-    for (query, body, wanted) in rows {
-        let is_so = holds(rt.alloc(), query.as_bytes(), body.as_bytes(), *wanted);
-        assert!(rt; is_so, "at {query} {body}");
-    }
-}
+# bad ids in the query
+> read filter=_doc_ids
+bad doc_ids
+> read filter=_doc_ids&doc_ids=
+bad doc_ids
+> read filter=_doc_ids&doc_ids=a
+bad doc_ids
+> read filter=_doc_ids&doc_ids="a"
+bad doc_ids
+> read filter=_doc_ids&doc_ids={}
+bad doc_ids
+> read filter=_doc_ids&doc_ids=[1]
+bad doc_ids
+> read filter=_doc_ids&doc_ids=["a",null]
+bad doc_ids
+> read filter=_doc_ids&doc_ids=["a"
+bad doc_ids
+
+# bad ids in the body
+> body {}
+> read filter=_doc_ids
+bad doc_ids
+> body {"ids":["a"]}
+> read filter=_doc_ids
+bad doc_ids
+> body {}
+> read filter=_doc_ids&doc_ids=x
+bad doc_ids
+> body x
+> read filter=_doc_ids&doc_ids=["a"]
+bad doc_ids
+> body
+> byte 32
+> read filter=_doc_ids&doc_ids=["a"]
+bad doc_ids
+> body ["a"]
+> read filter=_doc_ids&doc_ids=["a"]
+bad doc_ids
+> body null
+> read filter=_doc_ids&doc_ids=["a"]
+bad doc_ids
+> body {"doc_ids":"a"}
+> read filter=_doc_ids&doc_ids=["a"]
+bad doc_ids
+> body {"doc_ids":null}
+> read filter=_doc_ids&doc_ids=["a"]
+bad doc_ids
+> body {"doc_ids":["a",1]}
+> read filter=_doc_ids&doc_ids=["a"]
+bad doc_ids
+> body {"doc_ids":[["a"]]}
+> read filter=_doc_ids&doc_ids=["a"]
+bad doc_ids
+
+# a body that is no text
+> byte 255
+> read filter=_doc_ids&doc_ids=["a"]
+bad doc_ids
+
+# the first fault is answered, wherever its parameter stands
+> read since=x
+bad since
+> read limit=x&since=x
+bad since
+> read style=x&since=x
+bad since
+> read feed=x&since=x
+bad since
+> read filter=x&since=x
+bad since
+> read filter=_doc_ids&since=x
+bad since
+> read heartbeat=x&since=x
+bad since
+> read timeout=x&since=x
+bad since
+> read feed=longpoll&descending=true&since=x
+bad since
+> read include_docs=x&since=x
+bad since
+> read limit=x
+bad limit
+> read style=x&limit=x
+bad limit
+> read feed=x&limit=x
+bad limit
+> read filter=x&limit=x
+bad limit
+> read filter=_doc_ids&limit=x
+bad limit
+> read heartbeat=x&limit=x
+bad limit
+> read timeout=x&limit=x
+bad limit
+> read feed=longpoll&descending=true&limit=x
+bad limit
+> read include_docs=x&limit=x
+bad limit
+> read style=x
+bad style
+> read feed=x&style=x
+bad style
+> read filter=x&style=x
+bad style
+> read filter=_doc_ids&style=x
+bad style
+> read heartbeat=x&style=x
+bad style
+> read timeout=x&style=x
+bad style
+> read feed=longpoll&descending=true&style=x
+bad style
+> read include_docs=x&style=x
+bad style
+> read feed=x
+bad feed
+> read filter=x&feed=x
+bad feed
+> read filter=_doc_ids&feed=x
+bad feed
+> read heartbeat=x&feed=x
+bad feed
+> read timeout=x&feed=x
+bad feed
+> read include_docs=x&feed=x
+bad feed
+> read filter=x
+bad filter
+> read heartbeat=x&filter=x
+bad filter
+> read timeout=x&filter=x
+bad filter
+> read feed=longpoll&descending=true&filter=x
+bad filter
+> read include_docs=x&filter=x
+bad filter
+> read filter=_doc_ids
+bad doc_ids
+> read heartbeat=x&filter=_doc_ids
+bad doc_ids
+> read timeout=x&filter=_doc_ids
+bad doc_ids
+> read feed=longpoll&descending=true&filter=_doc_ids
+bad doc_ids
+> read include_docs=x&filter=_doc_ids
+bad doc_ids
+> read heartbeat=x
+bad heartbeat
+> read timeout=x&heartbeat=x
+bad heartbeat
+> read feed=longpoll&descending=true&heartbeat=x
+bad heartbeat
+> read include_docs=x&heartbeat=x
+bad heartbeat
+> read timeout=x
+bad heartbeat
+> read feed=longpoll&descending=true&timeout=x
+bad heartbeat
+> read include_docs=x&timeout=x
+bad heartbeat
+> read feed=longpoll&descending=true
+descending needs feed=normal
+> read include_docs=x&feed=longpoll&descending=true
+descending needs feed=normal
+> read include_docs=x
+bad flag
+"#;
 
 #[test]
-fn a_body_that_is_no_text(rt: HostRuntime) {
-    let query = br#"filter=_doc_ids&doc_ids=["a"]"#;
-    assert!(rt; holds(rt.alloc(), query, b"\xff", Err(ParamFault::BadDocIds)));
-}
-
-// Joins two queries to one.
-fn join(both: &mut Vec<u8>, one: &str, other: &str) -> Result<(), AllocError> {
-    both.clear();
-    both.extend_from_slice(one.as_bytes())?;
-    both.push(b'&')?;
-    both.extend_from_slice(other.as_bytes())
-}
-
-// Room for two queries, asked for again where no memory is found.
-fn room(alloc: Global) -> Result<Vec<u8>, AllocError> {
-    match Vec::with_capacity(alloc, 128) {
-        Ok(room) => Ok(room),
-        Err(AllocError) => Vec::with_capacity(alloc, 128),
-    }
-}
-
-// Tries the fault of a query, also where one of those behind it, of another name, stands before it.
-fn try_fault<R: Abort + AllocGlobal>(
-    rt: &R,
-    both: &mut Vec<u8>,
-    (name, (query, fault)): (&str, Row),
-    behind: &[(&str, Row)],
-) -> Result<(), AllocError> {
-    assert!(rt;
-        holds(rt.alloc(), query.as_bytes(), b"", fault),
-        "at {query}"
-    );
-    for (other_name, (other, _)) in behind {
-        if name != *other_name {
-            join(both, *other, query)?;
-            assert!(rt;
-                holds(rt.alloc(), both.as_slice(), b"", fault),
-                "at {other}&{query}"
-            );
-        }
-    }
-    Ok(())
-}
-
-/// Tries the faults of queries, each with the name of its parameter, which are in the order in which they are
-/// answered.
-pub(crate) fn try_faults<R: Abort + AllocGlobal>(
-    rt: &R,
-    faults: &[(&str, Row)],
-) -> Result<(), AllocError> {
-    let mut both = room(rt.alloc())?;
-    for at in 0..faults.len() {
-        try_fault(rt, &mut both, faults[at], &faults[at + 1..])?;
-    }
-    Ok(())
+fn parameters_of_feeds(rt: HostRuntime) -> Result<(), Fail> {
+    replay::<Asked, _>(&rt, rt.alloc(), FEEDS)
 }

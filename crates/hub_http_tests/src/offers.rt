@@ -1,0 +1,134 @@
+//! Requests of bytes that transcripts offer.
+
+use crate::texts::{Came, repeated, undone};
+use hub_http::{HttpFault, Inbox, Next};
+use hub_transcript::{Answer, Subject, Words};
+use std::alloc::{AllocError, Global};
+use std::fmt::Write;
+
+/// How many requests a text has at most.
+const MOST: usize = 8;
+
+/// An inbox. What comes next is a request, `not yet`, `end` or a fault, as `Reading` tells it.
+///
+/// - `put TIMES TEXT`: a text so often, or so many counted bytes, are offered at once.
+/// - `offer LENGTH TIMES TEXT`: the same bytes are offered in parts of at most so
+///   many bytes. What comes next before each is told, where it is not `not yet`, and then how often it is.
+/// - `next`: what comes next. `over`: no more bytes come.
+/// - `fronts TEXT`: of each front of a text, what comes next until a request is not whole, and then twice
+///   behind the end of the input: told where it differs from that of the front of one byte less.
+#[derive(Drop)]
+pub(crate) struct Offers {
+    alloc: Global,
+    inbox: Inbox,
+}
+
+/// What comes next. Out of memory the same call is made again.
+fn next_of(inbox: &mut Inbox) -> Result<Came, AllocError> {
+    let next = match inbox.next() {
+        Err(HttpFault::NoMemory) => inbox.next(),
+        found => found,
+    };
+    match next {
+        Ok(Next::Whole(request)) => Ok(Came::Whole(request)),
+        Ok(Next::NotYet) => Ok(Came::NotYet),
+        Ok(Next::End) => Ok(Came::End),
+        Err(HttpFault::NoMemory) => Err(AllocError),
+        Err(fault) => Ok(Came::Fault(fault)),
+    }
+}
+
+/// Offers bytes. Out of memory they are offered again.
+fn offer(inbox: &mut Inbox, bytes: &[u8]) -> Result<(), AllocError> {
+    for _ in 0..2 {
+        if !inbox.is_over() && inbox.offer(bytes).is_ok() {
+            return Ok(());
+        }
+    }
+    Err(AllocError)
+}
+
+impl Offers {
+    fn offer(&mut self, command: &str, answer: &mut Answer) -> Result<(), AllocError> {
+        let mut words = Words::of(command);
+        let length = (words.number() as usize).max(1);
+        let bytes = repeated(self.alloc, &mut words)?;
+        let mut waits = 0u64;
+        for part in bytes.chunks(length) {
+            match next_of(&mut self.inbox)? {
+                Came::NotYet => waits = waits.saturating_add(1),
+                came => answer.line(came)?,
+            }
+            offer(&mut self.inbox, part)?;
+        }
+        answer.line(format_args!("not yet, {waits} times"))
+    }
+
+    fn put(&mut self, command: &str) -> Result<(), AllocError> {
+        let bytes = repeated(self.alloc, &mut Words::of(command))?;
+        offer(&mut self.inbox, bytes.as_slice())
+    }
+
+    // What comes of a front, and twice behind its end.
+    fn front(&mut self, front: &[u8]) -> Result<String, AllocError> {
+        let mut told = String::new(self.alloc);
+        self.inbox = Inbox::new(self.alloc);
+        offer(&mut self.inbox, front)?;
+        for _ in 0..MOST {
+            let came = next_of(&mut self.inbox)?;
+            writeln!(told, "{came}")?;
+            if !matches!(came, Came::Whole(_)) {
+                break;
+            }
+        }
+        self.inbox.end();
+        for _ in 0..2 {
+            writeln!(told, "{}", next_of(&mut self.inbox)?)?;
+        }
+        Ok(told)
+    }
+
+    fn fronts(&mut self, text: &str, answer: &mut Answer) -> Result<(), AllocError> {
+        let text = undone(self.alloc, text)?;
+        let mut before = String::new(self.alloc);
+        for count in 0..text.len() + 1 {
+            let told = self.front(&text[..count])?;
+            if told.as_str() != before.as_str() {
+                answer.line(format_args!("from {count}"))?;
+                answer.text(told.as_str())?;
+                before = told;
+            }
+        }
+        Ok(())
+    }
+}
+
+impl<R> Subject<R> for Offers {
+    fn begin(_: &R, alloc: Global, _: &str) -> Result<Offers, AllocError> {
+        Ok(Offers {
+            alloc,
+            inbox: Inbox::new(alloc),
+        })
+    }
+
+    fn answer(&mut self, _: &R, command: &str, answer: &mut Answer) -> Result<(), AllocError> {
+        let (verb, rest) = command.split_once(' ').unwrap_or((command, ""));
+        if verb == "offer" {
+            return self.offer(rest, answer);
+        }
+        if verb == "put" {
+            return self.put(rest);
+        }
+        if verb == "next" {
+            return answer.line(next_of(&mut self.inbox)?);
+        }
+        if verb == "over" {
+            self.inbox.end();
+            return Ok(());
+        }
+        if verb == "fronts" {
+            return self.fronts(rest, answer);
+        }
+        answer.text("?\n")
+    }
+}

@@ -1,0 +1,249 @@
+//! Requests that transcripts read.
+
+use crate::texts::{Came, Shown, place_of, repeated, undone};
+use hub_http::{HttpFault, Input, Requests, Tally};
+use hub_transcript::{Answer, Subject, Words};
+use std::alloc::{AllocError, Global};
+use std::fmt::{Display, Formatter, Write};
+use std::io::{Cursor, ErrorKind, Read};
+use std::{fmt, io};
+
+/// How many requests a text has at most.
+const MOST: usize = 8;
+
+/// Gives at most so many bytes a read. It is interrupted before: so often before the first byte, and so often
+/// before each other. After so many good reads it fails.
+#[derive(Drop)]
+struct Slow {
+    text: Cursor<Vec<u8>>,
+    most: usize,
+    left: u64,
+    times: u64,
+    good: u64,
+}
+
+impl Slow {
+    /// Gives a whole text, and never fails.
+    fn ample(text: Vec<u8>) -> Slow {
+        Slow {
+            text: Cursor::new(text),
+            most: usize::MAX,
+            left: 0,
+            times: 0,
+            good: u64::MAX,
+        }
+    }
+}
+
+impl Read for Slow {
+    fn read(&mut self, buf: &mut [u8]) -> io::Result<usize> {
+        if self.left > 0 {
+            self.left -= 1;
+            return Err(io::Error::from(ErrorKind::Interrupted));
+        }
+        self.left = self.times;
+        if self.good == 0 {
+            return Err(io::Error::from(ErrorKind::BrokenPipe));
+        }
+        self.good -= 1;
+        let size = buf.len().min(self.most);
+        self.text.read(&mut buf[..size])
+    }
+}
+
+/// How many reads were made, and how many faulted.
+#[derive(Drop)]
+struct Counts(u64, u64);
+
+impl Display for Counts {
+    fn fmt<W: fmt::Write>(&self, f: &mut Formatter<W>) -> fmt::Result {
+        write!(f, "{} reads, {} faults", self.0, self.1)
+    }
+}
+
+/// The requests of a reader. A request is told by its method and its target, whether it has a length, whether
+/// it closes, and its body; behind the last stands `end`, or the fault.
+///
+/// - `read TEXT`: a reader gives this text at once; each request is told.
+/// - `add TIMES TEXT`: puts a text so often, or so many counted bytes, behind the text that is gathered.
+///   `all`: a reader gives it at once; each request is told.
+/// - `slow LEFT TIMES TEXT`: a reader gives this text byte by byte, and is interrupted so often before the
+///   first, and so often before each other.
+/// - `next`: the next request is told. `room`: the room of the body that came last. `counts`: how many reads
+///   were made, and how many faulted.
+/// - `fronts TEXT`: each front of a text is read; `failing TEXT`: a text is read byte by byte by a reader
+///   that fails after so many good reads. What is told, at a second look behind the end too, is told where it
+///   differs from that of one byte less.
+/// - `memory TEXT`: three reads of at most two bytes, of memory.
+#[derive(Drop)]
+pub(crate) struct Reading {
+    alloc: Global,
+    gathered: Vec<u8>,
+    requests: Requests<Tally<Slow>>,
+    room: usize,
+}
+
+/// What comes next. Where no memory is found it is asked for again: no byte is lost.
+fn next_of(requests: &mut Requests<Tally<Slow>>) -> Result<Came, AllocError> {
+    let next = match requests.next() {
+        Err(HttpFault::NoMemory) => requests.next(),
+        found => found,
+    };
+    match next {
+        Ok(Some(request)) => Ok(Came::Whole(request)),
+        Ok(None) => Ok(Came::End),
+        Err(HttpFault::NoMemory) => Err(AllocError),
+        Err(fault) => Ok(Came::Fault(fault)),
+    }
+}
+
+// Reads memory three times.
+fn read_memory(text: &[u8], answer: &mut Answer) -> Result<(), AllocError> {
+    let mut input = Tally::new(text);
+    let mut buf = [0u8; 2];
+    for _ in 0..3 {
+        match Input::read(&mut input, &mut buf) {
+            Ok(count) => answer.line(Shown(&buf[..count.min(2)]))?,
+            Err(_) => answer.text("an error\n")?,
+        }
+    }
+    answer.line(Counts(input.reads(), Input::faults(&input)))
+}
+
+impl Reading {
+    // Reads from this reader from now on.
+    fn open(&mut self, reader: Slow) {
+        self.requests = Requests::new(self.alloc, Tally::new(reader));
+    }
+
+    // What comes next, and the room of its body where it is a request.
+    fn next(&mut self) -> Result<Came, AllocError> {
+        let came = next_of(&mut self.requests)?;
+        if let Came::Whole(request) = &came {
+            self.room = request.body.capacity();
+        }
+        Ok(came)
+    }
+
+    fn tell_next(&mut self, answer: &mut Answer) -> Result<(), AllocError> {
+        let came = self.next()?;
+        answer.line(came)
+    }
+
+    // The requests of a reader and what comes behind them, a line each.
+    fn all_of(&mut self, reader: Slow) -> Result<String, AllocError> {
+        let mut told = String::new(self.alloc);
+        self.open(reader);
+        for _ in 0..MOST {
+            let came = self.next()?;
+            writeln!(told, "{came}")?;
+            if !matches!(came, Came::Whole(_)) {
+                return Ok(told);
+            }
+        }
+        told.push_str("more requests\n")?;
+        Ok(told)
+    }
+
+    // A copy of what is gathered, so that nothing is lost where memory is refused behind it.
+    fn copy(&self) -> Result<Vec<u8>, AllocError> {
+        Vec::from_slice(self.alloc, self.gathered.as_slice())
+    }
+
+    fn all(&mut self, answer: &mut Answer) -> Result<(), AllocError> {
+        let text = self.copy()?;
+        let told = self.all_of(Slow::ample(text))?;
+        self.gathered.clear();
+        answer.text(told.as_str())
+    }
+
+    fn read(&mut self, text: &str, answer: &mut Answer) -> Result<(), AllocError> {
+        let told = self.all_of(Slow::ample(undone(self.alloc, text)?))?;
+        answer.text(told.as_str())
+    }
+
+    fn add(&mut self, command: &str) -> Result<(), AllocError> {
+        let part = repeated(self.alloc, &mut Words::of(command))?;
+        self.gathered.extend_from_slice(part.as_slice())
+    }
+
+    fn slow(&mut self, command: &str) -> Result<(), AllocError> {
+        let mut words = Words::of(command);
+        let (left, times) = (words.number(), words.number());
+        let mut reader = Slow::ample(undone(self.alloc, words.rest())?);
+        reader.most = 1;
+        reader.left = left;
+        reader.times = times;
+        self.open(reader);
+        Ok(())
+    }
+
+    fn counts(&self, before: u64) -> Counts {
+        let reader = self.requests.reader();
+        Counts(reader.reads().saturating_sub(before), Input::faults(reader))
+    }
+
+    // What is told of a front of so many bytes, or of a reader that fails after so many good reads and how
+    // many more were made: also at a second look.
+    fn at(&mut self, fails: bool, text: &[u8], count: usize) -> Result<String, AllocError> {
+        let mut reader = Slow::ample(Vec::from_slice(self.alloc, text)?);
+        if fails {
+            reader.most = 1;
+            reader.good = count as u64;
+        }
+        let mut told = self.all_of(reader)?;
+        writeln!(told, "{}", self.next()?)?;
+        if fails {
+            writeln!(told, "{}", self.counts(count as u64))?;
+        }
+        Ok(told)
+    }
+
+    // Tells what is told of each count of bytes, where it differs.
+    fn each(&mut self, fails: bool, text: &str, answer: &mut Answer) -> Result<(), AllocError> {
+        let text = undone(self.alloc, text)?;
+        let mut before = String::new(self.alloc);
+        for count in 0..text.len() + 1 {
+            let last = if fails { text.len() } else { count };
+            let told = self.at(fails, &text[..last], count)?;
+            if told.as_str() != before.as_str() {
+                answer.line(format_args!("from {count}"))?;
+                answer.text(told.as_str())?;
+                before = told;
+            }
+        }
+        Ok(())
+    }
+}
+
+impl<R> Subject<R> for Reading {
+    fn begin(_: &R, alloc: Global, _: &str) -> Result<Reading, AllocError> {
+        let reader = Slow::ample(Vec::new(alloc));
+        Ok(Reading {
+            alloc,
+            gathered: Vec::new(alloc),
+            requests: Requests::new(alloc, Tally::new(reader)),
+            room: 0,
+        })
+    }
+
+    fn answer(&mut self, _: &R, command: &str, answer: &mut Answer) -> Result<(), AllocError> {
+        let (verb, rest) = command.split_once(' ').unwrap_or((command, ""));
+        match place_of(
+            verb,
+            "read add all slow next room counts memory fronts failing",
+        ) {
+            0 => self.read(rest, answer),
+            1 => self.add(rest),
+            2 => self.all(answer),
+            3 => self.slow(rest),
+            4 => self.tell_next(answer),
+            5 => answer.line(self.room),
+            6 => answer.line(self.counts(0)),
+            7 => read_memory(rest.as_bytes(), answer),
+            8 => self.each(false, rest, answer),
+            9 => self.each(true, rest, answer),
+            _ => answer.text("?\n"),
+        }
+    }
+}

@@ -1,0 +1,67 @@
+//! A writer of the tests.
+
+use std::alloc::Global;
+use std::io;
+use std::io::{ErrorKind, Write};
+
+/// Takes at most so many bytes a write. It refuses by this error before: so often before the first write, so
+/// often before each other, and so often before a flush.
+#[derive(Drop)]
+pub(crate) struct Sink {
+    pub(crate) held: Vec<u8>,
+    pub(crate) most: usize,
+    pub(crate) error: ErrorKind,
+    pub(crate) left: u64,
+    pub(crate) times: u64,
+    pub(crate) flush_left: u64,
+    pub(crate) flushes: u64,
+    /// It found no memory.
+    pub(crate) lacks_memory: bool,
+}
+
+impl Sink {
+    /// A writer that takes one byte a write, and is interrupted so often before the first, so often before
+    /// each other, and so often before a flush.
+    pub(crate) fn new(alloc: Global, left: u64, times: u64, flush_left: u64) -> Sink {
+        Sink {
+            held: Vec::new(alloc),
+            most: 1,
+            error: ErrorKind::Interrupted,
+            left,
+            times,
+            flush_left,
+            flushes: 0,
+            lacks_memory: false,
+        }
+    }
+}
+
+// An error, where some are left.
+fn refuse(left: &mut u64, error: ErrorKind) -> io::Result<()> {
+    if *left == 0 {
+        return Ok(());
+    }
+    *left -= 1;
+    Err(io::Error::from(error))
+}
+
+impl Write for Sink {
+    fn write(&mut self, buf: &[u8]) -> io::Result<usize> {
+        refuse(&mut self.left, self.error)?;
+        self.left = self.times;
+        let n = buf.len().min(self.most);
+        match self.held.extend_from_slice(&buf[..n]) {
+            Ok(()) => Ok(n),
+            Err(refused) => {
+                self.lacks_memory = true;
+                Err(io::Error::from(refused))
+            }
+        }
+    }
+
+    fn flush(&mut self) -> io::Result<()> {
+        refuse(&mut self.flush_left, self.error)?;
+        self.flushes = self.flushes.saturating_add(1);
+        Ok(())
+    }
+}
