@@ -2,6 +2,10 @@
 #![tactic(auto)]
 
 #[cfg(test)]
+mod calls;
+#[cfg(test)]
+mod client;
+#[cfg(test)]
 mod database_tests;
 #[cfg(test)]
 mod feed_tests;
@@ -12,12 +16,12 @@ mod hostile_tests;
 #[cfg(test)]
 mod hub_tests;
 #[cfg(test)]
-mod made_again;
-#[cfg(test)]
-mod session_tests;
-#[cfg(test)]
-mod steps;
-#[cfg(test)]
 mod tests;
+#[cfg(test)]
+mod texts;
+#[cfg(test)]
+mod told;
+#[cfg(test)]
+mod wire;
 #[cfg(test)]
 mod wire_tests;

@@ -1,0 +1,362 @@
+//! A client of a hub, whom transcripts say what to ask.
+
+use crate::calls::{delete, open, show_item};
+use crate::texts::{asked, show};
+use crate::told::Told;
+use crate::wire::{Failing, serve_torn, session};
+use hub_databases::Hub;
+use hub_document::Limits;
+use hub_routes::Routes;
+use hub_service::{ByTurns, Connection, JsonRooms};
+use hub_session::{Closing, Service};
+use hub_transcript::{Answer, Subject, Words};
+use std::alloc::{AllocError, Global};
+use std::io::Read;
+use std::sync::Wait;
+
+/// A client of a hub, and what it asked so far.
+///
+/// A request is `METHOD TARGET [BODY]`, where `-` is an empty body, and one with no body has no field. It is
+/// also `history N`, a batch of one document `x` whose history has N revisions, or `bytes TEXT`, in which
+/// `\r\n` stands for the end of a line. The bytes of an answer are shown as lines: `\n` stands for a line
+/// feed in a body or a chunk, `JSON of N` and `JSON in chunks` for the fields that each answer has, `:` for
+/// the end of a head, and `last chunk` for that. Behind them stands why the session closed, but at the end of
+/// its input.
+///
+/// - `REQUEST`: the hub is asked it over a connection of its own, and a new hub is asked all requests so far
+///   over one connection, whose writer takes a byte a call. They answer the same, which is shown.
+/// - `send REQUEST`: the new hub alone is asked, behind all requests so far, and so below.
+/// - `cut REQUEST`: the input ends behind each byte of the request but the last. From which byte on the
+///   session closes why is shown. Nothing of the request is answered.
+/// - `fail REQUEST`: so the reader fails there. It gives one byte a call, and is interrupted before each.
+/// - `break REQUEST`: so the writer breaks behind each byte of the answer but the last.
+/// - `own REQUEST`: the hub alone is asked, over a connection of its own.
+/// - `tear REQUEST`: so it is asked again and again, where the writer breaks behind each byte of the answer
+///   but the last, and at last takes it whole.
+/// - `remove REQUEST`: one connection opens a feed and hands an item, another one removes the database `d`,
+///   and then the first one hands its next item.
+/// - `delete NAME`: a database is deleted under its lock, and its name stays.
+/// - `allow WHAT`: a new hub, within one more limit: `one feed`, `one database`, `one edit` or `two edits`.
+#[derive(Drop)]
+pub(crate) struct Client {
+    alloc: Global,
+    limits: Limits,
+    hub: Hub,
+    routes: Routes,
+    /// The bytes of the requests so far.
+    asked: String,
+    /// The bytes of their answers.
+    answered: String,
+}
+
+/// What asks a hub for all that it shows.
+const SHOWN: &str = concat!(
+    "GET /_all_dbs HTTP/1.1\r\n\r\n",
+    "GET /d HTTP/1.1\r\n\r\n",
+    "GET /d/_changes?style=all_docs&include_docs=true HTTP/1.1\r\n\r\n",
+    "GET /_db_updates HTTP/1.1\r\n\r\n"
+);
+
+/// What removes the database `d`.
+const REMOVAL: &str = "DELETE /d HTTP/1.1\r\n\r\n";
+
+/// The answer to a batch that stands already.
+const STORED: &str = concat!(
+    "HTTP/1.1 201 Created\r\nContent-Type: application/json\r\nContent-Length: 3\r\n\r\n",
+    "[]\n"
+);
+
+/// The answer to an edit of a document that stands already.
+const CONFLICT: &str = concat!(
+    "HTTP/1.1 409 Conflict\r\nContent-Type: application/json\r\nContent-Length: 58\r\n\r\n",
+    r#"{"error":"conflict","reason":"Document update conflict."}"#,
+    "\n"
+);
+
+impl Client {
+    /// A client of a new hub within these limits, that asked nothing.
+    fn new(alloc: Global, limits: Limits) -> Result<Client, AllocError> {
+        Ok(Client {
+            alloc,
+            limits,
+            hub: Hub::new(alloc, limits)?,
+            routes: Routes::new(alloc)?,
+            asked: String::new(alloc),
+            answered: String::new(alloc),
+        })
+    }
+
+    /// Begins with a new hub within one more limit.
+    fn allow(&mut self, what: &str, answer: &mut Answer) -> Result<(), AllocError> {
+        let mut limits = self.limits;
+        if what == "one feed" {
+            limits.feeds = 1;
+        } else if what == "one database" {
+            limits.databases = 1;
+        } else if what == "one edit" {
+            limits.journal = 1;
+        } else if what == "two edits" {
+            limits.journal = 2;
+        } else {
+            return answer.line("?");
+        }
+        *self = Client::new(self.alloc, limits)?;
+        Ok(())
+    }
+
+    /// What the hub writes over a connection of its own: behind a session for each byte of the answer `torn`,
+    /// whose writer breaks behind the bytes before it.
+    fn own<N: Wait>(&self, rt: &N, bytes: &str, torn: &str) -> Result<Told, AllocError> {
+        let rooms = JsonRooms::new(self.alloc);
+        let pumping = ByTurns::new(rt);
+        let mut connection = Connection::new(
+            rt,
+            self.alloc,
+            &self.hub,
+            &self.routes,
+            &rooms,
+            pumping,
+        );
+        serve_torn(self.alloc, &mut connection, bytes, torn)
+    }
+
+    /// Shows what the hub writes over a connection of its own. An error says that it met no memory.
+    fn look<N: Wait>(
+        &self,
+        rt: &N,
+        bytes: &str,
+        torn: &str,
+        answer: &mut Answer,
+    ) -> Result<(), AllocError> {
+        let told = self.own(rt, bytes, torn)?;
+        if told.is_doubtful() {
+            return Err(AllocError);
+        }
+        // It writes nothing where it finds no memory.
+        match show(self.alloc, answer, told.output.as_str(), told.closing) {
+            Err(AllocError) => show(self.alloc, answer, told.output.as_str(), told.closing),
+            shown => shown,
+        }
+    }
+
+    /// A service opens a feed and hands an item, a connection removes the database, and then the service
+    /// hands its next item.
+    fn remove_during<N: Wait, S: Service>(
+        &self,
+        rt: &N,
+        service: &mut S,
+        feed: &str,
+        answer: &mut Answer,
+    ) -> Result<(), AllocError> {
+        open(self.alloc, service, feed)?;
+        show_item(service, answer)?;
+        self.look(rt, REMOVAL, "", answer)?;
+        show_item(service, answer)
+    }
+
+    /// The same of a connection.
+    fn remove<N: Wait>(&self, rt: &N, feed: &str, answer: &mut Answer) -> Result<(), AllocError> {
+        let rooms = JsonRooms::new(self.alloc);
+        let pumping = ByTurns::new(rt);
+        let mut connection = Connection::new(
+            rt,
+            self.alloc,
+            &self.hub,
+            &self.routes,
+            &rooms,
+            pumping,
+        );
+        self.remove_during(rt, &mut connection, feed, answer)
+    }
+
+    /// Whether the hub writes the wanted answer over a connection of its own, also where a growth is refused.
+    /// Then the hub shows the same as before, and the error says that the request is to be made again. But an
+    /// edit of documents may stand behind the refusal: then made again it changes nothing, and the requests
+    /// behind it show that it stands.
+    fn is_held<N: Wait>(&self, rt: &N, bytes: &str, wanted: &str) -> Result<bool, AllocError> {
+        let before = self.own(rt, SHOWN, "")?;
+        let told = self.own(rt, bytes, "")?;
+        if let Ok(is_right) = told.is(wanted, Closing::Finished) {
+            return Ok(is_right);
+        }
+        let behind = self.own(rt, SHOWN, "")?;
+        if behind.output == before.output {
+            return Err(AllocError);
+        }
+        let standing = if bytes.starts_with("POST ") {
+            STORED
+        } else {
+            CONFLICT
+        };
+        if self.own(rt, bytes, "")?.is(standing, Closing::Finished)? {
+            return Ok(true);
+        }
+        // Where a front of a batch stood, its note may have filled the log: the rest is told so, and stands.
+        self.own(rt, bytes, "")?.is(standing, Closing::Finished)
+    }
+
+    /// What a new hub writes, with ample memory.
+    fn ample<N: Wait, R: Copy + Drop + Read>(&self, rt: &N, reader: R) -> Result<Told, AllocError> {
+        let told = session(rt, self.alloc, self.limits, reader, usize::MAX)?;
+        if !told.is_doubtful() {
+            return Ok(told);
+        }
+        let again = session(rt, self.alloc, self.limits, reader, usize::MAX)?;
+        match told.is(again.output.as_str(), again.closing) {
+            Ok(false) => Ok(told),
+            _ => Ok(again),
+        }
+    }
+
+    /// These bytes behind those of all requests so far.
+    fn behind(&self, bytes: &str) -> Result<String, AllocError> {
+        format!(in self.alloc; "{}{bytes}", self.asked)
+    }
+
+    /// What was written behind the answers so far.
+    fn given<'t>(&self, told: &'t Told) -> &'t str {
+        told.output
+            .strip_prefix(self.answered.as_str())
+            .unwrap_or("other answers before")
+    }
+
+    /// Shows what bytes behind all requests so far are answered by a new hub.
+    fn send<N: Wait>(&self, rt: &N, bytes: &str, answer: &mut Answer) -> Result<(), AllocError> {
+        let all = self.behind(bytes)?;
+        let told = self.ample(rt, all.as_bytes())?;
+        show(self.alloc, answer, self.given(&told), told.closing)
+    }
+
+    /// Asks both hubs for a request.
+    fn ask<N: Wait>(&mut self, rt: &N, bytes: &str, answer: &mut Answer) -> Result<(), AllocError> {
+        let all = self.behind(bytes)?;
+        let told = self.ample(rt, all.as_bytes())?;
+        let given = self.given(&told);
+        show(self.alloc, answer, given, told.closing)?;
+        if !self.is_held(rt, bytes, given)? {
+            answer.line("another answer over a connection of its own")?;
+        }
+        self.asked = all;
+        self.answered = told.output;
+        Ok(())
+    }
+
+    /// Shows why sessions close whose input ends, or fails, behind each byte of a request but the last.
+    fn end<N: Wait>(
+        &self,
+        rt: &N,
+        bytes: &str,
+        fails: bool,
+        answer: &mut Answer,
+    ) -> Result<(), AllocError> {
+        let all = self.behind(bytes)?;
+        let text = all.as_bytes();
+        let mut last = None;
+        for left in self.asked.len()..text.len() {
+            let told = if fails {
+                let is_interrupted = false;
+                self.ample(
+                    rt,
+                    Failing {
+                        text,
+                        left,
+                        is_interrupted,
+                    },
+                )?
+            } else {
+                self.ample(rt, &text[..left])?
+            };
+            if told.output != self.answered {
+                return answer.line("another answer");
+            }
+            if last != Some(told.closing) {
+                let count = left.saturating_sub(self.asked.len());
+                answer.line(format!(in self.alloc; "{count}: {}", told.closing)?)?;
+                last = Some(told.closing);
+            }
+        }
+        Ok(())
+    }
+
+    /// Shows what is written where the writer breaks behind each byte of an answer but the last.
+    fn break_behind<N: Wait>(
+        &self,
+        rt: &N,
+        bytes: &str,
+        answer: &mut Answer,
+    ) -> Result<(), AllocError> {
+        let all = self.behind(bytes)?;
+        let ample = self.ample(rt, all.as_bytes())?;
+        for room in self.answered.len()..ample.output.len() {
+            let told = session(rt, self.alloc, self.limits, all.as_bytes(), room)?;
+            let front = ample.output.get(..room).unwrap_or("");
+            if !told.is(front, Closing::Broken)? {
+                return show(self.alloc, answer, told.output.as_str(), told.closing);
+            }
+        }
+        answer.line("a front of it, wherever the writer breaks")
+    }
+
+    /// Shows what the hub writes over a connection of its own, where first the writer breaks behind each
+    /// byte.
+    fn tear<N: Wait>(&self, rt: &N, bytes: &str, answer: &mut Answer) -> Result<(), AllocError> {
+        let all = self.behind(bytes)?;
+        let ample = self.ample(rt, all.as_bytes())?;
+        self.look(rt, bytes, self.given(&ample), answer)
+    }
+
+    /// Carries out a command that asks with these bytes.
+    fn carry_out<N: Wait>(
+        &self,
+        rt: &N,
+        verb: &str,
+        bytes: &str,
+        answer: &mut Answer,
+    ) -> Result<(), AllocError> {
+        if verb == "send" {
+            return self.send(rt, bytes, answer);
+        }
+        if verb == "cut" {
+            return self.end(rt, bytes, false, answer);
+        }
+        if verb == "fail" {
+            return self.end(rt, bytes, true, answer);
+        }
+        if verb == "break" {
+            return self.break_behind(rt, bytes, answer);
+        }
+        if verb == "tear" {
+            return self.tear(rt, bytes, answer);
+        }
+        if verb == "own" {
+            return self.look(rt, bytes, "", answer);
+        }
+        if verb == "remove" {
+            return self.remove(rt, bytes, answer);
+        }
+        answer.line("?")
+    }
+}
+
+impl<N: Wait> Subject<N> for Client {
+    fn begin(_: &N, alloc: Global, _: &str) -> Result<Client, AllocError> {
+        Client::new(alloc, Limits::full())
+    }
+
+    fn answer(&mut self, rt: &N, command: &str, answer: &mut Answer) -> Result<(), AllocError> {
+        let mut words = Words::of(command);
+        let verb = words.word();
+        if verb == "allow" {
+            return self.allow(words.rest(), answer);
+        }
+        if verb == "delete" {
+            return delete(&self.hub, rt, words.rest(), answer);
+        }
+        if verb == "history" || matches!(verb.as_bytes().first(), Some(b'A'..=b'Z')) {
+            let bytes = asked(self.alloc, command)?;
+            return self.ask(rt, bytes.as_str(), answer);
+        }
+        let bytes = asked(self.alloc, words.rest())?;
+        self.carry_out(rt, verb, bytes.as_str(), answer)
+    }
+}
