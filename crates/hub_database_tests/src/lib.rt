@@ -18,8 +18,6 @@ mod listed_tests;
 #[cfg(test)]
 mod local_tests;
 #[cfg(test)]
-mod made_again;
-#[cfg(test)]
 mod made_tests;
 #[cfg(test)]
 mod model;
@@ -30,6 +28,12 @@ mod random_tests;
 #[cfg(test)]
 mod read_tests;
 #[cfg(test)]
+mod session;
+#[cfg(test)]
 mod tests;
+#[cfg(test)]
+mod text;
+#[cfg(test)]
+mod texts;
 #[cfg(test)]
 mod waiting_tests;

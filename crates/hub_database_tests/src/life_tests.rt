@@ -1,119 +1,187 @@
 //! The life of a database: where feeds begin that ask for a sequence of it or of another one, and its number.
 
-use crate::feed_tests::FeedStep::{Hands, Open};
-use crate::feed_tests::Handed::{End, Gone, Nothing, Row};
-use crate::feed_tests::{FIFTH, FIRST, FOURTH, SECOND, THIRD};
-use crate::read_tests::ReadStep::Descending;
-use crate::tests::Step::{Batch, Counts, Delete, Feed, Hosted, Life, Read};
-use crate::tests::{DELETED, LIFE, Step, assert_steps};
-use hub_model::Outcome::Stored;
+use crate::session::Session;
+use hub_transcript::replay;
+use std::test::Fail;
 
-const A: &str = r#"{"_id":"a","_rev":"1-a"}"#;
+// Each database is of life 6. Its three documents came in four edits: their rows are 2, 3 and 4.
+const LIVES: &str = r#"
+# a sequence of another life is none, and a number alone is of whichever life
+> merge {"_id":"a","_rev":"1-a"} {"_id":"b","_rev":"1-b"} {"_id":"c","_rev":"1-c"} {"_id":"a","_revisions":{"start":2,"ids":["b","a"]}}
+stored 1-a
+stored 1-b
+stored 1-c
+stored 2-b
+seq 4
+> open since=2
+feed 0
+> take 0 times 4
+Row 3/4 c 1-c
+Row 4/4 a 2-b
+End 4, 0 pending
+Gone
+> open since=2-6
+feed 1
+> take 1 times 4
+Row 3/4 c 1-c
+Row 4/4 a 2-b
+End 4, 0 pending
+Gone
+> open since=2-7
+feed 2
+> take 2 times 5
+Row 2/4 b 1-b
+Row 3/4 c 1-c
+Row 4/4 a 2-b
+End 4, 0 pending
+Gone
+> open since=%223-0%22
+feed 3
+> take 3 times 5
+Row 2/4 b 1-b
+Row 3/4 c 1-c
+Row 4/4 a 2-b
+End 4, 0 pending
+Gone
+> open since=now
+feed 4
+> take 4 times 2
+End 4, 0 pending
+Gone
 
-const B: &str = r#"{"_id":"b","_rev":"1-b"}"#;
+# a sequence above the last edit: of its life a feed has nothing to show, of another life everything
+> merge {"_id":"a","_rev":"1-a"} {"_id":"b","_rev":"1-b"} {"_id":"c","_rev":"1-c"} {"_id":"a","_revisions":{"start":2,"ids":["b","a"]}}
+stored 1-a
+stored 1-b
+stored 1-c
+stored 2-b
+seq 4
+> open since=9
+feed 0
+> take 0 times 2
+End 4, 0 pending
+Gone
+> open since=9-6
+feed 1
+> take 1 times 2
+End 4, 0 pending
+Gone
+> open since=9-5&limit=1
+feed 2
+> take 2 times 3
+Row 2/4 b 1-b
+End 2, 2 pending
+Gone
+> open since=18446744073709551615-18446744073709551615&limit=1
+feed 3
+> take 3 times 3
+Row 2/4 b 1-b
+End 2, 2 pending
+Gone
 
-const C: &str = r#"{"_id":"c","_rev":"1-c"}"#;
+# feeds that wait, as those of any host, begin in their life, and a write comes while they do
+> merge {"_id":"a","_rev":"1-a"} {"_id":"b","_rev":"1-b"} {"_id":"c","_rev":"1-c"} {"_id":"a","_revisions":{"start":2,"ids":["b","a"]}}
+stored 1-a
+stored 1-b
+stored 1-c
+stored 2-b
+seq 4
+> open feed=longpoll&since=4-6
+feed 0
+> hand 0
+Nothing
+> open feed=longpoll&since=4-7
+feed 1
+> hand 1 times 5
+Row 2/4 b 1-b
+Row 3/4 c 1-c
+Row 4/4 a 2-b
+End 4, 0 pending
+Gone
+> open feed=continuous&since=3-6
+feed 2
+> hand 2 times 2
+Row 4/4 a 2-b
+Nothing
+> open feed=continuous&since=3-7
+feed 3
+> hand 3 times 4
+Row 2/4 b 1-b
+Row 3/4 c 1-c
+Row 4/4 a 2-b
+Nothing
+> merge {"_id":"d","_rev":"1-d"}
+stored 1-d
+seq 5
+> hand 0 times 3
+Row 5/5 d 1-d
+End 5, 0 pending
+Gone
+> hand 2 times 2
+Row 5/5 d 1-d
+Nothing
+> hand 3 times 2
+Row 5/5 d 1-d
+Nothing
 
-const A2: &str = r#"{"_id":"a","_revisions":{"start":2,"ids":["b","a"]}}"#;
+# descending answers begin in their life, and each tells it
+> merge {"_id":"a","_rev":"1-a"} {"_id":"b","_rev":"1-b"} {"_id":"c","_rev":"1-c"} {"_id":"a","_revisions":{"start":2,"ids":["b","a"]}}
+stored 1-a
+stored 1-b
+stored 1-c
+stored 2-b
+seq 4
+> changes descending=true
+Row 4/4 a 2-b
+Row 3/4 c 1-c
+Row 2/4 b 1-b
+End 2, 0 pending
+life 6
+> changes descending=true&since=2-6
+Row 4/4 a 2-b
+Row 3/4 c 1-c
+End 3, 0 pending
+life 6
+> changes descending=true&since=2-7
+Row 4/4 a 2-b
+Row 3/4 c 1-c
+Row 2/4 b 1-b
+End 2, 0 pending
+life 6
+> changes descending=true&since=9-6
+End 4, 0 pending
+life 6
+> changes descending=true&since=9-7&limit=1
+Row 4/4 a 2-b
+End 4, 2 pending
+life 6
+> changes descending=true&since=now
+End 4, 0 pending
+life 6
 
-// Three documents in four edits: their rows are 2, 3 and 4.
-const STORED: Step = Batch(
-    &[A, B, C, A2],
-    &[Stored("1-a"), Stored("1-b"), Stored("1-c"), Stored("2-b")],
-);
-
-// A number alone is of whichever life; the databases are of life 6.
-const OPENED: &[Step] = &[
-    STORED,
-    Feed(Open("since=2", Ok(FIRST))),
-    Feed(Hands(FIRST, &[Row(3), Row(4), End(4, 0), Gone])),
-    Feed(Open("since=2-6", Ok(SECOND))),
-    Feed(Hands(SECOND, &[Row(3), Row(4), End(4, 0), Gone])),
-    Feed(Open("since=2-7", Ok(THIRD))),
-    Feed(Hands(THIRD, &[Row(2), Row(3), Row(4), End(4, 0), Gone])),
-    Feed(Open("since=%223-0%22", Ok(FOURTH))),
-    Feed(Hands(FOURTH, &[Row(2), Row(3), Row(4), End(4, 0), Gone])),
-    Feed(Open("since=now", Ok(FIFTH))),
-    Feed(Hands(FIFTH, &[End(4, 0), Gone])),
-];
+# a database tells its life
+> life
+6
+> info
+docs 0, deleted 0, seq 0, life 6
+> merge {"_id":"a","_rev":"1-a"} {"_id":"b","_rev":"1-b"} {"_id":"c","_rev":"1-c"} {"_id":"a","_revisions":{"start":2,"ids":["b","a"]}}
+stored 1-a
+stored 1-b
+stored 1-c
+stored 2-b
+seq 4
+> life
+6
+> info
+docs 3, deleted 0, seq 4, life 6
+> delete
+> life
+6
+> info
+refused Deleted
+"#;
 
 #[test]
-fn a_sequence_of_another_life_is_none(rt: HostRuntime) {
-    assert_steps(&rt, rt.alloc(), OPENED);
-}
-
-// Above the last edit: of its life the feed has nothing to show, of another life everything.
-const ABOVE: &[Step] = &[
-    STORED,
-    Feed(Open("since=9", Ok(FIRST))),
-    Feed(Hands(FIRST, &[End(4, 0), Gone])),
-    Feed(Open("since=9-6", Ok(SECOND))),
-    Feed(Hands(SECOND, &[End(4, 0), Gone])),
-    Feed(Open("since=9-5&limit=1", Ok(THIRD))),
-    Feed(Hands(THIRD, &[Row(2), End(2, 2), Gone])),
-    Feed(Open(
-        "since=18446744073709551615-18446744073709551615&limit=1",
-        Ok(FOURTH),
-    )),
-    Feed(Hands(FOURTH, &[Row(2), End(2, 2), Gone])),
-];
-
-#[test]
-fn a_greater_sequence_of_another_life_is_none(rt: HostRuntime) {
-    assert_steps(&rt, rt.alloc(), ABOVE);
-}
-
-// Feeds that wait, as those of any host, and a write while they do.
-const WAITING: &[Step] = &[
-    STORED,
-    Hosted(Open("feed=longpoll&since=4-6", Ok(FIRST))),
-    Hosted(Hands(FIRST, &[Nothing])),
-    Hosted(Open("feed=longpoll&since=4-7", Ok(SECOND))),
-    Hosted(Hands(SECOND, &[Row(2), Row(3), Row(4), End(4, 0), Gone])),
-    Hosted(Open("feed=continuous&since=3-6", Ok(THIRD))),
-    Hosted(Hands(THIRD, &[Row(4), Nothing])),
-    Hosted(Open("feed=continuous&since=3-7", Ok(FOURTH))),
-    Hosted(Hands(FOURTH, &[Row(2), Row(3), Row(4), Nothing])),
-    Batch(&[r#"{"_id":"d","_rev":"1-d"}"#], &[Stored("1-d")]),
-    Hosted(Hands(FIRST, &[Row(5), End(5, 0), Gone])),
-    Hosted(Hands(THIRD, &[Row(5), Nothing])),
-    Hosted(Hands(FOURTH, &[Row(5), Nothing])),
-];
-
-#[test]
-fn feeds_that_wait_begin_in_their_life(rt: HostRuntime) {
-    assert_steps(&rt, rt.alloc(), WAITING);
-}
-
-// Each answer is told with the life of the database.
-const FALLING: &[Step] = &[
-    STORED,
-    Read(Descending("descending=true", Ok((&[4, 3, 2], 2, 0)))),
-    Read(Descending("descending=true&since=2-6", Ok((&[4, 3], 3, 0)))),
-    Read(Descending("descending=true&since=2-7", Ok((&[4, 3, 2], 2, 0)))),
-    Read(Descending("descending=true&since=9-6", Ok((&[], 4, 0)))),
-    Read(Descending("descending=true&since=9-7&limit=1", Ok((&[4], 4, 2)))),
-    Read(Descending("descending=true&since=now", Ok((&[], 4, 0)))),
-];
-
-#[test]
-fn descending_answers_begin_in_their_life(rt: HostRuntime) {
-    assert_steps(&rt, rt.alloc(), FALLING);
-}
-
-// `Counts` compares the life that is told, too.
-const TOLD: &[Step] = &[
-    Life(LIFE),
-    Counts(Ok((0, 0, 0))),
-    STORED,
-    Life(LIFE),
-    Counts(Ok((3, 0, 4))),
-    Delete(Ok(())),
-    Life(LIFE),
-    Counts(Err(DELETED)),
-];
-
-#[test]
-fn a_database_tells_its_life(rt: HostRuntime) {
-    assert_steps(&rt, rt.alloc(), TOLD);
+fn feeds_and_answers_begin_in_their_life(rt: HostRuntime) -> Result<(), Fail> {
+    replay::<Session, _>(&rt, rt.alloc(), LIVES)
 }

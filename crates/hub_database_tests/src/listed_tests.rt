@@ -1,103 +1,98 @@
 //! Feeds of listed documents over many others: their rows are found once and kept until a write.
 
-use crate::feed_tests::FeedStep::{Finish, Hands, Open};
-use crate::feed_tests::Handed::{End, Gone, Nothing, Row};
-use crate::feed_tests::{FIRST, SECOND};
-use crate::tests::Step::{Batch, Delete, Hosted, Many};
-use crate::tests::{Step, assert_steps};
-use hub_model::Outcome::Stored;
+use crate::session::Session;
+use hub_transcript::replay;
+use std::test::Fail;
 
-// Of documents 1 to 300, each at the sequence of its number, every fifteenth, and one that is not
-// there.
-const WAITS: &str = concat!(
-    r#"feed=continuous&filter=_doc_ids&doc_ids=["15","30","45","60","75","90","105","120","#,
-    r#""135","150","165","180","195","210","225","240","255","270","285","300","x"]"#
-);
+// Of documents 1 to 300, each at the sequence of its number, the feeds list every fifteenth and one that is
+// not there, or every hundredth, the last first.
+const LISTED: &str = r#"
+# a listed document that is edited goes behind the others, and one that comes goes behind that
+> merge-next times 300
+> seq
+300
+> open feed=continuous&filter=_doc_ids&doc_ids=["15","30","45","60","75","90","105","120","135","150","165","180","195","210","225","240","255","270","285","300","x"]
+feed 0
+> hand 0 times 3
+Row 15/300 15 1-a
+Row 30/300 30 1-a
+Row 45/300 45 1-a
+> merge {"_id":"90","_rev":"1-b"} {"_id":"x","_rev":"1-b"}
+stored 1-b
+stored 1-b
+seq 302
+> hand 0 times 19
+Row 60/302 60 1-a
+Row 75/302 75 1-a
+Row 105/302 105 1-a
+Row 120/302 120 1-a
+Row 135/302 135 1-a
+Row 150/302 150 1-a
+Row 165/302 165 1-a
+Row 180/302 180 1-a
+Row 195/302 195 1-a
+Row 210/302 210 1-a
+Row 225/302 225 1-a
+Row 240/302 240 1-a
+Row 255/302 255 1-a
+Row 270/302 270 1-a
+Row 285/302 285 1-a
+Row 300/302 300 1-a
+Row 301/302 90 1-b
+Row 302/302 x 1-b
+Nothing
 
-const ENDS: &str = concat!(
-    r#"filter=_doc_ids&doc_ids=["15","30","45","60","75","90","105","120","135","150","#,
-    r#""165","180","195","210","225","240","255","270","285","300","x"]"#
-);
+# feeds of listed documents take turns: one keeps its rows, then the other
+> merge-next times 300
+> seq
+300
+> open filter=_doc_ids&doc_ids=["15","30","45","60","75","90","105","120","135","150","165","180","195","210","225","240","255","270","285","300","x"]
+feed 0
+> open filter=_doc_ids&doc_ids=["300","200","100","200"]
+feed 1
+> hand 0
+Row 15/300 15 1-a
+> hand 1
+Row 100/300 100 1-a
+> hand 0 times 2
+Row 30/300 30 1-a
+Row 45/300 45 1-a
+> hand 1
+Row 200/300 200 1-a
+> hand 0
+Row 60/300 60 1-a
+> hand 1 times 3
+Row 300/300 300 1-a
+End 300, 0 pending
+Gone
+> hand 0
+Row 75/300 75 1-a
 
-// Every hundredth, the last first.
-const OTHER: &str = r#"filter=_doc_ids&doc_ids=["300","200","100","200"]"#;
-
-// A listed document that is edited goes behind the others, and one that comes goes behind that.
-const WRITTEN: &[Step] = &[
-    Many(300),
-    Hosted(Open(WAITS, Ok(FIRST))),
-    Hosted(Hands(FIRST, &[Row(15), Row(30), Row(45)])),
-    Batch(
-        &[
-            r#"{"_id":"90","_rev":"1-b"}"#,
-            r#"{"_id":"x","_rev":"1-b"}"#,
-        ],
-        &[Stored("1-b"), Stored("1-b")],
-    ),
-    Hosted(Hands(
-        FIRST,
-        &[
-            Row(60),
-            Row(75),
-            Row(105),
-            Row(120),
-            Row(135),
-            Row(150),
-            Row(165),
-            Row(180),
-            Row(195),
-            Row(210),
-            Row(225),
-            Row(240),
-            Row(255),
-            Row(270),
-            Row(285),
-            Row(300),
-            Row(301),
-            Row(302),
-            Nothing,
-        ],
-    )),
-];
-
-#[test]
-fn a_feed_of_listed_documents_follows_writes(rt: HostRuntime) {
-    assert_steps(&rt, rt.alloc(), WRITTEN);
-}
-
-// Feeds by turns, of which one keeps its rows, then the other.
-const TURNS: &[Step] = &[
-    Many(300),
-    Hosted(Open(ENDS, Ok(FIRST))),
-    Hosted(Open(OTHER, Ok(SECOND))),
-    Hosted(Hands(FIRST, &[Row(15)])),
-    Hosted(Hands(SECOND, &[Row(100)])),
-    Hosted(Hands(FIRST, &[Row(30), Row(45)])),
-    Hosted(Hands(SECOND, &[Row(200)])),
-    Hosted(Hands(FIRST, &[Row(60)])),
-    Hosted(Hands(SECOND, &[Row(300), End(300, 0), Gone])),
-    Hosted(Hands(FIRST, &[Row(75)])),
-];
-
-#[test]
-fn feeds_of_listed_documents_take_turns(rt: HostRuntime) {
-    assert_steps(&rt, rt.alloc(), TURNS);
-}
-
-// A feed whose rows are kept is finished, and one goes on in a database that is deleted.
-const LEFT: &[Step] = &[
-    Many(300),
-    Hosted(Open(WAITS, Ok(FIRST))),
-    Hosted(Hands(FIRST, &[Row(15), Row(30), Row(45)])),
-    Hosted(Finish(FIRST)),
-    Hosted(Hands(FIRST, &[Gone])),
-    Hosted(Open(OTHER, Ok(SECOND))),
-    Hosted(Hands(SECOND, &[Row(100), Row(200)])),
-    Delete(Ok(())),
-    Hosted(Hands(SECOND, &[End(200, 100), Gone])),
-];
+# a feed whose rows are kept is finished, and one goes on in a database that is deleted
+> merge-next times 300
+> seq
+300
+> open feed=continuous&filter=_doc_ids&doc_ids=["15","30","45","60","75","90","105","120","135","150","165","180","195","210","225","240","255","270","285","300","x"]
+feed 0
+> hand 0 times 3
+Row 15/300 15 1-a
+Row 30/300 30 1-a
+Row 45/300 45 1-a
+> finish 0
+> hand 0
+Gone
+> open filter=_doc_ids&doc_ids=["300","200","100","200"]
+feed 1
+> hand 1 times 2
+Row 100/300 100 1-a
+Row 200/300 200 1-a
+> delete
+> hand 1 times 2
+End 200, 100 pending
+Gone
+"#;
 
 #[test]
-fn feeds_of_listed_documents_are_left(rt: HostRuntime) {
-    assert_steps(&rt, rt.alloc(), LEFT);
+fn feeds_of_listed_documents_hand_their_rows(rt: HostRuntime) -> Result<(), Fail> {
+    replay::<Session, _>(&rt, rt.alloc(), LISTED)
 }

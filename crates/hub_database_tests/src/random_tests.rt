@@ -1,122 +1,37 @@
 //! Random edits of documents: a database and a tree answer as the plain program does.
 
-use crate::model::{Edit, Leaf, Model, has};
-use crate::random_edits::{Random, next, rev_of};
-use crate::tests::LIFE;
-use hub_database::{DbState, Diff, Info, OpenRev};
-use hub_document::{Asked, Body, Doc, DocId, Limits, OpenRevs, Path, RevId, Revisions};
-use hub_model::Fault;
-use hub_model::Outcome::{self, Known, Refused, Stored};
-use hub_revtree::{EditFault, MergeFault, Merged, RevTree};
+use crate::model::Model;
+use crate::random_edits::{Random, next};
+use crate::session::Session;
+use crate::text::Text;
+use crate::texts::plain;
+use hub_document::{Body, Doc, DocId, Path, RevId};
+use hub_revtree::{Merged, RevTree};
 use std::alloc::{AllocError, Global};
+use std::process::Abort;
 use std::test::Fail;
 
-// How often each kind of answer came, and what the documents were in the end.
-#[derive(Clone, Copy, Default)]
+// What came.
+#[derive(Drop)]
 struct Counts {
     stored: u64,
-    known: u64,
-    contradicts: u64,
-    conflict: u64,
     /// Edits behind whose paths more stands by now.
     grown: u64,
     live: u64,
     deleted: u64,
+    /// What became of all edits.
+    told: Text,
 }
 
-// Counts one more.
-fn more(count: &mut u64) {
-    *count = count.saturating_add(1);
-}
-
-impl Counts {
-    // Counts what became of an edit.
-    fn count(&mut self, outcome: &Outcome<RevId>) {
-        match outcome {
-            Stored(_) => more(&mut self.stored),
-            Known => more(&mut self.known),
-            Refused(Fault::Contradicts) => more(&mut self.contradicts),
-            Refused(_) => more(&mut self.conflict),
-        }
-    }
-
-    // Counts a document by its winner.
-    fn count_winner(&mut self, winner: Option<&Leaf>) {
-        match winner {
-            Some(leaf) if leaf.deleted => more(&mut self.deleted),
-            Some(_) => more(&mut self.live),
-            None => {}
-        }
-    }
-
-    // The name of a kind that never came.
-    fn missing(&self) -> Option<&'static str> {
-        let named = [
-            ("stored", self.stored),
-            ("known", self.known),
-            ("contradicts", self.contradicts),
-            ("conflict", self.conflict),
-            ("grown", self.grown),
-            ("live", self.live),
-            ("deleted", self.deleted),
-        ];
-        for (name, count) in named {
-            if count == 0 {
-                return Some(name);
-            }
-        }
-        None
-    }
-}
-
-// What becomes of a document in a database.
-fn store(alloc: Global, state: &mut DbState, doc: Doc) -> Result<Outcome<RevId>, Fail> {
-    let new_edits = doc.path.is_none();
-    let mut docs = Vec::new(alloc);
-    docs.push(doc)?;
-    let Ok(batch) = state.write_edits(docs, new_edits) else {
-        return Err(Fail::new("no batch"));
-    };
-    match batch.replies.as_slice().first() {
-        Some(outcome) => Ok(*outcome),
-        None => Err(Fail::new("no reply")),
-    }
-}
-
-// What becomes of an edit that is made, in a tree alone.
-fn extend(
-    tree: &mut RevTree,
-    id: &DocId,
-    rev: Option<RevId>,
-    deleted: bool,
-    body: Body,
-) -> Result<Outcome<RevId>, Fail> {
-    match tree.extend(id, rev, deleted, body) {
-        Ok(rev) => Ok(Stored(rev)),
-        Err(EditFault::Conflict) => Ok(Refused(Fault::Conflict)),
-        Err(EditFault::GenerationLimit) => Ok(Refused(Fault::GenerationLimit)),
-        Err(EditFault::NoMemory) => Err(Fail::new("no memory")),
-    }
-}
-
-// What becomes of an edit with this history, in a tree alone.
-fn merge(
-    tree: &mut RevTree,
-    path: Path,
-    deleted: bool,
-    body: Body,
-) -> Result<Outcome<RevId>, Fail> {
-    let head = path.head();
-    match tree.merge(path, deleted, body) {
-        Ok(Merged::Added) => Ok(Stored(head)),
-        Ok(Merged::Known) => Ok(Known),
-        Err(MergeFault::Contradicts) => Ok(Refused(Fault::Contradicts)),
-        Err(MergeFault::NoMemory) => Err(Fail::new("no memory")),
-    }
+// A document: its edits in a tree alone, and as the plain program has them.
+#[derive(Drop)]
+struct Document {
+    tree: RevTree,
+    model: Model,
 }
 
 // What becomes of a document in a tree alone.
-fn grow(tree: &mut RevTree, doc: Doc) -> Result<Outcome<RevId>, Fail> {
+fn grow(alloc: Global, tree: &mut RevTree, doc: Doc) -> Result<String, AllocError> {
     let Doc {
         id,
         rev,
@@ -125,344 +40,282 @@ fn grow(tree: &mut RevTree, doc: Doc) -> Result<Outcome<RevId>, Fail> {
         body,
     } = doc;
     match path {
-        Some(path) => merge(tree, path, deleted, body),
-        None => extend(tree, &id, rev, deleted, body),
+        Some(path) => merge(alloc, tree, path, deleted, body),
+        None => extend(alloc, tree, &id, rev, deleted, body),
     }
 }
 
-// Whether the document is that of an edit, with these revisions as its history.
-fn is_shown(doc: &Doc, edit: &Edit, line: &[RevId]) -> bool {
-    let Some(path) = &doc.path else {
-        return false;
+// What becomes of an edit that is made, in a tree alone.
+fn extend(
+    alloc: Global,
+    tree: &mut RevTree,
+    id: &DocId,
+    rev: Option<RevId>,
+    deleted: bool,
+    body: Body,
+) -> Result<String, AllocError> {
+    let mut out = Text::new(alloc);
+    match tree.extend(id, rev, deleted, body) {
+        Ok(rev) => out.rev_line("stored", &rev),
+        Err(fault) => out.refused(&fault),
+    }
+    out.done()
+}
+
+// What becomes of an edit with this history, in a tree alone.
+fn merge(
+    alloc: Global,
+    tree: &mut RevTree,
+    path: Path,
+    deleted: bool,
+    body: Body,
+) -> Result<String, AllocError> {
+    let mut out = Text::new(alloc);
+    let head = path.head();
+    match tree.merge(path, deleted, body) {
+        Ok(Merged::Added) => out.rev_line("stored", &head),
+        Ok(Merged::Known) => out.put("known\n"),
+        Err(fault) => out.refused(&fault),
+    }
+    out.done()
+}
+
+// What stands behind a revision in a tree that knows it.
+fn line(alloc: Global, out: &mut Text, tree: &RevTree, text: &str) -> Result<(), AllocError> {
+    let Some(rev) = RevId::read(plain(text)) else {
+        out.put("no revision");
+        return Ok(());
     };
-    doc.deleted == edit.deleted
-        && doc.body.as_bytes() == edit.body.as_bytes()
-        && doc.rev == line.first().copied()
-        && path.revisions() == line
-}
-
-// Whether a revision is shown, or missing, as the plain program has it.
-fn is_opened(
-    alloc: Global,
-    model: &Model,
-    found: &OpenRev,
-    rev: &RevId,
-) -> Result<bool, AllocError> {
-    match (found, model.edit(rev)) {
-        (OpenRev::Found(doc), Some(edit)) => {
-            let line = model.line(alloc, *rev)?;
-            Ok(is_shown(doc, edit, line.as_slice()))
-        }
-        (OpenRev::Missing(missing), None) => Ok(missing.is_same(rev)),
-        _ => Ok(false),
+    if let Some(path) = tree.path(alloc, &rev)? {
+        out.revs(path.revisions());
     }
+    out.put("\n");
+    Ok(())
 }
 
-// Whether these revisions are shown so, in this order.
-fn are_opened(
-    alloc: Global,
-    model: &Model,
-    found: &[OpenRev],
-    revs: &[RevId],
-) -> Result<bool, AllocError> {
-    for (open, rev) in found.iter().zip(revs.iter()) {
-        if !is_opened(alloc, model, open, rev)? {
-            return Ok(false);
-        }
+// What a tree has behind each of these revisions that it knows, how many edits it has, and of how many
+// revisions they tell.
+fn lines(alloc: Global, tree: &RevTree, asked: &str) -> Result<String, AllocError> {
+    let mut out = Text::new(alloc);
+    for text in asked.split_inclusive(',') {
+        line(alloc, &mut out, tree, text)?;
     }
-    Ok(found.len() == revs.len())
+    out.number(tree.len() as u64);
+    out.put(" edits, revisions ");
+    out.number(tree.nodes() as u64);
+    out.done()
 }
 
-// What a database shows of revisions of a document, with what stands behind them.
-fn opened(state: &DbState, id: &str, which: &OpenRevs) -> Result<Vec<OpenRev>, Fail> {
-    match state.open_revs(id, which, true) {
-        Ok(found) => Ok(found),
-        Err(_) => Err(Fail::new("no revisions")),
-    }
-}
+// The revisions of the tree of which histories are parts, and some above it.
+const TREE: &str = concat!(
+    r#""1-a","1-b","1-c","2-a","2-b","2-c","3-a","3-b","3-c","4-a","4-b","4-c","#,
+    r#""5-a","5-b","5-c","6-a","6-b","6-c","7-a","7-b","7-c","#
+);
 
-// What a document misses of these revisions; none where it misses none.
-fn differs(
-    alloc: Global,
-    state: &DbState,
-    id: &str,
-    revs: &Revisions,
-) -> Result<Option<Diff>, Fail> {
-    let mut asked = Vec::new(alloc);
-    asked.push(Asked {
-        id: String::from_str(alloc, id)?,
-        revs: revs.copy(alloc)?,
-    })?;
-    match state.revs_diff(asked) {
-        Ok(mut found) => Ok(found.pop()),
-        Err(_) => Err(Fail::new("no differences")),
-    }
-}
-
-// The revisions of leaves.
-fn revs_of(alloc: Global, leaves: &[Leaf]) -> Result<Vec<RevId>, AllocError> {
-    let mut revs = Vec::new(alloc);
-    for leaf in leaves {
-        revs.push(leaf.rev)?;
-    }
-    Ok(revs)
-}
-
-// The leaves of a generation below this one.
-fn below(alloc: Global, leaves: &[Leaf], generation: u16) -> Result<Vec<RevId>, AllocError> {
-    let mut found = Vec::new(alloc);
-    for leaf in leaves {
-        if leaf.rev.generation() < generation {
-            found.push(leaf.rev)?;
-        }
-    }
-    Ok(found)
-}
-
-// Those of these revisions that the plain program does not know.
-fn unknown(alloc: Global, model: &Model, revs: &[RevId]) -> Result<Vec<RevId>, AllocError> {
-    let mut found = Vec::new(alloc);
-    for rev in revs {
-        if !model.knows(rev) {
-            found.push(*rev)?;
-        }
-    }
-    Ok(found)
-}
-
-// Whether a document misses these revisions, and has these leaves below the highest of them.
-fn is_missed(
-    alloc: Global,
-    found: &Option<Diff>,
-    missing: &[RevId],
-    leaves: &[Leaf],
-) -> Result<bool, AllocError> {
-    let Some(diff) = found else {
-        return Ok(missing.is_empty());
-    };
-    let mut highest = 0;
-    for rev in missing {
-        highest = rev.generation().max(highest);
-    }
-    let ancestors = below(alloc, leaves, highest)?;
-    Ok(
-        diff.missing.as_slice() == missing
-            && diff.possible_ancestors.as_slice() == ancestors.as_slice(),
-    )
-}
-
-// Whether the edit of each sequence is shown with the history that it came with.
-fn has_entries(state: &DbState, id: &str, model: &Model) -> Result<bool, AllocError> {
+// Revisions that are asked for: those, and the others of all edits.
+fn asked(alloc: Global, model: &Model) -> Result<String, AllocError> {
+    let mut revs = Text::new(alloc);
+    revs.put(TREE);
     for edit in &model.edits {
-        let Some(doc) = state.entry_doc(edit.seq)? else {
-            return Ok(false);
-        };
-        if doc.id.as_str() != id || !is_shown(&doc, edit, edit.path.as_slice()) {
-            return Ok(false);
+        if !revs.as_str().contains(edit.rev.as_str()) {
+            revs.put(edit.rev.as_str());
         }
     }
-    Ok(true)
+    revs.done()
 }
 
-// Whether a tree has this behind a revision; none where it does not know it.
-fn has_line(alloc: Global, tree: &RevTree, model: &Model, rev: &RevId) -> Result<bool, AllocError> {
-    let Some(path) = tree.path(alloc, rev)? else {
-        return Ok(!model.knows(rev));
-    };
-    let line = model.line(alloc, *rev)?;
-    Ok(model.knows(rev) && path.revisions() == line.as_slice())
-}
-
-// Whether a tree has the same behind each of these revisions, and keeps as many.
-fn is_tree(
-    alloc: Global,
-    tree: &RevTree,
-    model: &Model,
-    revs: &[RevId],
-) -> Result<bool, AllocError> {
-    for rev in revs {
-        if !has_line(alloc, tree, model, rev)? {
-            return Ok(false);
-        }
-    }
-    Ok(tree.len() == model.edits.len() && tree.nodes() == model.nodes(alloc)?)
-}
-
-// Revisions that are asked for: those of the tree of which histories are parts, some above it, and those of
-// all edits.
-fn asked(alloc: Global, model: &Model) -> Result<Vec<RevId>, AllocError> {
-    let mut revs = Vec::new(alloc);
-    for number in 0..21u16 {
-        if let Some(rev) = rev_of(number / 3 + 1, u64::from(number % 3)) {
-            revs.push(rev)?;
-        }
-    }
+// The commands that show a document.
+fn commands(alloc: Global, model: &Model, asked: &str) -> Result<String, AllocError> {
+    let id = model.id.as_str();
+    let list = asked.trim_end_matches(',');
+    let mut commands = Text::new(alloc);
+    commands.put("winner ");
+    commands.put(id);
+    commands.put("\nopen_revs ");
+    commands.put(id);
+    commands.put(" all revs\nopen_revs ");
+    commands.put(id);
+    commands.put(" [");
+    commands.put(list);
+    commands.put("] revs\nrevs_diff {\"");
+    commands.put(id);
+    commands.put("\":[");
+    commands.put(list);
+    commands.put("]}");
     for edit in &model.edits {
-        if let Some(head) = edit.path.first()
-            && !has(revs.as_slice(), head)
-        {
-            revs.push(*head)?;
-        }
+        commands.put("\nentry ");
+        commands.number(edit.seq);
     }
-    Ok(revs)
+    commands.done()
 }
 
-// A document: the tree of its histories, its edits in a tree alone, and as the plain program has them.
-#[derive(Drop)]
-struct Document {
-    id: String,
-    salt: u64,
-    tree: RevTree,
-    model: Model,
+// What a database answers to commands.
+fn shown(session: &mut Session, commands: &str) -> Result<String, AllocError> {
+    let mut out = Text::new(session.alloc);
+    for command in commands.split('\n') {
+        out.put(session.put(command)?.as_str());
+    }
+    out.done()
 }
 
 impl Document {
     fn new(alloc: Global, random: &mut Random, number: u64) -> Result<Document, AllocError> {
         Ok(Document {
-            id: format!(in alloc; "d{number}")?,
-            salt: random.below(4_294_967_296),
             tree: RevTree::new(alloc),
             model: Model {
+                id: format!(in alloc; "d{number}")?,
+                salt: random.below(4_294_967_296),
                 edits: Vec::new(alloc),
             },
         })
     }
 
-    // One edit more: whether the database and the tree answer as the plain program does.
+    // Asserts that the database and the tree answer to one edit more as the plain program does.
     fn step(
         &mut self,
-        alloc: Global,
-        state: &mut DbState,
+        rt: &impl Abort,
+        session: &mut Session,
         random: &mut Random,
         counts: &mut Counts,
-    ) -> Result<bool, Fail> {
-        let doc = next(alloc, random, self.id.as_str(), &self.model, self.salt)?;
-        let copy = doc.copy(alloc)?;
-        let seq = state.update_seq().saturating_add(1);
-        let expected = self.model.take(alloc, &doc, seq)?;
-        counts.count(&expected);
-        let stored = store(alloc, state, doc)?;
-        let grown = grow(&mut self.tree, copy)?;
-        Ok(stored == expected && grown == expected)
-    }
-
-    // Whether the database has this winner.
-    fn has_winner(&self, state: &DbState, winner: Option<&Leaf>) -> bool {
-        match (state.winner(self.id.as_str()), winner) {
-            (Some(found), Some(leaf)) => {
-                found.rev.is_same(&leaf.rev) && found.deleted == leaf.deleted
-            }
-            (None, None) => true,
-            _ => false,
-        }
-    }
-
-    // Whether the database shows these leaves.
-    fn has_leaves(&self, alloc: Global, state: &DbState, leaves: &[Leaf]) -> Result<bool, Fail> {
-        let revs = revs_of(alloc, leaves)?;
-        let found = opened(state, self.id.as_str(), &OpenRevs::All)?;
-        Ok(are_opened(alloc, &self.model, found.as_slice(), revs.as_slice())?)
-    }
-
-    // Whether the database shows these revisions, or misses them, as the plain program does.
-    fn has_revs(
-        &self,
-        alloc: Global,
-        state: &DbState,
-        leaves: &[Leaf],
-        revs: &[RevId],
-    ) -> Result<bool, Fail> {
-        let listed = Revisions::new(Vec::from_slice(alloc, revs)?);
-        let missing = unknown(alloc, &self.model, revs)?;
-        let diff = differs(alloc, state, self.id.as_str(), &listed)?;
-        let found = opened(state, self.id.as_str(), &OpenRevs::Listed(listed))?;
-        Ok(
-            is_missed(alloc, &diff, missing.as_slice(), leaves)?
-                && are_opened(alloc, &self.model, found.as_slice(), revs)?,
-        )
-    }
-
-    // Whether the database and the tree show what the plain program has.
-    fn agrees(&self, alloc: Global, state: &DbState) -> Result<bool, Fail> {
-        let leaves = self.model.leaves(alloc)?;
-        let revs = asked(alloc, &self.model)?;
-        Ok(
-            self.has_winner(state, leaves.as_slice().first())
-                && self.has_leaves(alloc, state, leaves.as_slice())?
-                && self.has_revs(alloc, state, leaves.as_slice(), revs.as_slice())?
-                && has_entries(state, self.id.as_str(), &self.model)?
-                && is_tree(alloc, &self.tree, &self.model, revs.as_slice())?,
-        )
-    }
-
-    // Counts what the document is in the end.
-    fn count(&self, alloc: Global, counts: &mut Counts) -> Result<(), AllocError> {
-        counts.count_winner(self.model.leaves(alloc)?.as_slice().first());
-        let grown = self.model.grown(alloc)?;
-        counts.grown = counts.grown.saturating_add(grown);
+    ) -> Result<(), Fail> {
+        let alloc = session.alloc;
+        let command = next(alloc, random, &self.model)?;
+        let (verb, text) = command.as_str().split_once(' ').unwrap_or(("", ""));
+        let doc = Doc::read(alloc, text.as_bytes(), verb == "bulk")?;
+        let expected = self
+            .model
+            .take(alloc, &doc, counts.stored.saturating_add(1))?;
+        let grown = grow(alloc, &mut self.tree, doc)?;
+        compare(rt, command.as_str(), grown.as_str(), expected.as_str());
+        let told = session.put(command.as_str())?;
+        let expected = counts.tell(alloc, expected.as_str())?;
+        compare(rt, command.as_str(), told.as_str(), expected.as_str());
         Ok(())
     }
 
-    // Up to eight edits: whether all agrees behind them.
+    // Asserts that the database and the tree show what the plain program has.
+    fn agree(&self, rt: &impl Abort, session: &mut Session) -> Result<(), Fail> {
+        let alloc = session.alloc;
+        let asked = asked(alloc, &self.model)?;
+        let commands = commands(alloc, &self.model, asked.as_str())?;
+        let told = shown(session, commands.as_str())?;
+        let expected = self.model.say(alloc, asked.as_str())?;
+        compare(rt, commands.as_str(), told.as_str(), expected.as_str());
+        let told = lines(alloc, &self.tree, asked.as_str())?;
+        let expected = self.model.say_lines(alloc, asked.as_str())?;
+        compare(rt, asked.as_str(), told.as_str(), expected.as_str());
+        Ok(())
+    }
+
+    // Up to eight edits.
     fn run(
         &mut self,
-        alloc: Global,
-        state: &mut DbState,
+        rt: &impl Abort,
+        session: &mut Session,
         random: &mut Random,
         counts: &mut Counts,
-    ) -> Result<bool, Fail> {
+    ) -> Result<(), Fail> {
         for _ in 0..random.below(8) + 1 {
-            if !self.step(alloc, state, random, counts)? {
-                return Ok(false);
-            }
+            self.step(rt, session, random, counts)?;
         }
-        self.count(alloc, counts)?;
-        self.agrees(alloc, state)
+        counts.count(session.alloc, &self.model)?;
+        self.agree(rt, session)
     }
 }
 
-// Whether all agrees of one document more.
-fn is_alike(
-    alloc: Global,
-    state: &mut DbState,
-    random: &mut Random,
-    counts: &mut Counts,
-    number: u64,
-) -> Result<bool, Fail> {
-    let mut document = Document::new(alloc, random, number)?;
-    document.run(alloc, state, random, counts)
+impl Counts {
+    // Takes in what became of an edit, and says it with the count of edits.
+    fn tell(&mut self, alloc: Global, told: &str) -> Result<String, AllocError> {
+        if told.starts_with("stored") {
+            self.stored = self.stored.saturating_add(1);
+        }
+        self.told.put(told);
+        let mut out = Text::new(alloc);
+        out.put(told);
+        out.put("seq ");
+        out.number(self.stored);
+        out.put("\n");
+        out.done()
+    }
+
+    // Takes in what a document is in the end.
+    fn count(&mut self, alloc: Global, model: &Model) -> Result<(), AllocError> {
+        self.grown = self.grown.saturating_add(model.grown(alloc)?);
+        match model.best(None) {
+            Some(winner) if winner.deleted => self.deleted = self.deleted.saturating_add(1),
+            Some(_) => self.live = self.live.saturating_add(1),
+            None => {}
+        }
+        Ok(())
+    }
+
+    // Whether each kind came.
+    fn is_whole(&self) -> bool {
+        let told = self.told.as_str();
+        self.grown > 0
+            && self.live > 0
+            && self.deleted > 0
+            && told.contains("stored")
+            && told.contains("known")
+            && told.contains("Contradicts")
+            && told.contains("Conflict")
+    }
+
+    // What a database counts.
+    fn info(&self, alloc: Global) -> Result<String, AllocError> {
+        let mut out = Text::new(alloc);
+        out.put("docs ");
+        out.number(self.live);
+        out.put(", deleted ");
+        out.number(self.deleted);
+        out.put(", seq ");
+        out.number(self.stored);
+        out.put(", life 6\n");
+        out.done()
+    }
 }
 
-// Whether a database counts so.
-fn has_counts(state: &DbState, counts: &Counts) -> bool {
-    state.info()
-        == Ok(Info {
-            doc_count: counts.live,
-            doc_del_count: counts.deleted,
-            update_seq: counts.stored,
-            life: LIFE,
-        })
+// Asserts that an answer is as expected.
+fn compare(rt: &impl Abort, command: &str, told: &str, expected: &str) {
+    assert_eq!(rt; told, expected, "{command}");
 }
 
 const DOCUMENTS: u64 = 2_000;
 
-// How many documents agree, before the first that does not; and whether the database then counts so.
-fn count_alike(alloc: Global, counts: &mut Counts) -> Result<(u64, bool), Fail> {
-    let mut state = DbState::new(alloc, Limits::full(), LIFE);
-    let mut random = Random { state: 20_261_126 };
+// Edits of all documents.
+fn run(
+    rt: &impl Abort,
+    session: &mut Session,
+    random: &mut Random,
+    counts: &mut Counts,
+) -> Result<(), Fail> {
     for number in 0..DOCUMENTS {
-        if !is_alike(alloc, &mut state, &mut random, counts, number)? {
-            return Ok((number, false));
-        }
+        let mut document = Document::new(session.alloc, random, number)?;
+        document.run(rt, session, random, counts)?;
     }
-    Ok((DOCUMENTS, has_counts(&state, counts)))
+    Ok(())
 }
 
 #[test]
 fn parts_of_histories_in_any_order(rt: HostRuntime) -> Result<(), Fail> {
-    let mut counts = Counts::default();
-    let found = count_alike(rt.alloc(), &mut counts)?;
-    assert_eq!(rt; found, (DOCUMENTS, true));
-    assert_eq!(rt; counts.missing(), None);
+    let alloc = rt.alloc();
+    let mut session = Session::new(alloc);
+    let mut random = Random { state: 20_261_126 };
+    let mut counts = Counts {
+        stored: 0,
+        grown: 0,
+        live: 0,
+        deleted: 0,
+        told: Text::new(alloc),
+    };
+    run(&rt, &mut session, &mut random, &mut counts)?;
+    let expected = counts.info(alloc)?;
+    compare(
+        &rt,
+        "info",
+        session.put("info")?.as_str(),
+        expected.as_str(),
+    );
+    assert!(rt; counts.is_whole());
     Ok(())
 }

@@ -1,121 +1,150 @@
 //! Feeds that wait: their heartbeats, and their ends once their time is over.
 
-use crate::feed_tests::FeedStep::{Beats, Expire, Finish, Hands, Open};
-use crate::feed_tests::Handed::{End, Gone, Nothing, Row};
-use crate::feed_tests::{FIRST, FOURTH, SECOND, THIRD};
-use crate::tests::Step::{Batch, Delete, Feed};
-use crate::tests::{Step, assert_steps};
-use hub_feed::FeedId;
-use hub_model::Outcome::Stored;
+use crate::session::Session;
+use hub_transcript::replay;
+use std::test::Fail;
 
-// A feed that was never opened.
-const UNKNOWN: FeedId = FeedId { number: 99 };
+// No feed 99 is ever opened.
+const WAITING: &str = r#"
+# beats are due where they were asked for
+> merge {"_id":"a","_rev":"1-a"} {"_id":"b","_rev":"1-b"}
+stored 1-a
+stored 1-b
+seq 2
+> open feed=continuous&heartbeat=1000
+feed 0
+> beat-due 0
+true
+> finish 0
+> beat-due 0
+false
+> open feed=longpoll&heartbeat=1000
+feed 1
+> beat-due 1
+true
+> finish 1
+> beat-due 1
+false
+> open feed=continuous
+feed 2
+> beat-due 2
+false
+> finish 2
+> beat-due 2
+false
+> open heartbeat=1000
+feed 3
+> beat-due 3
+false
+> finish 3
+> beat-due 3
+false
+> beat-due 99
+false
 
-const STORED: Step = Batch(
-    &[r#"{"_id":"a","_rev":"1-a"}"#, r#"{"_id":"b","_rev":"1-b"}"#],
-    &[Stored("1-a"), Stored("1-b")],
-);
+# no beat is due to a feed that is ending
+> merge {"_id":"a","_rev":"1-a"} {"_id":"b","_rev":"1-b"}
+stored 1-a
+stored 1-b
+seq 2
+> open feed=continuous&heartbeat=1000
+feed 0
+> open feed=continuous&heartbeat=1000
+feed 1
+> expire 0
+> beat-due 0
+false
+> beat-due 1
+true
+> take 0
+End 0, 2 pending
+> beat-due 0
+false
+> beat-due 1
+true
+> delete
+> beat-due 1
+false
 
-const BEATS: &[Step] = &[
-    STORED,
-    Feed(Open("feed=continuous&heartbeat=1000", Ok(FIRST))),
-    Feed(Beats(FIRST, true)),
-    Feed(Finish(FIRST)),
-    Feed(Beats(FIRST, false)),
-    Feed(Open("feed=longpoll&heartbeat=1000", Ok(SECOND))),
-    Feed(Beats(SECOND, true)),
-    Feed(Finish(SECOND)),
-    Feed(Beats(SECOND, false)),
-    Feed(Open("feed=continuous", Ok(THIRD))),
-    Feed(Beats(THIRD, false)),
-    Feed(Finish(THIRD)),
-    Feed(Beats(THIRD, false)),
-    Feed(Open("heartbeat=1000", Ok(FOURTH))),
-    Feed(Beats(FOURTH, false)),
-    Feed(Finish(FOURTH)),
-    Feed(Beats(FOURTH, false)),
-    Feed(Beats(UNKNOWN, false)),
-];
+# feeds that wait end once their time is over
+> merge {"_id":"a","_rev":"1-a"} {"_id":"b","_rev":"1-b"}
+stored 1-a
+stored 1-b
+seq 2
+> open feed=longpoll
+feed 0
+> take 0
+Row 1/2 a 1-a
+> open feed=longpoll&since=now
+feed 1
+> expire 0
+> expire 1
+> take 0 times 2
+End 1, 1 pending
+Gone
+> take 1 times 2
+End 2, 0 pending
+Gone
+> expire 0
+> take 0
+Gone
+> expire 1
+> take 1
+Gone
+> open feed=longpoll&since=now
+feed 2
+> take 2
+Nothing
+> expire 99
+> take 2
+Nothing
+> expire 2
+> take 2 times 2
+End 2, 0 pending
+Gone
+
+# a normal feed hands its rest once its time is over
+> merge {"_id":"a","_rev":"1-a"} {"_id":"b","_rev":"1-b"}
+stored 1-a
+stored 1-b
+seq 2
+> open
+feed 0
+> take 0
+Row 1/2 a 1-a
+> expire 0
+> take 0 times 3
+Row 2/2 b 1-b
+End 2, 0 pending
+Gone
+> expire 0
+> take 0
+Gone
+
+# a continuous feed outlives others
+> merge {"_id":"a","_rev":"1-a"} {"_id":"b","_rev":"1-b"}
+stored 1-a
+stored 1-b
+seq 2
+> open feed=longpoll
+feed 0
+> take 0
+Row 1/2 a 1-a
+> open feed=longpoll&since=now
+feed 1
+> open feed=continuous
+feed 2
+> take 2
+Row 1/2 a 1-a
+> expire 0
+> expire 1
+> expire 99
+> take 2 times 2
+Row 2/2 b 1-b
+Nothing
+"#;
 
 #[test]
-fn beats_are_due_where_they_were_asked_for(rt: HostRuntime) {
-    assert_steps(&rt, rt.alloc(), BEATS);
-}
-
-const ENDING: &[Step] = &[
-    STORED,
-    Feed(Open("feed=continuous&heartbeat=1000", Ok(FIRST))),
-    Feed(Open("feed=continuous&heartbeat=1000", Ok(SECOND))),
-    Feed(Expire(FIRST)),
-    Feed(Beats(FIRST, false)),
-    Feed(Beats(SECOND, true)),
-    Feed(Hands(FIRST, &[End(0, 2)])),
-    Feed(Beats(FIRST, false)),
-    Feed(Beats(SECOND, true)),
-    Delete(Ok(())),
-    Feed(Beats(SECOND, false)),
-];
-
-#[test]
-fn no_beat_is_due_to_a_feed_that_is_ending(rt: HostRuntime) {
-    assert_steps(&rt, rt.alloc(), ENDING);
-}
-
-const OVER: &[Step] = &[
-    STORED,
-    Feed(Open("feed=longpoll", Ok(FIRST))),
-    Feed(Hands(FIRST, &[Row(1)])),
-    Feed(Open("feed=longpoll&since=now", Ok(SECOND))),
-    Feed(Expire(FIRST)),
-    Feed(Expire(SECOND)),
-    Feed(Hands(FIRST, &[End(1, 1), Gone])),
-    Feed(Hands(SECOND, &[End(2, 0), Gone])),
-    Feed(Expire(FIRST)),
-    Feed(Hands(FIRST, &[Gone])),
-    Feed(Expire(SECOND)),
-    Feed(Hands(SECOND, &[Gone])),
-    Feed(Open("feed=longpoll&since=now", Ok(THIRD))),
-    Feed(Hands(THIRD, &[Nothing])),
-    Feed(Expire(UNKNOWN)),
-    Feed(Hands(THIRD, &[Nothing])),
-    Feed(Expire(THIRD)),
-    Feed(Hands(THIRD, &[End(2, 0), Gone])),
-];
-
-#[test]
-fn feeds_that_wait_end_once_their_time_is_over(rt: HostRuntime) {
-    assert_steps(&rt, rt.alloc(), OVER);
-}
-
-const REST: &[Step] = &[
-    STORED,
-    Feed(Open("", Ok(FIRST))),
-    Feed(Hands(FIRST, &[Row(1)])),
-    Feed(Expire(FIRST)),
-    Feed(Hands(FIRST, &[Row(2), End(2, 0), Gone])),
-    Feed(Expire(FIRST)),
-    Feed(Hands(FIRST, &[Gone])),
-];
-
-#[test]
-fn a_normal_feed_hands_its_rest_once_its_time_is_over(rt: HostRuntime) {
-    assert_steps(&rt, rt.alloc(), REST);
-}
-
-const OTHERS: &[Step] = &[
-    STORED,
-    Feed(Open("feed=longpoll", Ok(FIRST))),
-    Feed(Hands(FIRST, &[Row(1)])),
-    Feed(Open("feed=longpoll&since=now", Ok(SECOND))),
-    Feed(Open("feed=continuous", Ok(THIRD))),
-    Feed(Hands(THIRD, &[Row(1)])),
-    Feed(Expire(FIRST)),
-    Feed(Expire(SECOND)),
-    Feed(Expire(UNKNOWN)),
-    Feed(Hands(THIRD, &[Row(2), Nothing])),
-];
-
-#[test]
-fn a_continuous_feed_outlives_others(rt: HostRuntime) {
-    assert_steps(&rt, rt.alloc(), OTHERS);
+fn feeds_that_wait_beat_and_end_by_their_time(rt: HostRuntime) -> Result<(), Fail> {
+    replay::<Session, _>(&rt, rt.alloc(), WAITING)
 }

@@ -3,7 +3,7 @@ use Rattle.hub_database.specs.Database.{Database}
 use Rattle.hub_database.specs.Hosting.{hosted_of}
 use Rattle.hub_feed.specs.Host.{item_of_number}
 use Rattle.hub_database.proofs.FeedLemmas.{gives_due}
-use Rattle.hub_database_tests.proofs.feed_tests.take.Goals as goal
+use Rattle.hub_database_tests.proofs.session.feeds.take.Goals as goal
 
 pub accept_item-requires : goal.accept_item-requires
 accept_item-requires c =
