@@ -7,9 +7,9 @@ use std::io::{ErrorKind, Read, Write};
 #[derive(Drop)]
 pub(crate) struct Pauses {
     /// How often each call is interrupted.
-    pub(crate) each: u32,
+    pub(crate) each: u64,
     /// How often the next one is.
-    pub(crate) left: u32,
+    pub(crate) left: u64,
 }
 
 impl Pauses {
@@ -60,7 +60,7 @@ pub(crate) struct CutWriter {
     pub(crate) room: usize,
     pub(crate) pauses: Pauses,
     /// How many writes took some.
-    pub(crate) writes: usize,
+    pub(crate) writes: u64,
     /// How many bytes it held at each flush.
     pub(crate) flushed: Vec<usize>,
 }

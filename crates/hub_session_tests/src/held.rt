@@ -1,167 +1,286 @@
-//! Sessions held as their plans say.
+//! Sessions, held once and told.
 
 use crate::cut::{CutReader, CutWriter, Pauses};
-use crate::made_again::{Told, judged};
-use crate::plan::{How, Plan, is_count};
-use crate::rows::{Exchange, Rows, texts_of, two_rows};
-use crate::stepped::{driven, refused};
-use hub_http::{HttpFault, Output, Requests, Tally};
+use crate::rows::Rows;
+use hub_http::{HttpFault, Outbox, Output, Requests, Tally, Transfer};
 use hub_model::Mode;
-use hub_session::{Closing, StreamEnd, serve, serve_one, stream_feed};
+use hub_session::{Closing, Service, Session, Step, StreamEnd, serve, serve_one, stream_feed};
 use std::alloc::{AllocError, Global};
+use std::cell::Cell;
 
-/// A writer that holds nothing.
-pub(crate) fn writer_of(alloc: Global, plan: &Plan) -> CutWriter {
-    CutWriter {
-        held: Vec::new(alloc),
-        most: plan.most_written,
-        room: plan.room,
-        pauses: Pauses {
-            each: plan.interrupts,
-            left: plan.interrupts,
-        },
-        writes: 0,
-        flushed: Vec::new(alloc),
-    }
-}
+/// The most steps of a session of these tests.
+const STEPS: usize = 10_000;
 
-/// A service that was asked nothing.
-pub(crate) fn service_of(alloc: Global, plan: &Plan) -> Rows {
-    two_rows(alloc, plan.late, plan.stops)
-}
-
-/// The requests that are read.
-fn requests_of<'a>(alloc: Global, plan: &Plan, input: &'a [u8]) -> Requests<Tally<CutReader<'a>>> {
-    let reader = CutReader {
-        text: input,
-        most: plan.most_read,
-        fails: plan.fails,
-        pauses: Pauses {
-            each: plan.interrupts,
-            left: plan.interrupts,
-        },
-    };
-    Requests::new(alloc, Tally::new(reader))
-}
-
-/// What became of a session: why it closed, what its writer holds, and whether that was written and flushed as
-/// the plan says, with so many faults, and so many streams were given back.
-fn told(
-    plan: &Plan,
-    closing: Option<Closing>,
-    writer: Tally<CutWriter>,
-    given_back: usize,
-) -> Told {
-    let faults = usize::try_from(Output::faults(&writer)).unwrap_or(usize::MAX);
-    let writer = writer.into_inner();
-    let is_flushed = match plan.flushed {
-        Some(flushed) => writer.flushed.as_slice() == flushed,
-        None => true,
-    };
-    Told {
-        closing,
-        counted: is_flushed
-            && is_count(plan.writes, writer.writes)
-            && is_count(plan.faults, faults)
-            && is_count(plan.given_back, given_back),
-        output: writer.held,
-    }
-}
-
-/// What became of a session whose requests are served.
-fn served(alloc: Global, plan: &Plan, input: &[u8]) -> Told {
-    let mut requests = requests_of(alloc, plan, input);
-    let mut writer = Tally::new(writer_of(alloc, plan));
-    let mut service = service_of(alloc, plan);
-    let closing = serve(alloc, &mut requests, &mut writer, &mut service);
-    told(plan, Some(closing), writer, service.dropped)
-}
-
-/// What became of the first request.
-fn served_once(alloc: Global, plan: &Plan, input: &[u8]) -> Told {
-    let mut requests = requests_of(alloc, plan, input);
-    let mut writer = Tally::new(writer_of(alloc, plan));
-    let mut service = service_of(alloc, plan);
-    let closing = serve_one(alloc, &mut requests, &mut writer, &mut service);
-    told(plan, closing, writer, service.dropped)
-}
-
-/// What became of a session whose requests ended, and are served again to a writer that takes nothing.
-fn served_again(alloc: Global, plan: &Plan, input: &[u8]) -> Told {
-    let mut requests = requests_of(alloc, plan, input);
-    let mut writer = Tally::new(writer_of(alloc, plan));
-    let mut service = service_of(alloc, plan);
-    let first = serve(alloc, &mut requests, &mut writer, &mut service);
-    let mut narrow = Tally::new(writer_of(alloc, &Plan { room: 0, ..*plan }));
-    let again = serve(alloc, &mut requests, &mut narrow, &mut service);
-    let is_silent = again == Closing::Fault(HttpFault::Ended) && Output::faults(&narrow) == 0;
-    let told = told(plan, Some(first), writer, service.dropped);
-    Told {
-        counted: told.counted && is_silent,
-        ..told
-    }
-}
-
-/// What became of a stream.
-fn streamed(alloc: Global, plan: &Plan) -> Told {
-    let mut writer = Tally::new(writer_of(alloc, plan));
-    let mut service = service_of(alloc, plan);
-    let closing = match stream_feed(alloc, &mut writer, &mut service, Mode::Normal, 1) {
-        StreamEnd::Complete => None,
-        StreamEnd::Stopped | StreamEnd::NoMemory => Some(Closing::Cut),
-        StreamEnd::Broken => Some(Closing::Broken),
-        StreamEnd::Exhausted => Some(Closing::Exhausted),
-    };
-    told(plan, closing, writer, service.dropped)
-}
-
-/// A session that was cut before it began, as one without an outbox.
-fn cut(alloc: Global) -> Told {
-    Told {
-        closing: Some(Closing::Cut),
-        output: Vec::new(alloc),
-        counted: false,
-    }
+/// How a session is held.
+#[derive(Clone, Copy)]
+pub(crate) struct Setting {
+    pub(crate) alloc: Global,
+    /// The most bytes of a read.
+    pub(crate) most_read: usize,
+    /// The reader fails behind its text, in place of ending.
+    pub(crate) fails: bool,
+    /// The most bytes of a write.
+    pub(crate) most_written: usize,
+    /// How many bytes the writer takes.
+    pub(crate) room: usize,
+    /// How often each call of the reader and the writer is interrupted.
+    pub(crate) interrupts: u64,
+    /// The bits of the numbers of the items that are not ready.
+    pub(crate) late: u64,
+    /// The stream stops in place of its End.
+    pub(crate) stops: bool,
 }
 
 /// What became of a session.
-fn held(alloc: Global, plan: &Plan, input: &[u8]) -> Told {
-    match plan.how {
-        How::Served => served(alloc, plan, input),
-        How::ServedOnce => served_once(alloc, plan, input),
-        How::ServedAgain => served_again(alloc, plan, input),
-        How::Streamed => streamed(alloc, plan),
-        How::Driven => driven(alloc, plan, input).unwrap_or(cut(alloc)),
-        How::Refused => refused(alloc, plan, input).unwrap_or(cut(alloc)),
-    }
+#[derive(Drop)]
+pub(crate) struct Told {
+    /// Why it closed; None where it goes on.
+    pub(crate) closing: Option<Closing>,
+    /// What was written.
+    pub(crate) output: Vec<u8>,
+    /// How many writes took some.
+    pub(crate) writes: u64,
+    /// How many bytes were written at each flush.
+    pub(crate) flushed: Vec<usize>,
+    /// How often the writer faulted.
+    pub(crate) faults: u64,
+    /// How many streams were given back.
+    pub(crate) given_back: u64,
+    /// How often it waited for news.
+    pub(crate) waits: u64,
 }
 
-/// Whether a session over this input writes these answers to its exchanges, and is as its plan says. One that
-/// met no memory wrote a front of the answers, and is held again.
-pub(crate) fn is_right(
-    alloc: Global,
-    plan: &Plan,
-    exchanges: &[Exchange],
-    input: &[u8],
-    expected: &[u8],
-) -> bool {
-    for _ in 0..2 {
-        let told = held(alloc, plan, input);
-        if let Some(is_right) = judged(told, exchanges, expected, plan.end) {
-            return is_right;
+impl Told {
+    /// Nothing was held.
+    pub(crate) fn none(alloc: Global) -> Told {
+        Told {
+            closing: None,
+            output: Vec::new(alloc),
+            writes: 0,
+            flushed: Vec::new(alloc),
+            faults: 0,
+            given_back: 0,
+            waits: 0,
         }
     }
-    false
 }
 
-/// Whether a session over its exchanges is as its plan says.
-pub(crate) fn is_planned(alloc: Global, plan: &Plan) -> Result<bool, AllocError> {
-    let exchanges = plan.exchanges();
-    let texts = texts_of(alloc, exchanges)?;
-    let (asked, answered) = (texts.asked.as_bytes(), texts.answered.as_bytes());
-    let count = plan.front.unwrap_or(answered.len());
-    match answered.get(..count) {
-        Some(front) => Ok(is_right(alloc, plan, exchanges, asked, front)),
-        None => Ok(false),
+impl Setting {
+    /// Ample room for a session, which comes to the end of its requests.
+    pub(crate) fn ample(alloc: Global) -> Setting {
+        Setting {
+            alloc,
+            most_read: usize::MAX,
+            fails: false,
+            most_written: usize::MAX,
+            room: usize::MAX,
+            interrupts: 0,
+            late: 0,
+            stops: false,
+        }
     }
+
+    fn pauses(&self) -> Pauses {
+        Pauses {
+            each: self.interrupts,
+            left: self.interrupts,
+        }
+    }
+
+    /// A writer that holds nothing, and takes so many bytes.
+    fn writer(&self, room: usize) -> CutWriter {
+        CutWriter {
+            held: Vec::new(self.alloc),
+            most: self.most_written,
+            room,
+            pauses: self.pauses(),
+            writes: 0,
+            flushed: Vec::new(self.alloc),
+        }
+    }
+
+    /// The requests that are read.
+    fn requests<'a>(&self, input: &'a [u8]) -> Requests<Tally<CutReader<'a>>> {
+        let reader = CutReader {
+            text: input,
+            most: self.most_read,
+            fails: self.fails,
+            pauses: self.pauses(),
+        };
+        Requests::new(self.alloc, Tally::new(reader))
+    }
+
+    /// A service that was asked nothing.
+    fn service<'a>(&self, news: &'a Cell<u64>) -> Rows<'a> {
+        Rows {
+            alloc: self.alloc,
+            mode: Mode::Normal,
+            has_updates: false,
+            next: 0,
+            late: self.late,
+            stops: self.stops,
+            dropped: 0,
+            news,
+        }
+    }
+}
+
+/// What a closing and a writer tell.
+fn told_of(closing: Option<Closing>, writer: CutWriter, faults: u64, given_back: u64) -> Told {
+    Told {
+        closing,
+        output: writer.held,
+        writes: writer.writes,
+        flushed: writer.flushed,
+        faults,
+        given_back,
+        waits: 0,
+    }
+}
+
+/// What became of requests that are served: all of them, `once` the first alone. `again` they are served once
+/// more, to a writer that takes nothing: then its closing and its faults are told, and what was written
+/// before.
+pub(crate) fn served(setting: &Setting, input: &[u8], once: bool, again: bool) -> Told {
+    let news = Cell::new(u64::MAX);
+    let mut requests = setting.requests(input);
+    let mut writer = Tally::new(setting.writer(setting.room));
+    let mut service = setting.service(&news);
+    let alloc = setting.alloc;
+    let mut closing = if once {
+        serve_one(alloc, &mut requests, &mut writer, &mut service)
+    } else {
+        Some(serve(alloc, &mut requests, &mut writer, &mut service))
+    };
+    let mut faults = Output::faults(&writer);
+    if again {
+        let mut narrow = Tally::new(setting.writer(0));
+        closing = Some(serve(alloc, &mut requests, &mut narrow, &mut service));
+        faults = Output::faults(&narrow);
+    }
+    told_of(closing, writer.into_inner(), faults, service.dropped)
+}
+
+/// What became of a stream.
+pub(crate) fn streamed(setting: &Setting) -> Told {
+    let news = Cell::new(u64::MAX);
+    let mut writer = Tally::new(setting.writer(setting.room));
+    let mut service = setting.service(&news);
+    let end = stream_feed(setting.alloc, &mut writer, &mut service, Mode::Normal, 1);
+    let closing = if end == StreamEnd::Complete {
+        None
+    } else {
+        Some(Closing::Cut)
+    };
+    let faults = Output::faults(&writer);
+    told_of(closing, writer.into_inner(), faults, service.dropped)
+}
+
+/// Sends all that a session has to send.
+fn drain<S: Service>(session: &mut Session<S>, writer: &mut CutWriter) {
+    for _ in 0..STEPS {
+        if session.send_to(writer) == Transfer::Took(0) {
+            return;
+        }
+    }
+}
+
+/// What a stepped session and its writer tell.
+fn stepped(session: &Session<Rows<'_>>, writer: CutWriter) -> Told {
+    told_of(session.closing(), writer, 0, session.service().dropped)
+}
+
+/// A session to which these bytes were offered, where there are some.
+fn opened<'a>(
+    setting: &Setting,
+    news: &'a Cell<u64>,
+    input: &[u8],
+) -> Result<Session<Rows<'a>>, AllocError> {
+    let outbox = Outbox::new(setting.alloc)?;
+    let mut session = Session::new(setting.alloc, outbox, setting.service(news));
+    if !input.is_empty() {
+        session.offer(input)?;
+    }
+    Ok(session)
+}
+
+/// Offers a session the next part of an input, and answers where the part behind begins. Where there is no
+/// memory nothing is taken.
+fn offer_part(session: &mut Session<Rows<'_>>, input: &[u8], start: usize, most: usize) -> usize {
+    let end = start.saturating_add(most).min(input.len());
+    let Some(part) = input.get(start..end) else {
+        return start;
+    };
+    if session.offer(part).is_ok() {
+        end
+    } else {
+        start
+    }
+}
+
+/// What became of a session that is stepped, and waits for news before each item of a stream.
+pub(crate) fn driven(setting: &Setting, input: &[u8]) -> Result<Told, AllocError> {
+    let news = Cell::new(0);
+    let mut session = opened(setting, &news, b"")?;
+    let mut writer = setting.writer(setting.room);
+    let mut start = 0;
+    let mut waits = 0u64;
+    for _ in 0..STEPS {
+        match session.step() {
+            Step::Served => {}
+            Step::WantsNews => {
+                waits = waits.saturating_add(1);
+                news.set(1);
+            }
+            Step::WantsRoom => {
+                session.send_to(&mut writer);
+            }
+            Step::WantsInput => start = offer_part(&mut session, input, start, setting.most_read),
+            Step::Ended(_) => break,
+        }
+    }
+    drain(&mut session, &mut writer);
+    let mut told = stepped(&session, writer);
+    told.waits = waits;
+    Ok(told)
+}
+
+/// Steps a session until it wants input or ends, and sends all that it has to send.
+fn step_on(session: &mut Session<Rows<'_>>, writer: &mut CutWriter) {
+    for _ in 0..STEPS {
+        match session.step() {
+            Step::WantsRoom => drain(session, writer),
+            Step::WantsInput | Step::Ended(_) => break,
+            Step::Served | Step::WantsNews => {}
+        }
+    }
+    drain(session, writer);
+}
+
+/// What became of a session that finds no memory for the bytes behind its input.
+pub(crate) fn refused(setting: &Setting, input: &[u8]) -> Result<Told, AllocError> {
+    let news = Cell::new(u64::MAX);
+    let mut session = opened(setting, &news, input)?;
+    let mut writer = setting.writer(setting.room);
+    step_on(&mut session, &mut writer);
+    if !session.inbox().is_over() {
+        session.close_out_of_memory(b"mal HTTP/1.1\r\n\r\n");
+    }
+    drain(&mut session, &mut writer);
+    Ok(stepped(&session, writer))
+}
+
+/// What became of a session that is given up twice behind its first step, and stepped once more.
+pub(crate) fn given_up(setting: &Setting, input: &[u8]) -> Result<Told, AllocError> {
+    let news = Cell::new(u64::MAX);
+    let mut session = opened(setting, &news, input)?;
+    session.step();
+    session.give_up();
+    session.give_up();
+    let step = session.step();
+    let mut told = stepped(&session, setting.writer(0));
+    if !matches!(step, Step::Ended(_)) {
+        told.closing = None;
+    }
+    Ok(told)
 }

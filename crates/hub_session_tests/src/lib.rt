@@ -4,18 +4,18 @@
 #[cfg(test)]
 mod cut;
 #[cfg(test)]
+mod cuts;
+#[cfg(test)]
 mod held;
 #[cfg(test)]
-mod made_again;
-#[cfg(test)]
-mod plan;
+mod holding;
 #[cfg(test)]
 mod plans;
 #[cfg(test)]
 mod rows;
 #[cfg(test)]
-mod stepped;
+mod shown;
 #[cfg(test)]
-mod surface;
+mod stepped;
 #[cfg(test)]
 mod tests;

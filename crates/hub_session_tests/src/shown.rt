@@ -1,0 +1,60 @@
+//! Bytes as transcripts write them.
+
+use std::alloc::{AllocError, Global};
+use std::fmt::{Display, Formatter};
+use std::{ascii, fmt};
+
+/// The bytes of a text in which `\r` and `\n` stand for CR and LF.
+pub(crate) fn undone(alloc: Global, text: &str) -> Result<Vec<u8>, AllocError> {
+    let mut bytes = Vec::new(alloc);
+    let mut is_escape = false;
+    for byte in text.as_bytes() {
+        if *byte == b'\\' {
+            is_escape = true;
+            continue;
+        }
+        bytes.push(if !is_escape {
+            *byte
+        } else if *byte == b'r' {
+            b'\r'
+        } else {
+            b'\n'
+        })?;
+        is_escape = false;
+    }
+    Ok(bytes)
+}
+
+/// The place of a word among others, which stand behind one another with a blank between them; past the last
+/// where it is none of them.
+pub(crate) fn place_of(word: &str, words: &str) -> u64 {
+    let mut place = 0u64;
+    for other in words.split(' ') {
+        if other == word {
+            return place;
+        }
+        place = place.saturating_add(1);
+    }
+    u64::MAX
+}
+
+/// Bytes as they are shown: what prints as it stands, the others by escapes. Behind each line feed a line
+/// begins.
+#[derive(Drop)]
+pub(crate) struct Shown<'a>(pub(crate) &'a [u8]);
+
+impl Display for Shown<'_> {
+    fn fmt<W: fmt::Write>(&self, f: &mut Formatter<W>) -> fmt::Result {
+        for byte in self.0 {
+            if *byte == b'"' || *byte == b'\'' {
+                f.write_char(char::from(*byte))?;
+            } else {
+                write!(f, "{}", ascii::escape_default(*byte))?;
+            }
+            if *byte == b'\n' {
+                f.write_char('\n')?;
+            }
+        }
+        Ok(())
+    }
+}
