@@ -52,6 +52,10 @@ pub(crate) struct Maker {
     pub(crate) rev_count: u64,
     /// How many feeds were opened.
     pub(crate) feeds: u64,
+    /// How many documents were stored.
+    pub(crate) length: u64,
+    /// The last sequence at which each of the ids was stored, 0 where it never was.
+    pub(crate) last: [u64; 4],
 }
 
 impl Maker {
@@ -63,7 +67,34 @@ impl Maker {
             revs: String::new(alloc),
             rev_count: 0,
             feeds: 0,
+            length: 0,
+            last: [0; 4],
         }
+    }
+
+    // Notes a document of the id at this place that was told to be stored under a revision.
+    fn store(&mut self, place: u64, rev: &str) -> Result<(), AllocError> {
+        self.length = self.length.saturating_add(1);
+        if place < 4 {
+            self.last[place as usize] = self.length;
+        }
+        self.rev_count = self.rev_count.saturating_add(1);
+        write!(self.revs, "{rev} ")
+    }
+
+    /// Notes what the reply to the last command tells.
+    pub(crate) fn note(&mut self, reply: &str) -> Result<(), AllocError> {
+        if reply.starts_with("opened") {
+            self.feeds = self.feeds.saturating_add(1);
+        }
+        for at in 0..self.places.len() {
+            let word = word_at(reply, (at as u64).saturating_add(1));
+            let place = self.places.get(at).copied().unwrap_or(0);
+            if word.contains('-') {
+                self.store(place, word)?;
+            }
+        }
+        Ok(())
     }
 
     // Writes one of so many words.

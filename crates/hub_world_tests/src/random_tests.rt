@@ -13,10 +13,6 @@ struct Run {
     alloc: Global,
     shell: Shell,
     maker: Maker,
-    /// How many documents were stored.
-    length: u64,
-    /// The last sequence at which each of the ids was stored, 0 where it never was.
-    last: [u64; 4],
 }
 
 impl Run {
@@ -28,46 +24,15 @@ impl Run {
             alloc,
             shell,
             maker: Maker::new(alloc, random),
-            length: 0,
-            last: [0; 4],
         })
-    }
-
-    // Notes a document of this id that was told to be stored under a revision.
-    fn store(&mut self, place: u64, rev: &str) -> Result<(), AllocError> {
-        self.length = self.length.saturating_add(1);
-        if place < 4 {
-            self.last[place as usize] = self.length;
-        }
-        self.maker.rev_count = self.maker.rev_count.saturating_add(1);
-        self.maker.revs.push_str(rev)?;
-        self.maker.revs.push(' ')
-    }
-
-    // Notes what the last reply tells.
-    fn note(&mut self) -> Result<(), AllocError> {
-        let told = String::from_str(self.alloc, self.shell.last())?;
-        if told.starts_with("opened") {
-            self.maker.feeds = self.maker.feeds.saturating_add(1);
-        }
-        for (at, word) in told.as_str().split(' ').skip(1).enumerate() {
-            let Some(place) = self.maker.places.get(at).copied() else {
-                break;
-            };
-            if word.contains('-') {
-                self.store(place, word)?;
-            }
-        }
-        Ok(())
     }
 
     // One more event, whose reply goes to the end of `all`.
     fn step(&mut self, all: &mut String) -> Result<(), AllocError> {
         self.maker.make()?;
         self.shell.apply(self.maker.command.as_str())?;
-        all.push_str(self.shell.last())?;
-        all.push('\n')?;
-        self.note()
+        writeln!(all, "{}", self.shell.last())?;
+        self.maker.note(self.shell.last())
     }
 
     // Whether the reply to a step of a feed begins so.
@@ -86,7 +51,7 @@ impl Run {
     // Whether a new feed shows the document that was stored last at this sequence, if one was.
     fn shows_row(&mut self, seq: u64) -> Result<bool, AllocError> {
         for place in 0..4u64 {
-            if self.last.get(place as usize).copied() == Some(seq) {
+            if self.maker.last.get(place as usize).copied() == Some(seq) {
                 let wanted = format!(in self.alloc; "took row {seq} {} ", word_at(IDS, place))?;
                 return self.shows(wanted.as_str());
             }
@@ -106,7 +71,7 @@ impl Run {
             return Ok(self.shell.last() == "database deleted");
         }
         let first = if life == 1 { since } else { 0 };
-        for seq in first..self.length {
+        for seq in first..self.maker.length {
             if !self.shows_row(seq.saturating_add(1))? {
                 return Ok(false);
             }
@@ -137,21 +102,42 @@ gone
 left 0
 left 1";
 
+// Whether random events to a new database leave the rows that were told. Their replies go to the end of `all`.
+fn is_right(alloc: Global, random: &mut Random, all: &mut String) -> Result<bool, AllocError> {
+    let mut run = Run::new(alloc, *random)?;
+    for _ in 0..100 {
+        run.step(all)?;
+    }
+    *random = run.maker.random;
+    let (seq, life) = (random.below(16), random.below(3));
+    run.rows_are_told(seq, life)
+}
+
+// How many of 20 runs are right, before the first that is not.
+fn count_right(alloc: Global, all: &mut String) -> Result<u64, AllocError> {
+    let mut random = Random { state: 20_260_101 };
+    for number in 0..20 {
+        if !is_right(alloc, &mut random, all)? {
+            return Ok(number);
+        }
+    }
+    Ok(20)
+}
+
+// The first kind of reply that did not come.
+fn missing(all: &str) -> &'static str {
+    for kind in KINDS.split('\n') {
+        if !all.contains(kind) {
+            return kind;
+        }
+    }
+    ""
+}
+
 #[test]
 fn each_reply_comes_and_the_rows_are_those_that_were_told(rt: HostRuntime) -> Result<(), Fail> {
-    let mut random = Random { state: 20_260_101 };
     let mut all = String::new(rt.alloc());
-    for number in 0..20 {
-        let mut run = Run::new(rt.alloc(), random)?;
-        for _ in 0..100 {
-            run.step(&mut all)?;
-        }
-        random = run.maker.random;
-        let (seq, life) = (random.below(16), random.below(3));
-        assert!(rt; run.rows_are_told(seq, life)?, "in run {number}");
-    }
-    for kind in KINDS.split('\n') {
-        assert!(rt; all.contains(kind), "no reply of the kind: {kind}");
-    }
+    assert_eq!(rt; count_right(rt.alloc(), &mut all)?, 20);
+    assert_eq!(rt; missing(all.as_str()), "");
     Ok(())
 }

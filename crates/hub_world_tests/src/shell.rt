@@ -1,12 +1,13 @@
 //! A world, which carries out the commands of transcripts.
 
-use crate::texts::{put_outcomes, put_reply};
+use crate::texts::{put_outcomes, put_replies, put_reply};
 use hub_document::{Doc, Limits};
 use hub_feed::FeedId;
 use hub_params::FeedParams;
 use hub_transcript::{Answer, Subject, Words};
 use hub_world::{Docs, Event, Reply, World};
 use std::alloc::{AllocError, Global};
+use std::fmt::Write;
 
 // The room for the commands of a case, and for their replies.
 const ROOM: usize = 16_384;
@@ -21,15 +22,14 @@ const ROOM: usize = 16_384;
 /// Each answers what the reply tells. Two commands are no events:
 ///
 /// - `room FEEDS LANE EDITS` begins anew within these limits. Without it they are the widest.
-/// - `run`: all events so far happen once more in a run of their own, which has the same replies.
+/// - `run`: all events so far happen once more in a run of their own, which tells its replies.
 #[derive(Drop)]
 pub(crate) struct Shell {
     alloc: Global,
     limits: Limits,
     world: World,
-    // The events so far, and their replies, a line each.
+    // The events so far, a line each.
     commands: String,
-    told: String,
     // What the last reply tells.
     last: String,
 }
@@ -40,18 +40,14 @@ impl<R> Subject<R> for Shell {
     }
 
     fn answer(&mut self, _: &R, command: &str, answer: &mut Answer) -> Result<(), AllocError> {
-        let (verb, rest) = command.split_once(' ').unwrap_or((command, ""));
-        if verb == "room" {
-            return self.room(rest);
-        }
-        if verb == "run" {
+        if command == "run" {
             return self.run(answer);
         }
+        if let Some(limits) = command.strip_prefix("room ") {
+            return self.room(limits);
+        }
         self.apply(command)?;
-        self.commands.push_str(command)?;
-        self.commands.push('\n')?;
-        self.told.push_str(self.last.as_str())?;
-        self.told.push('\n')?;
+        writeln!(self.commands, "{command}")?;
         answer.text(self.last.as_str())
     }
 }
@@ -64,29 +60,36 @@ fn number(text: &str) -> Result<u64, AllocError> {
     }
 }
 
-// The documents that the texts are, but for so many of the first; an error where they find no memory, and
-// each time where one is none.
-fn docs(alloc: Global, texts: &str, skipped: usize, new_edits: bool) -> Result<Docs, AllocError> {
+// The event that these documents come, but so many of the first; an error where they find no memory, and each
+// time where a text is none.
+fn write(alloc: Global, texts: &str, skipped: usize, new_edits: bool) -> Result<Event, AllocError> {
     let mut list = Vec::new(alloc);
     for text in texts.split(' ').skip(skipped) {
+        if text == "" {
+            break;
+        }
         let bare = text.strip_prefix('~').unwrap_or(text);
         let is_made = new_edits || bare.len() < text.len();
-        match Doc::read(alloc, bare.as_bytes(), is_made) {
-            Ok(doc) => list.push(doc)?,
-            Err(_) if text == "" => {}
-            Err(_) => return Err(AllocError),
-        }
+        let Ok(doc) = Doc::read(alloc, bare.as_bytes(), is_made) else {
+            return Err(AllocError);
+        };
+        list.push(doc)?;
     }
-    Ok(Docs { list })
+    let docs = Docs { list };
+    Ok(if new_edits {
+        Event::Interactive(docs)
+    } else {
+        Event::Write(docs)
+    })
 }
 
-// The event that opens a feed, which shows so many rows at most where that is said.
-fn begin(alloc: Global, query: &str, limit: Option<u64>) -> Result<Event, AllocError> {
+// The event that opens a feed, which may show no row where that is said.
+fn begin(alloc: Global, query: &str, is_empty: bool) -> Result<Event, AllocError> {
     let Ok(mut params) = FeedParams::read(alloc, query.as_bytes(), b"") else {
         return Err(AllocError);
     };
-    if limit.is_some() {
-        params.limit = limit;
+    if is_empty {
+        params.limit = Some(0);
     }
     Ok(Event::Begin(params))
 }
@@ -94,17 +97,11 @@ fn begin(alloc: Global, query: &str, limit: Option<u64>) -> Result<Event, AllocE
 // The event that a command is, but for so many of its documents.
 fn event(alloc: Global, command: &str, skipped: usize) -> Result<Event, AllocError> {
     let (verb, rest) = command.split_once(' ').unwrap_or((command, ""));
-    if verb == "write" {
-        return Ok(Event::Write(docs(alloc, rest, skipped, false)?));
+    if verb == "write" || verb == "make" {
+        return write(alloc, rest, skipped, verb == "make");
     }
-    if verb == "make" {
-        return Ok(Event::Interactive(docs(alloc, rest, skipped, true)?));
-    }
-    if verb == "begin" {
-        return begin(alloc, rest, None);
-    }
-    if verb == "empty" {
-        return begin(alloc, rest, Some(0));
+    if verb == "begin" || verb == "empty" {
+        return begin(alloc, rest, verb == "empty");
     }
     if verb == "delete" {
         return Ok(Event::Delete);
@@ -145,7 +142,6 @@ impl Shell {
             limits: Limits::full(),
             world: World::new(alloc, Limits::full()),
             commands: String::with_capacity(alloc, ROOM)?,
-            told: String::with_capacity(alloc, ROOM)?,
             last: String::with_capacity(alloc, ROOM)?,
         })
     }
@@ -201,21 +197,20 @@ impl Shell {
         }
     }
 
-    // Runs the events so far.
-    fn run(&self, answer: &mut Answer) -> Result<(), AllocError> {
+    // The events so far.
+    fn events(&self) -> Result<Vec<Event>, AllocError> {
         let mut events = Vec::new(self.alloc);
         for command in self.commands.as_str().split_terminator('\n') {
             events.push(event(self.alloc, command, 0)?)?;
         }
-        let (_world, replies) = World::run(self.alloc, self.limits, events)?;
+        Ok(events)
+    }
+
+    // Runs the events so far.
+    fn run(&self, answer: &mut Answer) -> Result<(), AllocError> {
         let mut told = String::with_capacity(self.alloc, ROOM)?;
-        for reply in &replies {
-            put_reply(&mut told, reply)?;
-            told.push('\n')?;
-        }
-        if told.as_str() == self.told.as_str() {
-            return answer.line("the same");
-        }
+        let (_world, replies) = World::run(self.alloc, self.limits, self.events()?)?;
+        put_replies(&mut told, replies.as_slice())?;
         answer.text(told.as_str())
     }
 }

@@ -32,7 +32,16 @@ pushed
 > take 1
 took row 4 d 1-d
 > run
-the same
+wrote 1-a 1-b 1-c
+opened 0
+pushed
+took end 3 pending 0
+gone
+opened 1
+nothing
+wrote 1-d
+pushed
+took row 4 d 1-d
 
 # a since of another life is the beginning
 > write {"_id":"a","_rev":"1-a"} {"_id":"b","_rev":"1-b"} {"_id":"c","_rev":"1-c"}
@@ -60,7 +69,18 @@ pushed
 > take 2
 took end 3 pending 0
 > run
-the same
+wrote 1-a 1-b 1-c
+opened 0
+pushed
+took row 3 c 1-c
+pushed
+took end 3 pending 0
+opened 1
+pushed
+took row 1 a 1-a
+opened 2
+pushed
+took end 3 pending 0
 
 # rows beyond the bound are left for later
 > write {"_id":"1","_rev":"1-a"} {"_id":"2","_rev":"1-a"} {"_id":"3","_rev":"1-a"} {"_id":"4","_rev":"1-a"} {"_id":"5","_rev":"1-a"} {"_id":"6","_rev":"1-a"} {"_id":"7","_rev":"1-a"} {"_id":"8","_rev":"1-a"}
@@ -104,7 +124,26 @@ took end 8 pending 2
 > hand 0
 gone
 > run
-the same
+wrote 1-a 1-a 1-a 1-a 1-a 1-a 1-a 1-a
+opened 0
+pushed
+took row 1 1 1-a
+pushed
+took row 2 2 1-a
+pushed
+took row 3 3 1-a
+wrote 2-b 2-b
+pushed
+took row 4 4 1-a
+pushed
+took row 6 6 1-a
+pushed
+took row 7 7 1-a
+pushed
+took row 8 8 1-a
+pushed
+took end 8 pending 2
+gone
 
 # a full lane keeps the row for later
 > room 1 2 4294967295
@@ -131,7 +170,17 @@ took none
 > hand 0
 nothing
 > run
-the same
+wrote 1-a 1-b 1-c
+opened 0
+pushed
+pushed
+full
+took row 1 a 1-a
+pushed
+took row 2 b 1-b
+took row 3 c 1-c
+took none
+nothing
 
 # a longpoll feed waits for a row that passes
 > write {"_id":"a","_rev":"1-a"} {"_id":"b","_rev":"1-b"} {"_id":"c","_rev":"1-c"} {"_id":"d","_rev":"1-d"} {"_id":"e","_rev":"1-e"}
@@ -153,7 +202,15 @@ took end 6 pending 0
 > hand 0
 gone
 > run
-the same
+wrote 1-a 1-b 1-c 1-d 1-e
+opened 0
+nothing
+wrote 1-x
+pushed
+took row 6 _design/x 1-x
+pushed
+took end 6 pending 0
+gone
 
 # a longpoll feed ends without a row once its time is over
 > write {"_id":"a","_rev":"1-a"} {"_id":"b","_rev":"1-b"} {"_id":"c","_rev":"1-c"} {"_id":"d","_rev":"1-d"} {"_id":"e","_rev":"1-e"}
@@ -171,7 +228,13 @@ took end 5 pending 0
 > hand 0
 gone
 > run
-the same
+wrote 1-a 1-b 1-c 1-d 1-e
+opened 0
+nothing
+nothing
+pushed
+took end 5 pending 0
+gone
 
 # a longpoll feed is bound at its first row
 > begin feed=longpoll
@@ -195,7 +258,16 @@ took end 2 pending 1
 > hand 0
 gone
 > run
-the same
+opened 0
+wrote 1-a 1-b
+pushed
+took row 1 a 1-a
+wrote 1-c
+pushed
+took row 2 b 1-b
+pushed
+took end 2 pending 1
+gone
 
 # heartbeats are handed where they are asked for
 > room 4 2 4294967295
@@ -238,7 +310,25 @@ nothing
 > beat 3
 nothing
 > run
-the same
+wrote 1-a
+opened 0
+opened 1
+opened 2
+opened 3
+nothing
+nothing
+pushed
+pushed
+nothing
+pushed
+full
+took beat
+pushed
+took row 1 a 1-a
+took beat
+took beat
+nothing
+nothing
 
 # deletion ends feeds and refuses the rest
 > write {"_id":"a","_rev":"1-a"} {"_id":"b","_rev":"1-b"}
@@ -268,7 +358,19 @@ wrote
 > begin
 database deleted
 > run
-the same
+wrote 1-a 1-b
+opened 0
+pushed
+took row 1 a 1-a
+nothing
+pushed
+took end 1 pending 1
+gone
+database deleted
+wrote Refused(Deleted) Refused(Deleted)
+wrote Refused(Deleted)
+wrote
+database deleted
 
 # a finished feed makes room for another
 > room 1 64 4294967295
@@ -299,7 +401,19 @@ pushed
 > take 1
 took end 2 pending 0
 > run
-the same
+wrote 1-a 1-b
+opened 0
+too many feeds
+pushed
+pushed
+took row 1 a 1-a with its document
+left 1, row 2 b 1-b with its document
+took none
+gone
+left 0
+opened 1
+pushed
+took end 2 pending 0
 
 # writes answer for each document
 > write {"_id":"a","_rev":"1-a"} {"_id":"a","_rev":"1-a"}
@@ -321,7 +435,15 @@ pushed
 > take 0
 took end 2 pending 0
 > run
-the same
+wrote 1-a Known
+wrote 3-c
+wrote Refused(Conflict) Refused(Conflict)
+wrote Refused(Contradicts)
+opened 0
+pushed
+took row 2 a 3-c 1-a
+pushed
+took end 2 pending 0
 "#;
 
 #[test]

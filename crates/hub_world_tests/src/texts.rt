@@ -5,6 +5,7 @@ use hub_document::{ChangeRow, RevId};
 use hub_model::{Item, Outcome};
 use hub_world::Reply;
 use std::alloc::AllocError;
+use std::collections::VecDeque;
 use std::fmt::Write;
 use std::str;
 
@@ -67,6 +68,16 @@ fn word_of(reply: &Reply) -> &'static str {
     }
 }
 
+// How many items are left, and each of them behind a comma.
+fn put_left(out: &mut String, items: &VecDeque<Item<ChangeRow>>) -> Result<(), AllocError> {
+    write!(out, " {}", items.len())?;
+    for item in items {
+        out.push_str(", ")?;
+        put_item(out, item)?;
+    }
+    Ok(())
+}
+
 /// What a reply tells.
 pub(crate) fn put_reply(out: &mut String, reply: &Reply) -> Result<(), AllocError> {
     out.push_str(word_of(reply))?;
@@ -74,14 +85,16 @@ pub(crate) fn put_reply(out: &mut String, reply: &Reply) -> Result<(), AllocErro
         Reply::Outcomes(batch) => put_outcomes(out, batch),
         Reply::Opened(feed) => write!(out, " {}", feed.number),
         Reply::Took(Some(item)) => put_item(out, item),
-        Reply::Left(items) => {
-            write!(out, " {}", items.as_deque().len())?;
-            for item in items.as_deque() {
-                out.push_str(", ")?;
-                put_item(out, item)?;
-            }
-            Ok(())
-        }
+        Reply::Left(items) => put_left(out, items.as_deque()),
         _ => Ok(()),
     }
+}
+
+/// What the replies tell, a line each.
+pub(crate) fn put_replies(out: &mut String, replies: &[Reply]) -> Result<(), AllocError> {
+    for reply in replies {
+        put_reply(out, reply)?;
+        out.push('\n')?;
+    }
+    Ok(())
 }
