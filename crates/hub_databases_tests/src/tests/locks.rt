@@ -83,8 +83,9 @@ fn feed<R: Wait>(rt: &R, alloc: Global, db: &HubDb) -> Result<Feed<Plain>, Fail>
 
 // One document.
 fn docs(alloc: Global) -> Result<Vec<Doc>, Fail> {
-    let doc = Doc::read(alloc, br#"{"_id":"a","_rev":"1-a"}"#, false)?;
-    Ok(vec![in alloc; doc]?)
+    let mut docs = Vec::new(alloc);
+    docs.push(Doc::read(alloc, br#"{"_id":"a","_rev":"1-a"}"#, false)?)?;
+    Ok(docs)
 }
 
 // Whether a hub stores and notes the document in a database.

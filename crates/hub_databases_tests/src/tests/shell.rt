@@ -1,6 +1,6 @@
 //! A hub's shell, which carries out the commands of transcripts.
 
-use hub_database::{Answer as DbAnswer, DbFault, Info, Question};
+use hub_database::{Answer as DbAnswer, Batch, DbFault, Info, Question};
 use hub_databases::{Hub, HubDb, HubFault, is_name};
 use hub_document::{Doc, Limits, RevId};
 use hub_model::{Item, Outcome};
@@ -41,7 +41,7 @@ const ROOM: usize = 16_384;
 ///   holding hands the rest. Then the feed is finished.
 /// - `follow QUERY` opens a feed of the database in use: the life and the beginning that its label says.
 ///   `hand` answers what one holding for this feed does, and `take` the next item that was handed.
-/// - `watch` opens a continuous feed of the database in use and one of the log, whose watches ring one bell.
+/// - `watch` opens a continuous feed of the log. Its watch and that of the database's feed ring one bell.
 ///   `news` says what is told from then on, and takes it. `finish` finishes these feeds.
 ///
 /// A command that finds no memory leaves what the hub and the database in use show. But an edit stands whose
@@ -147,6 +147,53 @@ fn put_flag(answer: &mut Answer, is_so: bool) -> Result<(), AllocError> {
     answer.line(if is_so { "yes" } else { "no" })
 }
 
+// Writes why the log has no note of an edit, if it has none; an error where the note found no memory.
+fn put_lapse(answer: &mut Answer, lapsed: Option<NoteFault>) -> Result<(), AllocError> {
+    match lapsed {
+        None => Ok(()),
+        Some(NoteFault::NoMemory) => Err(AllocError),
+        Some(fault) => answer.line(format_args!("not noted: {fault:?}")),
+    }
+}
+
+// The document that the text is; an error where it finds no memory, and each time where it is none.
+fn docs(alloc: Global, text: &str) -> Result<Vec<Doc>, AllocError> {
+    let Ok(doc) = Doc::read(alloc, text.as_bytes(), false) else {
+        return Err(AllocError);
+    };
+    let mut docs = Vec::new(alloc);
+    docs.push(doc)?;
+    Ok(docs)
+}
+
+// Writes what became of documents; an error where one found no memory.
+fn put_batch(answer: &mut Answer, batch: &Batch) -> Result<(), AllocError> {
+    for outcome in batch.replies.as_slice() {
+        match outcome {
+            Outcome::Stored(rev) => put_rev(answer, rev)?,
+            other => answer.line(format_args!("{other:?}"))?,
+        }
+    }
+    if batch.stopped {
+        return Err(AllocError);
+    }
+    Ok(())
+}
+
+// Shows what a feed of the log hands. What a holding hands that finds no memory stays handed, and another one
+// hands the rest.
+fn show<R: Wait>(rt: &R, feed: &mut UpdatesFeed, answer: &mut Answer) -> Result<(), AllocError> {
+    let (life, since) = (feed.end().label().life(), feed.end().label().since());
+    answer.line(format_args!("life {life} since {since}"))?;
+    let mut held = feed.hold(rt, Turn::Hand, &Open);
+    take_all(rt, feed, answer)?;
+    if held.is_err() {
+        held = feed.hold(rt, Turn::Hand, &Open);
+        take_all(rt, feed, answer)?;
+    }
+    answer.line(format_args!("{held:?}"))
+}
+
 impl Shell {
     // What the database shows that the command names, and what the one in use does.
     fn shown<R: Wait>(&self, rt: &R, command: &str) -> (Option<Info>, Option<Info>) {
@@ -193,6 +240,17 @@ impl Shell {
         if verb == "list" {
             return self.list(rt, answer);
         }
+        self.run_edit(rt, verb, rest, answer)
+    }
+
+    // The same of the commands about the database in use.
+    fn run_edit<R: Wait>(
+        &mut self,
+        rt: &R,
+        verb: &str,
+        rest: &str,
+        answer: &mut Answer,
+    ) -> Result<(), AllocError> {
         if verb == "info" {
             return self.info(rt, answer);
         }
@@ -205,11 +263,11 @@ impl Shell {
         if verb == "limits" {
             return self.limits(rest);
         }
-        self.run_more(rt, verb, rest, answer)
+        self.run_feed(rt, verb, rest, answer)
     }
 
-    // The same of the commands about feeds, and about texts.
-    fn run_more<R: Wait>(
+    // The same of the commands about feeds.
+    fn run_feed<R: Wait>(
         &mut self,
         rt: &R,
         verb: &str,
@@ -228,6 +286,17 @@ impl Shell {
         if verb == "take" {
             return self.take(rt, answer);
         }
+        self.run_more(rt, verb, rest, answer)
+    }
+
+    // The same of the other commands.
+    fn run_more<R: Wait>(
+        &mut self,
+        rt: &R,
+        verb: &str,
+        rest: &str,
+        answer: &mut Answer,
+    ) -> Result<(), AllocError> {
         if verb == "watch" {
             return self.watch(rt);
         }
@@ -298,45 +367,19 @@ impl Shell {
         put_flag(answer, is_name(text.as_str()))
     }
 
-    // Writes why the log has no note of an edit, if it has none.
-    fn put_lapse(
-        &mut self,
-        answer: &mut Answer,
-        lapsed: Option<NoteFault>,
-    ) -> Result<(), AllocError> {
-        let Some(fault) = lapsed else {
-            return Ok(());
-        };
-        if fault == NoteFault::NoMemory {
-            self.lacks_note = true;
-            return Err(AllocError);
-        }
-        answer.line(format_args!("not noted: {fault:?}"))
-    }
-
     fn write<R: Wait>(
         &mut self,
         rt: &R,
         text: &str,
         answer: &mut Answer,
     ) -> Result<(), AllocError> {
-        let Ok(doc) = Doc::read(self.alloc, text.as_bytes(), false) else {
-            return Err(AllocError);
-        };
-        let docs = vec![in self.alloc; doc]?;
+        let docs = docs(self.alloc, text)?;
         let Ok(written) = self.hub.write(rt, self.db()?, docs, false) else {
             return Err(AllocError);
         };
-        if written.batch.stopped {
-            return Err(AllocError);
-        }
-        for outcome in written.batch.replies.as_slice() {
-            match outcome {
-                Outcome::Stored(rev) => put_rev(answer, rev)?,
-                other => answer.line(format_args!("{other:?}"))?,
-            }
-        }
-        self.put_lapse(answer, written.lapsed)
+        self.lacks_note = written.lapsed == Some(NoteFault::NoMemory);
+        put_batch(answer, &written.batch)?;
+        put_lapse(answer, written.lapsed)
     }
 
     fn edit<R: Wait>(&mut self, rt: &R, text: &str, answer: &mut Answer) -> Result<(), AllocError> {
@@ -345,8 +388,9 @@ impl Shell {
         };
         match self.hub.write_one(rt, self.db()?, doc) {
             Ok(edited) => {
+                self.lacks_note = edited.lapsed == Some(NoteFault::NoMemory);
                 answer.line(format_args!("generation {}", edited.rev.generation()))?;
-                self.put_lapse(answer, edited.lapsed)
+                put_lapse(answer, edited.lapsed)
             }
             Err(DbFault::NoMemory) => Err(AllocError),
             Err(fault) => answer.line(format_args!("{fault:?}")),
@@ -370,16 +414,9 @@ impl Shell {
         let Some(mut feed) = self.open_log(rt, query) else {
             return Err(AllocError);
         };
-        let (life, since) = (feed.end().label().life(), feed.end().label().since());
-        answer.line(format_args!("life {life} since {since}"))?;
-        let mut held = feed.hold(rt, Turn::Hand, &Open);
-        take_all(rt, &mut feed, answer)?;
-        if held.is_err() {
-            held = feed.hold(rt, Turn::Hand, &Open);
-            take_all(rt, &mut feed, answer)?;
-        }
+        let shown = show(rt, &mut feed, answer);
         drop(feed.finish(rt));
-        answer.line(format_args!("{held:?}"))
+        shown
     }
 
     fn follow<R: Wait>(
@@ -417,14 +454,18 @@ impl Shell {
     }
 
     fn watch<R: Wait>(&mut self, rt: &R) -> Result<(), AllocError> {
-        self.feed = self.open(rt, "feed=continuous");
-        self.log = self.open_log(rt, "feed=continuous");
-        let (Some(feed), Some(log)) = (&self.feed, &self.log) else {
+        let Some(log) = self.open_log(rt, "feed=continuous") else {
             return Err(AllocError);
         };
-        feed.watch(rt, Arc::try_clone(&self.of_database)?);
         log.watch(rt, Arc::try_clone(&self.of_log)?);
-        Ok(())
+        self.log = Some(log);
+        match &self.feed {
+            Some(feed) => {
+                feed.watch(rt, Arc::try_clone(&self.of_database)?);
+                Ok(())
+            }
+            None => Err(AllocError),
+        }
     }
 
     fn news(&self, answer: &mut Answer) -> Result<(), AllocError> {

@@ -11,6 +11,8 @@ const CHANGES: &str = r#"
 ok
 > find d
 d
+> follow feed=continuous
+life 1 since 0
 > watch
 > news
 > write {"_id":"a","_rev":"1-a"}
