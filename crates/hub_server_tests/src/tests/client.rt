@@ -1,77 +1,229 @@
 //! Clients.
 
-use crate::tests::same_text;
+use crate::tests::running::Host;
+use crate::tests::texts::{say, show};
+use hub_transcript::Words;
 use std::alloc::Global;
 use std::io::{self, BufRead, BufReader, Read, Write};
-use std::net::{Net, Shutdown, SocketAddr, TcpListener, TcpStream};
-use std::process::Abort;
+use std::net::{Shutdown, TcpStream};
 use std::time::Duration;
 
 /// How long a client waits for its server, in seconds, before the test fails.
-const PATIENCE: u64 = 25;
+const PATIENCE: u64 = 50;
 
-/// What a server answered.
-#[derive(Debug, Drop)]
-pub(crate) struct Answer {
-    pub(crate) status: String,
-    pub(crate) body: String,
-}
-
-impl Answer {
-    /// Whether its status begins so.
-    pub(crate) fn is(&self, code: &str) -> bool {
-        self.status.as_str().starts_with(code)
-    }
-}
+/// How often a feed is asked for before the test fails.
+const LOOKS: u64 = 500;
 
 /// A connection to a server.
+///
+/// - `GET TARGET`, and so PUT, POST and DELETE, with a body behind the target or none: sends a request, and
+///   shows the status and the body of the answer.
+/// - `gets REQUEST`: the same, and shows the status alone.
+/// - `asks REQUEST`: sends a request.
+/// - `sends TEXT`: sends a text as it stands.
+/// - `repeats COUNT TEXT`: sends a text so often in one piece, with a number for `#`, from 1 on.
+/// - `types PLACE TEXT`: sends the byte of this place, if there is one.
+/// - `half-closes`: ends what it sends.
+/// - `answer`: shows the status and the body of the next answer.
+/// - `status`: reads the next answer, and shows its status.
+/// - `counts TEXT`: reads the next answer, and shows its status and how often its body has the text.
+/// - `begins REQUEST`: asks for a feed, again while there are too many, and shows the status of its answer,
+///   of whose head the first line is read.
+/// - `barely REQUEST`: the same, but no more than twelve bytes of the answer are taken of the socket. It is
+///   for a client that read nothing but whole answers before.
+/// - `follows REQUEST`: the same as `begins`, but the whole head is read. Shows whether chunks are behind it.
+/// - `chunk`: shows the next chunk.
+/// - `chunk TEXT`: shows the next chunk, but says `yes` if it is this text.
+/// - `row`, `row TEXT`: the same of the next chunk that is no heartbeat.
+/// - `chunks`, `chunks TEXT`: the same of all chunks that are left.
+/// - `takes COUNT`: shows the next bytes.
+/// - `skips COUNT`: reads the next bytes.
+/// - `byte`: reads the next byte, and no other is taken of the socket. It is for a client that read nothing
+///   but bytes and whole answers before.
+/// - `rest`: waits for the end, and shows what came until then, with the bytes that were read by `byte`.
 #[derive(Drop)]
 pub(crate) struct Client {
     alloc: Global,
+    pub(crate) name: String,
     reader: BufReader<TcpStream>,
+    /// What was read byte by byte.
+    bytes: String,
 }
 
 fn bad(why: &str) -> io::Error {
     io::Error::other(why)
 }
 
+/// Whether a word is a method.
+fn is_method(word: &str) -> bool {
+    word == "GET" || word == "PUT" || word == "POST" || word == "DELETE"
+}
+
 impl Client {
-    /// A new connection.
-    pub(crate) fn connect<R: Net<Listener = TcpListener, Stream = TcpStream>>(
-        rt: &R,
-        alloc: Global,
-        address: SocketAddr,
-    ) -> io::Result<Client> {
-        let stream = TcpStream::connect(rt, address)?;
+    /// A client of this name.
+    pub(crate) fn new(alloc: Global, name: &str, stream: TcpStream) -> io::Result<Client> {
         stream.set_read_timeout(Some(Duration::from_secs(PATIENCE)))?;
         stream.set_write_timeout(Some(Duration::from_secs(PATIENCE)))?;
         stream.set_nodelay(true)?;
         let reader = BufReader::new(alloc, stream)?;
-        Ok(Client { alloc, reader })
+        Ok(Client {
+            alloc,
+            name: String::from_str(alloc, name)?,
+            reader,
+            bytes: String::new(alloc),
+        })
+    }
+
+    /// Does what a command says, whose text is all behind the client's name.
+    pub(crate) fn act(
+        &mut self,
+        rt: &impl Host,
+        command: &str,
+        answer: &mut String,
+    ) -> io::Result<()> {
+        let mut words = Words::of(command);
+        let verb = words.word();
+        if is_method(verb) {
+            self.ask(command)?;
+            return self.answer(answer);
+        }
+        if verb == "begins" {
+            return self.begin(rt, words.rest(), answer);
+        }
+        if verb == "barely" {
+            return self.begin_barely(rt, words.rest(), answer);
+        }
+        if verb == "follows" {
+            self.begin(rt, words.rest(), answer)?;
+            return self.head(answer);
+        }
+        if self.write(verb, words.rest())? {
+            return Ok(());
+        }
+        self.read(verb, words.rest(), answer)
+    }
+
+    /// Does what a command says that sends; whether it is one.
+    fn write(&mut self, verb: &str, text: &str) -> io::Result<bool> {
+        if verb == "asks" {
+            self.ask(text)?;
+            return Ok(true);
+        }
+        if verb == "sends" {
+            self.send(text)?;
+            return Ok(true);
+        }
+        if verb == "repeats" {
+            self.repeat(Words::of(text))?;
+            return Ok(true);
+        }
+        if verb == "types" {
+            self.type_one(Words::of(text))?;
+            return Ok(true);
+        }
+        if verb == "half-closes" {
+            self.reader.get_ref().shutdown(Shutdown::Write)?;
+            return Ok(true);
+        }
+        Ok(false)
+    }
+
+    /// Does what a command says that reads.
+    fn read(&mut self, verb: &str, text: &str, answer: &mut String) -> io::Result<()> {
+        if verb == "answer" {
+            return self.answer(answer);
+        }
+        if verb == "gets" {
+            self.ask(text)?;
+            return self.say_status(answer);
+        }
+        if verb == "status" {
+            return self.say_status(answer);
+        }
+        if verb == "counts" {
+            return self.count(text, answer);
+        }
+        if verb == "byte" {
+            return self.byte();
+        }
+        if verb == "rest" {
+            return self.rest(answer);
+        }
+        self.read_some(verb, text, answer)
+    }
+
+    /// Does what a command says that reads a part of an answer.
+    fn read_some(&mut self, verb: &str, text: &str, answer: &mut String) -> io::Result<()> {
+        if verb == "chunk" {
+            let chunk = self.chunk()?;
+            return self.compare(chunk.as_str(), text, answer);
+        }
+        if verb == "row" {
+            let row = self.row()?;
+            return self.compare(row.as_str(), text, answer);
+        }
+        if verb == "chunks" {
+            let chunks = self.chunks()?;
+            return self.compare(chunks.as_str(), text, answer);
+        }
+        let Ok(count) = text.parse() else {
+            return Ok(say(answer, "?")?);
+        };
+        let taken = self.text(count)?;
+        if verb == "takes" {
+            return Ok(show(self.alloc, answer, taken.as_str())?);
+        }
+        if verb == "skips" {
+            return Ok(());
+        }
+        Ok(say(answer, "?")?)
     }
 
     /// Sends these bytes.
-    pub(crate) fn send(&self, text: &str) -> io::Result<()> {
+    fn send(&self, text: &str) -> io::Result<()> {
         let mut stream = self.reader.get_ref();
         stream.write_all(text.as_bytes())
     }
 
-    /// Ends what is sent.
-    pub(crate) fn half_close(&self) -> io::Result<()> {
-        self.reader.get_ref().shutdown(Shutdown::Write)
+    /// Sends a request.
+    fn ask(&self, request: &str) -> io::Result<()> {
+        let mut words = Words::of(request);
+        let method = words.word();
+        let target = words.word();
+        let body = words.rest();
+        let mut text = format!(in self.alloc; "{method} {target} HTTP/1.1\r\nHost: h\r\n")?;
+        if !body.is_empty() {
+            write!(text, "Content-Length: {}\r\n", body.len())?;
+        }
+        text.push_str("\r\n")?;
+        text.push_str(body)?;
+        self.send(text.as_str())
     }
 
-    /// Sends a request with a body, if it is not empty.
-    pub(crate) fn ask(&self, line: &str, body: &str) -> io::Result<()> {
-        if body.is_empty() {
-            let text = format!(in self.alloc; "{line} HTTP/1.1\r\nHost: h\r\n\r\n")?;
-            return self.send(text.as_str());
+    /// Sends a text so often in one piece.
+    fn repeat(&self, mut words: Words) -> io::Result<()> {
+        let count = words.number();
+        let mut all = String::new(self.alloc);
+        for number in 1..=count {
+            let number = format!(in self.alloc; "{number}")?;
+            let text = words.rest().replace(self.alloc, "#", number.as_str())?;
+            all.push_str(text.as_str())?;
         }
-        let length = body.len();
-        let text = format!(in self.alloc;
-            "{line} HTTP/1.1\r\nHost: h\r\nContent-Length: {length}\r\n\r\n{body}"
-        )?;
-        self.send(text.as_str())
+        self.send(all.as_str())
+    }
+
+    /// Sends the byte of a place of a text, of which 1 is the first.
+    fn type_one(&self, mut words: Words) -> io::Result<()> {
+        let place = words.number();
+        let mut at = 0u64;
+        for byte in words.rest().bytes() {
+            at = at.saturating_add(1);
+            if at == place {
+                let mut stream = self.reader.get_ref();
+                return stream.write_all(&[byte]);
+            }
+        }
+        Ok(())
     }
 
     /// The next line, without its end.
@@ -85,7 +237,7 @@ impl Client {
     }
 
     /// The next bytes, so many.
-    pub(crate) fn text(&mut self, length: usize) -> io::Result<String> {
+    fn text(&mut self, length: usize) -> io::Result<String> {
         let mut bytes = vec![in self.alloc; 0u8; length]?;
         self.reader.read_exact(bytes.as_mut_slice())?;
         match String::from_utf8(bytes) {
@@ -127,7 +279,7 @@ impl Client {
     }
 
     /// The next chunk, which is empty behind the last.
-    pub(crate) fn chunk(&mut self) -> io::Result<String> {
+    fn chunk(&mut self) -> io::Result<String> {
         let line = self.line()?;
         let Ok(length) = usize::from_str_radix(line.as_str(), 16) else {
             return Err(bad("no chunk"));
@@ -139,8 +291,19 @@ impl Client {
         Ok(text)
     }
 
+    /// The next chunk that is no heartbeat.
+    fn row(&mut self) -> io::Result<String> {
+        for _ in 0..u64::MAX {
+            let chunk = self.chunk()?;
+            if chunk.as_str() != "\n" {
+                return Ok(chunk);
+            }
+        }
+        Err(bad("only heartbeats"))
+    }
+
     /// The chunks that are left, in one.
-    pub(crate) fn chunks(&mut self) -> io::Result<String> {
+    fn chunks(&mut self) -> io::Result<String> {
         let mut body = String::new(self.alloc);
         for _ in 0..u64::MAX {
             let chunk = self.chunk()?;
@@ -152,140 +315,118 @@ impl Client {
         Ok(body)
     }
 
-    /// The next answer, to its end.
-    pub(crate) fn answer(&mut self) -> io::Result<Answer> {
-        let status = self.status()?;
-        let body = self.body()?;
-        Ok(Answer { status, body })
-    }
-
-    /// The answer to a request.
-    pub(crate) fn answered(&mut self, line: &str, body: &str) -> io::Result<Answer> {
-        self.ask(line, body)?;
-        self.answer()
-    }
-
-    /// Whether a request's answer has this status.
-    pub(crate) fn gets(&mut self, line: &str, body: &str, status: &str) -> io::Result<bool> {
-        let answer = self.answered(line, body)?;
-        Ok(answer.is(status))
-    }
-
-    /// Asserts that the answer to a request has a status that begins so.
-    pub(crate) fn assert_gets(
-        &mut self,
-        rt: &impl Abort,
-        line: &str,
-        body: &str,
-        status: &str,
-    ) -> io::Result<()> {
-        let answer = self.answered(line, body)?;
-        assert!(rt; answer.is(status), "{line}: {}", answer.status);
-        Ok(())
-    }
-
-    /// Asserts that the next answer has a status that begins so.
-    pub(crate) fn assert_answer(&mut self, rt: &impl Abort, status: &str) -> io::Result<()> {
-        let answer = self.answer()?;
-        assert!(rt; answer.is(status), "{}", answer.status);
-        Ok(())
-    }
-
-    /// Asserts that the answer to a request without a body has this body.
-    pub(crate) fn assert_shows(
-        &mut self,
-        rt: &impl Abort,
-        line: &str,
-        body: &str,
-    ) -> io::Result<()> {
-        same_text(rt, self.answered(line, "")?.body.as_str(), body);
-        Ok(())
-    }
-
-    /// Asserts that the next answer has this body.
-    pub(crate) fn assert_body(&mut self, rt: &impl Abort, body: &str) -> io::Result<()> {
-        same_text(rt, self.answer()?.body.as_str(), body);
-        Ok(())
-    }
-
-    /// Asserts that the next chunk is this text.
-    pub(crate) fn assert_chunk(&mut self, rt: &impl Abort, text: &str) -> io::Result<()> {
-        same_text(rt, self.chunk()?.as_str(), text);
-        Ok(())
-    }
-
-    /// Asserts that the chunks that are left are this text.
-    pub(crate) fn assert_chunks(&mut self, rt: &impl Abort, text: &str) -> io::Result<()> {
-        same_text(rt, self.chunks()?.as_str(), text);
-        Ok(())
-    }
-
-    /// Asserts that this text is all that is left.
-    pub(crate) fn assert_rest(&mut self, rt: &impl Abort, text: &str) -> io::Result<()> {
-        same_text(rt, self.rest()?.as_str(), text);
-        Ok(())
-    }
-
-    /// Asks for a feed. Whether its answer has begun: then the first line was read, and else the whole.
-    pub(crate) fn begins(&mut self, line: &str) -> io::Result<bool> {
-        self.ask(line, "")?;
-        let has_begun = self.status()?.as_str().starts_with("200");
-        if !has_begun {
-            self.body()?;
+    /// The next rows of a continuous feed, so many, in one.
+    pub(crate) fn rows(&mut self, count: u64) -> io::Result<String> {
+        let mut rows = String::new(self.alloc);
+        for _ in 0..count {
+            rows.push_str(self.row()?.as_str())?;
         }
-        Ok(has_begun)
+        Ok(rows)
     }
 
-    /// The same, but of an answer that has begun no more than twelve bytes are taken of the socket. It is for
-    /// a client that read nothing but whole answers before.
-    pub(crate) fn begins_barely(&mut self, line: &str) -> io::Result<bool> {
-        self.ask(line, "")?;
-        let mut bytes = [0u8; 12];
-        let mut stream = self.reader.get_ref();
-        stream.read_exact(&mut bytes)?;
-        let has_begun = bytes.ends_with(b"200");
-        if !has_begun {
+    /// The rows of a normal feed that is asked for, as a continuous one has them: each on a line.
+    pub(crate) fn lines(&mut self, request: &str) -> io::Result<String> {
+        self.ask(request)?;
+        self.status()?;
+        let body = self.body()?;
+        let (_, rows) = body.as_str().split_once("[\n").unwrap_or(("", ""));
+        let (rows, _) = rows.split_once("\n],\n").unwrap_or(("", ""));
+        let mut lines = rows.replace(self.alloc, ",\n", "\n")?;
+        lines.push_str("\n")?;
+        Ok(lines)
+    }
+
+    /// Shows the next answer.
+    fn answer(&mut self, answer: &mut String) -> io::Result<()> {
+        say(answer, self.status()?.as_str())?;
+        let body = self.body()?;
+        Ok(show(self.alloc, answer, body.as_str())?)
+    }
+
+    /// Shows the status of the next answer.
+    fn say_status(&mut self, answer: &mut String) -> io::Result<()> {
+        say(answer, self.status()?.as_str())?;
+        let _body = self.body()?;
+        Ok(())
+    }
+
+    /// Shows the status of the next answer, and how often its body has a text.
+    fn count(&mut self, text: &str, answer: &mut String) -> io::Result<()> {
+        say(answer, self.status()?.as_str())?;
+        let body = self.body()?;
+        let count = body.as_str().matches(text).count();
+        Ok(writeln!(answer, "{count} of {text}")?)
+    }
+
+    /// Shows what came, but says `yes` where it is what was wanted, if something was.
+    fn compare(&self, found: &str, wanted: &str, answer: &mut String) -> io::Result<()> {
+        if !wanted.is_empty() && found == wanted {
+            return Ok(say(answer, "yes")?);
+        }
+        if found.is_empty() {
+            return Ok(say(answer, "the last")?);
+        }
+        Ok(show(self.alloc, answer, found)?)
+    }
+
+    /// Asks for a feed, again while there are too many.
+    fn begin(&mut self, rt: &impl Host, request: &str, answer: &mut String) -> io::Result<()> {
+        for _ in 0..LOOKS {
+            self.ask(request)?;
+            let status = self.status()?;
+            if !status.as_str().starts_with("503") {
+                return Ok(say(answer, status.as_str())?);
+            }
+            self.body()?;
+            rt.pause(10);
+        }
+        Err(bad("no feed"))
+    }
+
+    /// The same, with twelve bytes of the answer.
+    fn begin_barely(
+        &mut self,
+        rt: &impl Host,
+        request: &str,
+        answer: &mut String,
+    ) -> io::Result<()> {
+        for _ in 0..LOOKS {
+            self.ask(request)?;
+            let mut bytes = [0u8; 12];
+            let mut stream = self.reader.get_ref();
+            stream.read_exact(&mut bytes)?;
+            if bytes.ends_with(b"200") {
+                return Ok(say(answer, "200")?);
+            }
             self.line()?;
             self.body()?;
+            rt.pause(10);
         }
-        Ok(has_begun)
+        Err(bad("no feed"))
     }
 
-    /// Asks for a feed. Whether it has begun: then the head of its answer was read, and else the whole.
-    pub(crate) fn follows(&mut self, line: &str) -> io::Result<bool> {
-        if !self.begins(line)? {
-            return Ok(false);
-        }
+    /// Reads the rest of a head.
+    fn head(&mut self, answer: &mut String) -> io::Result<()> {
         match self.fields()? {
-            Some(length) => {
-                self.text(length)?;
-                Ok(false)
-            }
-            None => Ok(true),
+            Some(length) => Ok(writeln!(answer, "{length} bytes")?),
+            None => Ok(say(answer, "chunks")?),
         }
     }
 
-    /// Reads the rest of a head, of which the first line was read, and which has chunks behind it.
-    pub(crate) fn skip_head(&mut self) -> io::Result<()> {
-        match self.fields()? {
-            Some(_) => Err(bad("no chunks")),
-            None => Ok(()),
-        }
-    }
-
-    /// The next byte, and no other is taken of the socket. It is for a client that read nothing but bytes and
-    /// whole answers before.
-    pub(crate) fn byte(&mut self) -> io::Result<u8> {
+    /// Reads the next byte.
+    fn byte(&mut self) -> io::Result<()> {
         let mut byte = [0u8; 1];
         let mut stream = self.reader.get_ref();
         stream.read_exact(&mut byte)?;
-        Ok(byte[0])
+        Ok(self.bytes.push(char::from(byte[0]))?)
     }
 
-    /// What comes until the server has ended.
-    pub(crate) fn rest(&mut self) -> io::Result<String> {
-        let mut rest = String::new(self.alloc);
-        self.reader.read_to_string(&mut rest)?;
-        Ok(rest)
+    /// Shows what comes until the server has ended.
+    fn rest(&mut self, answer: &mut String) -> io::Result<()> {
+        self.reader.read_to_string(&mut self.bytes)?;
+        if !self.bytes.is_empty() {
+            show(self.alloc, answer, self.bytes.as_str())?;
+        }
+        Ok(say(answer, "the end")?)
     }
 }

@@ -1,0 +1,266 @@
+//! The clients of a server, as transcripts have them.
+
+use crate::tests::client::Client;
+use crate::tests::running::Host;
+use crate::tests::texts::{Long, say};
+use hub_transcript::{Answer, Subject, Words};
+use std::alloc::{AllocError, Global};
+use std::fmt::Write;
+use std::io;
+
+/// The clients of a case, each with a name.
+///
+/// - `server COUNT`: a server for so many connections, within the limits of a hub that serves. This is the
+///   first command of a transcript, and the server is there before it.
+/// - `server COUNT feeds NUMBER`: the same, but a database has at most so many feeds.
+/// - `server COUNT lane NUMBER`: the same, but at most so many items of a feed wait for its client.
+/// - `server COUNT request NUMBER`: the same, but the gate holds the requests of the connection of this
+///   number.
+/// - `server COUNT pump`: the same, but the gate holds a feed inside the lock of its database.
+/// - `gate holds`: waits until somebody stands before the gate.
+/// - `gate opens`: says whether it held until now.
+/// - `pause COUNT`: waits for so many milliseconds.
+/// - `NAME connects`: a client of this name connects.
+/// - `NAME closes`: it closes.
+/// - `NAME rows COUNT`: it reads so many rows of a continuous feed, which are compared with those before.
+/// - `NAME lines REQUEST`: it asks for a normal feed, whose rows are compared with those before.
+/// - `NAME ..`: it does what is said at `Client`.
+/// - `each COUNT: COMMAND; COMMAND`: does the commands so often, with the number for `#`. Answers that are
+///   the same are shown once, behind their number.
+/// - `each COUNT COUNT: COMMAND; COMMAND`: does the same again so often, with the number for `@`.
+///
+/// In a text of a client `\r` and `\n` end lines, and `<N>` is N digits. An answer shows them so too.
+#[derive(Drop)]
+pub(crate) struct Room {
+    alloc: Global,
+    clients: Vec<Client>,
+    /// The rows that others are compared with.
+    rows: String,
+    long: Long,
+}
+
+impl<R: Host> Subject<R> for Room {
+    fn begin(_: &R, alloc: Global, _case: &str) -> Result<Room, AllocError> {
+        Ok(Room {
+            alloc,
+            clients: Vec::new(alloc),
+            rows: String::new(alloc),
+            long: Long::new(alloc),
+        })
+    }
+
+    fn answer(&mut self, rt: &R, command: &str, answer: &mut Answer) -> Result<(), AllocError> {
+        let mut said = String::new(self.alloc);
+        let done = self.done(rt, command, &mut said);
+        answer.text(said.as_str())?;
+        match done {
+            Ok(()) => Ok(()),
+            Err(error) => answer.line(error),
+        }
+    }
+}
+
+/// A yes or a no.
+fn decide(answer: &mut String, is_so: bool) -> io::Result<()> {
+    Ok(say(answer, if is_so { "yes" } else { "no" })?)
+}
+
+/// Does what a command of a gate says.
+fn gate(rt: &impl Host, verb: &str, answer: &mut String) -> io::Result<()> {
+    if verb == "holds" {
+        return decide(answer, rt.scene().is_held(rt));
+    }
+    if verb == "opens" {
+        return decide(answer, rt.scene().opens());
+    }
+    Ok(say(answer, "?")?)
+}
+
+/// Waits for so many milliseconds.
+fn pause(rt: &impl Host, count: &str, answer: &mut String) -> io::Result<()> {
+    match count.parse() {
+        Ok(count) => rt.pause(count),
+        Err(_) => say(answer, "?")?,
+    }
+    Ok(())
+}
+
+impl Room {
+    /// Does what a command says, once or for each number.
+    fn done(&mut self, rt: &impl Host, command: &str, answer: &mut String) -> io::Result<()> {
+        match command.strip_prefix("each ") {
+            Some(each) => self.each(rt, each, answer),
+            None => self.once(rt, command, answer),
+        }
+    }
+
+    /// Does what one command says.
+    fn once(&mut self, rt: &impl Host, command: &str, answer: &mut String) -> io::Result<()> {
+        let mut words = Words::of(command);
+        let name = words.word();
+        if name == "server" {
+            return Ok(());
+        }
+        if name == "gate" {
+            return gate(rt, words.word(), answer);
+        }
+        if name == "pause" {
+            return pause(rt, words.word(), answer);
+        }
+        let rest = words.rest();
+        let verb = words.word();
+        if verb == "connects" {
+            return self.connect(rt, name);
+        }
+        let Some(place) = self.place(name) else {
+            return Ok(say(answer, "no such client")?);
+        };
+        if verb == "closes" {
+            self.close(place);
+            return Ok(());
+        }
+        if verb == "rows" || verb == "lines" {
+            return self.rows(place, verb, words.rest(), answer);
+        }
+        self.act(rt, place, rest, answer)
+    }
+
+    /// A new client.
+    fn connect(&mut self, rt: &impl Host, name: &str) -> io::Result<()> {
+        let client = Client::new(self.alloc, name, rt.connect()?)?;
+        self.clients.push(client)?;
+        Ok(())
+    }
+
+    /// Where the client of this name stands.
+    fn place(&self, name: &str) -> Option<usize> {
+        for (place, client) in self.clients.iter().enumerate() {
+            if client.name.as_str() == name {
+                return Some(place);
+            }
+        }
+        None
+    }
+
+    /// Has a client close.
+    fn close(&mut self, place: usize) {
+        if place < self.clients.len() {
+            drop(self.clients.remove(place));
+        }
+    }
+
+    /// Has a client do what a command says.
+    fn act(
+        &mut self,
+        rt: &impl Host,
+        place: usize,
+        command: &str,
+        answer: &mut String,
+    ) -> io::Result<()> {
+        let command = self.long.meant(command)?;
+        let mut said = String::new(self.alloc);
+        if let Some(client) = self.clients.get_mut(place) {
+            client.act(rt, command.as_str(), &mut said)?;
+        }
+        self.long.append(said.as_str(), answer)?;
+        Ok(())
+    }
+
+    /// Compares the rows that a client reads with those before.
+    fn rows(
+        &mut self,
+        place: usize,
+        verb: &str,
+        text: &str,
+        answer: &mut String,
+    ) -> io::Result<()> {
+        let Some(client) = self.clients.get_mut(place) else {
+            return Ok(());
+        };
+        let rows = if verb == "rows" {
+            client.rows(text.parse().unwrap_or(0))?
+        } else {
+            client.lines(text)?
+        };
+        let count = rows.as_str().lines().count();
+        if self.rows.is_empty() {
+            self.rows = rows;
+            return Ok(writeln!(answer, "{count} rows")?);
+        }
+        let is_same = rows.as_str() == self.rows.as_str();
+        let rows = if is_same { "the same" } else { "other" };
+        Ok(writeln!(answer, "{rows} {count} rows")?)
+    }
+
+    /// Does commands for each number.
+    fn each(&mut self, rt: &impl Host, command: &str, answer: &mut String) -> io::Result<()> {
+        let (head, commands) = command.split_once(": ").unwrap_or(("", ""));
+        let mut words = Words::of(head);
+        let inner = words.number();
+        let outer = words.number().max(1);
+        let mut runs = Runs::new(self.alloc);
+        for at in 1..=outer {
+            for number in 1..=inner {
+                let said = self.round(rt, commands, number, at)?;
+                runs.add(said, answer)?;
+            }
+        }
+        runs.end(answer)
+    }
+
+    /// Does commands for one number. Their answers.
+    fn round(
+        &mut self,
+        rt: &impl Host,
+        commands: &str,
+        number: u64,
+        at: u64,
+    ) -> io::Result<String> {
+        let number = format!(in self.alloc; "{number}")?;
+        let at = format!(in self.alloc; "{at}")?;
+        let commands = commands.replace(self.alloc, "#", number.as_str())?;
+        let commands = commands.as_str().replace(self.alloc, "@", at.as_str())?;
+        let mut said = String::new(self.alloc);
+        for command in commands.as_str().split("; ") {
+            self.once(rt, command, &mut said)?;
+        }
+        Ok(said)
+    }
+}
+
+/// Answers behind one another, of which those that are the same are shown once.
+#[derive(Drop)]
+struct Runs {
+    said: String,
+    count: u64,
+}
+
+impl Runs {
+    /// None yet.
+    fn new(alloc: Global) -> Runs {
+        Runs {
+            said: String::new(alloc),
+            count: 0,
+        }
+    }
+
+    /// One more answer.
+    fn add(&mut self, said: String, answer: &mut String) -> io::Result<()> {
+        if said.as_str() != self.said.as_str() {
+            self.end(answer)?;
+            self.said = said;
+            self.count = 0;
+        }
+        self.count = self.count.saturating_add(1);
+        Ok(())
+    }
+
+    /// Shows the last answers.
+    fn end(&self, answer: &mut String) -> io::Result<()> {
+        if self.count > 0 {
+            writeln!(answer, "{} times", self.count)?;
+            answer.push_str(self.said.as_str())?;
+        }
+        Ok(())
+    }
+}
