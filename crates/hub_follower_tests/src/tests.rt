@@ -1,19 +1,21 @@
-//! Followers over databases of a hub.
+//! Followers over databases of a hub, mostly as transcripts (`hub_transcript`).
 //!
 //! Where a growth is refused the call says so: no session begins, and a round or a checkpoint leaves the
 //! place. Made again, it does what it does with ample memory. So these tests hold whichever one of their
 //! growths is refused; the growths of the tests themselves, as of a document's text, are among them. That of
 //! threads is not (`threads`).
 
+mod copier;
 mod handed;
 mod histories;
 mod library;
 mod lives;
 mod logs;
 mod losses;
+mod lossy;
+mod named;
 mod named_peer;
 mod rounds;
-mod sessions;
 mod stops;
 mod surface;
 mod threads;
@@ -21,26 +23,17 @@ mod worlds;
 
 use hub_database::OpenRev;
 use hub_document::{Doc, Limits, OpenRevs};
-use hub_follower::{CallFault, DbPeer, FailedStart, FollowFault, Follower, Peer, Round, Seq};
+use hub_follower::{DbPeer, FailedStart, FollowFault, Follower, Peer, Round, Seq};
 use hub_shared::{Db, Plain};
+use hub_transcript::Answer;
 use std::alloc::{AllocError, Global};
-use std::fmt::Debug;
-use std::process::Abort;
 use std::sync::Wait;
-use std::test::Fail;
+use std::{fmt, str};
 
 // The id of the replication logs.
 const LOG: &str = "_local/follower";
 
-// The number of the life of each database, where nothing else is said.
-const LIFE: u64 = 1;
-
-// A sequence of that life.
-fn at(n: u64) -> Option<Seq> {
-    Some(Seq::of_life(n, LIFE))
-}
-
-// How often a call is made until it answers.
+// How often documents are written until all are stored.
 const TRIES: u64 = 2;
 
 // What a call gives, which is made again where it finds no memory.
@@ -55,26 +48,59 @@ macro_rules! again {
 
 pub(crate) use again;
 
-/// The value that was found is the one that is wanted. The comparison is proved here, and not in each test.
-pub(crate) fn same<T: PartialEq + Debug>(rt: &impl Abort, found: &T, wanted: &T) {
-    assert_eq!(rt; *found, *wanted);
+/// A place as it is told: its number, with its life where that is known; or that there is none.
+#[derive(Drop)]
+pub(crate) struct Told(pub(crate) Option<Seq>);
+
+impl fmt::Display for Told {
+    fn fmt<W: fmt::Write>(&self, f: &mut fmt::Formatter<W>) -> fmt::Result {
+        let Some(seq) = self.0 else {
+            return write!(f, "none");
+        };
+        match seq.life {
+            Some(life) => write!(f, "{}-{life}", seq.n),
+            None => write!(f, "{}", seq.n),
+        }
+    }
+}
+
+// A number that a word is; an error each time where it is none.
+fn number(word: &str) -> Result<u64, AllocError> {
+    match word.parse() {
+        Ok(number) => Ok(number),
+        Err(_) => Err(AllocError),
+    }
+}
+
+// The sequence that a word is, as a log has it; an error each time where it is none.
+fn seq_of(word: &str) -> Result<Seq, AllocError> {
+    match word.split_once('-') {
+        Some((n, life)) => Ok(Seq::of_life(number(n)?, number(life)?)),
+        None => Ok(Seq {
+            n: number(word)?,
+            life: None,
+        }),
+    }
+}
+
+// The text that bytes are; an error each time where they are none.
+fn text_of(bytes: &[u8]) -> Result<&str, AllocError> {
+    match str::from_utf8(bytes) {
+        Ok(text) => Ok(text),
+        Err(_) => Err(AllocError),
+    }
 }
 
 // A database without documents, within these limits and of the life of this number.
-fn database_within(alloc: Global, limits: Limits, life: u64) -> Result<Db<Plain>, AllocError> {
+fn database(alloc: Global, limits: Limits, life: u64) -> Result<Db<Plain>, AllocError> {
     let (db, _handle) = again!(Db::new(alloc, limits, life, Plain))?;
     Ok(db)
 }
 
-// A database without documents.
-fn database(alloc: Global) -> Result<Db<Plain>, AllocError> {
-    database_within(alloc, Limits::full(), LIFE)
-}
-
-// The documents that the texts are; an error where they find no memory, and each time where one is none.
-fn docs(alloc: Global, texts: &[&str]) -> Result<Vec<Doc>, AllocError> {
+// The documents that the words are; an error where they find no memory, and each time where one is none.
+fn docs(alloc: Global, words: &str) -> Result<Vec<Doc>, AllocError> {
     let mut docs = Vec::new(alloc);
-    for text in texts {
+    for text in words.split(' ') {
         let Ok(doc) = Doc::read(alloc, text.as_bytes(), false) else {
             return Err(AllocError);
         };
@@ -83,49 +109,59 @@ fn docs(alloc: Global, texts: &[&str]) -> Result<Vec<Doc>, AllocError> {
     Ok(docs)
 }
 
-// Stores the documents that the texts are, with their histories: how many edits that were, and whether memory
-// ran out at a document.
-fn try_write<R: Wait>(
-    rt: &R,
-    alloc: Global,
-    db: &Db<Plain>,
-    texts: &[&str],
-) -> Result<(u64, bool), AllocError> {
-    let docs = docs(alloc, texts)?;
-    match db.handle()?.write(rt, docs, false) {
-        Ok(accepted) => Ok((accepted.receipts.len() as u64, accepted.stopped)),
+// How many edits a database accepted.
+fn try_edits<R: Wait>(rt: &R, db: &Db<Plain>) -> Result<u64, AllocError> {
+    match db.handle()?.look(rt, |state| state.info()) {
+        Ok(info) => Ok(info.update_seq),
         Err(_) => Err(AllocError),
     }
 }
 
-// The same up to the last document. Where one finds no memory, those before it stand; written again, they
-// are known.
-fn write<R: Wait>(rt: &R, alloc: Global, db: &Db<Plain>, texts: &[&str]) -> Result<(), Fail> {
+// The same, also where a growth of it is refused.
+fn edits<R: Wait>(rt: &R, db: &Db<Plain>) -> Result<u64, AllocError> {
+    again!(try_edits(rt, db))
+}
+
+// Stores documents with their histories, up to the first that finds no memory: how many edits that were, and
+// whether there is such a document.
+fn try_write<R: Wait>(rt: &R, db: &Db<Plain>, docs: Vec<Doc>) -> Result<(u64, bool), AllocError> {
+    match db.handle()?.write(rt, docs, false) {
+        Ok(accepted) => Ok((accepted.receipts.len() as u64, accepted.stopped)),
+        Err(_) => Ok((0, true)),
+    }
+}
+
+// Stores the documents that the words are, up to the last one. Where one finds no memory, those before it
+// stand; written again, they are known. Whether the database has as many edits more as it says.
+fn write<R: Wait>(rt: &R, alloc: Global, db: &Db<Plain>, words: &str) -> Result<bool, AllocError> {
     let mut stored = edits(rt, db)?;
     for _ in 0..TRIES {
-        let (count, stopped) = match try_write(rt, alloc, db, texts) {
-            Ok(written) => written,
-            Err(AllocError) => (0, true),
-        };
+        let (count, stopped) = try_write(rt, db, docs(alloc, words)?)?;
         stored = stored.saturating_add(count);
-        if edits(rt, db)? != stored {
-            return Err(Fail::new("other edits"));
-        }
         if !stopped {
-            return Ok(());
+            return Ok(edits(rt, db)? == stored);
         }
     }
-    Err(Fail::new("stopped"))
+    Err(AllocError)
 }
 
-// How many edits a database accepted.
-fn edits<R: Wait>(rt: &R, db: &Db<Plain>) -> Result<u64, Fail> {
-    let info = db.handle()?.look(rt, |state| state.info())?;
-    Ok(info.update_seq)
+// Stores the documents that the words are at a source, and tells how many edits it has.
+fn tell_written<R: Wait>(
+    rt: &R,
+    alloc: Global,
+    source: &Db<Plain>,
+    words: &str,
+    answer: &mut Answer,
+) -> Result<(), AllocError> {
+    if !write(rt, alloc, source, words)? {
+        return answer.line("other edits than it says");
+    }
+    let stored = edits(rt, source)?;
+    answer.line(format_args!("source {stored}"))
 }
 
-// The texts of a document's leaves, best first, with their histories; an error where they find no memory, and
-// each time where the database refuses to tell them.
+// The texts of a document's leaves, best first, with their histories, each behind a blank; an error where
+// they find no memory, and each time where the database refuses to tell them.
 fn leaves<R: Wait>(rt: &R, alloc: Global, db: &Db<Plain>, id: &str) -> Result<Vec<u8>, AllocError> {
     let which = OpenRevs::All;
     let Ok(found) = db
@@ -137,50 +173,65 @@ fn leaves<R: Wait>(rt: &R, alloc: Global, db: &Db<Plain>, id: &str) -> Result<Ve
     let mut texts = Vec::new(alloc);
     for leaf in &found {
         if let OpenRev::Found(doc) = leaf {
+            texts.push(b' ')?;
             doc.write(&mut texts)?;
         }
     }
     Ok(texts)
 }
 
-// Whether two databases have the same leaves of a document, in the same order.
-fn have_same<R: Wait>(
-    rt: &R,
-    alloc: Global,
-    source: &Db<Plain>,
-    target: &Db<Plain>,
-    id: &str,
-) -> Result<bool, AllocError> {
-    Ok(leaves(rt, alloc, source, id)? == leaves(rt, alloc, target, id)?)
-}
-
-// The same of each of these documents, also where a growth of it is refused.
+// Whether two databases have the same leaves of each of these documents, in the same order.
 fn agree<R: Wait>(
     rt: &R,
     alloc: Global,
     source: &Db<Plain>,
     target: &Db<Plain>,
-    ids: &[&str],
+    ids: &str,
 ) -> Result<bool, AllocError> {
-    for id in ids {
-        if !again!(have_same(rt, alloc, source, target, *id))? {
+    for id in ids.split(' ') {
+        if leaves(rt, alloc, source, id)? != leaves(rt, alloc, target, id)? {
             return Ok(false);
         }
     }
     Ok(true)
 }
 
-// The sequence that a database's replication log records.
-fn recorded<R: Wait>(rt: &R, alloc: Global, db: &Db<Plain>) -> Result<Option<Seq>, Fail> {
-    let mut peer = DbPeer::new(rt, alloc, db.handle()?);
-    let found = match peer.local_get(LOG) {
-        Err(CallFault::NoMemory) => peer.local_get(LOG),
-        found => found,
-    };
-    match found {
-        Ok(log) => Ok(log.map(|log| log.source_last_seq)),
-        Err(_) => Err(Fail::new("no log")),
+// Tells the leaves of a document at both databases.
+fn tell_leaves<R: Wait>(
+    rt: &R,
+    alloc: Global,
+    (source, target): (&Db<Plain>, &Db<Plain>),
+    id: &str,
+    answer: &mut Answer,
+) -> Result<(), AllocError> {
+    let source = leaves(rt, alloc, source, id)?;
+    let target = leaves(rt, alloc, target, id)?;
+    answer.text("source")?;
+    answer.line(text_of(source.as_slice())?)?;
+    answer.text("target")?;
+    answer.line(text_of(target.as_slice())?)
+}
+
+// The sequence that a database's replication log records; an error where it finds no memory, and each time
+// where the call fails.
+fn recorded<R: Wait>(rt: &R, alloc: Global, db: &Db<Plain>) -> Result<Option<Seq>, AllocError> {
+    match DbPeer::new(rt, alloc, db.handle()?).local_get(LOG) {
+        Ok(Some(log)) => Ok(Some(log.source_last_seq)),
+        Ok(None) => Ok(None),
+        Err(_) => Err(AllocError),
     }
+}
+
+// Tells the sequences that the replication logs of source and target record.
+fn tell_logs<R: Wait>(
+    rt: &R,
+    alloc: Global,
+    (source, target): (&Db<Plain>, &Db<Plain>),
+    answer: &mut Answer,
+) -> Result<(), AllocError> {
+    let source = Told(recorded(rt, alloc, source)?);
+    let target = Told(recorded(rt, alloc, target)?);
+    answer.line(format_args!("logs {source} {target}"))
 }
 
 // A session begins. Where it finds no memory the peers come back, and it begins with these.
@@ -203,22 +254,6 @@ fn begin<S: Peer + Drop, T: Peer + Drop>(
     }
 }
 
-// A follower that has a session of this id, of one database into another.
-fn start<'a, R: Wait>(
-    rt: &'a R,
-    alloc: Global,
-    source: &Db<Plain>,
-    target: &Db<Plain>,
-    session_id: &str,
-) -> Result<Follower<DbPeer<'a, R>, DbPeer<'a, R>>, Fail> {
-    let source = DbPeer::new(rt, alloc, source.handle()?);
-    let target = DbPeer::new(rt, alloc, target.handle()?);
-    match begin(alloc, source, target, LOG, session_id) {
-        Ok(follower) => Ok(follower),
-        Err(_) => Err(Fail::new("no session")),
-    }
-}
-
 // What a round does. One that finds no memory leaves the place, and is made again.
 fn round<S: Peer + Drop, T: Peer + Drop>(
     follower: &mut Follower<S, T>,
@@ -228,17 +263,6 @@ fn round<S: Peer + Drop, T: Peer + Drop>(
         Err(FollowFault::NoMemory) if follower.core().place() == place => follower.round(),
         done => done,
     }
-}
-
-// What a round did, the place behind it, and how many edits the target then has.
-fn round_into<R: Wait, S: Peer + Drop, T: Peer + Drop>(
-    rt: &R,
-    follower: &mut Follower<S, T>,
-    target: &Db<Plain>,
-) -> Result<(Round, Option<Seq>, u64), Fail> {
-    let done = round(follower)?;
-    let stored = edits(rt, target)?;
-    Ok((done, follower.core().place(), stored))
 }
 
 // Records a follower's place. A checkpoint that finds no memory leaves it, and is made again.
@@ -253,23 +277,99 @@ fn checkpoint<S: Peer + Drop, T: Peer + Drop>(
 }
 
 // Rounds until there is nothing new.
-fn copy_all<S: Peer + Drop, T: Peer + Drop>(follower: &mut Follower<S, T>) -> Result<(), Fail> {
+fn copy_all<S: Peer + Drop, T: Peer + Drop>(
+    follower: &mut Follower<S, T>,
+) -> Result<(), FollowFault> {
     for _ in 0..100 {
         if round(follower)? == Round::Idle {
             return Ok(());
         }
     }
-    Err(Fail::new("no end"))
+    Err(FollowFault::Peer)
 }
 
-// Two documents, b behind a.
-const TWO: [&str; 2] = [r#"{"_id":"a","_rev":"1-a"}"#, r#"{"_id":"b","_rev":"1-b"}"#];
+// Tells why a call fails, as a part of a line. That it found no memory is an error.
+fn tell_fault(alloc: Global, fault: FollowFault, answer: &mut Answer) -> Result<(), AllocError> {
+    match fault {
+        FollowFault::NoMemory => Err(AllocError),
+        FollowFault::Refused { id, rev, fault } => {
+            let mut text = Vec::new(alloc);
+            rev.print(&mut text)?;
+            let rev = text_of(text.as_slice())?;
+            let text = format!(in alloc; "{fault:?} of {} {rev}", id.as_str())?;
+            answer.text(text.as_str())
+        }
+        fault => answer.text(format!(in alloc; "{fault}")?.as_str()),
+    }
+}
 
-// Five edits of three documents, of which x has three leaves.
-const FIVE: [&str; 5] = [
-    r#"{"_id":"a","_revisions":{"start":2,"ids":["c","a"]}}"#,
-    r#"{"_id":"b","_rev":"1-b"}"#,
-    r#"{"_id":"x","_revisions":{"start":2,"ids":["b","q"]},"_deleted":true}"#,
-    r#"{"_id":"x","_revisions":{"start":2,"ids":["a","q"]}}"#,
-    r#"{"_id":"x","_rev":"1-z"}"#,
-];
+// Tells where a session begins, and keeps its follower. Where none begins, it tells why, and how many faults
+// the source and the target counted.
+fn tell_begun<S: Peer + Drop, T: Peer + Drop>(
+    alloc: Global,
+    begun: Result<Follower<S, T>, FailedStart<S, T>>,
+    kept: &mut Option<Follower<S, T>>,
+    answer: &mut Answer,
+) -> Result<(), AllocError> {
+    let failed = match begun {
+        Ok(follower) => {
+            let place = Told(follower.core().place());
+            *kept = Some(follower);
+            return answer.line(format_args!("at {place}"));
+        }
+        Err(failed) => failed,
+    };
+    let (source, target) = (failed.source.faults(), failed.target.faults());
+    tell_fault(alloc, failed.fault, answer)?;
+    answer.line(format_args!(", faults {source} {target}"))
+}
+
+// Makes a round, behind rounds until there is nothing new where it is to copy all: tells what it did, and the
+// place behind it.
+fn tell_round<S: Peer + Drop, T: Peer + Drop>(
+    alloc: Global,
+    kept: &mut Option<Follower<S, T>>,
+    are_all: bool,
+    answer: &mut Answer,
+) -> Result<(), AllocError> {
+    let Some(follower) = kept else {
+        return answer.line("no session");
+    };
+    if are_all && copy_all(follower).is_err() {
+        return answer.line("no end");
+    }
+    match round(follower) {
+        Ok(Round::Moved) => answer.text("moved")?,
+        Ok(Round::Idle) => answer.text("idle")?,
+        Err(fault) => tell_fault(alloc, fault, answer)?,
+    }
+    let place = Told(follower.core().place());
+    answer.line(format_args!(" at {place}"))
+}
+
+// Records a follower's place, and tells why that fails, where it does.
+fn tell_checkpoint<S: Peer + Drop, T: Peer + Drop>(
+    alloc: Global,
+    kept: &mut Option<Follower<S, T>>,
+    answer: &mut Answer,
+) -> Result<(), AllocError> {
+    let Some(follower) = kept else {
+        return answer.line("no session");
+    };
+    match checkpoint(follower) {
+        Ok(()) => Ok(()),
+        Err(fault) => tell_fault(alloc, fault, answer),
+    }
+}
+
+// Ends a session, and tells how many faults the source and the target counted.
+fn tell_end<S: Peer + Drop, T: Peer + Drop>(
+    kept: &mut Option<Follower<S, T>>,
+    answer: &mut Answer,
+) -> Result<(), AllocError> {
+    let Some(follower) = kept.take() else {
+        return answer.line("no session");
+    };
+    let (source, target) = follower.into_peers();
+    answer.line(format_args!("faults {} {}", source.faults(), target.faults()))
+}

@@ -1,28 +1,42 @@
 //! Which items are an answer to a follower that asks for changes.
 
-use crate::tests::handed::Shown::{Beat, End, Row};
-use crate::tests::{FIVE, LIFE, TRIES, again, docs, same};
+use crate::tests::{docs, number, text_of};
 use hub_database::DbState;
 use hub_document::{ChangeRow, Changes, DocId, Limits, RevId, Revisions};
-use hub_feed::{FeedHost, FeedId, Next, OpenFault};
+use hub_feed::{FeedHost, FeedId, Next};
 use hub_filter::Filter;
 use hub_follower::rightly_handed;
 use hub_model::{Item, Mode, Since, Style};
 use hub_params::FeedParams;
+use hub_transcript::{Answer, Subject, Words, replay};
 use std::alloc::{AllocError, Global};
 use std::test::Fail;
 
-/// What an item shows: of a row its sequence, id, leaves and update sequence; of an end its last sequence.
-pub(crate) enum Shown {
-    Row(u64, &'static str, &'static [&'static str], u64),
-    Beat,
-    End(u64),
+/// A database of one thread, the same behind its deletion, and the items that a feed of it handed. A row is
+/// told as `SEQ:ID:REV,REV..:SEEN`: its sequence, its document, its leaves, and the update sequence when it
+/// was made; an end as `end:LAST`, and a heartbeat as `beat`.
+///
+/// - `put DOC ..`: stores documents with their histories, and tells how many edits there are.
+/// - `feed SINCE`: opens a feed as a follower asks for it.
+/// - `hand`: tells what the feed hands next.
+/// - `handed`: whether what the feed handed is right.
+/// - `above SINCE ITEM ..`: whether these items are right above a sequence.
+/// - `rows N`: stores the documents d0, d1 and so on, and tells whether a row of each, and their end, are
+///   right.
+#[derive(Drop)]
+pub(crate) struct Handed {
+    alloc: Global,
+    db: DbState,
+    deleted: DbState,
+    since: u64,
+    feed: Option<FeedId>,
+    items: Vec<Item<ChangeRow>>,
 }
 
-// The revisions that the texts are; an error where they find no memory, and each time where one is none.
-fn revisions(alloc: Global, texts: &[&str]) -> Result<Revisions, AllocError> {
+// The revisions that the words are; an error where they find no memory, and each time where one is none.
+fn revisions(alloc: Global, texts: &str) -> Result<Revisions, AllocError> {
     let mut revs = Vec::new(alloc);
-    for text in texts {
+    for text in texts.split(',') {
         let Some(rev) = RevId::read(text) else {
             return Err(AllocError);
         };
@@ -31,65 +45,92 @@ fn revisions(alloc: Global, texts: &[&str]) -> Result<Revisions, AllocError> {
     Ok(Revisions::new(revs))
 }
 
-// A row that shows this. It says that it is deleted where its only leaf is 2-b, which is.
-fn row(
-    alloc: Global,
-    seq: u64,
-    id: &str,
-    revs: &[&str],
-    seen: u64,
-) -> Result<ChangeRow, AllocError> {
+// The part of a word before its first colon, and the part behind it.
+fn cut(word: &str) -> (&str, &str) {
+    word.split_once(':').unwrap_or((word, ""))
+}
+
+// The row that a word is. It says that it is deleted where its only leaf is 2-b, which is.
+fn row_of(alloc: Global, word: &str) -> Result<ChangeRow, AllocError> {
+    let (seq, rest) = cut(word);
+    let (id, rest) = cut(rest);
+    let (revs, seen) = cut(rest);
     let Some(id) = DocId::read(alloc, id)? else {
         return Err(AllocError);
     };
     Ok(ChangeRow {
-        seq,
+        seq: number(seq)?,
         id,
         changes: Changes::new(revisions(alloc, revs)?),
-        deleted: revs.len() == 1 && revs[0] == "2-b",
+        deleted: revs == "2-b",
         doc: None,
-        seen,
+        seen: number(seen)?,
     })
 }
 
-/// Items that show this; an error where they find no memory.
-pub(crate) fn items_of(alloc: Global, all: &[Shown]) -> Result<Vec<Item<ChangeRow>>, AllocError> {
+// The item that a word is.
+fn item_of(alloc: Global, word: &str) -> Result<Item<ChangeRow>, AllocError> {
+    if word == "beat" {
+        return Ok(Item::Beat);
+    }
+    if let Some(last_seq) = word.strip_prefix("end:") {
+        return Ok(Item::End {
+            last_seq: number(last_seq)?,
+            pending: 0,
+        });
+    }
+    Ok(Item::Row(row_of(alloc, word)?))
+}
+
+/// The items that the words are, which stand behind one another with this sign between them.
+pub(crate) fn items_of(
+    alloc: Global,
+    words: &str,
+    sign: char,
+) -> Result<Vec<Item<ChangeRow>>, AllocError> {
     let mut items = Vec::new(alloc);
-    for shown in all {
-        let item = match shown {
-            Row(seq, id, revs, seen) => Item::Row(row(alloc, *seq, id, revs, *seen)?),
-            Beat => Item::Beat,
-            End(last_seq) => Item::End {
-                last_seq: *last_seq,
-                pending: 0,
-            },
-        };
-        items.push(item)?;
+    for word in words.split(sign) {
+        if !word.is_empty() {
+            items.push(item_of(alloc, word)?)?;
+        }
     }
     Ok(items)
 }
 
-// Stores the documents that the texts are, with their histories: whether all have their replies.
-fn is_written(alloc: Global, db: &mut DbState, texts: &[&str]) -> bool {
-    let Ok(docs) = docs(alloc, texts) else {
-        return false;
-    };
-    match db.write_edits(docs, false) {
-        Ok(batch) => !batch.stopped,
-        Err(_) => false,
+// The leaves that a row shows, as they are told.
+fn leaves_of(alloc: Global, row: &ChangeRow) -> Result<Vec<u8>, AllocError> {
+    let mut text = Vec::new(alloc);
+    for at in 0..row.changes.len() {
+        if at > 0 {
+            text.push(b',')?;
+        }
+        if let Some(rev) = row.changes.get(at) {
+            rev.print(&mut text)?;
+        }
+    }
+    Ok(text)
+}
+
+// Tells an item.
+fn tell_item(alloc: Global, item: &Item<ChangeRow>, answer: &mut Answer) -> Result<(), AllocError> {
+    match item {
+        Item::Row(row) => {
+            let leaves = leaves_of(alloc, row)?;
+            let leaves = text_of(leaves.as_slice())?;
+            answer.line(format_args!("{}:{}:{leaves}:{}", row.seq, row.id.as_str(), row.seen))
+        }
+        Item::Beat => answer.line("beat"),
+        Item::End { last_seq, .. } => answer.line(format_args!("end:{last_seq}")),
     }
 }
 
-// Stores as many edits as these texts. Where one finds no memory, those before it stand; written again, they
-// are known.
-fn write(alloc: Global, db: &mut DbState, texts: &[&str]) -> Result<(), Fail> {
-    let end = db.update_seq().saturating_add(texts.len() as u64);
-    for _ in 0..TRIES {
-        if is_written(alloc, db, texts) && db.update_seq() == end {
-            return Ok(());
-        }
+// Stores the documents that the words are. Where one finds no memory, those before it stand; written again,
+// they are known.
+fn write(alloc: Global, db: &mut DbState, words: &str) -> Result<(), AllocError> {
+    match db.write_edits(docs(alloc, words)?, false) {
+        Ok(batch) if !batch.stopped => Ok(()),
+        _ => Err(AllocError),
     }
-    Err(Fail::new("not stored"))
 }
 
 // What a follower asks of a feed.
@@ -107,291 +148,310 @@ fn asked(since: u64) -> FeedParams {
     }
 }
 
-// A feed as a follower asks for it.
-fn open_feed(db: &mut DbState, since: u64) -> Result<FeedId, Fail> {
-    let opened = match db.open_feed(asked(since)) {
-        Err(OpenFault::NoMemory) => db.open_feed(asked(since)),
-        opened => opened,
-    };
-    match opened {
-        Ok(feed) => Ok(feed),
-        Err(_) => Err(Fail::new("no feed")),
+// Takes and tells what a feed hands next. Where that finds no memory it is due still.
+fn hand(
+    alloc: Global,
+    db: &mut DbState,
+    feed: FeedId,
+    answer: &mut Answer,
+) -> Result<Option<Item<ChangeRow>>, AllocError> {
+    match db.next_item(feed) {
+        Ok(Next::Give(item)) => {
+            tell_item(alloc, &item, answer)?;
+            db.accept_item(feed, &item);
+            Ok(Some(item))
+        }
+        Ok(Next::Nothing) | Ok(Next::Gone) => {
+            answer.line("nothing is due")?;
+            Ok(None)
+        }
+        Err(AllocError) => Err(AllocError),
     }
 }
 
-// What a feed hands next.
-fn hand(db: &mut DbState, feed: FeedId) -> Result<Item<ChangeRow>, Fail> {
-    for _ in 0..TRIES {
-        match db.next_item(feed) {
-            Ok(Next::Give(item)) => {
-                db.accept_item(feed, &item);
-                return Ok(item);
+impl Handed {
+    fn put(&mut self, words: &str) -> Result<(), AllocError> {
+        write(self.alloc, &mut self.db, words)?;
+        write(self.alloc, &mut self.deleted, words)
+    }
+
+    // Tells whether items are right, and once the database is deleted.
+    fn decide(
+        &self,
+        since: u64,
+        items: &[Item<ChangeRow>],
+        answer: &mut Answer,
+    ) -> Result<(), AllocError> {
+        let right = rightly_handed(self.alloc, &self.db, since, items)?;
+        let deleted = rightly_handed(self.alloc, &self.deleted, since, items)?;
+        if right != deleted {
+            return answer.line("decided otherwise once it is deleted");
+        }
+        answer.line(if right { "right" } else { "wrong" })
+    }
+
+    fn above(&mut self, words: &mut Words<'_>, answer: &mut Answer) -> Result<(), AllocError> {
+        let since = number(words.word())?;
+        let items = items_of(self.alloc, words.rest(), ' ')?;
+        if !self.deleted.is_deleted() && self.deleted.delete().is_err() {
+            return answer.line("not deleted");
+        }
+        self.decide(since, items.as_slice(), answer)
+    }
+
+    // Opens a feed. Where that finds no memory there is none.
+    fn open(&mut self, since: u64) -> Result<(), AllocError> {
+        match self.db.open_feed(asked(since)) {
+            Ok(feed) => {
+                self.since = since;
+                self.feed = Some(feed);
+                Ok(())
             }
-            Ok(Next::Nothing) | Ok(Next::Gone) => return Err(Fail::new("nothing is due")),
-            Err(AllocError) => {}
+            Err(_) => Err(AllocError),
         }
     }
-    Err(Fail::new("out of memory"))
-}
 
-// How many items a feed hands at most.
-const ITEMS: usize = 101;
-
-// What a feed hands as each of these documents is stored behind one more item, and then up to its end.
-fn hand_all(
-    alloc: Global,
-    db: &mut DbState,
-    since: u64,
-    between: &[&str],
-) -> Result<Vec<Item<ChangeRow>>, Fail> {
-    let feed = open_feed(db, since)?;
-    let mut items = again!(Vec::with_capacity(alloc, ITEMS))?;
-    for text in between {
-        items.push(hand(db, feed)?)?;
-        write(alloc, db, &[*text])?;
-    }
-    for _ in 0..ITEMS {
-        let item = hand(db, feed)?;
-        let over = item.is_end();
-        items.push(item)?;
-        if over {
-            return Ok(items);
+    fn hand(&mut self, answer: &mut Answer) -> Result<(), AllocError> {
+        let Some(feed) = self.feed else {
+            return answer.line("no feed");
+        };
+        self.items.reserve(1)?;
+        if let Some(item) = hand(self.alloc, &mut self.db, feed, answer)? {
+            self.items.push(item)?;
         }
+        Ok(())
     }
-    Err(Fail::new("no end"))
+
+    fn rows(&mut self, count: u64, answer: &mut Answer) -> Result<(), AllocError> {
+        let mut items = Vec::new(self.alloc);
+        for number in 0..count {
+            let text = format!(in self.alloc; r#"{{"_id":"d{number}","_rev":"1-a"}}"#)?;
+            self.put(text.as_str())?;
+            let seq = number.saturating_add(1);
+            let row = format!(in self.alloc; "{seq}:d{number}:1-a:{seq}")?;
+            items.push(Item::Row(row_of(self.alloc, row.as_str())?))?;
+        }
+        items.push(Item::End {
+            last_seq: count,
+            pending: 0,
+        })?;
+        self.decide(0, items.as_slice(), answer)
+    }
 }
 
-// Behind FIVE: b again, and x with one more revision on its best leaf.
-const B2: &str = r#"{"_id":"b","_revisions":{"start":2,"ids":["d","b"]}}"#;
+impl<R> Subject<R> for Handed {
+    fn begin(_: &R, alloc: Global, _: &str) -> Result<Handed, AllocError> {
+        Ok(Handed {
+            alloc,
+            db: DbState::new(alloc, Limits::full(), 1),
+            deleted: DbState::new(alloc, Limits::full(), 1),
+            since: 0,
+            feed: None,
+            items: Vec::new(alloc),
+        })
+    }
 
-const X3: &str = r#"{"_id":"x","_revisions":{"start":3,"ids":["d","a","q"]}}"#;
-
-// Whether items are right above a sequence, also where a growth of that is refused.
-fn is_right(
-    alloc: Global,
-    db: &DbState,
-    since: u64,
-    items: &[Item<ChangeRow>],
-) -> Result<bool, AllocError> {
-    again!(rightly_handed(alloc, db, since, items))
+    fn answer(&mut self, _: &R, command: &str, answer: &mut Answer) -> Result<(), AllocError> {
+        let mut words = Words::of(command);
+        let verb = words.word();
+        if verb == "put" {
+            self.put(words.rest())?;
+            return answer.line(format_args!("{} edits", self.db.update_seq()));
+        }
+        if verb == "feed" {
+            return self.open(number(words.rest())?);
+        }
+        if verb == "hand" {
+            return self.hand(answer);
+        }
+        if verb == "handed" {
+            return self.decide(self.since, self.items.as_slice(), answer);
+        }
+        if verb == "above" {
+            return self.above(&mut words, answer);
+        }
+        if verb == "rows" {
+            return self.rows(number(words.rest())?, answer);
+        }
+        answer.line("?")
+    }
 }
 
-// Whether what a feed hands above a sequence behind FIVE is right, and of how many items it is.
-fn is_handed(
-    alloc: Global,
-    db: &mut DbState,
-    since: u64,
-    between: &[&str],
-) -> Result<(bool, usize), Fail> {
-    write(alloc, db, &FIVE)?;
-    let items = hand_all(alloc, db, since, between)?;
-    let right = is_right(alloc, db, since, items.as_slice())?;
-    Ok((right, items.len()))
-}
-
-// The same of a new database.
-fn handed(alloc: Global, since: u64, between: &[&str]) -> Result<(bool, usize), Fail> {
-    let mut db = DbState::new(alloc, Limits::full(), LIFE);
-    is_handed(alloc, &mut db, since, between)
-}
-
-// Where a feed begins, what is stored between its items, and how many items there are: three documents; the
-// last of them; none; and feeds between whose rows documents move: b while it is still to come, then x, and a
-// behind its own row.
-const FEEDS: &[(u64, &[&str], usize)] = &[
-    (0, &[], 4),
-    (2, &[], 2),
-    (5, &[], 1),
-    (0, &[B2], 3),
-    (0, &[X3, B2], 3),
-];
+// What feeds hand, also where documents move between their rows.
+const FEEDS: &str = r#"
+# three documents
+> put {"_id":"a","_revisions":{"start":2,"ids":["c","a"]}} {"_id":"b","_rev":"1-b"} {"_id":"x","_revisions":{"start":2,"ids":["b","q"]},"_deleted":true} {"_id":"x","_revisions":{"start":2,"ids":["a","q"]}} {"_id":"x","_rev":"1-z"}
+5 edits
+> feed 0
+> hand
+1:a:2-c:5
+> hand
+2:b:1-b:5
+> hand
+5:x:2-a,1-z,2-b:5
+> hand
+end:5
+> handed
+right
+# the last of them
+> put {"_id":"a","_revisions":{"start":2,"ids":["c","a"]}} {"_id":"b","_rev":"1-b"} {"_id":"x","_revisions":{"start":2,"ids":["b","q"]},"_deleted":true} {"_id":"x","_revisions":{"start":2,"ids":["a","q"]}} {"_id":"x","_rev":"1-z"}
+5 edits
+> feed 2
+> hand
+5:x:2-a,1-z,2-b:5
+> hand
+end:5
+> handed
+right
+# none
+> put {"_id":"a","_revisions":{"start":2,"ids":["c","a"]}} {"_id":"b","_rev":"1-b"} {"_id":"x","_revisions":{"start":2,"ids":["b","q"]},"_deleted":true} {"_id":"x","_revisions":{"start":2,"ids":["a","q"]}} {"_id":"x","_rev":"1-z"}
+5 edits
+> feed 5
+> hand
+end:5
+> handed
+right
+# b moves while it is still to come
+> put {"_id":"a","_revisions":{"start":2,"ids":["c","a"]}} {"_id":"b","_rev":"1-b"} {"_id":"x","_revisions":{"start":2,"ids":["b","q"]},"_deleted":true} {"_id":"x","_revisions":{"start":2,"ids":["a","q"]}} {"_id":"x","_rev":"1-z"}
+5 edits
+> feed 0
+> hand
+1:a:2-c:5
+> put {"_id":"b","_revisions":{"start":2,"ids":["d","b"]}}
+6 edits
+> hand
+5:x:2-a,1-z,2-b:6
+> hand
+end:5
+> handed
+right
+# x moves while it is still to come, and then b behind its own row
+> put {"_id":"a","_revisions":{"start":2,"ids":["c","a"]}} {"_id":"b","_rev":"1-b"} {"_id":"x","_revisions":{"start":2,"ids":["b","q"]},"_deleted":true} {"_id":"x","_revisions":{"start":2,"ids":["a","q"]}} {"_id":"x","_rev":"1-z"}
+5 edits
+> feed 0
+> hand
+1:a:2-c:5
+> put {"_id":"x","_revisions":{"start":3,"ids":["d","a","q"]}}
+6 edits
+> hand
+2:b:1-b:6
+> put {"_id":"b","_revisions":{"start":2,"ids":["d","b"]}}
+7 edits
+> hand
+end:5
+> handed
+right
+"#;
 
 #[test]
 fn what_feeds_hand_is_right(rt: HostRuntime) -> Result<(), Fail> {
-    for (since, between, count) in FEEDS {
-        same(&rt, &handed(rt.alloc(), *since, *between)?, &(true, *count));
-    }
-    Ok(())
+    replay::<Handed, _>(&rt, rt.alloc(), FEEDS)
 }
 
-const A: Shown = Row(1, "a", &["2-c"], 5);
-
-const B: Shown = Row(2, "b", &["1-b"], 5);
-
-const X: Shown = Row(5, "x", &["2-a", "1-z", "2-b"], 5);
-
-// Items above a sequence, and whether they are right behind FIVE.
-const CASES: &[(u64, &[Shown], bool)] = &[
-    (0, &[A, B, X, End(5)], true),
-    (1, &[B, X, End(5)], true),
-    // up to 2, and between documents that moved
-    (0, &[A, B, End(2)], true),
-    (0, &[A, B, End(4)], true),
-    // made one after the other, when x had one leaf; and that x came again
-    (
-        0,
-        &[
-            Row(1, "a", &["2-c"], 1),
-            Row(2, "b", &["1-b"], 3),
-            X,
-            End(5),
-        ],
-        true,
-    ),
-    (0, &[Row(3, "x", &["2-b"], 3), End(3)], false),
-    (2, &[Row(3, "x", &["2-b"], 3), X, End(5)], true),
-    // a row is left out, comes twice, comes too early; its document's rows in another order
-    (0, &[A, X, End(5)], false),
-    (0, &[A, B, B, X, End(5)], false),
-    (1, &[A, B, X, End(5)], false),
-    (0, &[B, A, X, End(5)], false),
-    // another revision, document or sequence; a leaf is missing; leaves in another order
-    (0, &[A, Row(2, "b", &["1-c"], 5), X, End(5)], false),
-    (0, &[A, Row(2, "c", &["1-b"], 5), X, End(5)], false),
-    (0, &[A, Row(3, "b", &["1-b"], 5), X, End(5)], false),
-    (0, &[A, B, Row(5, "x", &["2-a", "2-b"], 5), End(5)], false),
-    (
-        0,
-        &[A, B, Row(5, "x", &["1-z", "2-a", "2-b"], 5), End(5)],
-        false,
-    ),
-    // not current when it was made, made before there was such an edit, or behind the last; made earlier than
-    // the one before
-    (2, &[Row(3, "x", &["2-b"], 4), X, End(5)], false),
-    (0, &[A, Row(2, "b", &["1-b"], 1), X, End(5)], false),
-    (
-        0,
-        &[A, B, Row(5, "x", &["2-a", "1-z", "2-b"], 6), End(5)],
-        false,
-    ),
-    (0, &[A, Row(2, "b", &["1-b"], 3), X, End(5)], false),
-    // an end below a row, above the journal, below `since`, none, two, in front; a beat
-    (0, &[A, B, X, End(4)], false),
-    (0, &[A, B, X, End(6)], false),
-    (6, &[End(6)], false),
-    (5, &[End(4)], false),
-    (0, &[A, B, X], false),
-    (0, &[A, B, X, End(5), End(5)], false),
-    (0, &[End(5), A, B, X], false),
-    (0, &[A, Beat, B, X, End(5)], false),
-    (5, &[], false),
-];
-
-// The first case that is decided otherwise.
-fn first_other(
-    alloc: Global,
-    db: &DbState,
-    cases: &[(u64, &[Shown], bool)],
-) -> Result<Option<usize>, AllocError> {
-    for (at, (since, all, right)) in cases.iter().enumerate() {
-        let items = again!(items_of(alloc, *all))?;
-        if is_right(alloc, db, *since, items.as_slice())? != *right {
-            return Ok(Some(at));
-        }
-    }
-    Ok(None)
-}
-
-// The same of a database that has stored these texts, and once it is deleted.
-fn first_others(
-    alloc: Global,
-    db: &mut DbState,
-    texts: &[&str],
-    cases: &[(u64, &[Shown], bool)],
-) -> Result<(Option<usize>, Option<usize>), Fail> {
-    write(alloc, db, texts)?;
-    let first = first_other(alloc, db, cases)?;
-    if db.delete().is_err() {
-        return Err(Fail::new("not deleted"));
-    }
-    Ok((first, first_other(alloc, db, cases)?))
-}
-
-// The same of a new database.
-fn others_behind(
-    alloc: Global,
-    texts: &[&str],
-    cases: &[(u64, &[Shown], bool)],
-) -> Result<(Option<usize>, Option<usize>), Fail> {
-    let mut db = DbState::new(alloc, Limits::full(), LIFE);
-    first_others(alloc, &mut db, texts, cases)
-}
+// Behind edits of three documents, of which x has three leaves; and behind a parent that came late. A hundred
+// rows are an answer, and one more are none.
+const DECIDED: &str = r#"
+# rows of all documents, and above a sequence
+> put {"_id":"a","_revisions":{"start":2,"ids":["c","a"]}} {"_id":"b","_rev":"1-b"} {"_id":"x","_revisions":{"start":2,"ids":["b","q"]},"_deleted":true} {"_id":"x","_revisions":{"start":2,"ids":["a","q"]}} {"_id":"x","_rev":"1-z"}
+5 edits
+> above 0 1:a:2-c:5 2:b:1-b:5 5:x:2-a,1-z,2-b:5 end:5
+right
+> above 1 2:b:1-b:5 5:x:2-a,1-z,2-b:5 end:5
+right
+# up to 2, and between documents that moved
+> put {"_id":"a","_revisions":{"start":2,"ids":["c","a"]}} {"_id":"b","_rev":"1-b"} {"_id":"x","_revisions":{"start":2,"ids":["b","q"]},"_deleted":true} {"_id":"x","_revisions":{"start":2,"ids":["a","q"]}} {"_id":"x","_rev":"1-z"}
+5 edits
+> above 0 1:a:2-c:5 2:b:1-b:5 end:2
+right
+> above 0 1:a:2-c:5 2:b:1-b:5 end:4
+right
+# made one after the other, when x had one leaf, and that x came again
+> put {"_id":"a","_revisions":{"start":2,"ids":["c","a"]}} {"_id":"b","_rev":"1-b"} {"_id":"x","_revisions":{"start":2,"ids":["b","q"]},"_deleted":true} {"_id":"x","_revisions":{"start":2,"ids":["a","q"]}} {"_id":"x","_rev":"1-z"}
+5 edits
+> above 0 1:a:2-c:1 2:b:1-b:3 5:x:2-a,1-z,2-b:5 end:5
+right
+> above 0 3:x:2-b:3 end:3
+wrong
+> above 2 3:x:2-b:3 5:x:2-a,1-z,2-b:5 end:5
+right
+# a row is left out, comes twice, comes too early; rows in another order
+> put {"_id":"a","_revisions":{"start":2,"ids":["c","a"]}} {"_id":"b","_rev":"1-b"} {"_id":"x","_revisions":{"start":2,"ids":["b","q"]},"_deleted":true} {"_id":"x","_revisions":{"start":2,"ids":["a","q"]}} {"_id":"x","_rev":"1-z"}
+5 edits
+> above 0 1:a:2-c:5 5:x:2-a,1-z,2-b:5 end:5
+wrong
+> above 0 1:a:2-c:5 2:b:1-b:5 2:b:1-b:5 5:x:2-a,1-z,2-b:5 end:5
+wrong
+> above 1 1:a:2-c:5 2:b:1-b:5 5:x:2-a,1-z,2-b:5 end:5
+wrong
+> above 0 2:b:1-b:5 1:a:2-c:5 5:x:2-a,1-z,2-b:5 end:5
+wrong
+# another revision, document or sequence; a leaf is missing; leaves in another order
+> put {"_id":"a","_revisions":{"start":2,"ids":["c","a"]}} {"_id":"b","_rev":"1-b"} {"_id":"x","_revisions":{"start":2,"ids":["b","q"]},"_deleted":true} {"_id":"x","_revisions":{"start":2,"ids":["a","q"]}} {"_id":"x","_rev":"1-z"}
+5 edits
+> above 0 1:a:2-c:5 2:b:1-c:5 5:x:2-a,1-z,2-b:5 end:5
+wrong
+> above 0 1:a:2-c:5 2:c:1-b:5 5:x:2-a,1-z,2-b:5 end:5
+wrong
+> above 0 1:a:2-c:5 3:b:1-b:5 5:x:2-a,1-z,2-b:5 end:5
+wrong
+> above 0 1:a:2-c:5 2:b:1-b:5 5:x:2-a,2-b:5 end:5
+wrong
+> above 0 1:a:2-c:5 2:b:1-b:5 5:x:1-z,2-a,2-b:5 end:5
+wrong
+# not current when it was made, made before its edit or behind the last, or made before the row before it
+> put {"_id":"a","_revisions":{"start":2,"ids":["c","a"]}} {"_id":"b","_rev":"1-b"} {"_id":"x","_revisions":{"start":2,"ids":["b","q"]},"_deleted":true} {"_id":"x","_revisions":{"start":2,"ids":["a","q"]}} {"_id":"x","_rev":"1-z"}
+5 edits
+> above 2 3:x:2-b:4 5:x:2-a,1-z,2-b:5 end:5
+wrong
+> above 0 1:a:2-c:5 2:b:1-b:1 5:x:2-a,1-z,2-b:5 end:5
+wrong
+> above 0 1:a:2-c:5 2:b:1-b:5 5:x:2-a,1-z,2-b:6 end:5
+wrong
+> above 0 1:a:2-c:5 2:b:1-b:3 5:x:2-a,1-z,2-b:5 end:5
+wrong
+# an end below a row, above the journal, below the sequence asked for, none, two, in front; a heartbeat
+> put {"_id":"a","_revisions":{"start":2,"ids":["c","a"]}} {"_id":"b","_rev":"1-b"} {"_id":"x","_revisions":{"start":2,"ids":["b","q"]},"_deleted":true} {"_id":"x","_revisions":{"start":2,"ids":["a","q"]}} {"_id":"x","_rev":"1-z"}
+5 edits
+> above 0 1:a:2-c:5 2:b:1-b:5 5:x:2-a,1-z,2-b:5 end:4
+wrong
+> above 0 1:a:2-c:5 2:b:1-b:5 5:x:2-a,1-z,2-b:5 end:6
+wrong
+> above 6 end:6
+wrong
+> above 5 end:4
+wrong
+> above 0 1:a:2-c:5 2:b:1-b:5 5:x:2-a,1-z,2-b:5
+wrong
+> above 0 1:a:2-c:5 2:b:1-b:5 5:x:2-a,1-z,2-b:5 end:5 end:5
+wrong
+> above 0 end:5 1:a:2-c:5 2:b:1-b:5 5:x:2-a,1-z,2-b:5
+wrong
+> above 0 1:a:2-c:5 beat 2:b:1-b:5 5:x:2-a,1-z,2-b:5 end:5
+wrong
+> above 5
+wrong
+# two revisions alone, and a later one behind which both stand: before it came, both were leaves
+> put {"_id":"x","_rev":"2-b"} {"_id":"x","_rev":"3-c"} {"_id":"x","_revisions":{"start":4,"ids":["d","c","b"]}}
+3 edits
+> above 0 3:x:4-d:3 end:3
+right
+> above 1 2:x:3-c,2-b:2 3:x:4-d:3 end:3
+right
+> above 1 2:x:3-c:2 3:x:4-d:3 end:3
+wrong
+> above 1 2:x:3-c,2-b:3 3:x:4-d:3 end:3
+wrong
+> above 0 3:x:4-d,2-b:3 end:3
+wrong
+# a hundred rows at most
+> rows 100
+right
+# a hundred and one rows
+> rows 101
+wrong
+"#;
 
 #[test]
-fn cases_are_decided(rt: HostRuntime) -> Result<(), Fail> {
-    let others = others_behind(rt.alloc(), &FIVE, CASES)?;
-    same(&rt, &others, &(None, None));
-    Ok(())
-}
-
-// Two revisions alone, and a later one behind which both stand.
-const LATE: [&str; 3] = [
-    r#"{"_id":"x","_rev":"2-b"}"#,
-    r#"{"_id":"x","_rev":"3-c"}"#,
-    r#"{"_id":"x","_revisions":{"start":4,"ids":["d","c","b"]}}"#,
-];
-
-const X_AT_LAST: Shown = Row(3, "x", &["4-d"], 3);
-
-// Items, and whether they are right behind LATE: before the last came, both of the others were leaves.
-const LATE_CASES: &[(u64, &[Shown], bool)] = &[
-    (0, &[X_AT_LAST, End(3)], true),
-    (
-        1,
-        &[Row(2, "x", &["3-c", "2-b"], 2), X_AT_LAST, End(3)],
-        true,
-    ),
-    (1, &[Row(2, "x", &["3-c"], 2), X_AT_LAST, End(3)], false),
-    (
-        1,
-        &[Row(2, "x", &["3-c", "2-b"], 3), X_AT_LAST, End(3)],
-        false,
-    ),
-    (0, &[Row(3, "x", &["4-d", "2-b"], 3), End(3)], false),
-];
-
-#[test]
-fn rows_before_a_parent_came_are_decided(rt: HostRuntime) -> Result<(), Fail> {
-    let others = others_behind(rt.alloc(), &LATE, LATE_CASES)?;
-    same(&rt, &others, &(None, None));
-    Ok(())
-}
-
-// The row of the only edit of the document of this number.
-fn only_row(alloc: Global, number: u64) -> Result<ChangeRow, AllocError> {
-    let id = format!(in alloc; "d{number}")?;
-    let seq = number.saturating_add(1);
-    row(alloc, seq, id.as_str(), &["1-a"], seq)
-}
-
-// A row of each of so many documents, and their end.
-fn rows_of_many(alloc: Global, db: &mut DbState, count: u64) -> Result<Vec<Item<ChangeRow>>, Fail> {
-    let mut items = again!(Vec::with_capacity(alloc, ITEMS + 1))?;
-    for at in 0..count {
-        let text = again!(format!(in alloc; r#"{{"_id":"d{at}","_rev":"1-a"}}"#))?;
-        write(alloc, db, &[text.as_str()])?;
-        items.push(Item::Row(again!(only_row(alloc, at))?))?;
-    }
-    items.push(Item::End {
-        last_seq: count,
-        pending: 0,
-    })?;
-    Ok(items)
-}
-
-// Whether a row of each of so many documents, and their end, are right.
-fn are_right(alloc: Global, db: &mut DbState, count: u64) -> Result<bool, Fail> {
-    let items = rows_of_many(alloc, db, count)?;
-    Ok(is_right(alloc, db, 0, items.as_slice())?)
-}
-
-// A hundred rows are an answer, and one more are none.
-#[test]
-fn a_hundred_rows_at_most(rt: HostRuntime) -> Result<(), Fail> {
-    for (count, right) in [(100, true), (101, false)] {
-        let mut db = DbState::new(rt.alloc(), Limits::full(), LIFE);
-        let found = are_right(rt.alloc(), &mut db, count)?;
-        same(&rt, &found, &right);
-    }
-    Ok(())
+fn items_are_decided(rt: HostRuntime) -> Result<(), Fail> {
+    replay::<Handed, _>(&rt, rt.alloc(), DECIDED)
 }

@@ -1,6 +1,7 @@
 //! How a user of the libraries copies one database into another.
 
-use crate::tests::same;
+use crate::tests::{database, edits, write};
+use hub_document::Limits;
 use hub_follower::{DbPeer, FollowFault, Follower, Round};
 use hub_shared::{Db, Plain};
 use std::alloc::Global;
@@ -45,17 +46,23 @@ fn copies<R: Wait>(
     }
 }
 
+// Two documents.
+const TWO: &str = r#"{"_id":"a","_rev":"1-a"} {"_id":"b","_rev":"1-b"}"#;
+
+// The ids of two sessions, each with the one of a session that is made where it finds no memory.
+const SESSIONS: &[(&str, &str)] = &[
+    ("2026-01-01", "2026-01-01T12"),
+    ("2026-01-02", "2026-01-02T12"),
+];
+
 #[test]
 fn a_database_is_copied(rt: HostRuntime) -> Result<(), Fail> {
-    let source = crate::tests::database(rt.alloc())?;
-    let target = crate::tests::database(rt.alloc())?;
-    crate::tests::write(&rt, rt.alloc(), &source, &crate::tests::TWO)?;
-    for session_ids in [
-        ("2026-01-01", "2026-01-01T12"),
-        ("2026-01-02", "2026-01-02T12"),
-    ] {
-        assert!(rt; copies(&rt, rt.alloc(), &source, &target, session_ids));
-        same(&rt, &crate::tests::edits(&rt, &target)?, &2);
+    let source = database(rt.alloc(), Limits::full(), 1)?;
+    let target = database(rt.alloc(), Limits::full(), 1)?;
+    assert!(rt; write(&rt, rt.alloc(), &source, TWO)?);
+    for ids in SESSIONS {
+        assert!(rt; copies(&rt, rt.alloc(), &source, &target, *ids));
+        assert_eq!(rt; edits(&rt, &target)?, 2);
     }
     Ok(())
 }

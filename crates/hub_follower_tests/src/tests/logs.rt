@@ -1,314 +1,267 @@
 //! Replication logs.
 
-use crate::tests::{again, same};
+use crate::tests::{Told, number, seq_of, text_of};
 use hub_follower::{HistoryEntry, Log, Seq, common_sequence};
+use hub_transcript::{Answer, Subject, Words, replay};
 use std::alloc::{AllocError, Global};
 use std::test::Fail;
 
-// A number whose life is not known.
-fn bare(n: u64) -> Seq {
-    Seq { n, life: None }
+/// Logs, and what is read of them. A log is written `ID:SEQ/ID:SEQ,ID:SEQ..`: its last session, with the
+/// sequence that it recorded, and those of its history, each of which began at 0; `none` is no log. A
+/// sequence is a number, with its life where that is known, as `7-1`.
+///
+/// - `write LOG`: the log's text.
+/// - `read TEXT`: the log that the text is: its last session with its sequence, and behind it the sessions of
+///   its history, each with the sequence that it began at, the last one and the recorded one; or `none`.
+/// - `agree LOG LOG`: the sequence up to which the logs of source and target agree, read from their texts.
+/// - `history N`: how many entries are read of a log with a history of so many, or `none`.
+#[derive(Drop)]
+struct Logs {
+    alloc: Global,
 }
 
-// A log of this last session, with these sessions and what they recorded.
-fn log(
-    alloc: Global,
-    session_id: &str,
-    last: Seq,
-    entries: &[(&str, Seq)],
-) -> Result<Log, AllocError> {
-    let mut history = Vec::new(alloc);
-    for entry in entries {
-        history.push(HistoryEntry {
-            session_id: String::from_str(alloc, entry.0)?,
-            start_last_seq: Seq::beginning(),
-            end_last_seq: entry.1,
-            recorded_seq: entry.1,
-        })?;
-    }
-    Ok(Log {
+// An entry of a history, or a last session; an error where it finds no memory, and each time where the word
+// is none.
+fn entry_of(alloc: Global, word: &str) -> Result<HistoryEntry, AllocError> {
+    let (session_id, seq) = word.split_once(':').unwrap_or((word, ""));
+    let seq = seq_of(seq)?;
+    Ok(HistoryEntry {
         session_id: String::from_str(alloc, session_id)?,
-        source_last_seq: last,
+        start_last_seq: Seq::beginning(),
+        end_last_seq: seq,
+        recorded_seq: seq,
+    })
+}
+
+// The log that a word is.
+fn log_of(alloc: Global, word: &str) -> Result<Log, AllocError> {
+    let (last, entries) = word.split_once('/').unwrap_or((word, ""));
+    let mut history = Vec::new(alloc);
+    for entry in entries.split(',') {
+        history.push(entry_of(alloc, entry)?)?;
+    }
+    let last = entry_of(alloc, last)?;
+    Ok(Log {
+        session_id: last.session_id,
+        source_last_seq: last.recorded_seq,
         history,
     })
 }
 
-const SOURCE: &[(&str, Seq)] = &[("S3", NINE), ("S1", FOUR)];
-
-const TARGET: &[(&str, Seq)] = &[("S2", SEVEN), ("S1", FOUR)];
-
-const LATER_TARGET: &[(&str, Seq)] = &[("S3", SEVEN), ("S1", FOUR)];
-
-const FOUR: Seq = Seq { n: 4, life: None };
-
-const SEVEN: Seq = Seq { n: 7, life: None };
-
-const NINE: Seq = Seq { n: 9, life: None };
-
-// The log with these sessions, of which the first is the last one; an error where it finds no memory, and
-// each time where there is no session.
-fn log_of(alloc: Global, entries: &[(&str, Seq)]) -> Result<Log, AllocError> {
-    match entries {
-        [(session_id, last), ..] => log(alloc, *session_id, *last, entries),
-        [] => Err(AllocError),
+// The log that is read where the one that a word is was written.
+fn read_back(alloc: Global, word: &str) -> Result<Option<Log>, AllocError> {
+    if word == "none" {
+        return Ok(None);
     }
-}
-
-// The sequence up to which logs with these sessions agree.
-fn agreed(
-    alloc: Global,
-    source: &[(&str, Seq)],
-    target: &[(&str, Seq)],
-) -> Result<Seq, AllocError> {
-    let source = log_of(alloc, source)?;
-    let target = log_of(alloc, target)?;
-    Ok(common_sequence(Some(&source), Some(&target)))
-}
-
-// The sequences up to which a log with these sessions agrees with none, as the source's and as the target's.
-fn agreed_alone(alloc: Global, entries: &[(&str, Seq)]) -> Result<(Seq, Seq), AllocError> {
-    let log = log_of(alloc, entries)?;
-    Ok((
-        common_sequence(Some(&log), None),
-        common_sequence(None, Some(&log)),
-    ))
-}
-
-#[test]
-fn sequences_up_to_which_logs_agree(rt: HostRuntime) -> Result<(), Fail> {
-    let alloc = rt.alloc();
-    same(&rt, &again!(agreed(alloc, SOURCE, TARGET))?, &FOUR);
-    same(&rt, &again!(agreed(alloc, SOURCE, LATER_TARGET))?, &SEVEN);
-    for entries in [SOURCE, LATER_TARGET] {
-        same(
-            &rt,
-            &again!(agreed_alone(alloc, entries))?,
-            &(bare(0), bare(0)),
-        );
-    }
-    Ok(())
-}
-
-// The log of this last session, whose history has S3 alone, which recorded this sequence as it is written; an
-// error where it finds no memory, and each time where the text is no log.
-fn written_log(alloc: Global, session_id: &str, seq: &str) -> Result<Log, AllocError> {
-    let entry = format!(in alloc;
-        r#"{{"session_id":"S3","start_last_seq":0,"end_last_seq":{seq},"recorded_seq":{seq}}}"#
-    )?;
-    let last = format!(in alloc; r#""session_id":"{session_id}","source_last_seq":{seq}"#)?;
-    let text = format!(in alloc; r#"{{{last},"history":[{entry}],"replication_id_version":3}}"#)?;
-    match Log::read(alloc, text.as_bytes())? {
-        Some(log) => Ok(log),
+    let text = log_of(alloc, word)?.text(alloc)?;
+    match Log::read(alloc, text.as_slice())? {
+        Some(log) => Ok(Some(log)),
         None => Err(AllocError),
     }
 }
 
-// What the log of the source records of a session, what that of the target does, and the sequence up to which
-// they agree: a number with the life that is there, if there is one.
-const LIVES: &[(&str, &str, u64, Option<u64>)] = &[
-    ("9", "7", 7, None),
-    (r#""9-1""#, r#""7-1""#, 7, Some(1)),
-    (r#""7-1""#, r#""9-1""#, 7, Some(1)),
-    (r#""9-2""#, r#""7-1""#, 0, None),
-    (r#""7-0""#, r#""7-1""#, 0, None),
-    ("9", r#""7-1""#, 7, Some(1)),
-    (r#""9-2""#, "7", 7, Some(2)),
-    (r#""3-2""#, r#""7-2""#, 3, Some(2)),
-];
-
-// The last sessions of both logs: that one of both, of the source's alone, or of neither.
-const LAST_SESSIONS: &[(&str, &str)] = &[("S3", "S3"), ("S3", "S4"), ("S5", "S4")];
-
-// The sequence up to which logs agree that record these sequences, whose last sessions are these.
-fn agreed_of_lives(
-    alloc: Global,
-    (source, target): (&str, &str),
-    (source_session, target_session): (&str, &str),
-) -> Result<Seq, AllocError> {
-    let source = written_log(alloc, source_session, source)?;
-    let target = written_log(alloc, target_session, target)?;
-    Ok(common_sequence(Some(&source), Some(&target)))
-}
-
-// The session is the last one of both logs, or of the source's alone, or stands in the histories.
-#[test]
-fn sequences_of_lives(rt: HostRuntime) -> Result<(), Fail> {
-    let alloc = rt.alloc();
-    for (source, target, n, life) in LIVES {
-        for sessions in LAST_SESSIONS {
-            let common = again!(agreed_of_lives(alloc, (*source, *target), *sessions))?;
-            same(&rt, &common, &Seq { n: *n, life: *life });
-        }
+/// Tells a log: its last session with its sequence, and the sessions of its history, each with the sequence
+/// that it began at, the last one and the recorded one.
+pub(crate) fn tell_log(log: &Log, answer: &mut Answer) -> Result<(), AllocError> {
+    let last = Told(Some(log.source_last_seq));
+    answer.line(format_args!("{} {last}", log.session_id.as_str()))?;
+    for entry in &log.history {
+        let start = Told(Some(entry.start_last_seq));
+        let end = Told(Some(entry.end_last_seq));
+        let recorded = Told(Some(entry.recorded_seq));
+        answer.line(format_args!("{} {start} {end} {recorded}", entry.session_id.as_str()))?;
     }
     Ok(())
 }
 
-// Whether an entry of a log began at one sequence, ended at another and recorded a third.
-fn is_entry(log: &Log, at: usize, (start, end, recorded): (Seq, Seq, Seq)) -> bool {
-    match log.history.get(at) {
-        Some(entry) => {
-            entry.start_last_seq == start
-                && entry.end_last_seq == end
-                && entry.recorded_seq == recorded
-                && entry.recorded_seq == recorded
+impl Logs {
+    fn write(&self, word: &str, answer: &mut Answer) -> Result<(), AllocError> {
+        let text = log_of(self.alloc, word)?.text(self.alloc)?;
+        answer.line(text_of(text.as_slice())?)
+    }
+
+    fn read(&self, text: &str, answer: &mut Answer) -> Result<(), AllocError> {
+        match Log::read(self.alloc, text.as_bytes())? {
+            Some(log) => tell_log(&log, answer),
+            None => answer.line("none"),
         }
-        None => false,
+    }
+
+    fn agree(&self, words: &mut Words<'_>, answer: &mut Answer) -> Result<(), AllocError> {
+        let source = read_back(self.alloc, words.word())?;
+        let target = read_back(self.alloc, words.word())?;
+        let common = Told(Some(common_sequence(source.as_ref(), target.as_ref())));
+        answer.line(format_args!("up to {common}"))
+    }
+
+    fn history(&self, count: u64, answer: &mut Answer) -> Result<(), AllocError> {
+        let mut log = log_of(self.alloc, "S:1/S:1")?;
+        for _ in 1..count {
+            log.history.push(entry_of(self.alloc, "S:1")?)?;
+        }
+        let text = log.text(self.alloc)?;
+        match Log::read(self.alloc, text.as_slice())? {
+            Some(log) => answer.line(format_args!("{} entries", log.history.len())),
+            None => answer.line("none"),
+        }
     }
 }
 
-// Whether a log is of this last session with this last sequence, and has these entries.
-fn is_log(log: &Log, session_id: &str, last: Seq, entries: &[(Seq, Seq, Seq)]) -> bool {
-    let mut is_so = log.session_id.as_str() == session_id
-        && log.source_last_seq == last
-        && log.history.len() == entries.len();
-    for (at, entry) in entries.iter().enumerate() {
-        is_so = is_so && is_entry(log, at, *entry);
+impl<R> Subject<R> for Logs {
+    fn begin(_: &R, alloc: Global, _: &str) -> Result<Logs, AllocError> {
+        Ok(Logs { alloc })
     }
-    is_so
-}
 
-// Whether a text is read as such a log.
-fn is_read(
-    alloc: Global,
-    text: &[u8],
-    session_id: &str,
-    last: Seq,
-    entries: &[(Seq, Seq, Seq)],
-) -> Result<bool, AllocError> {
-    match Log::read(alloc, text)? {
-        Some(log) => Ok(is_log(&log, session_id, last, entries)),
-        None => Ok(false),
+    fn answer(&mut self, _: &R, command: &str, answer: &mut Answer) -> Result<(), AllocError> {
+        let mut words = Words::of(command);
+        let verb = words.word();
+        if verb == "write" {
+            return self.write(words.rest(), answer);
+        }
+        if verb == "read" {
+            return self.read(words.rest(), answer);
+        }
+        if verb == "agree" {
+            return self.agree(&mut words, answer);
+        }
+        if verb == "history" {
+            return self.history(number(words.rest())?, answer);
+        }
+        answer.line("?")
     }
 }
 
-const ZERO: Seq = Seq { n: 0, life: None };
-
-const SEVEN_OF_ONE: Seq = Seq {
-    n: 7,
-    life: Some(1),
-};
-
-const WRITTEN_LOG: &str = concat!(
-    r#"{"history":[{"end_last_seq":"7-1","recorded_seq":"7-1","session_id":"S\"2","start_last_seq":0},"#,
-    r#"{"end_last_seq":4,"recorded_seq":4,"session_id":"S1","start_last_seq":0}],"#,
-    r#""replication_id_version":3,"session_id":"S\"2","source_last_seq":"7-1"}"#
-);
-
-const ENTRIES: &[(Seq, Seq, Seq)] = &[(ZERO, SEVEN_OF_ONE, SEVEN_OF_ONE), (ZERO, FOUR, FOUR)];
-
-// The text of the log with these sessions, of which the first is the last one.
-fn text_of(alloc: Global, entries: &[(&str, Seq)]) -> Result<Vec<u8>, AllocError> {
-    log_of(alloc, entries)?.text(alloc)
-}
-
-const SESSIONS: &[(&str, Seq)] = &[("S\"2", SEVEN_OF_ONE), ("S1", FOUR)];
+const AGREED: &str = "
+# sequences up to which logs agree
+> agree S3:9/S3:9,S1:4 S2:7/S2:7,S1:4
+up to 4
+> agree S3:9/S3:9,S1:4 S3:7/S3:7,S1:4
+up to 7
+> agree S3:9/S3:9,S1:4 none
+up to 0
+> agree none S3:9/S3:9,S1:4
+up to 0
+> agree S3:7/S3:7,S1:4 none
+up to 0
+> agree none S3:7/S3:7,S1:4
+up to 0
+# the session is the last one of both logs
+> agree S3:9/S3:9 S3:7/S3:7
+up to 7
+> agree S3:9-1/S3:9-1 S3:7-1/S3:7-1
+up to 7-1
+> agree S3:7-1/S3:7-1 S3:9-1/S3:9-1
+up to 7-1
+> agree S3:9-2/S3:9-2 S3:7-1/S3:7-1
+up to 0
+> agree S3:7-0/S3:7-0 S3:7-1/S3:7-1
+up to 0
+> agree S3:9/S3:9 S3:7-1/S3:7-1
+up to 7-1
+> agree S3:9-2/S3:9-2 S3:7/S3:7
+up to 7-2
+> agree S3:3-2/S3:3-2 S3:7-2/S3:7-2
+up to 3-2
+# the session is the last one of the source's log
+> agree S3:9/S3:9 S4:7/S3:7
+up to 7
+> agree S3:9-1/S3:9-1 S4:7-1/S3:7-1
+up to 7-1
+> agree S3:7-1/S3:7-1 S4:9-1/S3:9-1
+up to 7-1
+> agree S3:9-2/S3:9-2 S4:7-1/S3:7-1
+up to 0
+> agree S3:7-0/S3:7-0 S4:7-1/S3:7-1
+up to 0
+> agree S3:9/S3:9 S4:7-1/S3:7-1
+up to 7-1
+> agree S3:9-2/S3:9-2 S4:7/S3:7
+up to 7-2
+> agree S3:3-2/S3:3-2 S4:7-2/S3:7-2
+up to 3-2
+# the session stands in the histories
+> agree S5:9/S3:9 S4:7/S3:7
+up to 7
+> agree S5:9-1/S3:9-1 S4:7-1/S3:7-1
+up to 7-1
+> agree S5:7-1/S3:7-1 S4:9-1/S3:9-1
+up to 7-1
+> agree S5:9-2/S3:9-2 S4:7-1/S3:7-1
+up to 0
+> agree S5:7-0/S3:7-0 S4:7-1/S3:7-1
+up to 0
+> agree S5:9/S3:9 S4:7-1/S3:7-1
+up to 7-1
+> agree S5:9-2/S3:9-2 S4:7/S3:7
+up to 7-2
+> agree S5:3-2/S3:3-2 S4:7-2/S3:7-2
+up to 3-2
+";
 
 #[test]
-fn a_log_is_read_as_it_was_written(rt: HostRuntime) -> Result<(), Fail> {
-    let alloc = rt.alloc();
-    let text = again!(text_of(alloc, SESSIONS))?;
-    let bytes = text.as_slice();
-    assert!(rt; bytes == WRITTEN_LOG.as_bytes());
-    assert!(rt; again!(is_read(alloc, bytes, "S\"2", SEVEN_OF_ONE, ENTRIES))?);
-    Ok(())
+fn sequences_up_to_which_logs_agree(rt: HostRuntime) -> Result<(), Fail> {
+    replay::<Logs, _>(&rt, rt.alloc(), AGREED)
 }
 
 // Each place may have a whole number or a text, whatever the others have.
-const MIXED: &str = concat!(
-    r#"{"history":[{"end_last_seq":2,"recorded_seq":"03-1","session_id":"S","start_last_seq":"1-7"}],"#,
-    r#""replication_id_version":3,"session_id":"S","source_last_seq":18446744073709551615}"#
-);
-
-const MIXED_ENTRIES: &[(Seq, Seq, Seq)] = &[(
-    Seq {
-        n: 1,
-        life: Some(7),
-    },
-    Seq { n: 2, life: None },
-    Seq {
-        n: 3,
-        life: Some(1),
-    },
-)];
+const TEXTS: &str = r#"
+# a log is read as it was written
+> write S"2:7-1/S"2:7-1,S1:4
+{"history":[{"end_last_seq":"7-1","recorded_seq":"7-1","session_id":"S\"2","start_last_seq":0},{"end_last_seq":4,"recorded_seq":4,"session_id":"S1","start_last_seq":0}],"replication_id_version":3,"session_id":"S\"2","source_last_seq":"7-1"}
+> read {"history":[{"end_last_seq":"7-1","recorded_seq":"7-1","session_id":"S\"2","start_last_seq":0},{"end_last_seq":4,"recorded_seq":4,"session_id":"S1","start_last_seq":0}],"replication_id_version":3,"session_id":"S\"2","source_last_seq":"7-1"}
+S"2 7-1
+S"2 0 7-1 7-1
+S1 0 4 4
+# a log of numbers and texts is read
+> read {"history":[{"end_last_seq":2,"recorded_seq":"03-1","session_id":"S","start_last_seq":"1-7"}],"replication_id_version":3,"session_id":"S","source_last_seq":18446744073709551615}
+S 18446744073709551615
+S 1-7 2 3-1
+# sequences that are written
+> read {"history":[],"replication_id_version":3,"session_id":"S","source_last_seq":1}
+S 1
+> read {"history":[],"replication_id_version":3,"session_id":"S","source_last_seq":"1-1"}
+S 1-1
+> read {"history":[],"replication_id_version":3,"session_id":"S","source_last_seq":"18446744073709551615-18446744073709551615"}
+S 18446744073709551615-18446744073709551615
+> read {"history":[],"replication_id_version":3,"session_id":"S","source_last_seq":"1"}
+none
+> read {"history":[],"replication_id_version":3,"session_id":"S","source_last_seq":"1-"}
+none
+> read {"history":[],"replication_id_version":3,"session_id":"S","source_last_seq":"-1"}
+none
+> read {"history":[],"replication_id_version":3,"session_id":"S","source_last_seq":"1-x"}
+none
+> read {"history":[],"replication_id_version":3,"session_id":"S","source_last_seq":"1-1-1"}
+none
+> read {"history":[],"replication_id_version":3,"session_id":"S","source_last_seq":"\"1-1\""}
+none
+> read {"history":[],"replication_id_version":3,"session_id":"S","source_last_seq":"18446744073709551616-1"}
+none
+> read {"history":[],"replication_id_version":3,"session_id":"S","source_last_seq":1.5}
+none
+> read {"history":[],"replication_id_version":3,"session_id":"S","source_last_seq":-1}
+none
+# logs that are absent: a member is absent or of another kind, or the version is another
+> read []
+none
+> read {
+none
+> read {"history":[],"replication_id_version":3,"session_id":"S"}
+none
+> read {"history":[],"replication_id_version":2,"session_id":"S","source_last_seq":1}
+none
+> read {"history":[],"replication_id_version":"3","session_id":"S","source_last_seq":"1-1"}
+none
+> read {"history":[{}],"replication_id_version":3,"session_id":"S","source_last_seq":1}
+none
+# a history that is too long
+> history 50
+50 entries
+> history 51
+none
+"#;
 
 #[test]
-fn a_log_of_numbers_and_texts_is_read(rt: HostRuntime) -> Result<(), Fail> {
-    let (alloc, last) = (rt.alloc(), bare(u64::MAX));
-    assert!(rt; again!(is_read(alloc, MIXED.as_bytes(), "S", last, MIXED_ENTRIES))?);
-    Ok(())
-}
-
-// What the log of a last session writes as its sequence, and whether that is one.
-const WRITTEN: &[(&str, bool)] = &[
-    ("1", true),
-    (r#""1-1""#, true),
-    (r#""18446744073709551615-18446744073709551615""#, true),
-    (r#""1""#, false),
-    (r#""1-""#, false),
-    (r#""-1""#, false),
-    (r#""1-x""#, false),
-    (r#""1-1-1""#, false),
-    (r#""\"1-1\"""#, false),
-    (r#""18446744073709551616-1""#, false),
-    ("1.5", false),
-    ("-1", false),
-];
-
-// Whether a text is that of a log.
-fn is_a_log(alloc: Global, text: &[u8]) -> Result<bool, AllocError> {
-    Ok(Log::read(alloc, text)?.is_some())
-}
-
-// Whether the text of a log with this last sequence is read as one.
-fn is_written(alloc: Global, seq: &str) -> Result<bool, AllocError> {
-    let text = format!(in alloc;
-        r#"{{"history":[],"replication_id_version":3,"session_id":"S","source_last_seq":{seq}}}"#
-    )?;
-    is_a_log(alloc, text.as_bytes())
-}
-
-#[test]
-fn sequences_that_are_written(rt: HostRuntime) -> Result<(), Fail> {
-    let alloc = rt.alloc();
-    for (seq, is_one) in WRITTEN {
-        same(
-            &rt,
-            &(seq, again!(is_written(alloc, *seq))?),
-            &(seq, *is_one),
-        );
-    }
-    Ok(())
-}
-
-// A member is absent or of another kind, or the version is another.
-const ABSENT: &[&str] = &[
-    "[]",
-    "{",
-    r#"{"history":[],"replication_id_version":3,"session_id":"S"}"#,
-    r#"{"history":[],"replication_id_version":2,"session_id":"S","source_last_seq":1}"#,
-    r#"{"history":[],"replication_id_version":"3","session_id":"S","source_last_seq":"1-1"}"#,
-    r#"{"history":[{}],"replication_id_version":3,"session_id":"S","source_last_seq":1}"#,
-];
-
-// Whether a history of so many entries is read.
-fn is_read_of(alloc: Global, count: u64) -> Result<bool, AllocError> {
-    let mut entries = Vec::new(alloc);
-    for _ in 0..count {
-        entries.push(("S", bare(1)))?;
-    }
-    let text = text_of(alloc, entries.as_slice())?;
-    is_a_log(alloc, text.as_slice())
-}
-
-// A member that is absent or of another kind, another version, and a history that is too long.
-#[test]
-fn logs_that_are_absent(rt: HostRuntime) -> Result<(), Fail> {
-    let alloc = rt.alloc();
-    for text in ABSENT {
-        assert!(rt; !again!(is_a_log(alloc, text.as_bytes()))?, "{text}");
-    }
-    for (count, is_there) in [(50, true), (51, false)] {
-        assert!(rt; again!(is_read_of(alloc, count))? == is_there);
-    }
-    Ok(())
+fn texts_of_logs(rt: HostRuntime) -> Result<(), Fail> {
+    replay::<Logs, _>(&rt, rt.alloc(), TEXTS)
 }

@@ -8,6 +8,7 @@ use hub_databases::Hub;
 use hub_document::{Asked, Doc};
 use hub_follower::{CallFault, Changes, DbPeer, FetchedRevs, Log, Peer, Seq};
 use std::alloc::Global;
+use std::rc::Rc;
 use std::sync::Wait;
 
 /// The database that a hub has under a name whenever it is called: another one, once it was made again. A
@@ -16,7 +17,7 @@ use std::sync::Wait;
 pub(crate) struct NamedPeer<'a, R: Wait> {
     rt: &'a R,
     alloc: Global,
-    hub: &'a Hub,
+    hub: Rc<Hub>,
     name: &'static str,
     /// Whether it is told the life of the sequence that it is asked for changes above, or the number alone.
     tells_lives: bool,
@@ -27,7 +28,7 @@ impl<'a, R: Wait> NamedPeer<'a, R> {
     pub(crate) fn new(
         rt: &'a R,
         alloc: Global,
-        hub: &'a Hub,
+        hub: Rc<Hub>,
         name: &'static str,
         tells_lives: bool,
     ) -> NamedPeer<'a, R> {

@@ -1,163 +1,158 @@
-//! A follower's machine, driven by hand, and peers that come back.
+//! A follower's machine, driven by hand.
 
-use crate::tests::{LOG, database, same};
-use hub_follower::{
-    Answer, Call, DbPeer, FailedStart, FaultPeer, FollowCore, FollowFault, Follower, Log, Loss,
-    Peer, Seq, Session,
-};
+use crate::tests::logs::tell_log;
+use crate::tests::{Told, tell_fault};
+use hub_follower::{Answer as Answered, Call, FollowCore, FollowFault, Seq, Session};
+use hub_transcript::{Answer, Subject, Words, replay};
 use std::alloc::{AllocError, Global};
 use std::test::Fail;
 
-/// The call that a machine owes.
-#[derive(Clone, Copy, Debug, PartialEq, Eq)]
-enum Owed {
-    Nothing,
-    SourceLog,
-    TargetLog,
-    ChangesAbove(Seq),
-    Missing,
-    Revisions,
-    Storing,
-    SourcePut,
-    TargetPut,
+/// A follower's machine without a session. Each command tells what call it owes then, and its place.
+///
+/// - `look`: changes nothing.
+/// - `start ID`: a session begins, where no call is owed.
+/// - `absent`: the log that is asked for is absent.
+/// - `round`, `checkpoint`: one begins.
+/// - `fail`: the call that is owed fails.
+/// - `kept`: tells before that the logs that are to be kept at the source and at the target.
+#[derive(Drop)]
+struct Machine {
+    alloc: Global,
+    core: FollowCore,
 }
 
-// The call that a machine owes.
-fn call_owed(core: &FollowCore) -> Owed {
+// The call that a machine owes, in words.
+fn owed(core: &FollowCore) -> &'static str {
     match core.next_call() {
-        None => Owed::Nothing,
-        Some(Call::GetSource) => Owed::SourceLog,
-        Some(Call::GetTarget) => Owed::TargetLog,
-        Some(Call::Changes(since)) => Owed::ChangesAbove(since),
-        Some(Call::RevsDiff(_asked)) => Owed::Missing,
-        Some(Call::OpenRevs(_asked)) => Owed::Revisions,
-        Some(Call::Merge(_docs)) => Owed::Storing,
-        Some(Call::PutSource(_session)) => Owed::SourcePut,
-        Some(Call::PutTarget(_session)) => Owed::TargetPut,
+        None => "nothing",
+        Some(Call::GetSource) => "the source's log",
+        Some(Call::GetTarget) => "the target's log",
+        Some(Call::Changes(since)) if since == Seq::beginning() => "all changes",
+        Some(Call::Changes(_since)) => "changes",
+        Some(Call::RevsDiff(_asked)) => "what is missing",
+        Some(Call::OpenRevs(_asked)) => "revisions",
+        Some(Call::Merge(_docs)) => "storing",
+        Some(Call::PutSource(_session)) => "keeping at the source",
+        Some(Call::PutTarget(_session)) => "keeping at the target",
     }
 }
 
-// A session of this id begins with two absent logs: what a machine without one owes, and then at each call.
-fn begin(alloc: Global, core: &mut FollowCore, session_id: &str) -> Result<[Owed; 4], FollowFault> {
-    let first = call_owed(core);
-    if !core.is_free() {
-        return Err(FollowFault::Peer);
-    }
-    core.start(String::from_str(alloc, session_id)?);
-    let second = call_owed(core);
-    core.accept(alloc, Answer::Log(None))?;
-    let third = call_owed(core);
-    core.accept(alloc, Answer::Log(None))?;
-    Ok([first, second, third, call_owed(core)])
-}
-
-// What a machine owes in a round whose call fails, and then.
-fn fail_a_round(core: &mut FollowCore) -> [Owed; 2] {
-    core.begin_round();
-    let first = call_owed(core);
-    core.fail();
-    [first, call_owed(core)]
-}
-
-// Whether a log is what a checkpoint of this session keeps that copied nothing.
-fn is_first(log: &Log, session_id: &str) -> bool {
-    let [entry] = log.history.as_slice() else {
-        return false;
-    };
-    log.session_id.as_str() == session_id
-        && log.source_last_seq == Seq::beginning()
-        && entry.session_id.as_str() == session_id
-        && entry.recorded_seq == Seq::beginning()
-}
-
-// Whether a session that copied nothing keeps such logs at both ends.
-fn keeps(alloc: Global, session: &Session, session_id: &str) -> Result<bool, AllocError> {
+// Tells the logs that a checkpoint of a session keeps.
+fn tell_kept(alloc: Global, session: &Session, answer: &mut Answer) -> Result<(), AllocError> {
+    let place = Told(Some(session.place()));
     let source = session.source_log(alloc)?;
     let target = session.target_log(alloc)?;
-    Ok(
-        session.place() == Seq::beginning()
-            && is_first(&source, session_id)
-            && is_first(&target, session_id),
-    )
+    answer.line(place)?;
+    tell_log(&source, answer)?;
+    tell_log(&target, answer)
 }
 
-// The session whose log a call keeps, where it does.
-fn session_of<'a>(call: Option<Call<'a>>) -> Option<&'a Session> {
-    match call {
-        None => None,
-        Some(Call::GetSource) => None,
-        Some(Call::GetTarget) => None,
-        Some(Call::Changes(_since)) => None,
-        Some(Call::RevsDiff(_asked)) => None,
-        Some(Call::OpenRevs(_asked)) => None,
-        Some(Call::Merge(_docs)) => None,
-        Some(Call::PutSource(session)) => Some(session),
-        Some(Call::PutTarget(session)) => Some(session),
+impl Machine {
+    fn start(&mut self, session_id: &str) -> Result<(), AllocError> {
+        let session_id = String::from_str(self.alloc, session_id)?;
+        if self.core.is_free() {
+            self.core.start(session_id);
+        }
+        Ok(())
+    }
+
+    fn absent(&mut self) -> Result<(), FollowFault> {
+        match self.core.next_call() {
+            Some(Call::GetSource) => self.core.accept(self.alloc, Answered::Log(None)),
+            Some(Call::GetTarget) => self.core.accept(self.alloc, Answered::Log(None)),
+            _ => Ok(()),
+        }
+    }
+
+    fn kept(&self, answer: &mut Answer) -> Result<(), AllocError> {
+        match self.core.next_call() {
+            Some(Call::PutSource(session)) => tell_kept(self.alloc, session, answer),
+            Some(Call::PutTarget(session)) => tell_kept(self.alloc, session, answer),
+            _ => answer.line("no log"),
+        }
+    }
+
+    // Carries out a command; whether it is one.
+    fn go_on(&mut self, command: &str, answer: &mut Answer) -> Result<bool, AllocError> {
+        if command == "look" {
+            return Ok(true);
+        }
+        if command == "absent" {
+            match self.absent() {
+                Ok(()) => return Ok(true),
+                Err(fault) => tell_fault(self.alloc, fault, answer)?,
+            }
+            return Ok(true);
+        }
+        if command == "round" {
+            self.core.begin_round();
+            return Ok(true);
+        }
+        if command == "checkpoint" {
+            self.core.begin_checkpoint();
+            return Ok(true);
+        }
+        if command == "fail" {
+            self.core.fail();
+            return Ok(true);
+        }
+        if command == "kept" {
+            self.kept(answer)?;
+            return Ok(true);
+        }
+        Ok(false)
     }
 }
 
-// Whether a checkpoint is to keep the logs of this session.
-fn records(alloc: Global, core: &mut FollowCore, session_id: &str) -> Result<bool, AllocError> {
-    core.begin_checkpoint();
-    match session_of(core.next_call()) {
-        Some(session) => keeps(alloc, session, session_id),
-        None => Ok(false),
+impl<R> Subject<R> for Machine {
+    fn begin(_: &R, alloc: Global, _: &str) -> Result<Machine, AllocError> {
+        Ok(Machine {
+            alloc,
+            core: FollowCore::new(),
+        })
+    }
+
+    fn answer(&mut self, _: &R, command: &str, answer: &mut Answer) -> Result<(), AllocError> {
+        let mut words = Words::of(command);
+        if words.word() == "start" {
+            self.start(words.rest())?;
+        } else if !self.go_on(command, answer)? {
+            return answer.line("?");
+        }
+        let place = Told(self.core.place());
+        let rests = if self.core.is_free() { "free" } else { "busy" };
+        answer.line(format_args!("{rests}, owes {}, at {place}", owed(&self.core)))
     }
 }
 
-// The steps of a machine: a session begins, a round fails, and a checkpoint is due and fails.
-fn steps(alloc: Global, core: &mut FollowCore) -> Result<bool, FollowFault> {
-    let begun = begin(alloc, core, "S1")?;
-    let expected = [
-        Owed::Nothing,
-        Owed::SourceLog,
-        Owed::TargetLog,
-        Owed::Nothing,
-    ];
-    let failed = fail_a_round(core);
-    let above = Owed::ChangesAbove(Seq::beginning());
-    let recorded = records(alloc, core, "S1")?;
-    let due = call_owed(core) == Owed::SourcePut && !core.is_free();
-    core.fail();
-    Ok(
-        begun == expected
-            && failed == [above, Owed::Nothing]
-            && recorded
-            && due
-            && core.is_free()
-            && core.place() == Some(Seq::beginning()),
-    )
-}
+const CALLS: &str = "
+# a machine owes its calls
+> look
+free, owes nothing, at none
+> start S1
+busy, owes the source's log, at none
+> absent
+busy, owes the target's log, at none
+> absent
+free, owes nothing, at 0
+> round
+busy, owes all changes, at 0
+> fail
+free, owes nothing, at 0
+> checkpoint
+busy, owes keeping at the source, at 0
+> kept
+0
+S1 0
+S1 0 0 0
+S1 0
+S1 0 0 0
+busy, owes keeping at the source, at 0
+> fail
+free, owes nothing, at 0
+";
 
 #[test]
 fn a_machine_owes_its_calls(rt: HostRuntime) -> Result<(), Fail> {
-    let mut core = FollowCore::new();
-    same(&rt, &core.place(), &None);
-    assert!(rt; matches!(steps(rt.alloc(), &mut core), Ok(true)));
-    Ok(())
-}
-
-// What faults a peer counted that failed once, and the other peer's, which comes back.
-fn counts<P: Peer + Drop>(peer: FaultPeer<P>) -> (u64, u64) {
-    let all = peer.faults();
-    let other = peer.into_peer();
-    (all, other.faults())
-}
-
-#[test]
-fn peers_come_back_from_a_failed_start(rt: HostRuntime) -> Result<(), Fail> {
-    let db = database(rt.alloc())?;
-    let source = FaultPeer::new(DbPeer::new(&rt, rt.alloc(), db.handle()?), 1, Loss::Before);
-    let target = DbPeer::new(&rt, rt.alloc(), db.handle()?);
-    let Err(failed) = Follower::start(rt.alloc(), source, target, LOG, "S1") else {
-        return Err(Fail::new("a session"));
-    };
-    let FailedStart {
-        fault,
-        source,
-        target,
-    } = failed;
-    assert!(rt; matches!(fault, FollowFault::Peer));
-    same(&rt, &(counts(source), target.faults()), &((1, 0), 0));
-    Ok(())
+    replay::<Machine, _>(&rt, rt.alloc(), CALLS)
 }

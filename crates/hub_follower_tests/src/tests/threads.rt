@@ -1,7 +1,7 @@
 //! A follower beside a writer.
 
-use crate::tests::{LOG, agree, database, edits, same};
-use hub_document::Doc;
+use crate::tests::{LOG, agree, database, edits};
+use hub_document::{Doc, Limits};
 use hub_follower::{DbPeer, FaultPeer, FollowFault, Follower, Loss, Peer, Round};
 use hub_shared::{Db, Plain};
 use std::alloc::{AllocError, Global};
@@ -128,7 +128,7 @@ fn agreed_count<R: Wait>(
 ) -> Result<u64, Fail> {
     for number in 0..DOCUMENTS {
         let id = format!(in alloc; "d{number}")?;
-        if !agree(rt, alloc, source, target, &[id.as_str()])? {
+        if !agree(rt, alloc, source, target, id.as_str())? {
             return Ok(number);
         }
     }
@@ -137,13 +137,10 @@ fn agreed_count<R: Wait>(
 
 #[test]
 fn a_follower_beside_a_writer(rt: HostRuntime) -> Result<(), Fail> {
-    let (source, target) = (database(rt.alloc())?, database(rt.alloc())?);
+    let source = database(rt.alloc(), Limits::full(), 1)?;
+    let target = database(rt.alloc(), Limits::full(), 1)?;
     assert!(rt; run(&rt, rt.alloc(), &source, &target).is_some());
-    same(&rt, &edits(&rt, &source)?, &EDITS);
-    same(
-        &rt,
-        &agreed_count(&rt, rt.alloc(), &source, &target)?,
-        &DOCUMENTS,
-    );
+    assert_eq!(rt; edits(&rt, &source)?, EDITS);
+    assert_eq!(rt; agreed_count(&rt, rt.alloc(), &source, &target)?, DOCUMENTS);
     Ok(())
 }
