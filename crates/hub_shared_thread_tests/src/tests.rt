@@ -15,6 +15,7 @@ pub(crate) mod pace;
 mod polls;
 mod questions;
 mod readers;
+mod replies;
 pub(crate) mod shell;
 mod shown;
 mod shows;

@@ -1,7 +1,6 @@
 //! A feed with a heartbeat whose clock stays below it.
 
-use crate::tests::shell::Shell;
-use hub_transcript::replay;
+use crate::tests::replies::replay_beside;
 use std::test::Fail;
 
 const BEATS: &str = "
@@ -22,5 +21,5 @@ well
 
 #[test]
 fn no_heartbeat_comes_before_its_time(rt: HostRuntime) -> Result<(), Fail> {
-    replay::<Shell, _>(&rt, rt.alloc(), BEATS)
+    replay_beside(&rt, rt.alloc(), BEATS)
 }

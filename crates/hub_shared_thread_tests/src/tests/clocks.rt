@@ -1,7 +1,6 @@
 //! Pumps of feeds whose time passes.
 
-use crate::tests::shell::Shell;
-use hub_transcript::replay;
+use crate::tests::replies::replay_beside;
 use std::test::Fail;
 
 const CLOCKS: &str = "
@@ -30,5 +29,5 @@ well
 
 #[test]
 fn feeds_without_news_end_and_beat_by_the_clock(rt: HostRuntime) -> Result<(), Fail> {
-    replay::<Shell, _>(&rt, rt.alloc(), CLOCKS)
+    replay_beside(&rt, rt.alloc(), CLOCKS)
 }

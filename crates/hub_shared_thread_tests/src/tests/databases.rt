@@ -1,7 +1,6 @@
 //! Two databases have two locks.
 
-use crate::tests::shell::Shell;
-use hub_transcript::replay;
+use crate::tests::replies::replay_beside;
 use std::test::Fail;
 
 const TWO: &str = "
@@ -32,5 +31,5 @@ well
 
 #[test]
 fn a_held_database_holds_no_other(rt: HostRuntime) -> Result<(), Fail> {
-    replay::<Shell, _>(&rt, rt.alloc(), TWO)
+    replay_beside(&rt, rt.alloc(), TWO)
 }

@@ -1,7 +1,6 @@
 //! Readers of feeds whose pumps run in other threads.
 
-use crate::tests::shell::Shell;
-use hub_transcript::replay;
+use crate::tests::replies::replay_beside;
 use std::test::Fail;
 
 const STOPPED: &str = "
@@ -28,7 +27,7 @@ well
 
 #[test]
 fn a_stopped_reader_lets_its_pump_end(rt: HostRuntime) -> Result<(), Fail> {
-    replay::<Shell, _>(&rt, rt.alloc(), STOPPED)
+    replay_beside(&rt, rt.alloc(), STOPPED)
 }
 
 const READERS: &str = "
@@ -126,5 +125,5 @@ well
 
 #[test]
 fn readers_get_every_row(rt: HostRuntime) -> Result<(), Fail> {
-    replay::<Shell, _>(&rt, rt.alloc(), READERS)
+    replay_beside(&rt, rt.alloc(), READERS)
 }

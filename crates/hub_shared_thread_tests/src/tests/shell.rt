@@ -2,6 +2,7 @@
 
 use crate::tests::pace::Pace;
 use crate::tests::questions::{put_answer, question};
+use crate::tests::replies::Answer;
 use crate::tests::shown::Shown;
 use crate::tests::shows::{
     show_bytes, show_fault, show_label, show_receipts, show_replies, show_rev,
@@ -11,7 +12,7 @@ use hub_database::DbFault;
 use hub_document::{Limits, LocalDoc};
 use hub_feed::OpenFault;
 use hub_shared::{Bell, Db, Handle, Plain, Receipt, Updates, Watch};
-use hub_transcript::{Answer, Subject, Words};
+use hub_transcript::{Answer as Lines, Subject, Words};
 use std::alloc::{AllocError, Global};
 use std::sync::{Arc, Wait};
 use std::thread::Threads;
@@ -303,23 +304,22 @@ impl Shell {
     }
 
     // A command of a feed, or a question.
-    fn answer_feed<R: Threads + Wait + time::Clock + Copy + Send + Sync + Drop + 'static>(
+    fn answer_feed<R: Wait>(
         &mut self,
         rt: &R,
         verb: &str,
         words: &str,
         answer: &mut Answer,
     ) -> Result<(), AllocError> {
-        let (feed, rest) = words.split_once(' ').unwrap_or((words, ""));
-        let number = Words::of(feed).number();
+        let number = Words::of(words).number();
         match self.feeds.get_mut(number.wrapping_sub(1) as usize) {
-            Some(shown) => shown.answer(rt, verb, rest, answer),
+            Some(shown) => shown.answer(rt, verb, answer),
             None => self.ask(rt, verb, words, answer),
         }
     }
 
     // A command that opens feeds, or tells of news.
-    fn answer_other<R: Threads + Wait + time::Clock + Copy + Send + Sync + Drop + 'static>(
+    fn answer_other<R: Wait>(
         &mut self,
         rt: &R,
         verb: &str,
@@ -352,10 +352,9 @@ impl Shell {
         }
         self.answer_feed(rt, verb, words, answer)
     }
-}
 
-impl<R: Threads + Wait + time::Clock + Copy + Send + Sync + Drop + 'static> Subject<R> for Shell {
-    fn begin(_: &R, alloc: Global, _: &str) -> Result<Shell, AllocError> {
+    /// A database of the life 6, another one, and no feeds.
+    pub(crate) fn new(alloc: Global) -> Result<Shell, AllocError> {
         let (_db, handle) = Db::new(alloc, Limits::full(), LIFE, Plain)?;
         let (_other, other) = Db::new(alloc, Limits::full(), LIFE, Plain)?;
         Ok(Shell {
@@ -368,7 +367,13 @@ impl<R: Threads + Wait + time::Clock + Copy + Send + Sync + Drop + 'static> Subj
         })
     }
 
-    fn answer(&mut self, rt: &R, command: &str, answer: &mut Answer) -> Result<(), AllocError> {
+    // Carries out a command that starts no thread, and waits for none to end.
+    fn answer_alone<R: Wait>(
+        &mut self,
+        rt: &R,
+        command: &str,
+        answer: &mut Answer,
+    ) -> Result<(), AllocError> {
         let (verb, words) = command.split_once(' ').unwrap_or((command, ""));
         if verb == "put" || verb == "load" || verb == "make" {
             return self.put(rt, verb, words, answer);
@@ -397,5 +402,34 @@ impl<R: Threads + Wait + time::Clock + Copy + Send + Sync + Drop + 'static> Subj
             return answer.line(format!(in alloc; "{done:?}")?);
         }
         self.answer_other(rt, verb, words, answer)
+    }
+
+    /// Carries out any command.
+    pub(crate) fn answer_beside<
+        R: Threads + Wait + time::Clock + Copy + Send + Sync + Drop + 'static,
+    >(&mut self, rt: &R, command: &str, answer: &mut Answer) -> Result<(), AllocError> {
+        let (verb, words) = command.split_once(' ').unwrap_or((command, ""));
+        if verb != "pump" && verb != "ended" && verb != "later" && verb != "written" {
+            return self.answer_alone(rt, command, answer);
+        }
+        let (feed, rest) = words.split_once(' ').unwrap_or((words, ""));
+        let number = Words::of(feed).number();
+        match self.feeds.get_mut(number.wrapping_sub(1) as usize) {
+            Some(shown) => shown.answer_beside(rt, verb, rest, answer),
+            None => answer.line("?"),
+        }
+    }
+}
+
+/// A shell of which nothing is asked that starts a thread.
+impl<R: Wait> Subject<R> for Shell {
+    fn begin(_: &R, alloc: Global, _: &str) -> Result<Shell, AllocError> {
+        Shell::new(alloc)
+    }
+
+    fn answer(&mut self, rt: &R, command: &str, answer: &mut Lines) -> Result<(), AllocError> {
+        let mut own = Answer::new(self.alloc)?;
+        self.answer_alone(rt, command, &mut own)?;
+        answer.text(own.as_str())
     }
 }

@@ -1,13 +1,13 @@
 //! A feed of the shell.
 
 use crate::tests::pace::Pace;
+use crate::tests::replies::Answer;
 use crate::tests::shows::show_item;
 use crate::tests::{docs, next};
 use hub_database::DbState;
 use hub_feed::FeedId;
 use hub_model::Item;
 use hub_shared::{ChangeItem, Db, Feed, FeedEnd, Plain, Turn, Watch, hold, pump};
-use hub_transcript::Answer;
 use std::alloc::{AllocError, Global};
 use std::sync::{Arc, Wait};
 use std::thread::{self, JoinHandle, Threads};
@@ -163,14 +163,8 @@ impl Shown {
         answer.line("?")
     }
 
-    // A command that has to do with threads, or a holding.
-    fn work<R: Threads + Wait + time::Clock + Copy + Send + Sync + Drop + 'static>(
-        &mut self,
-        rt: &R,
-        verb: &str,
-        words: &str,
-        answer: &mut Answer,
-    ) -> Result<(), AllocError> {
+    // A command of a holding, or of the gate.
+    fn work<R: Wait>(&mut self, rt: &R, verb: &str, answer: &mut Answer) -> Result<(), AllocError> {
         if verb == "hold" {
             return self.turn(rt, Turn::Hand, answer);
         }
@@ -179,12 +173,6 @@ impl Shown {
         }
         if verb == "expire" {
             return self.turn(rt, Turn::Expire, answer);
-        }
-        if verb == "later" {
-            return self.later(rt, words);
-        }
-        if verb == "written" {
-            return self.written(rt, answer);
         }
         if verb == "waits" {
             self.pace.wait_for_holding(rt);
@@ -197,12 +185,11 @@ impl Shown {
         self.state(verb, answer)
     }
 
-    /// Carries out a command.
-    pub(crate) fn answer<R: Threads + Wait + time::Clock + Copy + Send + Sync + Drop + 'static>(
+    /// Carries out a command that starts no thread, and waits for none to end.
+    pub(crate) fn answer<R: Wait>(
         &mut self,
         rt: &R,
         verb: &str,
-        words: &str,
         answer: &mut Answer,
     ) -> Result<(), AllocError> {
         if verb == "poll" || verb == "take" || verb == "next" {
@@ -215,15 +202,25 @@ impl Shown {
         if verb == "hand" {
             return self.hand(rt, answer);
         }
-        if verb == "pump" {
-            return self.pump(rt);
-        }
-        if verb == "ended" {
-            return self.ended(rt, answer);
-        }
         if verb == "finish" {
             return self.finish(rt);
         }
-        self.work(rt, verb, words, answer)
+        self.work(rt, verb, answer)
+    }
+
+    /// Carries out a command that starts a thread, or waits for one to end.
+    pub(crate) fn answer_beside<
+        R: Threads + Wait + time::Clock + Copy + Send + Sync + Drop + 'static,
+    >(&mut self, rt: &R, verb: &str, words: &str, answer: &mut Answer) -> Result<(), AllocError> {
+        if verb == "pump" {
+            return self.pump(rt);
+        }
+        if verb == "later" {
+            return self.later(rt, words);
+        }
+        if verb == "written" {
+            return self.written(rt, answer);
+        }
+        self.ended(rt, answer)
     }
 }

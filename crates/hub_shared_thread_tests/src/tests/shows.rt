@@ -1,10 +1,10 @@
 //! How the shell shows what it is answered.
 
+use crate::tests::replies::Answer;
 use hub_database::DbFault;
 use hub_document::{ChangeRow, RevId};
 use hub_model::{Item, Outcome};
 use hub_shared::{ChangeItem, FeedLabel, Receipt};
-use hub_transcript::Answer;
 use std::alloc::{AllocError, Global};
 
 /// Puts a text behind what is held.

@@ -1,7 +1,6 @@
 //! A reader that takes nothing of a feed that goes on.
 
-use crate::tests::shell::Shell;
-use hub_transcript::replay;
+use crate::tests::replies::replay_beside;
 use std::test::Fail;
 
 const STOPPED: &str = "
@@ -32,5 +31,5 @@ well
 
 #[test]
 fn a_stopped_reader_leaves_what_fits_its_lane(rt: HostRuntime) -> Result<(), Fail> {
-    replay::<Shell, _>(&rt, rt.alloc(), STOPPED)
+    replay_beside(&rt, rt.alloc(), STOPPED)
 }
