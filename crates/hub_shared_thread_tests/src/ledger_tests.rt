@@ -1,10 +1,9 @@
-//! Two threads write to one counted database, and its feed is read: once their handles are joined, the length
-//! of its journal is the number of their receipts.
+//! Two threads write to one counted database: once their handles are joined, the length of its
+//! journal is the number of their receipts.
 
 ghost use Rattle.std.specs.Prelude.{◌≡◌, true, IfOk, vec_len};
 
-use crate::tests::pace::Pace;
-use crate::tests::{docs, next, params, same};
+use crate::tests::{Counting, Stepping, same};
 use hub_database::{DbFault, Lookup};
 use hub_document::{ChangeRow, Doc, Limits};
 use hub_model::Item;
@@ -28,7 +27,7 @@ struct Session<L: Ledger> {
 }
 
 // What both threads did.
-#[derive(Debug, Drop)]
+#[derive(Clone, Copy, Debug, PartialEq, Eq)]
 struct Report {
     /// How many receipts they got.
     receipts: u64,
@@ -141,7 +140,38 @@ fn write_both<L: Ledger + Send + Sync + 'static, R: Threads + Wait + Sync>(
     Ok((one?, other?))
 }
 
-// The rows that a feed hands, so many; None where something else came.
+// Two threads write to a new database, each through its own handle.
+fn write_from_two<L: Ledger + Send + Sync + 'static, R: Threads + Wait + Sync>(
+    rt: &R,
+    alloc: Global,
+    blank: Blank,
+    first: Vec<Doc>,
+    second: Vec<Doc>,
+) -> Result<Report, DbFault>
+    requires name { blank.name ≡ L.name }
+    requires parts { blank.parts ≡ L.parts }
+    requires two { L.parts ≡ 2 }
+    ensures { IfOk result (λ report. report.update_seq ≡ report.receipts) }
+{
+    let (_db, mut mine) = Db::new(alloc, Limits::full(), 1, Counted::<L>::new(blank))?;
+    let theirs = mine.split(1)?;
+    let (one, other) = write_both(rt, mine, theirs, first, second)?;
+    compare(rt, alloc, one, other)
+}
+
+// The same with a ledger of its own.
+fn report_of_two<R: Threads + Wait + Sync>(
+    rt: &R,
+    alloc: Global,
+    first: Vec<Doc>,
+    second: Vec<Doc>,
+) -> Result<Report, DbFault>
+    ensures { IfOk result (λ report. report.update_seq ≡ report.receipts) }
+{
+    write_from_two::<Brand, R>(rt, alloc, Blank::new(2), first, second)
+}
+
+// The rows that a feed hands, up to so many; None where something else came.
 fn take_rows<C: Count, R: Wait>(
     rt: &R,
     alloc: Global,
@@ -149,18 +179,19 @@ fn take_rows<C: Count, R: Wait>(
     count: usize,
 ) -> Option<Vec<ChangeRow>> {
     let mut rows = Vec::new(alloc);
-    for _ in 0..count {
-        match next(rt, &mut feed) {
-            Some(Item::Row(row)) => {
-                if rows.push(row).is_err() {
-                    break;
-                }
-            }
-            _ => break,
+    let mut is_well = true;
+    for _ in rt.forever() {
+        if !is_well || rows.len() >= count {
+            break;
+        }
+        match feed.take(rt) {
+            Some(Item::Row(row)) => is_well = rows.push(row).is_ok(),
+            Some(_) => is_well = false,
+            None => feed.wait(rt),
         }
     }
     drop(feed.finish(rt));
-    (rows.len() == count).then_some(rows)
+    is_well.then_some(rows)
 }
 
 // The same while another thread pumps the feed; None also where the pump does not end well.
@@ -171,10 +202,10 @@ fn take_pumped<L: Ledger + Send + Sync + 'static, R: Threads + Wait + time::Cloc
     feed: Feed<Counted<L>>,
     count: usize,
 ) -> Option<Vec<ChangeRow>> {
-    let (id, pace) = (feed.id(), Pace::new(0));
+    let (id, gate, clock) = (feed.id(), Counting::new(), Stepping::new(0));
     let (is_pumped, rows) = thread::join(
         rt,
-        || pump(rt, db, id, &pace, &pace).is_ok(),
+        || pump(rt, db, id, &gate, &clock).is_ok(),
         move || take_rows(rt, alloc, feed, count),
     );
     if is_pumped { rows } else { None }
@@ -257,41 +288,59 @@ fn report_of_four<R: Threads + Wait + time::Clock + Sync>(
     write_and_read::<Brand, R>(rt, alloc, Blank::new(2), params, docs)
 }
 
-// A hundred ids.
-const FIRST: &str =
-    "a0 a1 a2 a3 a4 a5 a6 a7 a8 a9 a10 a11 a12 a13 a14 a15 a16 a17 a18 a19 a20 a21 a22 a23 a24 a25 a26 a27 a28 a29 a30 a31 a32 a33 a34 a35 a36 a37 a38 a39 a40 a41 a42 a43 a44 a45 a46 a47 a48 a49 a50 a51 a52 a53 a54 a55 a56 a57 a58 a59 a60 a61 a62 a63 a64 a65 a66 a67 a68 a69 a70 a71 a72 a73 a74 a75 a76 a77 a78 a79 a80 a81 a82 a83 a84 a85 a86 a87 a88 a89 a90 a91 a92 a93 a94 a95 a96 a97 a98 a99";
-
-// A hundred others.
-const SECOND: &str =
-    "b0 b1 b2 b3 b4 b5 b6 b7 b8 b9 b10 b11 b12 b13 b14 b15 b16 b17 b18 b19 b20 b21 b22 b23 b24 b25 b26 b27 b28 b29 b30 b31 b32 b33 b34 b35 b36 b37 b38 b39 b40 b41 b42 b43 b44 b45 b46 b47 b48 b49 b50 b51 b52 b53 b54 b55 b56 b57 b58 b59 b60 b61 b62 b63 b64 b65 b66 b67 b68 b69 b70 b71 b72 b73 b74 b75 b76 b77 b78 b79 b80 b81 b82 b83 b84 b85 b86 b87 b88 b89 b90 b91 b92 b93 b94 b95 b96 b97 b98 b99";
-
-// What two threads report that store documents of these ids, with a reader and a pump beside them.
-fn reported<R: Threads + Wait + time::Clock + Sync>(
-    rt: &R,
-    alloc: Global,
-    first: &str,
-    second: &str,
-) -> Result<String, Fail> {
-    let params = params(alloc, "feed=continuous")?;
-    let docs = (docs(alloc, first, true)?, docs(alloc, second, true)?);
-    let both = report_of_four(rt, alloc, params, docs)?;
-    Ok(format!(in alloc; "{both:?}")?)
+// A hundred documents whose ids begin so.
+fn hundred(alloc: Global, front: &str) -> Result<Vec<Doc>, Fail> {
+    let mut docs = Vec::new(alloc);
+    for number in 0..100u64 {
+        let text = format!(in alloc; r#"{{"_id":"{front}{number}"}}"#)?;
+        docs.push(Doc::read(alloc, text.as_bytes(), true)?)?;
+    }
+    Ok(docs)
 }
 
 #[test]
 fn a_feed_shows_what_two_threads_write(rt: HostRuntime) -> Result<(), Fail> {
-    let found = reported(&rt, rt.alloc(), FIRST, SECOND)?;
-    let wanted =
-        "(Report { receipts: 200, update_seq: 200, count: 200, are_found: true, are_read: true }, true)";
-    same(&rt, &found.as_str(), &wanted);
+    let alloc = rt.alloc();
+    let Ok(params) = FeedParams::read(alloc, b"feed=continuous", b"") else {
+        return Err(Fail::new("no parameters"));
+    };
+    let docs = (hundred(alloc, "a")?, hundred(alloc, "b")?);
+    let wanted = Report {
+        receipts: 200,
+        update_seq: 200,
+        count: 200,
+        are_found: true,
+        are_read: true,
+    };
+    same(
+        &rt,
+        &report_of_four(&rt, alloc, params, docs)?,
+        &(wanted, true),
+    );
     Ok(())
+}
+
+// The documents that the texts are.
+fn docs(alloc: Global, texts: &[&str]) -> Result<Vec<Doc>, Fail> {
+    let mut docs = Vec::new(alloc);
+    for text in texts {
+        docs.push(Doc::read(alloc, text.as_bytes(), true)?)?;
+    }
+    Ok(docs)
 }
 
 #[test]
 fn two_joined_handles_know_the_length(rt: HostRuntime) -> Result<(), Fail> {
-    let found = reported(&rt, rt.alloc(), "a b", "c")?;
-    let wanted =
-        "(Report { receipts: 3, update_seq: 3, count: 3, are_found: true, are_read: true }, true)";
-    same(&rt, &found.as_str(), &wanted);
+    let alloc = rt.alloc();
+    let first = docs(alloc, &[r#"{"_id":"a"}"#, r#"{"_id":"b"}"#])?;
+    let second = docs(alloc, &[r#"{"_id":"c"}"#])?;
+    let wanted = Report {
+        receipts: 3,
+        update_seq: 3,
+        count: 3,
+        are_found: true,
+        are_read: true,
+    };
+    same(&rt, &report_of_two(&rt, alloc, first, second)?, &wanted);
     Ok(())
 }

@@ -7,108 +7,129 @@ mod audits;
 mod beats;
 mod clocks;
 mod databases;
+mod feeds;
 mod holding;
 mod limits;
 mod lives;
 mod looks;
-pub(crate) mod pace;
 mod polls;
-mod questions;
 mod readers;
-mod replies;
-pub(crate) mod shell;
-mod shown;
-mod shows;
 mod stopped;
 mod stress;
 mod watches;
 mod workers;
 
-use hub_document::{Doc, Limits};
+use hub_document::{ChangeRow, Doc, Limits};
+use hub_feed::FeedId;
+use hub_model::Item;
 use hub_params::FeedParams;
-use hub_shared::{ChangeItem, Count, Db, Feed, Handle, Plain};
-pub(crate) use pace::Pace;
-use std::alloc::{AllocError, Global};
+use hub_shared::{Accepted, Clock, Db, Feed, Gate, Handle, Plain, Point, pump};
+use std::alloc::Global;
 use std::fmt::Debug;
 use std::process::Abort;
 use std::sync::Wait;
+use std::sync::atomic::{AtomicU64, Ordering};
 use std::test::Fail;
+use std::{thread, time};
 
 /// The value that was found is the one that is wanted. The comparison is proved here, and not in each test.
 pub(crate) fn same<T: PartialEq + Debug>(rt: &impl Abort, found: &T, wanted: &T) {
     assert_eq!(rt; *found, *wanted);
 }
 
-/// The number of the life of each database.
-const LIFE: u64 = 6;
-
-// A new database whose lanes hold so many items, and of which one holding hands so many.
-fn database(alloc: Global, lane: u64, hold: u64) -> Result<(Db<Plain>, Handle<Plain>), AllocError>
-    requires lane { 0 < lane × lane ≤ 64 }
-    requires hold { 0 < hold × hold ≤ 64 }
-{
-    let mut limits = Limits::full();
-    limits.lane = lane;
-    limits.hold = hold;
-    Db::new(alloc, limits, LIFE, Plain)
+// A gate that counts how often the lock was held, and holds nobody.
+#[derive(Drop)]
+pub(crate) struct Counting {
+    holdings: AtomicU64,
 }
 
-// The document that a text is.
-fn read(alloc: Global, text: &str, new_edits: bool) -> Result<Doc, AllocError> {
-    match Doc::read(alloc, text.as_bytes(), new_edits) {
-        Ok(doc) => Ok(doc),
-        Err(_) => Err(AllocError),
+impl Counting {
+    pub(crate) fn new() -> Counting {
+        Counting {
+            holdings: AtomicU64::new(0),
+        }
+    }
+
+    // How often it was held.
+    fn count(&self) -> u64 {
+        self.holdings.load(Ordering::SeqCst)
+    }
+
+    // Waits until a pump has held the lock.
+    fn wait_for_pump<R: Wait>(&self, rt: &R) {
+        for _ in rt.forever() {
+            if self.holdings.load(Ordering::SeqCst) > 0 {
+                break;
+            }
+            thread::yield_now();
+        }
     }
 }
 
-// The document that a word is, or the one whose id it is. A revision that is not made here is `1-ID`.
-fn doc(alloc: Global, word: &str, new_edits: bool) -> Result<Doc, AllocError> {
-    if word.starts_with("{") {
-        return read(alloc, word, new_edits);
-    }
-    let text = if new_edits {
-        format!(in alloc; r#"{{"_id":"{word}"}}"#)?
-    } else {
-        format!(in alloc; r#"{{"_id":"{word}","_rev":"1-{word}"}}"#)?
-    };
-    read(alloc, text.as_str(), new_edits)
-}
-
-/// The documents that the words are.
-pub(crate) fn docs(alloc: Global, words: &str, new_edits: bool) -> Result<Vec<Doc>, AllocError> {
-    let mut docs = Vec::new(alloc);
-    for word in words.split(" ") {
-        docs.push(doc(alloc, word, new_edits)?)?;
-    }
-    Ok(docs)
-}
-
-/// The parameters that a query asks for.
-pub(crate) fn params(alloc: Global, query: &str) -> Result<FeedParams, AllocError> {
-    match FeedParams::read(alloc, query.as_bytes(), b"") {
-        Ok(params) => Ok(params),
-        Err(_) => Err(AllocError),
+impl Gate for Counting {
+    fn pass(&self, point: Point) {
+        if point == Point::PumpHolding {
+            self.holdings.fetch_add(1, Ordering::SeqCst);
+        }
     }
 }
 
-// Stores a document of this number; None where it is not stored.
-fn put_numbered<R: Wait>(
-    rt: &R,
-    alloc: Global,
-    handle: &mut Handle<Plain>,
-    number: u64,
-) -> Option<()> {
-    let word = format!(in alloc; "d{number}").ok()?;
-    let docs = docs(alloc, word.as_str(), false).ok()?;
-    let accepted = handle.write(rt, docs, false).ok()?;
-    (accepted.receipts.len() == 1).then_some(())
+// A clock that goes on by so many milliseconds with each reading.
+#[derive(Drop)]
+pub(crate) struct Stepping {
+    now: AtomicU64,
+    step: u64,
 }
 
-/// The next item, which is waited for; None where the pump ended and left none.
-pub(crate) fn next<C: Count, R: Wait>(rt: &R, feed: &mut Feed<C>) -> Option<ChangeItem> {
+impl Stepping {
+    pub(crate) fn new(step: u64) -> Stepping {
+        Stepping {
+            now: AtomicU64::new(0),
+            step,
+        }
+    }
+}
+
+impl Clock for Stepping {
+    fn now_ms(&self) -> u64 {
+        self.now.fetch_add(self.step, Ordering::SeqCst)
+    }
+}
+
+// What an item is.
+#[derive(Clone, Copy, Debug, PartialEq, Eq)]
+pub(crate) enum Told {
+    Row(u64),
+    Beat,
+    End(u64),
+}
+
+fn as_told(item: &Item<ChangeRow>) -> Told {
+    match item {
+        Item::Row(row) => Told::Row(row.seq),
+        Item::Beat => Told::Beat,
+        Item::End { last_seq, .. } => Told::End(*last_seq),
+    }
+}
+
+// The same of an item, if there is one.
+fn told_of(item: Option<Item<ChangeRow>>) -> Option<Told> {
+    match item {
+        Some(item) => Some(as_told(&item)),
+        None => None,
+    }
+}
+
+// The next item that was handed and not taken yet.
+fn take<R: Wait>(rt: &R, feed: &mut Feed<Plain>) -> Option<Told> {
+    told_of(feed.take(rt))
+}
+
+// The next item, which is waited for; None where the pump ended and left none.
+fn next<R: Wait>(rt: &R, feed: &mut Feed<Plain>) -> Option<Told> {
     for _ in rt.forever() {
         let is_over = feed.is_over();
-        let item = feed.take(rt);
+        let item = take(rt, feed);
         if item.is_some() || is_over {
             return item;
         }
@@ -116,3 +137,93 @@ pub(crate) fn next<C: Count, R: Wait>(rt: &R, feed: &mut Feed<C>) -> Option<Chan
     }
     unreachable!()
 }
+
+// The number of the life of each database.
+const LIFE: u64 = 6;
+
+// A new database whose lanes hold so many items, and of which one holding hands so many.
+fn database(alloc: Global, lane: u64, hold: u64) -> Result<(Db<Plain>, Handle<Plain>), Fail>
+    requires lane { 0 < lane × lane ≤ 64 }
+    requires hold { 0 < hold × hold ≤ 64 }
+{
+    let mut limits = Limits::full();
+    limits.lane = lane;
+    limits.hold = hold;
+    Ok(Db::new(alloc, limits, LIFE, Plain)?)
+}
+
+// The documents that the texts are.
+fn docs(alloc: Global, texts: &[&str]) -> Result<Vec<Doc>, Fail> {
+    let mut docs = Vec::new(alloc);
+    for text in texts {
+        docs.push(Doc::read(alloc, text.as_bytes(), false)?)?;
+    }
+    Ok(docs)
+}
+
+// Writes the documents that the texts are, which another database made.
+fn write<R: Wait>(
+    rt: &R,
+    alloc: Global,
+    handle: &mut Handle<Plain>,
+    texts: &[&str],
+) -> Result<Accepted, Fail> {
+    Ok(handle.write(rt, docs(alloc, texts)?, false)?)
+}
+
+// The same, whatever they are told.
+fn store<R: Wait>(
+    rt: &R,
+    alloc: Global,
+    handle: &mut Handle<Plain>,
+    texts: &[&str],
+) -> Result<(), Fail> {
+    let _accepted = write(rt, alloc, handle, texts)?;
+    Ok(())
+}
+
+// Stores one document, which another database made; None where it is not stored.
+fn put<R: Wait>(rt: &R, alloc: Global, handle: &mut Handle<Plain>, text: &str) -> Option<()> {
+    let doc = Doc::read(alloc, text.as_bytes(), false).ok()?;
+    let accepted = handle.write(rt, vec![in alloc; doc].ok()?, false).ok()?;
+    (accepted.receipts.len() == 1).then_some(())
+}
+
+// The parameters that a query asks for.
+fn params(alloc: Global, query: &str) -> Result<FeedParams, Fail> {
+    match FeedParams::read(alloc, query.as_bytes(), b"") {
+        Ok(params) => Ok(params),
+        Err(_) => Err(Fail::new("no parameters")),
+    }
+}
+
+// A feed that the query opens.
+fn open<R: Wait>(
+    rt: &R,
+    alloc: Global,
+    handle: &mut Handle<Plain>,
+    query: &str,
+) -> Result<Feed<Plain>, Fail> {
+    match handle.open_feed(rt, params(alloc, query)?) {
+        Ok(feed) => Ok(feed),
+        Err(_) => Err(Fail::new("no feed")),
+    }
+}
+
+// Whether a pump of a feed ends with Ok, which no gate holds.
+fn pumps<R, G, K>(rt: &R, db: &Db<Plain>, feed: FeedId, gate: &G, clock: &K) -> bool
+where
+    R: Wait + time::Clock,
+    G: Gate,
+    K: Clock,
+{
+    pump(rt, db, feed, gate, clock).is_ok()
+}
+
+const FIVE: [&str; 5] = [
+    r#"{"_id":"a","_rev":"1-a"}"#,
+    r#"{"_id":"b","_rev":"1-b"}"#,
+    r#"{"_id":"c","_rev":"1-c"}"#,
+    r#"{"_id":"d","_rev":"1-d"}"#,
+    r#"{"_id":"e","_rev":"1-e"}"#,
+];

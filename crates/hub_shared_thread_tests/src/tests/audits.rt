@@ -1,54 +1,62 @@
 //! What an audit of receipts tells.
 
-use crate::tests::shell::Shell;
-use hub_transcript::replay;
+use crate::tests::{FIVE, database, same, write};
+use hub_shared::{AuditFault, Handle, Plain};
+use std::alloc::Global;
+use std::sync::Wait;
 use std::test::Fail;
 
-const AUDITS: &str = r#"
-# honest receipts are of the journal, and so are none
-> store {"_id":"z"}
-stored 1-1bbc04ad09fae01cb66fd53845ad8aa3
-> audit
-Ok(())
-> put a b
-stored 1-a
-stored 1-b
-receipt 2 a 1-a
-receipt 3 b 1-b
-> audit
-Ok(())
-> put a b c d e
-known
-known
-stored 1-c
-stored 1-d
-stored 1-e
-receipt 4 c 1-c
-receipt 5 d 1-d
-receipt 6 e 1-e
-> audit
-Ok(())
-# the third receipt tells the sequence of the second
-> load a b c d e
-5
-> tell 2 2
-> audit
-Err(WrongReceipt { at: 2 })
-# no edit has the sequence 0
-> load a b c d e
-5
-> tell 0 0
-> audit
-Err(WrongReceipt { at: 0 })
-# no edit has the sequence behind the last
-> load a b c d e
-5
-> tell 4 6
-> audit
-Err(WrongReceipt { at: 4 })
-"#;
+// Whether the receipts of two writes are of the journal, and no receipts.
+fn are_honest<R: Wait>(rt: &R, alloc: Global, handle: &mut Handle<Plain>) -> Result<bool, Fail> {
+    let first = write(rt, alloc, handle, &FIVE[..2])?;
+    let rest = write(rt, alloc, handle, &FIVE)?;
+    Ok(
+        handle.audit(rt, first.receipts.as_slice()) == Ok(())
+            && handle.audit(rt, rest.receipts.as_slice()) == Ok(())
+            && handle.audit(rt, &[]) == Ok(()),
+    )
+}
 
 #[test]
-fn an_audit_tells_of_receipts_that_are_not_of_the_journal(rt: HostRuntime) -> Result<(), Fail> {
-    replay::<Shell, _>(&rt, rt.alloc(), AUDITS)
+fn honest_receipts_are_of_the_journal(rt: HostRuntime) -> Result<(), Fail> {
+    let (_db, mut handle) = database(rt.alloc(), 64, 64)?;
+    assert!(rt; are_honest(&rt, rt.alloc(), &mut handle)?);
+    Ok(())
+}
+
+// What an audit tells of the receipts of five edits, of which the one at this place tells this sequence.
+fn audit_of<R: Wait>(
+    rt: &R,
+    alloc: Global,
+    at: usize,
+    seq: u64,
+) -> Result<Result<(), AuditFault>, Fail> {
+    let (_db, mut handle) = database(alloc, 64, 64)?;
+    let mut accepted = write(rt, alloc, &mut handle, &FIVE)?;
+    if let Some(receipt) = accepted.receipts.get_mut(at) {
+        receipt.seq = seq;
+    }
+    Ok(handle.audit(rt, accepted.receipts.as_slice()))
+}
+
+// The third receipt tells the sequence of the second.
+#[test]
+fn a_receipt_of_another_sequence_is_told(rt: HostRuntime) -> Result<(), Fail> {
+    let audit = audit_of(&rt, rt.alloc(), 2, 2)?;
+    same(&rt, &audit, &Err(AuditFault::WrongReceipt { at: 2 }));
+    Ok(())
+}
+
+// No edit has the sequence 0, or one behind the last.
+#[test]
+fn a_receipt_of_no_sequence_is_told(rt: HostRuntime) -> Result<(), Fail> {
+    for (at, seq) in [(0usize, 0u64), (4, 6)] {
+        let audit = audit_of(&rt, rt.alloc(), at, seq)?;
+        same(
+            &rt,
+            &(at, audit),
+            &(at, Err(AuditFault::WrongReceipt { at })),
+        );
+    }
+    Ok(())
 }

@@ -1,33 +1,42 @@
-//! Pumps of feeds whose time passes.
+//! Feeds whose time passes.
 
-use crate::tests::replies::replay_beside;
+use crate::tests::Told::{Beat, End};
+use crate::tests::feeds::Step::{Pumps, Takes};
+use crate::tests::feeds::{Shown, assert_feeds};
+use crate::tests::{Counting, Stepping, database, next, open, pumps};
+use hub_shared::{Feed, Plain};
+use std::sync::Wait;
 use std::test::Fail;
+use std::thread;
 
-const CLOCKS: &str = "
-# a feed without news comes to its end
-> open feed=continuous&timeout=1000 1000
-since 0 of life 6
-> pump 1
-> ended 1
-well
-> over 1
-true
-> take 1
-end 0 pending 0
-> take 1
-none
-# a feed without news beats
-> open feed=continuous&heartbeat=1 1000
-since 0 of life 6
-> pump 1
-> next 1
-beat
-> finish 1
-> ended 1
-well
-";
+const WITHOUT_NEWS: Shown = (
+    "feed=continuous&timeout=1000",
+    1000,
+    &[Pumps, Takes(Some(End(0))), Takes(None)],
+);
 
 #[test]
-fn feeds_without_news_end_and_beat_by_the_clock(rt: HostRuntime) -> Result<(), Fail> {
-    replay_beside(&rt, rt.alloc(), CLOCKS)
+fn a_feed_without_news_comes_to_its_end(rt: HostRuntime) -> Result<(), Fail> {
+    assert_feeds(&rt, rt.alloc(), 64, 64, &[WITHOUT_NEWS])
+}
+
+// Whether the first item is a heartbeat. The feed is finished behind it.
+fn beats_first<R: Wait>(rt: &R, mut feed: Feed<Plain>) -> bool {
+    let first = next(rt, &mut feed);
+    drop(feed.finish(rt));
+    first == Some(Beat)
+}
+
+#[test]
+fn a_feed_without_news_beats(rt: HostRuntime) -> Result<(), Fail> {
+    let (db, mut handle) = database(rt.alloc(), 64, 64)?;
+    let feed = open(&rt, rt.alloc(), &mut handle, "feed=continuous&heartbeat=1")?;
+    let (id, gate, clock) = (feed.id(), Counting::new(), Stepping::new(1000));
+    let (is_ok, beats) = thread::join(
+        &rt,
+        || pumps(&rt, &db, id, &gate, &clock),
+        move || beats_first(&rt, feed),
+    );
+    assert!(rt; is_ok && beats);
+    Ok(())
 }

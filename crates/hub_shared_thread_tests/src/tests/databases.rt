@@ -1,35 +1,83 @@
 //! Two databases have two locks.
 
-use crate::tests::replies::replay_beside;
+use crate::tests::{FIVE, Stepping, database, docs, open, pumps, store};
+use hub_document::Doc;
+use hub_shared::{Gate, Handle, Plain, Point};
+use std::sync::Wait;
+use std::sync::atomic::{AtomicBool, Ordering};
 use std::test::Fail;
+use std::thread;
+use std::time::{self, Duration};
 
-const TWO: &str = "
-# a pump stands inside the lock while the other database is written to
-> load a b c d e
-5
-> open
-since 0 of life 6
-> shut 1
-> pump 1
-> waits 1
-> other
-> put a b c d e
-stored 1-a
-stored 1-b
-stored 1-c
-stored 1-d
-stored 1-e
-receipt 1 a 1-a
-receipt 2 b 1-b
-receipt 3 c 1-c
-receipt 4 d 1-d
-receipt 5 e 1-e
-> free 1
-> ended 1
-well
-";
+// A gate that holds a pump inside the lock until it is opened, and gives up after 1,000 looks, of a
+// millisecond each.
+#[derive(Drop)]
+struct Held<R: time::Clock> {
+    rt: R,
+    is_reached: AtomicBool,
+    is_open: AtomicBool,
+    gave_up: AtomicBool,
+}
+
+impl<R: time::Clock> Held<R> {
+    fn new(rt: R) -> Held<R> {
+        Held {
+            rt,
+            is_reached: AtomicBool::new(false),
+            is_open: AtomicBool::new(false),
+            gave_up: AtomicBool::new(false),
+        }
+    }
+}
+
+impl<R: time::Clock> Gate for Held<R> {
+    fn pass(&self, point: Point) {
+        if point == Point::PumpFree {
+            return;
+        }
+        self.is_reached.store(true, Ordering::SeqCst);
+        for _ in 0..1000 {
+            if self.is_open.load(Ordering::SeqCst) {
+                return;
+            }
+            thread::sleep(&self.rt, Duration::from_millis(1));
+        }
+        self.gave_up.store(true, Ordering::SeqCst);
+    }
+}
+
+// Writes once a pump stands at the gate, and opens it once the write is answered.
+fn write_and_open<R: Wait, K: time::Clock>(
+    rt: &R,
+    gate: &Held<K>,
+    handle: &mut Handle<Plain>,
+    docs: Vec<Doc>,
+) -> bool {
+    for _ in rt.forever() {
+        if gate.is_reached.load(Ordering::SeqCst) {
+            break;
+        }
+        thread::yield_now();
+    }
+    let is_written = handle.write(rt, docs, false).is_ok();
+    gate.is_open.store(true, Ordering::SeqCst);
+    is_written
+}
 
 #[test]
 fn a_held_database_holds_no_other(rt: HostRuntime) -> Result<(), Fail> {
-    replay_beside(&rt, rt.alloc(), TWO)
+    let (db, mut handle) = database(rt.alloc(), 64, 64)?;
+    let (_other, mut writer) = database(rt.alloc(), 64, 64)?;
+    store(&rt, rt.alloc(), &mut handle, &FIVE)?;
+    let feed = open(&rt, rt.alloc(), &mut handle, "")?;
+    let written = docs(rt.alloc(), &FIVE)?;
+    let (id, gate, clock) = (feed.id(), Held::new(rt), Stepping::new(0));
+    let (is_ok, is_written) = thread::join(
+        &rt,
+        || pumps(&rt, &db, id, &gate, &clock),
+        || write_and_open(&rt, &gate, &mut writer, written),
+    );
+    assert!(rt; is_ok && is_written);
+    assert!(rt; !gate.gave_up.load(Ordering::SeqCst));
+    Ok(())
 }

@@ -1,190 +1,198 @@
 //! What one holding of the lock hands.
 
-use crate::tests::shell::Shell;
-use hub_transcript::replay;
+use crate::tests::Told::{End, Row};
+use crate::tests::feeds::Step::{Hands, Takes, Turns};
+use crate::tests::feeds::{Shown, assert_feed_of, assert_feeds, finished, hand};
+use crate::tests::{Counting, FIVE, database, open, store};
+use hub_document::Doc;
+use hub_model::Item;
+use hub_shared::{Db, Feed, Handed, Handle, Plain, Turn, hold};
+use std::alloc::Global;
+use std::sync::Wait;
 use std::test::Fail;
 
-const HOLDING: &str = "
-# a holding hands as many items as it may
-> new lane 64 hold 2
-> load a b c
-3
-> open
-since 0 of life 6
-> hand 1
-Row
-> take 1
-row 1 a 1-a seen 3
-> take 1
-row 2 b 1-b seen 3
-> take 1
-none
-> hand 1
-End
-> take 1
-row 3 c 1-c seen 3
-> take 1
-end 3 pending 0
-> take 1
-none
-# a feed that handed its end is gone
-> new lane 64 hold 2
-> open
-since 0 of life 6
-> hand 1
-End
-> hand 1
-Gone
-# a full lane keeps its rows: once the feed is finished it still has two, and is gone
-> new lane 2 hold 64
-> load a b c d e
-5
-> open
-since 0 of life 6
-> hand 1
-Full
-> hand 1
-Full
-> finish 1
-> take 1
-row 1 a 1-a seen 5
-> take 1
-row 2 b 1-b seen 5
-> take 1
-none
-> hold 1
-Gone
-# a lane with room is handed on: it has room as soon as the first item of its block is taken
-> new lane 2 hold 64
-> load a b c
-3
-> open
-since 0 of life 6
-> hand 1
-Full
-> take 1
-row 1 a 1-a seen 3
-> hand 1
-End
-> take 1
-row 2 b 1-b seen 3
-> take 1
-row 3 c 1-c seen 3
-> take 1
-end 3 pending 0
-> take 1
-none
-# one turn is one step: the first heartbeat lies in the lane, and the second one waits
-> new lane 1 hold 64
-> open feed=continuous&heartbeat=1000
-since 0 of life 6
-> hold 1
-Nothing
-> beat 1
-Nothing
-> beat 1
-Nothing
-> beat 1
-Full
-> expire 1
-Nothing
-> hold 1
-Full
-";
+const TWO_AT_ONCE: Shown = (
+    "",
+    0,
+    &[
+        Hands(Handed::Row),
+        Takes(Some(Row(1))),
+        Takes(Some(Row(2))),
+        Takes(None),
+        Hands(Handed::End),
+        Takes(Some(Row(3))),
+        Takes(Some(End(3))),
+        Takes(None),
+    ],
+);
 
 #[test]
-fn one_holding_hands_as_many_items_as_it_may(rt: HostRuntime) -> Result<(), Fail> {
-    replay::<Shell, _>(&rt, rt.alloc(), HOLDING)
+fn a_holding_hands_as_many_items_as_it_may(rt: HostRuntime) -> Result<(), Fail> {
+    assert_feed_of(&rt, rt.alloc(), 64, 2, &FIVE[..3], TWO_AT_ONCE)
 }
 
-const NOT_READ: &str = "
-# two rows lie in the lane, and two wait: the third holding hands none
-> new lane 2 hold 64
-> load a b c d e
-5
-> open
-since 0 of life 6
-> hand 1
-Full
-> hand 1
-Full
-> hand 1
-Full
-> take 1
-row 1 a 1-a seen 5
-> take 1
-row 2 b 1-b seen 5
-> take 1
-none
-> hand 1
-Full
-> take 1
-row 3 c 1-c seen 5
-> take 1
-row 4 d 1-d seen 5
-> take 1
-none
-> hand 1
-Gone
-> take 1
-row 5 e 1-e seen 5
-> take 1
-end 5 pending 0
-> take 1
-none
-# items wait one by one: behind a full lane, room for one item more is handed one item more
-> new lane 2 hold 1
-> load a b c
-3
-> open
-since 0 of life 6
-> hand 1
-Row
-> hand 1
-Full
-> hand 1
-Full
-> hand 1
-Full
-> take 1
-row 1 a 1-a seen 3
-> take 1
-none
-> hand 1
-Full
-> take 1
-row 2 b 1-b seen 3
-> take 1
-row 3 c 1-c seen 3
-> take 1
-none
-> hand 1
-Gone
-> take 1
-end 3 pending 0
-> take 1
-none
-";
+const ENDED: Shown = ("", 0, &[Hands(Handed::End), Hands(Handed::Gone)]);
+
+#[test]
+fn a_feed_that_handed_its_end_is_gone(rt: HostRuntime) -> Result<(), Fail> {
+    assert_feeds(&rt, rt.alloc(), 64, 2, &[ENDED])
+}
+
+// Whether two holdings find a feed's lane full. Once the feed is finished it still has two rows, and is gone.
+fn keeps_two_rows<R: Wait>(rt: &R, db: &Db<Plain>, feed: Feed<Plain>) -> bool {
+    let id = feed.id();
+    let full = Some(Handed::Full);
+    let is_full = hand(rt, &feed) == full && hand(rt, &feed) == full;
+    let items = finished(rt, feed);
+    let gone = hold(rt, db, id, Turn::Hand, &Counting::new());
+    is_full && items == (Some(Row(1)), Some(Row(2)), None) && gone == Ok(Handed::Gone)
+}
+
+#[test]
+fn a_full_lane_keeps_its_rows(rt: HostRuntime) -> Result<(), Fail> {
+    let (db, mut handle) = database(rt.alloc(), 2, 64)?;
+    store(&rt, rt.alloc(), &mut handle, &FIVE)?;
+    let feed = open(&rt, rt.alloc(), &mut handle, "")?;
+    assert!(rt; keeps_two_rows(&rt, &db, feed));
+    Ok(())
+}
+
+// Two rows lie in the lane, and two wait: the third holding hands none.
+const NOT_READ: Shown = (
+    "",
+    0,
+    &[
+        Hands(Handed::Full),
+        Hands(Handed::Full),
+        Hands(Handed::Full),
+        Takes(Some(Row(1))),
+        Takes(Some(Row(2))),
+        Takes(None),
+        Hands(Handed::Full),
+        Takes(Some(Row(3))),
+        Takes(Some(Row(4))),
+        Takes(None),
+        Hands(Handed::Gone),
+        Takes(Some(Row(5))),
+        Takes(Some(End(5))),
+        Takes(None),
+    ],
+);
 
 #[test]
 fn a_feed_that_is_not_read_stops_and_goes_on(rt: HostRuntime) -> Result<(), Fail> {
-    replay::<Shell, _>(&rt, rt.alloc(), NOT_READ)
+    assert_feed_of(&rt, rt.alloc(), 2, 64, &FIVE, NOT_READ)
 }
 
-const WRITTEN: &str = r#"
-# a row shows its document as it was written
-> make {"_id":"a","v":7}
-stored 1-91e3da135d1d0593e6703385cf55957a
-receipt 1 a 1-91e3da135d1d0593e6703385cf55957a
-> open include_docs=true
-since 0 of life 6
-> hand 1
-End
-> take 1
-row 1 a 1-91e3da135d1d0593e6703385cf55957a seen 1 {"_id":"a","_rev":"1-91e3da135d1d0593e6703385cf55957a","v":7}
-"#;
+const WITH_ROOM: Shown = (
+    "",
+    0,
+    &[
+        Hands(Handed::Full),
+        Takes(Some(Row(1))),
+        Hands(Handed::End),
+        Takes(Some(Row(2))),
+        Takes(Some(Row(3))),
+        Takes(Some(End(3))),
+        Takes(None),
+    ],
+);
+
+// The lane has room as soon as the first item of its block is taken.
+#[test]
+fn a_lane_with_room_is_handed_on(rt: HostRuntime) -> Result<(), Fail> {
+    assert_feed_of(&rt, rt.alloc(), 2, 64, &FIVE[..3], WITH_ROOM)
+}
+
+const ONE_MORE: Shown = (
+    "",
+    0,
+    &[
+        Hands(Handed::Row),
+        Hands(Handed::Full),
+        Hands(Handed::Full),
+        Hands(Handed::Full),
+        Takes(Some(Row(1))),
+        Takes(None),
+        Hands(Handed::Full),
+        Takes(Some(Row(2))),
+        Takes(Some(Row(3))),
+        Takes(None),
+        Hands(Handed::Gone),
+        Takes(Some(End(3))),
+        Takes(None),
+    ],
+);
+
+// Behind a full lane, room for one item more is handed one item more.
+#[test]
+fn items_wait_one_by_one(rt: HostRuntime) -> Result<(), Fail> {
+    assert_feed_of(&rt, rt.alloc(), 2, 1, &FIVE[..3], ONE_MORE)
+}
+
+// The first heartbeat lies in the lane, and the second one waits.
+const ONE_STEP: Shown = (
+    "feed=continuous&heartbeat=1000",
+    0,
+    &[
+        Turns(Turn::Hand, Handed::Nothing),
+        Turns(Turn::Beat, Handed::Nothing),
+        Turns(Turn::Beat, Handed::Nothing),
+        Turns(Turn::Beat, Handed::Full),
+        Turns(Turn::Expire, Handed::Nothing),
+        Turns(Turn::Hand, Handed::Full),
+    ],
+);
+
+#[test]
+fn one_turn_is_one_step(rt: HostRuntime) -> Result<(), Fail> {
+    assert_feeds(&rt, rt.alloc(), 1, 64, &[ONE_STEP])
+}
+
+// The text of the document that the first row of a feed shows.
+fn first_document<R: Wait>(rt: &R, alloc: Global, feed: &mut Feed<Plain>) -> Result<Vec<u8>, Fail> {
+    let mut text = Vec::new(alloc);
+    let Some(Item::Row(row)) = feed.take(rt) else {
+        return Err(Fail::new("no row"));
+    };
+    let Some(body) = &row.doc else {
+        return Err(Fail::new("no document"));
+    };
+    row.write_doc(&mut text, body)?;
+    Ok(text)
+}
+
+// Stores a document whose revision is made here.
+fn make<R: Wait>(
+    rt: &R,
+    alloc: Global,
+    handle: &mut Handle<Plain>,
+    text: &str,
+) -> Result<(), Fail> {
+    let doc = Doc::read(alloc, text.as_bytes(), true)?;
+    let _accepted = handle.write(rt, vec![in alloc; doc]?, true)?;
+    Ok(())
+}
+
+// The text of the document that one holding hands of a feed with documents; it is all that is due.
+fn shown_document<R: Wait>(
+    rt: &R,
+    alloc: Global,
+    handle: &mut Handle<Plain>,
+) -> Result<Vec<u8>, Fail> {
+    let mut feed = open(rt, alloc, handle, "include_docs=true")?;
+    if hand(rt, &feed) != Some(Handed::End) {
+        return Err(Fail::new("another hand"));
+    }
+    first_document(rt, alloc, &mut feed)
+}
 
 #[test]
 fn a_row_shows_its_document_as_it_was_written(rt: HostRuntime) -> Result<(), Fail> {
-    replay::<Shell, _>(&rt, rt.alloc(), WRITTEN)
+    let (_db, mut handle) = database(rt.alloc(), 64, 64)?;
+    make(&rt, rt.alloc(), &mut handle, r#"{"_id":"a","v":7}"#)?;
+    let text = shown_document(&rt, rt.alloc(), &mut handle)?;
+    let wanted = r#"{"_id":"a","_rev":"1-91e3da135d1d0593e6703385cf55957a","v":7}"#;
+    assert!(rt; text.as_slice() == wanted.as_bytes());
+    Ok(())
 }

@@ -2,70 +2,29 @@
 
 ghost use Rattle.std.specs.Prelude.{◌≡◌};
 
-use crate::tests::shell::Shell;
-use crate::tests::{LIFE, database, docs, params, put_numbered, same};
+use crate::tests::{FIVE, LIFE, database, docs, same, store};
 use hub_document::{Doc, Limits};
-use hub_shared::{Count, Counted, Db, Handle, Plain};
-use hub_transcript::replay;
+use hub_params::FeedParams;
+use hub_shared::{Count, Counted, Db, Handle, Plain, Updates};
 use std::alloc::Global;
 use std::marker::Brand;
 use std::sync::Wait;
 use std::sync::ledger::{Blank, Ledger};
 use std::test::Fail;
-use std::thread;
+use std::thread::{self, Threads};
 
-const PLAIN: &str = "
-# feeds of a plain handle begin in its life: a sequence of another life is none
-> load a b c d e
-5
-> open
-since 0 of life 6
-> finish 1
-> open since=3
-since 3 of life 6
-> finish 2
-> open since=9
-since 5 of life 6
-> finish 3
-> open since=3-6
-since 3 of life 6
-> finish 4
-> open since=9-6
-since 5 of life 6
-> finish 5
-> open since=3-7
-since 0 of life 6
-> finish 6
-> open since=9-0
-since 0 of life 6
-> finish 7
-> open since=%223-5%22
-since 0 of life 6
-> finish 8
-> open since=now
-since 5 of life 6
-> finish 9
-# no database has the life of the log of updates
-> log
-since 0 of life 0
-> log since=now
-since 0 of life 0
-> log since=3
-since 0 of life 0
-> log since=3-6
-since 0 of life 0
-> log feed=longpoll&since=3-7
-since 0 of life 0
-> log feed=continuous&since=9-6
-since 0 of life 0
-> log feed=continuous&since=9-5
-since 0 of life 0
-";
-
-#[test]
-fn feeds_of_a_plain_handle_begin_in_its_life(rt: HostRuntime) -> Result<(), Fail> {
-    replay::<Shell, _>(&rt, rt.alloc(), PLAIN)
-}
+// Where the feed of a query begins behind five edits: a sequence of another life is none.
+const BEGINNINGS: &[(&str, u64)] = &[
+    ("", 0),
+    ("since=3", 3),
+    ("since=9", 5),
+    ("since=3-6", 3),
+    ("since=9-6", 5),
+    ("since=3-7", 0),
+    ("since=9-0", 0),
+    ("since=%223-5%22", 0),
+    ("since=now", 5),
+];
 
 // Where the feed of a query begins, and of which life its label is; None where it is not opened. The feed is
 // finished behind that.
@@ -75,30 +34,33 @@ fn beginning<C: Count, R: Wait>(
     handle: &mut Handle<C>,
     query: &str,
 ) -> Option<(u64, u64)> {
-    let feed = handle.open_feed(rt, params(alloc, query).ok()?).ok()?;
+    let params = FeedParams::read(alloc, query.as_bytes(), b"").ok()?;
+    let feed = handle.open_feed(rt, params).ok()?;
     let label = (feed.end().label().since(), feed.end().label().life());
     drop(feed.finish(rt));
     Some(label)
 }
 
-// Queries, and where their feeds begin behind five edits: a sequence of another life is none.
-const BEGINNINGS: &str =
-    "=0 since=3=3 since=9=5 since=3-6=3 since=9-6=5 since=3-7=0 since=9-0=0 since=%223-5%22=0 since=now=5";
-
-// The first of the queries whose feed begins elsewhere, or has another life than that of the database.
+// The first of the queries whose feed begins elsewhere, or has another life.
 fn first_other<C: Count, R: Wait>(
     rt: &R,
     alloc: Global,
     handle: &mut Handle<C>,
 ) -> Option<&'static str> {
-    for word in BEGINNINGS.split(" ") {
-        let (query, since) = word.rsplit_once('=').unwrap_or((word, ""));
-        let wanted = since.parse::<u64>().unwrap_or(u64::MAX);
-        if beginning(rt, alloc, handle, query) != Some((wanted, LIFE)) {
-            return Some(query);
+    for (query, since) in BEGINNINGS {
+        if beginning(rt, alloc, handle, *query) != Some((*since, LIFE)) {
+            return Some(*query);
         }
     }
     None
+}
+
+#[test]
+fn feeds_of_a_plain_handle_begin_in_its_life(rt: HostRuntime) -> Result<(), Fail> {
+    let (_db, mut handle) = database(rt.alloc(), 64, 64)?;
+    store(&rt, rt.alloc(), &mut handle, &FIVE)?;
+    same(&rt, &first_other(&rt, rt.alloc(), &mut handle), &None);
+    Ok(())
 }
 
 // How many edits a handle has counted that stored these documents, and the first of the queries whose feed
@@ -130,7 +92,7 @@ fn other_of_one<R: Wait>(
 
 #[test]
 fn feeds_of_a_handle_that_counts_begin_in_its_life(rt: HostRuntime) -> Result<(), Fail> {
-    let docs = docs(rt.alloc(), "a b c d e", false)?;
+    let docs = docs(rt.alloc(), &FIVE)?;
     same(&rt, &other_of_one(&rt, rt.alloc(), docs)?, &(5, None));
     Ok(())
 }
@@ -141,58 +103,113 @@ const THREADS: u64 = 8;
 const ROUNDS: u64 = 20;
 
 // What each opens: feeds of each mode, from sequences of several lives.
-const QUERIES: &str = concat!(
-    " since=now since=3 since=3-6 feed=longpoll&since=3-7",
-    " feed=continuous&since=9-6 feed=continuous&since=9-5",
-);
+const QUERIES: &[&str; 7] = &[
+    "",
+    "since=now",
+    "since=3",
+    "since=3-6",
+    "feed=longpoll&since=3-7",
+    "feed=continuous&since=9-6",
+    "feed=continuous&since=9-5",
+];
 
-// Opens feeds, and stores a document of this number; None where a feed is not opened or has another life, or
-// the document is not stored.
-fn open_and_put<R: Wait>(
-    rt: &R,
-    alloc: Global,
-    db: &Db<Plain>,
-    life: u64,
-    number: u64,
-) -> Option<()> {
+// How many feeds of the queries have labels of this life; None where one was not opened.
+fn count_of_life<R: Wait>(rt: &R, alloc: Global, db: &Db<Plain>, life: u64) -> Option<u64> {
     let mut handle = db.handle().ok()?;
-    for query in QUERIES.split(" ") {
-        let (_since, of) = beginning(rt, alloc, &mut handle, query)?;
-        if of != life {
-            return None;
+    let mut count = 0u64;
+    for query in QUERIES {
+        let (_since, of) = beginning(rt, alloc, &mut handle, *query)?;
+        if of == life {
+            count = count.saturating_add(1);
         }
     }
-    put_numbered(rt, alloc, &mut handle, number)
+    Some(count)
 }
 
-// What the thread of this number does with two databases of different lives.
+// Stores a document of this number; None where it was not stored.
+fn store_numbered<R: Wait>(rt: &R, alloc: Global, db: &Db<Plain>, number: u64) -> Option<()> {
+    let text = format!(in alloc; r#"{{"_id":"d{number}","_rev":"1-a"}}"#).ok()?;
+    let doc = Doc::read(alloc, text.as_bytes(), false).ok()?;
+    let mut handle = db.handle().ok()?;
+    let accepted = handle.write(rt, vec![in alloc; doc].ok()?, false).ok()?;
+    accepted.receipts.first()?;
+    Some(())
+}
+
+// What the thread of this number does: it opens feeds of two databases, and writes to both. How many labels
+// had the life of their database.
 fn part<R: Wait>(
+    rt: &R,
+    alloc: Global,
+    (first, second): (&Db<Plain>, &Db<Plain>),
+    number: usize,
+) -> Option<u64> {
+    let mut count = 0u64;
+    for round in 0..ROUNDS {
+        let ours = count_of_life(rt, alloc, first, LIFE)?;
+        let others = count_of_life(rt, alloc, second, LIFE + 1)?;
+        count = count.saturating_add(ours).saturating_add(others);
+        let id = (number as u64).saturating_mul(ROUNDS).saturating_add(round);
+        store_numbered(rt, alloc, first, id)?;
+        store_numbered(rt, alloc, second, id)?;
+    }
+    Some(count)
+}
+
+// How many labels of all threads had the life of their database; None where a thread did not get on.
+fn run<R: Threads + Wait + Sync>(
     rt: &R,
     alloc: Global,
     first: &Db<Plain>,
     second: &Db<Plain>,
-    number: u64,
-) -> Option<()> {
-    for round in 0..ROUNDS {
-        let id = number.saturating_mul(ROUNDS).saturating_add(round);
-        open_and_put(rt, alloc, first, LIFE, id)?;
-        open_and_put(rt, alloc, second, LIFE + 1, id)?;
+) -> Result<Option<u64>, Fail> {
+    let both = (first, second);
+    let parts = thread::map_indices(rt, alloc, THREADS as usize, &|at| part(rt, alloc, both, at))?;
+    let mut count = 0u64;
+    for part in parts {
+        match part {
+            Some(of_life) => count = count.saturating_add(of_life),
+            None => return Ok(None),
+        }
     }
-    Some(())
+    Ok(Some(count))
 }
 
 // All labels of one database have one life, whichever thread opens the feed, and whatever was written.
 #[test]
 fn labels_of_one_database_have_one_life(rt: HostRuntime) -> Result<(), Fail> {
-    let alloc = rt.alloc();
-    let (first, _handle) = database(alloc, 4, 8)?;
-    let (second, _other) = Db::new(alloc, Limits::full(), LIFE + 1, Plain)?;
-    let parts = thread::map_indices(
+    let (first, _handle) = database(rt.alloc(), 4, 8)?;
+    let (second, _other) = Db::new(rt.alloc(), Limits::full(), LIFE + 1, Plain)?;
+    let count = run(&rt, rt.alloc(), &first, &second)?;
+    same(
         &rt,
-        alloc,
-        THREADS as usize,
-        &|at| { part(&rt, alloc, &first, &second, at as u64) },
-    )?;
-    assert!(rt; !parts.contains(&None));
+        &count,
+        &Some(THREADS * ROUNDS * 2 * QUERIES.len() as u64),
+    );
+    Ok(())
+}
+
+// Where a feed of the log of updates begins, and of which life its label is; None where it is not opened.
+fn beginning_of_updates<R: Wait>(
+    rt: &R,
+    alloc: Global,
+    updates: &Updates,
+    query: &str,
+) -> Option<(u64, u64)> {
+    let params = FeedParams::read(alloc, query.as_bytes(), b"").ok()?;
+    let feed = updates.open_feed(rt, params).ok()?;
+    let label = (feed.end().label().since(), feed.end().label().life());
+    drop(feed.finish(rt));
+    Some(label)
+}
+
+// No database has the life 0.
+#[test]
+fn labels_of_the_log_of_updates_have_the_life_0(rt: HostRuntime) -> Result<(), Fail> {
+    let updates = Updates::of_updates(rt.alloc(), Limits::full())?;
+    for query in QUERIES {
+        let label = beginning_of_updates(&rt, rt.alloc(), &updates, *query);
+        same(&rt, &label, &Some((0, 0)));
+    }
     Ok(())
 }

@@ -1,253 +1,202 @@
 //! Feeds that are polled: what a poll gives, and when the feed is due.
 
-use crate::tests::shell::Shell;
-use hub_transcript::replay;
+use crate::tests::FIVE;
+use crate::tests::Told::{Beat, End, Row};
+use crate::tests::feeds::Step::{Held, IsDue, IsOver, Polls, Writes};
+use crate::tests::feeds::{Shown, assert_feed_of, assert_feeds};
 use std::test::Fail;
 
-const NORMAL: &str = "
-# a normal feed is handed to its end
-> load a b c d e
-5
-> open limit=2
-since 0 of life 6
-> over 1
-false
-> poll 1
-row 1 a 1-a seen 5
-> poll 1
-row 2 b 1-b seen 5
-> poll 1
-end 2 pending 3
-> over 1
-false
-> poll 1
-none
-> over 1
-true
-> poll 1
-none
-# a full lane of two is handed on by polls: five rows take three holdings, and none is needed to wait
-> new lane 2 hold 64
-> load a b c d e
-5
-> open feed=continuous
-since 0 of life 6
-> poll 1
-row 1 a 1-a seen 5
-> poll 1
-row 2 b 1-b seen 5
-> held 1
-1
-> poll 1
-row 3 c 1-c seen 5
-> poll 1
-row 4 d 1-d seen 5
-> held 1
-2
-> poll 1
-row 5 e 1-e seen 5
-> held 1
-3
-> poll 1
-none
-> held 1
-3
-> over 1
-false
-# a long feed is handed by many holdings, which hand two items each
-> new lane 64 hold 2
-> load a b c d e
-5
-> open
-since 0 of life 6
-> poll 1
-row 1 a 1-a seen 5
-> poll 1
-row 2 b 1-b seen 5
-> held 1
-1
-> poll 1
-row 3 c 1-c seen 5
-> poll 1
-row 4 d 1-d seen 5
-> held 1
-2
-> poll 1
-row 5 e 1-e seen 5
-> poll 1
-end 5 pending 0
-> held 1
-3
-> poll 1
-none
-> over 1
-true
-";
+const NORMAL: Shown = (
+    "limit=2",
+    0,
+    &[
+        IsOver(false),
+        Polls(Some(Row(1))),
+        Polls(Some(Row(2))),
+        Polls(Some(End(2))),
+        IsOver(false),
+        Polls(None),
+        IsOver(true),
+        Polls(None),
+    ],
+);
 
 #[test]
 fn polls_hand_a_normal_feed_to_its_end(rt: HostRuntime) -> Result<(), Fail> {
-    replay::<Shell, _>(&rt, rt.alloc(), NORMAL)
+    assert_feed_of(&rt, rt.alloc(), 64, 64, &FIVE, NORMAL)
 }
 
-const WAITING: &str = "
-# a feed that waits goes on waiting, however often it is polled, and a poll behind a write gives its row
-> open feed=continuous
-since 0 of life 6
-> poll 1
-none
-> poll 1
-none
-> over 1
-false
-> put a
-stored 1-a
-receipt 1 a 1-a
-> poll 1
-row 1 a 1-a seen 1
-> poll 1
-none
-> put b
-stored 1-b
-receipt 2 b 1-b
-> put c
-stored 1-c
-receipt 3 c 1-c
-> poll 1
-row 2 b 1-b seen 3
-> poll 1
-row 3 c 1-c seen 3
-> poll 1
-none
-> poll 1
-none
-> finish 1
-> open feed=longpoll&since=3
-since 3 of life 6
-> poll 2
-none
-> poll 2
-none
-> put d
-stored 1-d
-receipt 4 d 1-d
-> poll 2
-row 4 d 1-d seen 4
-> poll 2
-end 4 pending 0
-> poll 2
-none
-> over 2
-true
-";
+const THROUGH_A_LANE: Shown = (
+    "feed=continuous",
+    0,
+    &[
+        Polls(Some(Row(1))),
+        Polls(Some(Row(2))),
+        Held(1),
+        Polls(Some(Row(3))),
+        Polls(Some(Row(4))),
+        Held(2),
+        Polls(Some(Row(5))),
+        Held(3),
+        Polls(None),
+        Held(3),
+        IsOver(false),
+    ],
+);
 
+// A lane of two takes five rows in three holdings, each by the poll that finds the lane empty. The third
+// finds nothing more to hand, so that no holding is needed to see that the feed waits.
+#[test]
+fn a_full_lane_is_handed_on_by_polls(rt: HostRuntime) -> Result<(), Fail> {
+    assert_feed_of(&rt, rt.alloc(), 2, 64, &FIVE, THROUGH_A_LANE)
+}
+
+const BY_HOLDINGS: Shown = (
+    "",
+    0,
+    &[
+        Polls(Some(Row(1))),
+        Polls(Some(Row(2))),
+        Held(1),
+        Polls(Some(Row(3))),
+        Polls(Some(Row(4))),
+        Held(2),
+        Polls(Some(Row(5))),
+        Polls(Some(End(5))),
+        Held(3),
+        Polls(None),
+        IsOver(true),
+    ],
+);
+
+// A holding hands two items.
+#[test]
+fn a_long_feed_is_handed_by_many_holdings(rt: HostRuntime) -> Result<(), Fail> {
+    assert_feed_of(&rt, rt.alloc(), 64, 2, &FIVE, BY_HOLDINGS)
+}
+
+const WAITING: Shown = (
+    "feed=continuous",
+    0,
+    &[
+        Polls(None),
+        Polls(None),
+        IsOver(false),
+        Writes(0),
+        Polls(Some(Row(1))),
+        Polls(None),
+        Writes(1),
+        Writes(2),
+        Polls(Some(Row(2))),
+        Polls(Some(Row(3))),
+        Polls(None),
+        Polls(None),
+    ],
+);
+
+const ANSWERED: Shown = (
+    "feed=longpoll&since=3",
+    0,
+    &[
+        Polls(None),
+        Polls(None),
+        Writes(3),
+        Polls(Some(Row(4))),
+        Polls(Some(End(4))),
+        Polls(None),
+        IsOver(true),
+    ],
+);
+
+// A feed that waits goes on waiting, however often it is polled, and a poll behind a write gives its row.
 #[test]
 fn a_feed_that_waits_gets_what_is_written(rt: HostRuntime) -> Result<(), Fail> {
-    replay::<Shell, _>(&rt, rt.alloc(), WAITING)
+    assert_feeds(&rt, rt.alloc(), 64, 64, &[WAITING, ANSWERED])
 }
 
-const TIMES: &str = "
-# heartbeats come by the clock
-> open feed=continuous&heartbeat=3000 1000
-since 0 of life 6
-> poll 1
-none
-> due 1
-3000
-> poll 1
-none
-> due 1
-3000
-> poll 1
-none
-> poll 1
-beat
-> poll 1
-none
-> due 1
-6000
-> poll 1
-none
-> poll 1
-beat
-> poll 1
-none
-> due 1
-9000
-> finish 1
-# the time without an item is counted from the first poll behind the row on, at 1,000
-> open feed=continuous&heartbeat=3000 1000
-since 0 of life 6
-> poll 1
-none
-> due 1
-3000
-> put a
-stored 1-a
-receipt 1 a 1-a
-> poll 1
-row 1 a 1-a seen 1
-> poll 1
-none
-> due 1
-4000
-> poll 1
-none
-> poll 1
-none
-> poll 1
-beat
-# heartbeats hold up no row: a row comes before a heartbeat that is due as well
-> open feed=continuous&heartbeat=1 1000
-since 0 of life 6
-> poll 1
-none
-> poll 1
-beat
-> put a
-stored 1-a
-receipt 1 a 1-a
-> poll 1
-row 1 a 1-a seen 1
-# feeds end by the clock
-> open feed=continuous&timeout=3000 1000
-since 0 of life 6
-> poll 1
-none
-> due 1
-3000
-> put a
-stored 1-a
-receipt 1 a 1-a
-> poll 1
-row 1 a 1-a seen 1
-> poll 1
-none
-> due 1
-4000
-> poll 1
-none
-> poll 1
-none
-> poll 1
-end 1 pending 0
-> poll 1
-none
-> over 1
-true
-> finish 1
-> open feed=longpoll&timeout=1000&since=1 1000
-since 1 of life 6
-> poll 2
-none
-> poll 2
-end 1 pending 0
-> poll 2
-none
-> over 2
-true
-";
+const BEATING: Shown = (
+    "feed=continuous&heartbeat=3000",
+    1000,
+    &[
+        Polls(None),
+        IsDue(3000),
+        Polls(None),
+        IsDue(3000),
+        Polls(None),
+        Polls(Some(Beat)),
+        Polls(None),
+        IsDue(6000),
+        Polls(None),
+        Polls(Some(Beat)),
+        Polls(None),
+        IsDue(9000),
+    ],
+);
+
+// The time without an item is counted from the first poll behind the row on, at 1,000.
+const BEHIND_A_ROW: Shown = (
+    "feed=continuous&heartbeat=3000",
+    1000,
+    &[
+        Polls(None),
+        IsDue(3000),
+        Writes(0),
+        Polls(Some(Row(1))),
+        Polls(None),
+        IsDue(4000),
+        Polls(None),
+        Polls(None),
+        Polls(Some(Beat)),
+    ],
+);
 
 #[test]
-fn heartbeats_and_ends_come_by_the_clock(rt: HostRuntime) -> Result<(), Fail> {
-    replay::<Shell, _>(&rt, rt.alloc(), TIMES)
+fn heartbeats_come_by_the_clock(rt: HostRuntime) -> Result<(), Fail> {
+    assert_feeds(&rt, rt.alloc(), 64, 64, &[BEATING, BEHIND_A_ROW])
+}
+
+const ALWAYS_DUE: Shown = (
+    "feed=continuous&heartbeat=1",
+    1000,
+    &[
+        Polls(None),
+        Polls(Some(Beat)),
+        Writes(0),
+        Polls(Some(Row(1))),
+    ],
+);
+
+// A row comes before a heartbeat that is due as well.
+#[test]
+fn heartbeats_hold_up_no_row(rt: HostRuntime) -> Result<(), Fail> {
+    assert_feeds(&rt, rt.alloc(), 64, 64, &[ALWAYS_DUE])
+}
+
+const ENDING: Shown = (
+    "feed=continuous&timeout=3000",
+    1000,
+    &[
+        Polls(None),
+        IsDue(3000),
+        Writes(0),
+        Polls(Some(Row(1))),
+        Polls(None),
+        IsDue(4000),
+        Polls(None),
+        Polls(None),
+        Polls(Some(End(1))),
+        Polls(None),
+        IsOver(true),
+    ],
+);
+
+const WITHOUT_NEWS: Shown = (
+    "feed=longpoll&timeout=1000&since=1",
+    1000,
+    &[Polls(None), Polls(Some(End(1))), Polls(None), IsOver(true)],
+);
+
+#[test]
+fn feeds_end_by_the_clock(rt: HostRuntime) -> Result<(), Fail> {
+    assert_feeds(&rt, rt.alloc(), 64, 64, &[ENDING, WITHOUT_NEWS])
 }

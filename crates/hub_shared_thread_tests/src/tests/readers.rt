@@ -1,129 +1,158 @@
 //! Readers of feeds whose pumps run in other threads.
 
-use crate::tests::replies::replay_beside;
+use crate::tests::Told::{self, End, Row};
+use crate::tests::feeds::finished;
+use crate::tests::{Counting, FIVE, Stepping, database, docs, next, open, pumps, same, store};
+use hub_document::Doc;
+use hub_shared::{Db, Feed, Handle, Plain, Question};
+use std::alloc::Global;
+use std::sync::Wait;
 use std::test::Fail;
+use std::thread::{self, Threads};
+use std::time;
 
-const STOPPED: &str = "
-# a reader that took nothing gets two rows once its feed is finished
-> new lane 2
-> load a b c d e
-5
-> open
-since 0 of life 6
-> pump 1
-> waits 1
-> info
-documents 5 deleted 0 edits 5 life 6
-> finish 1
-> take 1
-row 1 a 1-a seen 5
-> take 1
-row 2 b 1-b seen 5
-> take 1
-none
-> ended 1
-well
-";
+// Whether a reader that took nothing gets two rows once its feed is finished. The database is asked
+// once the pump has held the lock: so the pump has handed what it can.
+fn gets_two_rows<R: Wait>(
+    rt: &R,
+    gate: &Counting,
+    handle: &mut Handle<Plain>,
+    feed: Feed<Plain>,
+) -> bool {
+    gate.wait_for_pump(rt);
+    let is_read = handle.read(rt, Question::Info).is_ok();
+    let items = finished(rt, feed);
+    is_read && items == (Some(Row(1)), Some(Row(2)), None)
+}
 
 #[test]
 fn a_stopped_reader_lets_its_pump_end(rt: HostRuntime) -> Result<(), Fail> {
-    replay_beside(&rt, rt.alloc(), STOPPED)
+    let (db, mut handle) = database(rt.alloc(), 2, 64)?;
+    store(&rt, rt.alloc(), &mut handle, &FIVE)?;
+    let feed = open(&rt, rt.alloc(), &mut handle, "")?;
+    let (id, gate, clock) = (feed.id(), Counting::new(), Stepping::new(0));
+    let (is_ok, gets) = thread::join(
+        &rt,
+        || pumps(&rt, &db, id, &gate, &clock),
+        || gets_two_rows(&rt, &gate, &mut handle, feed),
+    );
+    assert!(rt; is_ok && gets);
+    Ok(())
 }
 
-const READERS: &str = "
-# a slow reader gets every row
-> new lane 2
-> load d0 d1 d2 d3 d4 d5 d6 d7 d8 d9 d10 d11 d12 d13 d14 d15 d16 d17 d18 d19 d20 d21 d22 d23 d24 d25 d26 d27 d28 d29 d30 d31 d32 d33 d34 d35 d36 d37 d38 d39 d40 d41 d42 d43 d44 d45 d46 d47 d48 d49
-50
-> open
-since 0 of life 6
-> pump 1
-> drain 1
-row 1 d0 1-d0 seen 50
-row 2 d1 1-d1 seen 50
-row 3 d2 1-d2 seen 50
-row 4 d3 1-d3 seen 50
-row 5 d4 1-d4 seen 50
-row 6 d5 1-d5 seen 50
-row 7 d6 1-d6 seen 50
-row 8 d7 1-d7 seen 50
-row 9 d8 1-d8 seen 50
-row 10 d9 1-d9 seen 50
-row 11 d10 1-d10 seen 50
-row 12 d11 1-d11 seen 50
-row 13 d12 1-d12 seen 50
-row 14 d13 1-d13 seen 50
-row 15 d14 1-d14 seen 50
-row 16 d15 1-d15 seen 50
-row 17 d16 1-d16 seen 50
-row 18 d17 1-d17 seen 50
-row 19 d18 1-d18 seen 50
-row 20 d19 1-d19 seen 50
-row 21 d20 1-d20 seen 50
-row 22 d21 1-d21 seen 50
-row 23 d22 1-d22 seen 50
-row 24 d23 1-d23 seen 50
-row 25 d24 1-d24 seen 50
-row 26 d25 1-d25 seen 50
-row 27 d26 1-d26 seen 50
-row 28 d27 1-d27 seen 50
-row 29 d28 1-d28 seen 50
-row 30 d29 1-d29 seen 50
-row 31 d30 1-d30 seen 50
-row 32 d31 1-d31 seen 50
-row 33 d32 1-d32 seen 50
-row 34 d33 1-d33 seen 50
-row 35 d34 1-d34 seen 50
-row 36 d35 1-d35 seen 50
-row 37 d36 1-d36 seen 50
-row 38 d37 1-d37 seen 50
-row 39 d38 1-d38 seen 50
-row 40 d39 1-d39 seen 50
-row 41 d40 1-d40 seen 50
-row 42 d41 1-d41 seen 50
-row 43 d42 1-d42 seen 50
-row 44 d43 1-d43 seen 50
-row 45 d44 1-d44 seen 50
-row 46 d45 1-d45 seen 50
-row 47 d46 1-d46 seen 50
-row 48 d47 1-d47 seen 50
-row 49 d48 1-d48 seen 50
-row 50 d49 1-d49 seen 50
-end 50 pending 0
-> finish 1
-> ended 1
-well
-# a waiting feed is told of a write: longpoll
-> open feed=longpoll
-since 0 of life 6
-> pump 1
-> later 1 a
-> next 1
-row 1 a 1-a seen 1
-> next 1
-end 1 pending 0
-> finish 1
-> written 1
-true
-> ended 1
-well
-# a waiting feed is told of a write: continuous
-> open feed=continuous
-since 0 of life 6
-> pump 1
-> later 1 a b
-> next 1
-row 1 a 1-a seen 2
-> next 1
-row 2 b 1-b seen 2
-> finish 1
-> written 1
-true
-> ended 1
-well
-";
+// How many rows came in order, from 1 on, before the end that shows them all; None where another
+// item came.
+fn rows_to_end<R: Wait>(rt: &R, mut feed: Feed<Plain>) -> Option<u64> {
+    let mut rows = 0u64;
+    for _ in rt.forever() {
+        match next(rt, &mut feed)? {
+            Row(seq) if rows.checked_add(1) == Some(seq) => rows = seq,
+            End(seq) if seq == rows => break,
+            _ => return None,
+        }
+    }
+    drop(feed.finish(rt));
+    Some(rows)
+}
+
+// The document of this number.
+fn numbered(alloc: Global, number: u64) -> Result<Doc, Fail> {
+    let text = format!(in alloc; r#"{{"_id":"d{number}","_rev":"1-a"}}"#)?;
+    Ok(Doc::read(alloc, text.as_bytes(), false)?)
+}
+
+// Stores so many documents.
+fn store_many<R: Wait>(
+    rt: &R,
+    alloc: Global,
+    handle: &mut Handle<Plain>,
+    count: u64,
+) -> Result<(), Fail> {
+    let mut docs = Vec::new(alloc);
+    for number in 0..count {
+        docs.push(numbered(alloc, number)?)?;
+    }
+    let _accepted = handle.write(rt, docs, false)?;
+    Ok(())
+}
 
 #[test]
-fn readers_get_every_row(rt: HostRuntime) -> Result<(), Fail> {
-    replay_beside(&rt, rt.alloc(), READERS)
+fn a_slow_reader_gets_every_row(rt: HostRuntime) -> Result<(), Fail> {
+    let (db, mut handle) = database(rt.alloc(), 2, 64)?;
+    store_many(&rt, rt.alloc(), &mut handle, 50)?;
+    let feed = open(&rt, rt.alloc(), &mut handle, "")?;
+    let (id, gate, clock) = (feed.id(), Counting::new(), Stepping::new(0));
+    let (is_ok, rows) = thread::join(
+        &rt,
+        || pumps(&rt, &db, id, &gate, &clock),
+        move || rows_to_end(&rt, feed),
+    );
+    assert!(rt; is_ok);
+    same(&rt, &rows, &Some(50));
+    Ok(())
+}
+
+// Writes documents once a pump has found nothing to hand.
+fn write_later<R: Wait>(
+    rt: &R,
+    gate: &Counting,
+    handle: &mut Handle<Plain>,
+    docs: Vec<Doc>,
+) -> bool {
+    gate.wait_for_pump(rt);
+    handle.write(rt, docs, false).is_ok()
+}
+
+// The first two items; the feed is finished behind them.
+fn first_two<R: Wait>(rt: &R, mut feed: Feed<Plain>) -> (Option<Told>, Option<Told>) {
+    let first = next(rt, &mut feed);
+    let second = next(rt, &mut feed);
+    drop(feed.finish(rt));
+    (first, second)
+}
+
+// What a feed's reader gets that waits before these documents are written; None where its pump or the write
+// fails.
+fn got_later<R: Threads + Wait + time::Clock + Sync>(
+    rt: &R,
+    db: &Db<Plain>,
+    handle: &mut Handle<Plain>,
+    feed: Feed<Plain>,
+    docs: Vec<Doc>,
+) -> Option<(Option<Told>, Option<Told>)> {
+    let (id, gate, clock) = (feed.id(), Counting::new(), Stepping::new(0));
+    let (is_ok, (got, is_written)) = thread::join(
+        rt,
+        || pumps(rt, db, id, &gate, &clock),
+        || {
+            thread::join(
+                rt,
+                move || first_two(rt, feed),
+                || write_later(rt, &gate, handle, docs),
+            )
+        },
+    );
+    (is_ok && is_written).then_some(got)
+}
+
+// The same of a feed of a new database, and of the documents that the texts are.
+fn answered_later<R: Threads + Wait + time::Clock + Sync>(
+    rt: &R,
+    alloc: Global,
+    query: &str,
+    texts: &[&str],
+) -> Result<Option<(Option<Told>, Option<Told>)>, Fail> {
+    let written = docs(alloc, texts)?;
+    let (db, mut handle) = database(alloc, 64, 64)?;
+    let feed = open(rt, alloc, &mut handle, query)?;
+    Ok(got_later(rt, &db, &mut handle, feed, written))
+}
+
+#[test]
+fn a_waiting_feed_is_told_of_a_write(rt: HostRuntime) -> Result<(), Fail> {
+    let longpoll = answered_later(&rt, rt.alloc(), "feed=longpoll", &FIVE[..1])?;
+    assert!(rt; longpoll == Some((Some(Row(1)), Some(End(1)))));
+    let continuous = answered_later(&rt, rt.alloc(), "feed=continuous", &FIVE[..2])?;
+    assert!(rt; continuous == Some((Some(Row(1)), Some(Row(2)))));
+    Ok(())
 }

@@ -1,12 +1,11 @@
 //! Many writers, and feeds of each mode, at once: what each reader took is compared with the edits
 //! that the receipts tell.
 
-use crate::tests::pace::Pace;
-use crate::tests::{LIFE, database, next, same};
+use crate::tests::{Counting, LIFE, database, pumps, same};
 use hub_document::{ChangeRow, Doc, RevId};
 use hub_model::Item;
 use hub_params::FeedParams;
-use hub_shared::{ChangeItem, Clock, Db, Feed, Handle, Plain, pump};
+use hub_shared::{Clock, Db, Feed, Handle, Plain};
 use std::alloc::{AllocError, Global};
 use std::sync::Wait;
 use std::sync::atomic::{AtomicU64, Ordering};
@@ -42,26 +41,22 @@ struct Ending<'a> {
 
 impl<'a> Clock for Ending<'a> {
     fn now_ms(&self) -> u64 {
-        let step = if self.scene.is_written() { 1000 } else { 0 };
-        self.now.fetch_add(step, Ordering::SeqCst)
+        if self.scene.is_written() {
+            self.now.fetch_add(1000, Ordering::SeqCst)
+        } else {
+            self.now.load(Ordering::SeqCst)
+        }
     }
 }
 
-// An edit: which of its writer's it is, and what its receipt tells.
+// An edit, as its writer knows it.
 #[derive(Clone, Copy)]
 struct Edit {
-    writer: u64,
-    number: u64,
-    doc: u64,
     seq: u64,
+    doc: u64,
     rev: RevId,
-}
-
-impl Edit {
-    // Each seventh deletes.
-    fn is_deleted(&self) -> bool {
-        self.number % 7 == 3
-    }
+    parent: Option<RevId>,
+    deleted: bool,
 }
 
 // What a thread brings back: the edits of a writer, or the rows of a reader and its last end.
@@ -70,6 +65,16 @@ struct Brought {
     edits: Vec<Edit>,
     rows: Vec<ChangeRow>,
     end: Option<u64>,
+}
+
+impl Brought {
+    fn new(alloc: Global) -> Brought {
+        Brought {
+            edits: Vec::new(alloc),
+            rows: Vec::new(alloc),
+            end: None,
+        }
+    }
 }
 
 // The text of a writer's edit: the first of a document, its child, and one that conflicts with both.
@@ -85,13 +90,16 @@ fn edit_text(alloc: Global, writer: u64, number: u64) -> Result<String, AllocErr
     format!(in alloc; r#"{{"_id":"d{doc}","_deleted":{deleted},"_revisions":{revisions}}}"#)
 }
 
-// The number of a document.
-fn number_of(id: &str) -> Option<u64> {
-    let digits = id.strip_prefix("d")?;
-    digits.parse::<u64>().ok()
+// The revision of which an edit is the child.
+fn parent_of(alloc: Global, writer: u64, number: u64) -> Option<RevId> {
+    if number / DOCUMENTS != 1 {
+        return None;
+    }
+    let text = format!(in alloc; "1-w{writer}a").ok()?;
+    RevId::read(text.as_str())
 }
 
-// Makes an edit; None where it was not stored, or its receipt is not of the journal.
+// Makes an edit; None where it was not stored.
 fn make_edit<R: Wait>(
     rt: &R,
     alloc: Global,
@@ -105,69 +113,113 @@ fn make_edit<R: Wait>(
     handle.audit(rt, accepted.receipts.as_slice()).ok()?;
     let receipt = accepted.receipts.first()?;
     Some(Edit {
-        writer,
-        number,
-        doc: number_of(receipt.id.as_str())?,
         seq: receipt.seq,
+        doc: number_of(receipt.id.as_str())?,
         rev: receipt.rev,
+        parent: parent_of(alloc, writer, number),
+        deleted: number % 7 == 3,
     })
 }
 
+// The number of a document.
+fn number_of(id: &str) -> Option<u64> {
+    let digits = id.strip_prefix("d")?;
+    digits.parse::<u64>().ok()
+}
+
 // Makes a writer's edits.
-fn make_edits<R: Wait>(
-    rt: &R,
-    alloc: Global,
-    scene: &Scene,
-    brought: &mut Brought,
-    writer: u64,
-) -> Option<()> {
+fn make_edits<R: Wait>(rt: &R, alloc: Global, scene: &Scene, writer: u64) -> Option<Brought> {
     let mut handle = scene.db.handle().ok()?;
+    let mut brought = Brought::new(alloc);
     for number in 0..EDITS {
         let edit = make_edit(rt, alloc, &mut handle, writer, number)?;
         brought.edits.push(edit).ok()?;
         thread::yield_now();
     }
-    Some(())
+    Some(brought)
 }
+
+// What a feed is asked for: its query, and the documents that it shows.
+struct Asked {
+    query: &'static str,
+    body: &'static str,
+    most: usize,
+    docs: &'static [u64],
+}
+
+const ALL: &[u64] = &[
+    0, 1, 2, 3, 4, 5, 6, 7, 8, 9, 10, 11, 12, 13, 14, 15, 16, 17, 18, 19,
+];
 
 const SOME: &str = r#"{"doc_ids":["d3","d7","d19"]}"#;
 
-// What the feeds are asked for. The reader of the last one takes nothing until the writers are done.
-const FEEDS: &[&str; 9] = &[
-    "feed=normal",
-    "feed=normal&style=all_docs",
-    "feed=normal&filter=_doc_ids",
-    "feed=longpoll&timeout=50",
-    "feed=longpoll&timeout=50&style=all_docs",
-    "feed=continuous&timeout=50",
-    "feed=continuous&timeout=50&style=all_docs",
-    "feed=continuous&timeout=50&filter=_doc_ids",
-    "feed=continuous&timeout=50",
+const FEEDS: &[Asked; 8] = &[
+    Asked {
+        query: "feed=normal",
+        body: "",
+        most: 1,
+        docs: ALL,
+    },
+    Asked {
+        query: "feed=normal&style=all_docs",
+        body: "",
+        most: 99,
+        docs: ALL,
+    },
+    Asked {
+        query: "feed=normal&filter=_doc_ids",
+        body: SOME,
+        most: 1,
+        docs: &[3, 7, 19],
+    },
+    Asked {
+        query: "feed=longpoll&timeout=50",
+        body: "",
+        most: 1,
+        docs: ALL,
+    },
+    Asked {
+        query: "feed=longpoll&timeout=50&style=all_docs",
+        body: "",
+        most: 99,
+        docs: ALL,
+    },
+    Asked {
+        query: "feed=continuous&timeout=50",
+        body: "",
+        most: 1,
+        docs: ALL,
+    },
+    Asked {
+        query: "feed=continuous&timeout=50&style=all_docs",
+        body: "",
+        most: 99,
+        docs: ALL,
+    },
+    Asked {
+        query: "feed=continuous&timeout=50&filter=_doc_ids",
+        body: SOME,
+        most: 1,
+        docs: &[3, 7, 19],
+    },
 ];
-
-const LATE: usize = 8;
-
-// Whether a feed shows a document.
-fn is_asked(query: &str, doc: u64) -> bool {
-    !query.contains("_doc_ids") || doc == 3 || doc == 7 || doc == 19
-}
 
 // A feed that goes on behind a sequence of the database's life.
 fn follow<R: Wait>(
     rt: &R,
     alloc: Global,
     scene: &Scene,
-    query: &str,
+    asked: &Asked,
     since: u64,
 ) -> Option<Feed<Plain>> {
-    let body = if query.contains("_doc_ids") { SOME } else { "" };
+    let query = asked.query;
     let query = format!(in alloc; "{query}&since={since}-{LIFE}").ok()?;
-    let params = FeedParams::read(alloc, query.as_bytes(), body.as_bytes()).ok()?;
+    let params = FeedParams::read(alloc, query.as_bytes(), asked.body.as_bytes()).ok()?;
     scene.db.handle().ok()?.open_feed(rt, params).ok()
 }
 
 // Keeps an item; whether it was the end.
-fn keep(brought: &mut Brought, item: ChangeItem) -> Option<bool> {
+fn keep(brought: &mut Brought, item: Item<ChangeRow>) -> Option<bool> {
     match item {
         Item::Row(row) => brought.rows.push(row).ok()?,
         Item::Beat => return None,
@@ -183,10 +235,12 @@ fn keep(brought: &mut Brought, item: ChangeItem) -> Option<bool> {
 fn read_slowly<R: Wait>(rt: &R, brought: &mut Brought, mut feed: Feed<Plain>) -> Option<()> {
     let mut is_whole = Some(false);
     for _ in rt.forever() {
-        is_whole = match next(rt, &mut feed) {
-            Some(item) => keep(brought, item),
-            None => None,
-        };
+        let is_over = feed.is_over();
+        match feed.take(rt) {
+            Some(item) => is_whole = keep(brought, item),
+            None if is_over => is_whole = None,
+            None => feed.wait(rt),
+        }
         if is_whole != Some(false) {
             break;
         }
@@ -197,6 +251,48 @@ fn read_slowly<R: Wait>(rt: &R, brought: &mut Brought, mut feed: Feed<Plain>) ->
     drop(feed.finish(rt));
     is_whole?;
     Some(())
+}
+
+// A feed, with a pump of its own, until its end.
+fn round<R: Threads + Wait + time::Clock + Sync>(
+    rt: &R,
+    scene: &Scene,
+    brought: &mut Brought,
+    feed: Feed<Plain>,
+) -> Option<()> {
+    let (id, gate) = (feed.id(), Counting::new());
+    let clock = Ending {
+        scene,
+        now: AtomicU64::new(0),
+    };
+    let (is_ok, is_whole) = thread::join(
+        rt,
+        || pumps(rt, &scene.db, id, &gate, &clock),
+        || read_slowly(rt, brought, feed),
+    );
+    is_whole?;
+    is_ok.then_some(())
+}
+
+// One feed after the other, each behind the last one's end, until one began that the writers were
+// done before.
+fn rows<R: Threads + Wait + time::Clock + Sync>(
+    rt: &R,
+    alloc: Global,
+    scene: &Scene,
+    asked: &Asked,
+) -> Option<Brought> {
+    let mut brought = Brought::new(alloc);
+    for _ in rt.forever() {
+        let is_last = scene.is_written();
+        let feed = follow(rt, alloc, scene, asked, brought.end.unwrap_or(0))?;
+        round(rt, scene, &mut brought, feed)?;
+        if is_last {
+            break;
+        }
+        thread::yield_now();
+    }
+    Some(brought)
 }
 
 // Takes nothing until the writers are done, and then what is left of a finished feed.
@@ -212,9 +308,9 @@ fn read_late<R: Wait + time::Clock>(
         }
         thread::sleep(rt, Duration::from_millis(1));
     }
-    let mut end = feed.finish(rt);
+    let mut receiver = feed.finish(rt);
     for _ in rt.forever() {
-        match end.take(rt) {
+        match receiver.take(rt) {
             Some(item) => keep(brought, item)?,
             None => break,
         };
@@ -222,76 +318,44 @@ fn read_late<R: Wait + time::Clock>(
     Some(())
 }
 
-// A feed, with a pump of its own, until its end, or until its late reader took what is left.
-fn round<R: Threads + Wait + time::Clock + Sync>(
+// A reader that stopped, of a feed that goes on.
+fn stopped<R: Threads + Wait + time::Clock + Sync>(
     rt: &R,
+    alloc: Global,
     scene: &Scene,
-    brought: &mut Brought,
-    feed: Feed<Plain>,
-    is_late: bool,
-) -> Option<()> {
-    let (id, gate) = (feed.id(), Pace::new(0));
+) -> Option<Brought> {
+    let mut brought = Brought::new(alloc);
+    let feed = follow(rt, alloc, scene, &FEEDS[5], 0)?;
+    let (id, gate) = (feed.id(), Counting::new());
     let clock = Ending {
         scene,
         now: AtomicU64::new(0),
     };
-    let (is_ok, read) = thread::join(
+    let (is_ok, is_whole) = thread::join(
         rt,
-        || pump(rt, &scene.db, id, &gate, &clock).is_ok(),
-        || {
-            if is_late {
-                read_late(rt, scene, brought, feed)
-            } else {
-                read_slowly(rt, brought, feed)
-            }
-        },
+        || pumps(rt, &scene.db, id, &gate, &clock),
+        || read_late(rt, scene, &mut brought, feed),
     );
-    read?;
-    is_ok.then_some(())
+    is_whole?;
+    is_ok.then_some(brought)
 }
 
-// One feed after the other, each behind the last one's end, until one began that the writers were
-// done before; of the late reader one feed.
-fn rounds<R: Threads + Wait + time::Clock + Sync>(
-    rt: &R,
-    alloc: Global,
-    scene: &Scene,
-    brought: &mut Brought,
-    at: usize,
-) -> Option<()> {
-    let query = *FEEDS.get(at)?;
-    for _ in rt.forever() {
-        let is_last = at == LATE || scene.is_written();
-        let feed = follow(rt, alloc, scene, query, brought.end.unwrap_or(0))?;
-        round(rt, scene, brought, feed, at == LATE)?;
-        if is_last {
-            break;
-        }
-        thread::yield_now();
-    }
-    Some(())
-}
-
-// What the thread of this number does: the feeds, and the writers behind them.
+// What the thread of this number does: eight feeds, a stopped reader, and writers.
 fn part<R: Threads + Wait + time::Clock + Sync>(
     rt: &R,
     alloc: Global,
     scene: &Scene,
     number: usize,
 ) -> Option<Brought> {
-    let mut brought = Brought {
-        edits: Vec::new(alloc),
-        rows: Vec::new(alloc),
-        end: None,
-    };
-    if number <= LATE {
-        rounds(rt, alloc, scene, &mut brought, number)?;
-        return Some(brought);
+    if number < 8 {
+        return rows(rt, alloc, scene, &FEEDS[number]);
     }
-    let made = make_edits(rt, alloc, scene, &mut brought, number as u64 - 9);
+    if number == 8 {
+        return stopped(rt, alloc, scene);
+    }
+    let brought = make_edits(rt, alloc, scene, number as u64 - 9);
     scene.writing.fetch_sub(1, Ordering::SeqCst);
-    made?;
-    Some(brought)
+    brought
 }
 
 // The edits of all writers by their sequences; None where one is missing or there twice.
@@ -313,63 +377,56 @@ fn journal(alloc: Global, parts: &[Brought]) -> Option<Vec<Edit>> {
     Some(all)
 }
 
-// Whether an edit is a leaf: its writer has not made its child.
-fn is_leaf(all: &[Edit], edit: &Edit) -> bool {
-    for other in all {
-        if other.writer == edit.writer
-            && edit.number < DOCUMENTS
-            && other.number == edit.number + DOCUMENTS
-        {
-            return false;
+// The edits of a document among the first so many; None where there are fewer.
+fn edits_of(alloc: Global, all: &[Edit], doc: u64, seen: u64) -> Option<Vec<Edit>> {
+    let mut own = Vec::new(alloc);
+    for edit in all.get(..seen as usize)? {
+        if edit.doc == doc {
+            own.push(*edit).ok()?;
         }
     }
-    true
+    Some(own)
+}
+
+// Whether an edit of a document is a leaf.
+fn is_leaf(own: &[Edit], edit: &Edit) -> bool {
+    !own.iter().any(|other| other.parent == Some(edit.rev))
 }
 
 // Whether a leaf stands before another.
 fn is_better(one: &Edit, other: &Edit) -> bool {
-    if one.is_deleted() != other.is_deleted() {
-        return other.is_deleted();
+    if one.deleted != other.deleted {
+        return other.deleted;
     }
     let (left, right) = (one.rev.generation(), other.rev.generation());
     left > right || (left == right && one.rev.hash() > other.rev.hash())
 }
 
-// The leaves of a document among these edits.
-fn leaves_of(alloc: Global, all: &[Edit], doc: u64) -> Option<Vec<Edit>> {
+// The leaves of a document's edits.
+fn leaves_of(alloc: Global, own: &[Edit]) -> Option<Vec<Edit>> {
     let mut leaves = Vec::new(alloc);
-    for edit in all {
-        if edit.doc == doc && is_leaf(all, edit) {
+    for edit in own {
+        if is_leaf(own, edit) {
             leaves.push(*edit).ok()?;
         }
     }
     Some(leaves)
 }
 
-// The sequence of the last edit of a document; 0 where it has none.
-fn last_of(all: &[Edit], doc: u64) -> u64 {
-    let mut last = 0;
-    for edit in all {
-        if edit.doc == doc {
-            last = edit.seq;
-        }
-    }
-    last
+// Whether a leaf is at its place among the revisions of a row, if it has one there.
+fn is_placed(leaves: &[Edit], row: &ChangeRow, leaf: &Edit) -> bool {
+    let place = leaves.iter().filter(|other| is_better(other, leaf)).count();
+    let is_shown = match row.changes.get(place) {
+        Some(rev) => rev == leaf.rev,
+        None => true,
+    };
+    is_shown && (place > 0 || row.deleted == leaf.deleted)
 }
 
-// Whether each leaf is at its place among the revisions of a row, if it has one there.
+// Whether each leaf is at its place among the revisions of a row.
 fn are_placed(leaves: &[Edit], row: &ChangeRow) -> bool {
     for leaf in leaves {
-        let mut place = 0usize;
-        for other in leaves {
-            if is_better(other, leaf) {
-                place = place.saturating_add(1);
-            }
-        }
-        if place == 0 && row.deleted != leaf.is_deleted() {
-            return false;
-        }
-        if row.changes.get(place).unwrap_or(leaf.rev) != leaf.rev {
+        if !is_placed(leaves, row, leaf) {
             return false;
         }
     }
@@ -378,20 +435,21 @@ fn are_placed(leaves: &[Edit], row: &ChangeRow) -> bool {
 
 // Whether a row is what was there of its document once there were as many edits as it says; None
 // where that is no row.
-fn is_right(alloc: Global, all: &[Edit], query: &str, row: &ChangeRow) -> Option<bool> {
+fn is_right(alloc: Global, all: &[Edit], asked: &Asked, row: &ChangeRow) -> Option<bool> {
     let doc = number_of(row.id.as_str())?;
-    let seen = all.get(..row.seen as usize)?;
-    let leaves = leaves_of(alloc, seen, doc)?;
-    let most = if query.contains("all_docs") { 99 } else { 1 };
-    let is_row = is_asked(query, doc) && row.changes.len() == leaves.len().min(most);
-    Some(is_row && last_of(seen, doc) == row.seq && are_placed(leaves.as_slice(), row))
+    let own = edits_of(alloc, all, doc, row.seen)?;
+    let leaves = leaves_of(alloc, own.as_slice())?;
+    let shown = row.changes.len();
+    let is_asked = asked.docs.contains(&doc) && shown == leaves.len().min(asked.most);
+    let is_last = own.last()?.seq == row.seq;
+    Some(is_asked && is_last && are_placed(leaves.as_slice(), row))
 }
 
 // Whether rows rise, and each is right.
-fn are_right(alloc: Global, all: &[Edit], query: &str, rows: &[ChangeRow]) -> bool {
+fn are_right(alloc: Global, all: &[Edit], asked: &Asked, rows: &[ChangeRow]) -> bool {
     let mut last = 0;
     for row in rows {
-        if row.seq <= last || is_right(alloc, all, query, row) != Some(true) {
+        if row.seq <= last || is_right(alloc, all, asked, row) != Some(true) {
             return false;
         }
         last = row.seq;
@@ -399,39 +457,26 @@ fn are_right(alloc: Global, all: &[Edit], query: &str, rows: &[ChangeRow]) -> bo
     true
 }
 
-// Whether rows show the last edit of each document.
-fn show_last(all: &[Edit], query: &str, rows: &[ChangeRow]) -> bool {
-    for doc in 0..DOCUMENTS {
-        let last = last_of(all, doc);
-        let mut is_shown = last == 0 || !is_asked(query, doc);
-        for row in rows {
-            is_shown = is_shown || row.seq == last;
-        }
-        if !is_shown {
-            return false;
-        }
+// Whether rows show the last edit of a document.
+fn shows_last(all: &[Edit], rows: &[ChangeRow], doc: u64) -> bool {
+    match all.iter().filter(|edit| edit.doc == doc).last() {
+        Some(edit) => rows.iter().any(|row| row.seq == edit.seq),
+        None => true,
     }
-    true
 }
 
-// The number of the first feed whose reader took what is not right, or not whole. What the late reader took
-// fits its lane.
-fn first_wrong(alloc: Global, all: &[Edit], parts: &[Brought]) -> Option<usize> {
-    for (at, query) in FEEDS.iter().enumerate() {
-        let Some(brought) = parts.get(at) else {
-            return Some(at);
-        };
-        let rows = brought.rows.as_slice();
-        let is_whole = if at == LATE {
-            brought.end.is_none() && rows.len() <= 4
-        } else {
-            brought.end == Some(all.len() as u64) && show_last(all, *query, rows)
-        };
-        if !is_whole || !are_right(alloc, all, *query, rows) {
-            return Some(at);
-        }
-    }
-    None
+// Whether what a feed's reader took is right, and whole.
+fn is_whole(alloc: Global, all: &[Edit], asked: &Asked, brought: &Brought) -> bool {
+    let rows = brought.rows.as_slice();
+    are_right(alloc, all, asked, rows)
+        && brought.end == Some(all.len() as u64)
+        && asked.docs.iter().all(|doc| shows_last(all, rows, *doc))
+}
+
+// Whether what the stopped reader took is right, and fits its lane.
+fn is_held(alloc: Global, all: &[Edit], brought: &Brought) -> bool {
+    let rows = brought.rows.as_slice();
+    brought.end.is_none() && rows.len() <= 4 && are_right(alloc, all, &FEEDS[5], rows)
 }
 
 // What the threads of a run with so many writers brought; None where one did not get on.
@@ -457,18 +502,39 @@ fn run<R: Threads + Wait + time::Clock + Sync>(
     Ok(Some(all))
 }
 
+// The number of the first feed whose reader took what is not right.
+fn first_wrong(alloc: Global, all: &[Edit], parts: &[Brought]) -> Option<usize> {
+    for at in 0..parts.len().min(9) {
+        let is_so = if at < 8 {
+            is_whole(alloc, all, &FEEDS[at], &parts[at])
+        } else {
+            is_held(alloc, all, &parts[at])
+        };
+        if !is_so {
+            return Some(at);
+        }
+    }
+    None
+}
+
 #[test]
 fn readers_take_what_writers_are_told(rt: HostRuntime) -> Result<(), Fail> {
-    let alloc = rt.alloc();
     for writers in [1u64, 2, 8] {
-        let Some(parts) = run(&rt, alloc, writers)? else {
+        let Some(parts) = run(&rt, rt.alloc(), writers)? else {
             return Err(Fail::new("a thread did not get on"));
         };
-        let Some(all) = journal(alloc, parts.as_slice()) else {
+        let Some(all) = journal(rt.alloc(), parts.as_slice()) else {
             return Err(Fail::new("the receipts are not of the journal"));
         };
-        let wrong = first_wrong(alloc, all.as_slice(), parts.as_slice());
-        same(&rt, &(all.len() as u64, wrong), &(writers * EDITS, None));
+        same(&rt, &(all.len() as u64), &(writers * EDITS));
+        same(
+            &rt,
+            &(
+                writers,
+                first_wrong(rt.alloc(), all.as_slice(), parts.as_slice()),
+            ),
+            &(writers, None),
+        );
     }
     Ok(())
 }

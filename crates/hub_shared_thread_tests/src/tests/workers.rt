@@ -1,14 +1,14 @@
 //! One worker that sends the feeds of two databases, while others write to these.
 
-use crate::tests::pace::Pace;
-use crate::tests::{database, params, put_numbered};
-use hub_model::Item;
+use crate::tests::Told::Row;
+use crate::tests::feeds::poll;
+use crate::tests::{Counting, Stepping, database, open, put};
 use hub_shared::{Bell, Feed, Handle, Plain, Watch};
-use std::alloc::{AllocError, Global};
+use std::alloc::Global;
 use std::sync::{Arc, Wait};
 use std::test::Fail;
-use std::thread;
-use std::time::{self, Duration};
+use std::thread::{self, Threads};
+use std::time::{Clock, Duration};
 
 /// How many documents are written to each database, one at a time.
 const WRITES: u64 = 200;
@@ -18,35 +18,30 @@ const LOOKS: u64 = 20_000;
 
 /// A feed, and how many of its rows came.
 #[derive(Drop)]
-struct Sent {
+struct Shown {
     feed: Feed<Plain>,
     rows: u64,
+}
+
+impl Shown {
+    // Polls the feed until it waits; whether each item was the next row.
+    fn catch_up<R: Wait>(&mut self, rt: &R) -> bool {
+        for _ in 0..=WRITES {
+            match poll(rt, &mut self.feed, &Counting::new(), &Stepping::new(0)) {
+                None => return true,
+                Some(Row(seq)) if self.rows.checked_add(1) == Some(seq) => self.rows = seq,
+                Some(_) => return false,
+            }
+        }
+        false
+    }
 }
 
 /// What a worker sends of one database: feeds that share a watch.
 #[derive(Drop)]
 struct Watched {
     watch: Arc<Watch, Global>,
-    pace: Pace,
-    feeds: Vec<Sent>,
-}
-
-impl Sent {
-    // Polls the feed until it waits; None where an item was not the next row.
-    fn catch_up<R: Wait>(&mut self, rt: &R, pace: &Pace) -> Option<()> {
-        let mut item = None;
-        for _ in 0..=WRITES {
-            self.feed.poll(rt, pace, pace, &mut item);
-            match &item {
-                None => return Some(()),
-                Some(Item::Row(row)) if self.rows.checked_add(1) == Some(row.seq) => {
-                    self.rows = row.seq
-                }
-                Some(_) => return None,
-            }
-        }
-        None
-    }
+    shown: Vec<Shown>,
 }
 
 impl Watched {
@@ -54,85 +49,112 @@ impl Watched {
     fn new<R: Wait>(
         rt: &R,
         alloc: Global,
-        bell: &Arc<Bell, Global>,
-    ) -> Result<(Watched, Handle<Plain>), AllocError> {
+        bell: Arc<Bell, Global>,
+    ) -> Result<(Watched, Handle<Plain>), Fail> {
         let (_db, mut handle) = database(alloc, 2, 64)?;
-        let watch = Arc::new(alloc, Watch::new(Arc::try_clone(bell)?))?;
-        let mut feeds = Vec::new(alloc);
+        let watch = Arc::new(alloc, Watch::new(bell))?;
+        let mut shown = Vec::new(alloc);
         for _ in 0..3 {
-            let Ok(feed) = handle.open_feed(rt, params(alloc, "feed=continuous")?) else {
-                return Err(AllocError);
-            };
+            let feed = open(rt, alloc, &mut handle, "feed=continuous")?;
             feed.watch(rt, Arc::try_clone(&watch)?);
-            feeds.push(Sent { feed, rows: 0 })?;
+            shown.push(Shown { feed, rows: 0 })?;
         }
-        let pace = Pace::new(0);
-        Ok((Watched { watch, pace, feeds }, handle))
+        Ok((Watched { watch, shown }, handle))
     }
 
-    // Polls the feeds until each waits, if there is news, and says whether each had all its rows; None where
-    // an item was not the next row of its feed.
-    fn catch_up<R: Wait>(&mut self, rt: &R) -> Option<bool> {
-        let has_news = self.watch.take();
-        let mut is_whole = true;
-        for sent in &mut self.feeds {
-            if has_news {
-                sent.catch_up(rt, &self.pace)?;
+    // Polls the feeds until each waits, if there is news; whether each item was the next row of its feed.
+    fn catch_up<R: Wait>(&mut self, rt: &R) -> bool {
+        if !self.watch.take() {
+            return true;
+        }
+        for shown in &mut self.shown {
+            if !shown.catch_up(rt) {
+                return false;
             }
-            is_whole = is_whole && sent.rows == WRITES;
         }
-        Some(is_whole)
+        true
+    }
+
+    // Whether each feed had all its rows.
+    fn is_whole(&self) -> bool {
+        self.shown.iter().all(|shown| shown.rows == WRITES)
     }
 }
 
-// Polls the feeds as the bell is rung for them, until each had all its rows; None where that does not come.
-fn works<R: Wait + time::Clock>(
+/// A worker with the feeds of two databases.
+#[derive(Drop)]
+struct Worker {
+    bell: Arc<Bell, Global>,
+    first: Watched,
+    second: Watched,
+}
+
+impl Worker {
+    // Whether each feed gets all its rows, as the bell is rung for them.
+    fn works<R: Wait + Clock>(&mut self, rt: &R) -> bool {
+        for _ in 0..LOOKS {
+            if self.first.is_whole() && self.second.is_whole() {
+                return true;
+            }
+            if !self.bell.take() {
+                thread::sleep(rt, Duration::from_millis(1));
+            } else if !self.first.catch_up(rt) || !self.second.catch_up(rt) {
+                return false;
+            }
+        }
+        false
+    }
+}
+
+// Stores a document of this number; None where it is not stored.
+fn write_one<R: Wait>(
     rt: &R,
-    bell: &Arc<Bell, Global>,
-    first: &mut Watched,
-    second: &mut Watched,
+    alloc: Global,
+    handle: &mut Handle<Plain>,
+    number: u64,
 ) -> Option<()> {
-    for _ in 0..LOOKS {
-        if !bell.take() {
-            thread::sleep(rt, Duration::from_millis(1));
-            continue;
-        }
-        let is_first = first.catch_up(rt)?;
-        let is_second = second.catch_up(rt)?;
-        if is_first && is_second {
-            return Some(());
-        }
-    }
-    None
+    let text = format!(in alloc; r#"{{"_id":"d{number}","_rev":"1-a"}}"#).ok()?;
+    put(rt, alloc, handle, text.as_str())
 }
 
-// Stores all documents of a database; None where one is not stored.
-fn writes<R: Wait>(rt: &R, alloc: Global, handle: &mut Handle<Plain>) -> Option<()> {
+// Whether all documents of a database are stored.
+fn writes<R: Wait>(rt: &R, alloc: Global, handle: &mut Handle<Plain>) -> bool {
     for number in 0..WRITES {
-        put_numbered(rt, alloc, handle, number)?;
+        if write_one(rt, alloc, handle, number).is_none() {
+            return false;
+        }
         thread::yield_now();
     }
-    Some(())
+    true
+}
+
+// Whether a worker sends what two threads write, each to a database of its own.
+fn sends_all<R: Threads + Wait + Clock + Sync>(rt: &R, alloc: Global) -> Result<bool, Fail> {
+    let bell = Arc::new(alloc, Bell::new())?;
+    let (first, mut one) = Watched::new(rt, alloc, Arc::try_clone(&bell)?)?;
+    let (second, mut other) = Watched::new(rt, alloc, Arc::try_clone(&bell)?)?;
+    let mut worker = Worker {
+        bell,
+        first,
+        second,
+    };
+    let (is_sent, (is_first, is_second)) = thread::join(
+        rt,
+        || worker.works(rt),
+        || {
+            thread::join(
+                rt,
+                || writes(rt, alloc, &mut one),
+                || writes(rt, alloc, &mut other),
+            )
+        },
+    );
+    Ok(is_sent && is_first && is_second)
 }
 
 // No write is missed, though the worker looks at its feeds only where the bell was rung.
 #[test]
 fn a_worker_sends_what_others_write(rt: HostRuntime) -> Result<(), Fail> {
-    let alloc = rt.alloc();
-    let bell = Arc::new(alloc, Bell::new())?;
-    let (mut first, mut one) = Watched::new(&rt, alloc, &bell)?;
-    let (mut second, mut other) = Watched::new(&rt, alloc, &bell)?;
-    let (is_sent, (is_first, is_second)) = thread::join(
-        &rt,
-        || works(&rt, &bell, &mut first, &mut second).is_some(),
-        || {
-            thread::join(
-                &rt,
-                || writes(&rt, alloc, &mut one).is_some(),
-                || writes(&rt, alloc, &mut other).is_some(),
-            )
-        },
-    );
-    assert!(rt; is_sent && is_first && is_second);
+    assert!(rt; sends_all(&rt, rt.alloc())?);
     Ok(())
 }
