@@ -16,6 +16,28 @@ use std::sync::Wait;
 /// The number of the life of each database.
 pub(crate) const LIFE: u64 = 6;
 
+// A feed of a database that begins: its number, and the end that takes its items.
+fn begun(
+    database: &mut Locked<DbState>,
+    params: FeedParams,
+) -> Result<(FeedId, FeedEnd<DbState>), OpenFault> {
+    match database.begin(params) {
+        Ok(opened) => Ok((opened.id, opened.taker.end)),
+        Err(fault) => Err(fault),
+    }
+}
+
+// A feed of a log that begins: its number, and the end that takes its items.
+fn begun_of_log(
+    log: &mut Locked<UpdatesState>,
+    params: FeedParams,
+) -> Result<(FeedId, FeedEnd<UpdatesState>), OpenFault> {
+    match log.begin(params) {
+        Ok(opened) => Ok((opened.id, opened.taker.end)),
+        Err(fault) => Err(fault),
+    }
+}
+
 /// What is got from the locks of a database, and of a log of updates. A lane has room for two items, and the
 /// database for one feed. The commands:
 ///
@@ -119,6 +141,16 @@ impl Lent {
         if command == "take" {
             return self.take(rt, answer);
         }
+        self.run_step(rt, command, answer)
+    }
+
+    // The same of further steps of a feed.
+    fn run_step<R: Wait>(
+        &mut self,
+        rt: &R,
+        command: &str,
+        answer: &mut Answer,
+    ) -> Result<(), AllocError> {
         if command == "beat" {
             let handed = self.database.beat(&Directly, self.feed);
             return answer.line(format_args!("{handed:?}"));
@@ -153,6 +185,17 @@ impl Lent {
         if verb == "winner" {
             return self.winner(rest, answer);
         }
+        self.run_other(rt, verb, rest, answer)
+    }
+
+    // The same of the other commands.
+    fn run_other<R: Wait>(
+        &mut self,
+        rt: &R,
+        verb: &str,
+        rest: &str,
+        answer: &mut Answer,
+    ) -> Result<(), AllocError> {
         if verb == "info" {
             return self.info(answer);
         }
@@ -187,11 +230,10 @@ impl Lent {
         let Ok(params) = FeedParams::read(self.alloc, query.as_bytes(), b"") else {
             return Err(AllocError);
         };
-        match self.database.begin(params) {
-            Ok(opened) => {
-                let taker = opened.taker.end;
+        match begun(&mut self.database, params) {
+            Ok((id, taker)) => {
                 let (life, since) = (taker.label().life(), taker.label().since());
-                self.feed = opened.id;
+                self.feed = id;
                 self.taker = Some(taker);
                 let number = self.feed.number;
                 answer.line(format_args!("feed {number} life {life} since {since}"))
@@ -280,16 +322,15 @@ impl Lent {
         let Ok(params) = FeedParams::read(self.alloc, b"", b"") else {
             return Err(AllocError);
         };
-        let Ok(opened) = self.log.begin(params) else {
+        let Ok((id, mut end)) = begun_of_log(&mut self.log, params) else {
             return Err(AllocError);
         };
         for _ in 0..3 {
-            let handed = self.log.hand(&Directly, opened.id)?;
+            let handed = self.log.hand(&Directly, id)?;
             answer.line(format_args!("{handed:?}"))?;
         }
-        let over = self.log.hand_over(rt, opened.id);
+        let over = self.log.hand_over(rt, id);
         answer.line(format_args!("{over:?}"))?;
-        let mut end = opened.taker.end;
         for _ in 0..3 {
             put_item(&end.take(rt), answer)?;
         }

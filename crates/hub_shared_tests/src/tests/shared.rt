@@ -222,6 +222,16 @@ impl Hosts {
         if command == "take log" {
             return taken(rt, &mut self.updates, answer);
         }
+        self.run_poll(rt, command, answer)
+    }
+
+    // The same of polls and watches.
+    fn run_poll<R: Wait + time::Clock>(
+        &mut self,
+        rt: &R,
+        command: &str,
+        answer: &mut Answer,
+    ) -> Result<(), AllocError> {
         if command == "poll database" {
             return polled(rt, &mut self.changes, answer);
         }
@@ -260,6 +270,16 @@ impl Hosts {
         if verb == "updates" {
             return self.open_log(rt, rest);
         }
+        self.run_other(rt, verb, answer)
+    }
+
+    // The same of the commands without an argument.
+    fn run_other<R: Wait + time::Clock>(
+        &mut self,
+        rt: &R,
+        verb: &str,
+        answer: &mut Answer,
+    ) -> Result<(), AllocError> {
         if verb == "news" {
             return self.news(answer);
         }
