@@ -155,6 +155,8 @@ fn compare(case: &str, command: &str, answer: &str, wanted: &str) -> Result<(), 
 #[cfg(test)]
 mod tests {
     use super::*;
+    use std::io::Eprint;
+    use std::process::{ExitCode, Termination};
 
     /// How many commands there were, to which the case's first has the number of its name's bytes. It finds
     /// no memory for every command the first time.
@@ -204,6 +206,29 @@ c
 6
 d";
         replay::<Echo, _>(&rt, rt.alloc(), transcript)
+    }
+
+    // Whether a transcript is replayed to its end.
+    fn is_replayed<R: Eprint>(rt: &R, alloc: Global, transcript: &str) -> bool {
+        replay::<Echo, R>(rt, alloc, transcript).report(rt) == ExitCode::SUCCESS
+    }
+
+    #[test]
+    fn another_answer_fails(rt: HostRuntime) {
+        let alloc = rt.alloc();
+        assert!(rt; is_replayed(&rt, alloc, "\n# one\n> b\n4\nb"));
+        assert!(rt; !is_replayed(&rt, alloc, "\n# one\n> b\n5\nb"));
+        assert!(rt; !is_replayed(&rt, alloc, "\n# one\n> b\n4\nb\n> c"));
+        assert!(rt; !is_replayed(&rt, alloc, "\n# one\n> nothing\n# one\n> b"));
+    }
+
+    #[test]
+    fn a_transcript_that_says_nothing_fails(rt: HostRuntime) {
+        let alloc = rt.alloc();
+        assert!(rt; !is_replayed(&rt, alloc, ""));
+        assert!(rt; !is_replayed(&rt, alloc, "# one\n> b\n4\nb"));
+        assert!(rt; !is_replayed(&rt, alloc, "\n# one\n4\nb"));
+        assert!(rt; !is_replayed(&rt, alloc, "\n# one\n> b\n4\nb\n# two\n"));
     }
 
     #[test]
