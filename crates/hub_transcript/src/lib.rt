@@ -75,11 +75,23 @@ pub fn replay<S: Subject<R>, R>(rt: &R, alloc: Global, transcript: &str) -> Resu
             return Err(Fail::new(format_args!("{name}: no command")));
         }
         let mut subject: S = begun(rt, alloc, name)?;
-        for step in case.split("\n> ").skip(1) {
-            let (command, wanted) = step.split_once('\n').unwrap_or((step, ""));
-            put_to(&mut subject, rt, command, &mut answer)?;
-            compare(name, command, answer.text.as_str(), wanted)?;
-        }
+        replay_case(rt, &mut subject, name, case, &mut answer)?;
+    }
+    Ok(())
+}
+
+// Replays the commands of a case.
+fn replay_case<S: Subject<R>, R>(
+    rt: &R,
+    subject: &mut S,
+    name: &str,
+    case: &str,
+    answer: &mut Answer,
+) -> Result<(), Fail> {
+    for step in case.split("\n> ").skip(1) {
+        let (command, wanted) = step.split_once('\n').unwrap_or((step, ""));
+        put_to(subject, rt, command, answer)?;
+        compare(name, command, answer.text.as_str(), wanted)?;
     }
     Ok(())
 }
@@ -131,6 +143,17 @@ impl<'a> Words<'a> {
     /// The next word as a number, or 0 where it is none.
     pub fn number(&mut self) -> u64 {
         self.word().parse().unwrap_or(0)
+    }
+
+    /// The place of the next word among these verbs, which stand behind one another with a blank between
+    /// them. A word that is none of them has the place `usize::MAX`. `match` on a place proves more cheaply
+    /// than comparisons with texts.
+    pub fn verb(&mut self, verbs: &str) -> usize {
+        let word = self.word();
+        verbs
+            .split(' ')
+            .position(|verb| verb == word)
+            .unwrap_or(usize::MAX)
     }
 
     /// The words that are left, as they stand in the command.
@@ -246,6 +269,8 @@ d";
         assert_eq!(rt; words.number(), 17);
         assert_eq!(rt; words.number(), 0);
         assert_eq!(rt; words.rest(), "y z");
+        assert_eq!(rt; words.verb("x z y"), 2);
+        assert_eq!(rt; words.verb("x zz y"), usize::MAX);
         assert_eq!(rt; Words::of("").word(), "");
     }
 }
