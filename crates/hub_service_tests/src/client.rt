@@ -36,7 +36,8 @@ use std::sync::Wait;
 /// - `remove REQUEST`: one connection opens a feed and hands an item, another one removes the database `d`,
 ///   and then the first one hands its next item.
 /// - `delete NAME`: a database is deleted under its lock, and its name stays.
-/// - `allow WHAT`: a new hub, within one more limit: `one feed`, `one database`, `one edit` or `two edits`.
+/// - `allow WHAT`: a new hub, within one more limit: `one feed`, `one database`, `two databases`,
+///   `one edit` or `two edits`.
 #[derive(Drop)]
 pub(crate) struct Client {
     alloc: Global,
@@ -93,6 +94,8 @@ impl Client {
             limits.feeds = 1;
         } else if what == "one database" {
             limits.databases = 1;
+        } else if what == "two databases" {
+            limits.databases = 2;
         } else if what == "one edit" {
             limits.journal = 1;
         } else if what == "two edits" {
