@@ -1,16 +1,19 @@
-//! What lies under a lock: transcripts of a database and a log that are lent, and of hosts that threads
-//! share.
+//! What lies under a lock: transcripts of a database that is lent, and of hosts that threads share.
 //!
 //! Where a growth is refused the call says so, the database shows the same as before it, and the same call
 //! then answers as it does with ample memory. So these tests hold whichever one of their growths is refused;
 //! the growths of the tests themselves, as of a document's text, are among them.
 
+mod followed;
+mod handles;
+mod holding;
 mod lent;
 mod polls;
 mod receipts;
 mod shared;
 mod surface;
 mod told;
+mod watches;
 
 use crate::tests::lent::Lent;
 use hub_transcript::replay;
@@ -33,14 +36,14 @@ Row
 Full
 > hand
 Full
-> hand over
+> over
 Some(2)
-> make room
+> room
 > take
 row 1 a 1-a
 > hand
 Row
-> hand over
+> over
 Some(1)
 > take
 row 2 b 1-b
@@ -68,7 +71,7 @@ Nothing
 End
 > hand
 Gone
-> hand over
+> over
 Some(1)
 > take
 end 0 pending 0
@@ -95,7 +98,7 @@ Nothing
 Nothing
 > beat
 Full
-> hand over
+> over
 Some(2)
 > take
 beat

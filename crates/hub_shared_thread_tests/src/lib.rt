@@ -2,8 +2,6 @@
 #![tactic(auto)]
 
 #[cfg(test)]
-mod edit_tests;
-#[cfg(test)]
 mod ledger_tests;
 #[cfg(test)]
 mod tests;

@@ -2,29 +2,18 @@
 
 ghost use Rattle.std.specs.Prelude.{◌<◌, ◌≤◌};
 
-mod answers;
-mod audits;
-mod beats;
-mod clocks;
 mod databases;
-mod feeds;
-mod holding;
-mod limits;
 mod lives;
-mod looks;
-mod polls;
 mod readers;
-mod stopped;
 mod stress;
-mod watches;
 mod workers;
 
 use hub_document::{ChangeRow, Doc, Limits};
 use hub_feed::FeedId;
 use hub_model::Item;
 use hub_params::FeedParams;
-use hub_shared::{Accepted, Clock, Db, Feed, Gate, Handle, Plain, Point, pump};
-use std::alloc::Global;
+use hub_shared::{Clock, Count, Db, Feed, Gate, Handle, Plain, Point, Receipt, pump};
+use std::alloc::{AllocError, Global};
 use std::fmt::Debug;
 use std::process::Abort;
 use std::sync::Wait;
@@ -48,11 +37,6 @@ impl Counting {
         Counting {
             holdings: AtomicU64::new(0),
         }
-    }
-
-    // How often it was held.
-    fn count(&self) -> u64 {
-        self.holdings.load(Ordering::SeqCst)
     }
 
     // Waits until a pump has held the lock.
@@ -104,32 +88,21 @@ pub(crate) enum Told {
     End(u64),
 }
 
-fn as_told(item: &Item<ChangeRow>) -> Told {
-    match item {
-        Item::Row(row) => Told::Row(row.seq),
-        Item::Beat => Told::Beat,
-        Item::End { last_seq, .. } => Told::End(*last_seq),
-    }
-}
-
 // The same of an item, if there is one.
 fn told_of(item: Option<Item<ChangeRow>>) -> Option<Told> {
-    match item {
-        Some(item) => Some(as_told(&item)),
+    match &item {
+        Some(Item::Row(row)) => Some(Told::Row(row.seq)),
+        Some(Item::Beat) => Some(Told::Beat),
+        Some(Item::End { last_seq, .. }) => Some(Told::End(*last_seq)),
         None => None,
     }
-}
-
-// The next item that was handed and not taken yet.
-fn take<R: Wait>(rt: &R, feed: &mut Feed<Plain>) -> Option<Told> {
-    told_of(feed.take(rt))
 }
 
 // The next item, which is waited for; None where the pump ended and left none.
 fn next<R: Wait>(rt: &R, feed: &mut Feed<Plain>) -> Option<Told> {
     for _ in rt.forever() {
         let is_over = feed.is_over();
-        let item = take(rt, feed);
+        let item = told_of(feed.take(rt));
         if item.is_some() || is_over {
             return item;
         }
@@ -138,76 +111,81 @@ fn next<R: Wait>(rt: &R, feed: &mut Feed<Plain>) -> Option<Told> {
     unreachable!()
 }
 
+// The first three items that a finished feed still has.
+fn finished<R: Wait>(rt: &R, feed: Feed<Plain>) -> (Option<Told>, Option<Told>, Option<Told>) {
+    let mut receiver = feed.finish(rt);
+    let first = receiver.take(rt);
+    let second = receiver.take(rt);
+    let third = receiver.take(rt);
+    (told_of(first), told_of(second), told_of(third))
+}
+
 // The number of the life of each database.
 const LIFE: u64 = 6;
 
 // A new database whose lanes hold so many items, and of which one holding hands so many.
-fn database(alloc: Global, lane: u64, hold: u64) -> Result<(Db<Plain>, Handle<Plain>), Fail>
+fn database(alloc: Global, lane: u64, hold: u64) -> Result<(Db<Plain>, Handle<Plain>), AllocError>
     requires lane { 0 < lane × lane ≤ 64 }
     requires hold { 0 < hold × hold ≤ 64 }
 {
     let mut limits = Limits::full();
     limits.lane = lane;
     limits.hold = hold;
-    Ok(Db::new(alloc, limits, LIFE, Plain)?)
+    Db::new(alloc, limits, LIFE, Plain)
 }
 
-// The documents that the texts are.
-fn docs(alloc: Global, texts: &[&str]) -> Result<Vec<Doc>, Fail> {
+// Stores the document that the text is, which another database made: its receipt, which passes an audit. None
+// where it is not stored.
+fn put_text<C: Count, R: Wait>(
+    rt: &R,
+    alloc: Global,
+    handle: &mut Handle<C>,
+    text: &str,
+) -> Option<Receipt> {
     let mut docs = Vec::new(alloc);
-    for text in texts {
-        docs.push(Doc::read(alloc, text.as_bytes(), false)?)?;
+    docs.push(Doc::read(alloc, text.as_bytes(), false).ok()?)
+        .ok()?;
+    let mut receipts = handle.write(rt, docs, false).ok()?.receipts;
+    handle.audit(rt, receipts.as_slice()).ok()?;
+    receipts.pop()
+}
+
+// Stores a document of this number; None where it is not stored.
+fn put_numbered<C: Count, R: Wait>(
+    rt: &R,
+    alloc: Global,
+    handle: &mut Handle<C>,
+    number: u64,
+) -> Option<()> {
+    let text = format!(in alloc; r#"{{"_id":"d{number}","_rev":"1-a"}}"#).ok()?;
+    put_text(rt, alloc, handle, text.as_str())?;
+    Some(())
+}
+
+// Stores so many documents, and lets other threads on behind each; None where one is not stored.
+fn put_many<C: Count, R: Wait>(
+    rt: &R,
+    alloc: Global,
+    handle: &mut Handle<C>,
+    count: u64,
+) -> Option<()> {
+    for number in 0..count {
+        put_numbered(rt, alloc, handle, number)?;
+        thread::yield_now();
     }
-    Ok(docs)
+    Some(())
 }
 
-// Writes the documents that the texts are, which another database made.
-fn write<R: Wait>(
+// A feed that the query and the body open; None where it is not opened.
+fn open<C: Count, R: Wait>(
     rt: &R,
     alloc: Global,
-    handle: &mut Handle<Plain>,
-    texts: &[&str],
-) -> Result<Accepted, Fail> {
-    Ok(handle.write(rt, docs(alloc, texts)?, false)?)
-}
-
-// The same, whatever they are told.
-fn store<R: Wait>(
-    rt: &R,
-    alloc: Global,
-    handle: &mut Handle<Plain>,
-    texts: &[&str],
-) -> Result<(), Fail> {
-    let _accepted = write(rt, alloc, handle, texts)?;
-    Ok(())
-}
-
-// Stores one document, which another database made; None where it is not stored.
-fn put<R: Wait>(rt: &R, alloc: Global, handle: &mut Handle<Plain>, text: &str) -> Option<()> {
-    let doc = Doc::read(alloc, text.as_bytes(), false).ok()?;
-    let accepted = handle.write(rt, vec![in alloc; doc].ok()?, false).ok()?;
-    (accepted.receipts.len() == 1).then_some(())
-}
-
-// The parameters that a query asks for.
-fn params(alloc: Global, query: &str) -> Result<FeedParams, Fail> {
-    match FeedParams::read(alloc, query.as_bytes(), b"") {
-        Ok(params) => Ok(params),
-        Err(_) => Err(Fail::new("no parameters")),
-    }
-}
-
-// A feed that the query opens.
-fn open<R: Wait>(
-    rt: &R,
-    alloc: Global,
-    handle: &mut Handle<Plain>,
+    handle: &mut Handle<C>,
     query: &str,
-) -> Result<Feed<Plain>, Fail> {
-    match handle.open_feed(rt, params(alloc, query)?) {
-        Ok(feed) => Ok(feed),
-        Err(_) => Err(Fail::new("no feed")),
-    }
+    body: &str,
+) -> Option<Feed<C>> {
+    let params = FeedParams::read(alloc, query.as_bytes(), body.as_bytes()).ok()?;
+    handle.open_feed(rt, params).ok()
 }
 
 // Whether a pump of a feed ends with Ok, which no gate holds.
@@ -220,10 +198,37 @@ where
     pump(rt, db, feed, gate, clock).is_ok()
 }
 
-const FIVE: [&str; 5] = [
-    r#"{"_id":"a","_rev":"1-a"}"#,
-    r#"{"_id":"b","_rev":"1-b"}"#,
-    r#"{"_id":"c","_rev":"1-c"}"#,
-    r#"{"_id":"d","_rev":"1-d"}"#,
-    r#"{"_id":"e","_rev":"1-e"}"#,
-];
+// A feed of a new database: how many items its lane holds, how many documents there are, and what is asked for.
+#[derive(Drop)]
+struct Asked {
+    lane: u64,
+    documents: u64,
+    query: &'static str,
+}
+
+// Such a feed, with its database and a handle on that; None where it is not opened.
+fn begun<R: Wait>(
+    rt: &R,
+    alloc: Global,
+    asked: &Asked,
+) -> Option<(Db<Plain>, Handle<Plain>, Feed<Plain>)> {
+    if asked.lane == 0 || asked.lane > 64 {
+        return None;
+    }
+    let (db, mut handle) = database(alloc, asked.lane, 64).ok()?;
+    put_many(rt, alloc, &mut handle, asked.documents)?;
+    let feed = open(rt, alloc, &mut handle, asked.query, "")?;
+    Some((db, handle, feed))
+}
+
+// The same; an error where it is not opened.
+fn begin<R: Wait>(
+    rt: &R,
+    alloc: Global,
+    asked: &Asked,
+) -> Result<(Db<Plain>, Handle<Plain>, Feed<Plain>), Fail> {
+    match begun(rt, alloc, asked) {
+        Some(begun) => Ok(begun),
+        None => Err(Fail::new("no feed")),
+    }
+}

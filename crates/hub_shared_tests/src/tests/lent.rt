@@ -1,14 +1,12 @@
-//! A database and a log that are lent, which carry out the commands of transcripts.
+//! A database that is lent, which carries out the commands of transcripts.
 
-use crate::tests::told::{Rev, put_item, put_receipt};
-use hub_database::{Answer as DbAnswer, DbFault, DbState, Info, Question};
-use hub_document::{Doc, DocId, Limits, RevId};
+use crate::tests::told::{put_debug, put_item, put_receipts};
+use hub_database::{DbFault, DbState, Info};
+use hub_document::{Doc, Limits};
 use hub_feed::{FeedId, OpenFault};
-use hub_model::UpdateKind;
 use hub_params::FeedParams;
-use hub_shared::{Accepted, Directly, FeedEnd, Locked, NoCount, Receipt, audit_of};
+use hub_shared::{Accepted, Directly, FeedTaker, Locked, NoCount, OpenedFeed};
 use hub_transcript::{Answer, Subject, Words};
-use hub_updates::{Notice, UpdatesState};
 use std::alloc::{AllocError, Global};
 use std::process::Abort;
 use std::sync::Wait;
@@ -16,65 +14,34 @@ use std::sync::Wait;
 /// The number of the life of each database.
 pub(crate) const LIFE: u64 = 6;
 
-// A feed of a database that begins: its number, and the end that takes its items.
-fn begun(
-    database: &mut Locked<DbState>,
-    params: FeedParams,
-) -> Result<(FeedId, FeedEnd<DbState>), OpenFault> {
-    match database.begin(params) {
-        Ok(opened) => Ok((opened.id, opened.taker.end)),
-        Err(fault) => Err(fault),
-    }
-}
-
-// A feed of a log that begins: its number, and the end that takes its items.
-fn begun_of_log(
-    log: &mut Locked<UpdatesState>,
-    params: FeedParams,
-) -> Result<(FeedId, FeedEnd<UpdatesState>), OpenFault> {
-    match log.begin(params) {
-        Ok(opened) => Ok((opened.id, opened.taker.end)),
-        Err(fault) => Err(fault),
-    }
-}
-
-/// What is got from the locks of a database, and of a log of updates. A lane has room for two items, and the
+/// What is got from the lock of a database. A lane has room for two items, and the
 /// database for one feed. The commands:
 ///
 /// - `write DOC ..` writes documents that another database made: a receipt of each that was stored, and how
-///   many have their replies. The receipts are kept.
-/// - `audit` compares all receipts that are kept with the journal, and `audit SEQ ID REV` the three receipts
-///   of documents a, b and c with this one in the place of the second.
-/// - `winner ID` and `info` are questions to the database. `delete` deletes it.
+///   many have their replies.
+/// - `info` is what the database shows of itself. `delete` deletes it.
 /// - `open QUERY` opens a feed: its number, and the life and the beginning that its label says; or the fault.
-/// - `hand`, `beat`, `expire` and `finish` are steps of that feed. `hand over` gives its lane what waits,
-///   `make room` reserves memory for two items, and `take` takes from the lane.
-/// - `note NAME` notes in the log that this database was created. `log` hands a new feed of the log in three
-///   steps: what these answer, what lies in its lane then, and how many notes there are.
+/// - `hand`, `beat`, `expire` and `finish` are steps of that feed. `over` gives its lane what waits, `room`
+///   reserves memory for two items, and `take` takes from the lane.
 ///
 /// A command that finds no memory leaves what the database shows.
 #[derive(Drop)]
 pub(crate) struct Lent {
     alloc: Global,
     database: Locked<DbState>,
-    log: Locked<UpdatesState>,
-    receipts: Vec<Receipt>,
     feed: FeedId,
-    taker: Option<FeedEnd<DbState>>,
+    opened: Option<OpenedFeed<FeedTaker<DbState>>>,
 }
 
 impl<R: Abort + Wait> Subject<R> for Lent {
     fn begin(_: &R, alloc: Global, _: &str) -> Result<Lent, AllocError> {
         let mut limits = Limits::full();
         limits.feeds = 1;
-        let log = UpdatesState::new(alloc, Limits::full(), 0);
         Ok(Lent {
             alloc,
             database: Locked::new(alloc, DbState::new(alloc, limits, LIFE), 2, 64, NoCount),
-            log: Locked::new(alloc, log, 2, 64, NoCount),
-            receipts: Vec::with_capacity(alloc, 9)?,
             feed: FeedId { number: 0 },
-            taker: None,
+            opened: None,
         })
     }
 
@@ -90,11 +57,16 @@ impl<R: Abort + Wait> Subject<R> for Lent {
 }
 
 /// The documents that the texts are, but for so many of the first; an error where they find no memory, and
-/// each time where one is none.
-pub(crate) fn docs(alloc: Global, texts: &str, skipped: usize) -> Result<Vec<Doc>, AllocError> {
+/// each time where one is none. The revisions of new edits are made here.
+pub(crate) fn docs(
+    alloc: Global,
+    texts: &str,
+    skipped: usize,
+    new_edits: bool,
+) -> Result<Vec<Doc>, AllocError> {
     let mut docs = Vec::new(alloc);
     for text in texts.split(' ').skip(skipped) {
-        let Ok(doc) = Doc::read(alloc, text.as_bytes(), false) else {
+        let Ok(doc) = Doc::read(alloc, text.as_bytes(), new_edits) else {
             return Err(AllocError);
         };
         docs.push(doc)?;
@@ -102,16 +74,22 @@ pub(crate) fn docs(alloc: Global, texts: &str, skipped: usize) -> Result<Vec<Doc
     Ok(docs)
 }
 
-// The receipt of these parts; an error where it finds no memory, and each time where they are no receipt's.
-fn receipt(alloc: Global, parts: &str) -> Result<Receipt, AllocError> {
-    let mut words = Words::of(parts);
-    let Ok(seq) = words.word().parse::<u64>() else {
-        return Err(AllocError);
-    };
-    match (DocId::read(alloc, words.word())?, RevId::read(words.word())) {
-        (Some(id), Some(rev)) => Ok(Receipt { seq, id, rev }),
-        _ => Err(AllocError),
+/// The parameters of a query; an error where they find no memory, and each time where it is refused.
+pub(crate) fn params(alloc: Global, query: &str) -> Result<FeedParams, AllocError> {
+    match FeedParams::read(alloc, query.as_bytes(), b"") {
+        Ok(params) => Ok(params),
+        Err(_) => Err(AllocError),
     }
+}
+
+// Writes the number of a feed that begins, and the life and the beginning that its label says.
+fn put_begun(
+    opened: &OpenedFeed<FeedTaker<DbState>>,
+    answer: &mut Answer,
+) -> Result<(), AllocError> {
+    let label = opened.taker.end.label();
+    let (number, life, since) = (opened.id.number, label.life(), label.since());
+    answer.line(format_args!("feed {number} life {life} since {since}"))
 }
 
 impl Lent {
@@ -127,213 +105,97 @@ impl Lent {
         command: &str,
         answer: &mut Answer,
     ) -> Result<(), AllocError> {
-        if command == "hand" {
-            let handed = self.database.hand(&Directly, self.feed)?;
-            return answer.line(format_args!("{handed:?}"));
+        let mut words = Words::of(command);
+        match words.verb("hand over beat expire room take finish") {
+            0 => {
+                let handed = self.database.hand(&Directly, self.feed)?;
+                put_debug(&handed, answer)
+            }
+            1 => {
+                let over = self.database.hand_over(rt, self.feed);
+                put_debug(&over, answer)
+            }
+            2 => {
+                let handed = self.database.beat(&Directly, self.feed);
+                put_debug(&handed, answer)
+            }
+            3 => {
+                self.database.expire(self.feed);
+                Ok(())
+            }
+            4 => self.database.make_room(self.feed, 2),
+            5 => self.take(rt, answer),
+            6 => self.finish(answer),
+            _ => self.run_other(command, answer),
         }
-        if command == "hand over" {
-            let over = self.database.hand_over(rt, self.feed);
-            return answer.line(format_args!("{over:?}"));
-        }
-        if command == "make room" {
-            return self.database.make_room(self.feed, 2);
-        }
-        if command == "take" {
-            return self.take(rt, answer);
-        }
-        self.run_step(rt, command, answer)
     }
 
-    // The same of further steps of a feed.
-    fn run_step<R: Wait>(
-        &mut self,
-        rt: &R,
-        command: &str,
-        answer: &mut Answer,
-    ) -> Result<(), AllocError> {
-        if command == "beat" {
-            let handed = self.database.beat(&Directly, self.feed);
-            return answer.line(format_args!("{handed:?}"));
+    // The same of the commands that are no steps of a feed.
+    fn run_other(&mut self, command: &str, answer: &mut Answer) -> Result<(), AllocError> {
+        let mut words = Words::of(command);
+        match words.verb("open write info delete") {
+            0 => self.open(words.rest(), answer),
+            1 => self.write(words.rest(), answer),
+            2 => {
+                let shown = self.shown();
+                put_debug(&shown, answer)
+            }
+            3 => {
+                let deleted = self.database.delete();
+                put_debug(&deleted, answer)
+            }
+            _ => answer.line("?"),
         }
-        if command == "expire" {
-            self.database.expire(self.feed);
-            return Ok(());
-        }
-        if command == "finish" {
-            return self.finish(answer);
-        }
-        self.run_more(rt, command, answer)
-    }
-
-    // The same of the commands that are not of a feed of the database.
-    fn run_more<R: Wait>(
-        &mut self,
-        rt: &R,
-        command: &str,
-        answer: &mut Answer,
-    ) -> Result<(), AllocError> {
-        let (verb, rest) = command.split_once(' ').unwrap_or((command, ""));
-        if verb == "open" {
-            return self.open(rest, answer);
-        }
-        if verb == "write" {
-            return self.write(rest, answer);
-        }
-        if verb == "audit" {
-            return self.audit(rest, answer);
-        }
-        if verb == "winner" {
-            return self.winner(rest, answer);
-        }
-        self.run_other(rt, verb, rest, answer)
-    }
-
-    // The same of the other commands.
-    fn run_other<R: Wait>(
-        &mut self,
-        rt: &R,
-        verb: &str,
-        rest: &str,
-        answer: &mut Answer,
-    ) -> Result<(), AllocError> {
-        if verb == "info" {
-            return self.info(answer);
-        }
-        if verb == "delete" {
-            let deleted = self.database.delete();
-            return answer.line(format_args!("{deleted:?}"));
-        }
-        if verb == "note" {
-            return self.note(rest);
-        }
-        if verb == "log" {
-            return self.hand_log(rt, answer);
-        }
-        answer.line("?")
     }
 
     fn take<R: Wait>(&mut self, rt: &R, answer: &mut Answer) -> Result<(), AllocError> {
-        match &mut self.taker {
-            Some(taker) => put_item(&taker.take(rt), answer),
+        match &mut self.opened {
+            Some(opened) => put_item(self.alloc, &opened.taker.end.take(rt), answer),
             None => answer.line("no feed"),
         }
     }
 
     fn finish(&mut self, answer: &mut Answer) -> Result<(), AllocError> {
-        match self.database.finish(self.feed) {
-            Some(_sender) => answer.line("finished"),
-            None => answer.line("none"),
-        }
+        let is_there = self.database.finish(self.feed).is_some();
+        answer.line(if is_there { "finished" } else { "none" })
     }
 
     fn open(&mut self, query: &str, answer: &mut Answer) -> Result<(), AllocError> {
-        let Ok(params) = FeedParams::read(self.alloc, query.as_bytes(), b"") else {
-            return Err(AllocError);
-        };
-        match begun(&mut self.database, params) {
-            Ok((id, taker)) => {
-                let (life, since) = (taker.label().life(), taker.label().since());
-                self.feed = id;
-                self.taker = Some(taker);
-                let number = self.feed.number;
-                answer.line(format_args!("feed {number} life {life} since {since}"))
+        match self.database.begin(params(self.alloc, query)?) {
+            Ok(opened) => {
+                self.feed = opened.id;
+                let told = put_begun(&opened, answer);
+                self.opened = Some(opened);
+                told
             }
             Err(OpenFault::NoMemory) => Err(AllocError),
-            Err(fault) => answer.line(format_args!("{fault:?}")),
+            Err(fault) => put_debug(&fault, answer),
         }
     }
 
-    // Writes these documents but for so many of the first.
-    fn store(&mut self, texts: &str, skipped: usize) -> Result<Accepted, AllocError> {
-        let docs = docs(self.alloc, texts, skipped)?;
-        match self.database.write(docs, false) {
-            Ok(accepted) => Ok(accepted),
-            Err(_) => Err(AllocError),
-        }
-    }
-
-    // Keeps the receipts of a write, and writes them.
-    fn keep(&mut self, receipts: Vec<Receipt>, answer: &mut Answer) -> Result<(), AllocError> {
-        for receipt in receipts {
-            put_receipt(&receipt, answer)?;
-            self.receipts.push(receipt)?;
-        }
-        Ok(())
+    // Writes these documents but for so many of the first, and their receipts.
+    fn store(
+        &mut self,
+        texts: &str,
+        skipped: usize,
+        answer: &mut Answer,
+    ) -> Result<Accepted, AllocError> {
+        let docs = docs(self.alloc, texts, skipped, false)?;
+        let Ok(accepted) = self.database.write(docs, false) else {
+            return Err(AllocError);
+        };
+        put_receipts(accepted.receipts.as_slice(), answer)?;
+        Ok(accepted)
     }
 
     // Where a document finds no memory, those before it stand, and it is written again with those behind it.
     fn write(&mut self, texts: &str, answer: &mut Answer) -> Result<(), AllocError> {
-        let accepted = self.store(texts, 0)?;
+        let accepted = self.store(texts, 0, answer)?;
         let mut count = accepted.replies.as_slice().len();
-        self.keep(accepted.receipts, answer)?;
         if accepted.stopped {
-            let rest = self.store(texts, count)?;
+            let rest = self.store(texts, count, answer)?;
             count = count.saturating_add(rest.replies.as_slice().len());
-            self.keep(rest.receipts, answer)?;
         }
         answer.line(format_args!("of {count}"))
-    }
-
-    // The three receipts, of which the second is this one.
-    fn three(&self, second: &str) -> Result<Vec<Receipt>, AllocError> {
-        let mut receipts = Vec::new(self.alloc);
-        receipts.push(receipt(self.alloc, "1 a 1-a")?)?;
-        receipts.push(receipt(self.alloc, second)?)?;
-        receipts.push(receipt(self.alloc, "3 c 1-c")?)?;
-        Ok(receipts)
-    }
-
-    fn audit(&self, second: &str, answer: &mut Answer) -> Result<(), AllocError> {
-        let told = if second == "" {
-            audit_of(self.database.state(), self.receipts.as_slice())
-        } else {
-            audit_of(self.database.state(), self.three(second)?.as_slice())
-        };
-        answer.line(format_args!("{told:?}"))
-    }
-
-    fn winner(&self, id: &str, answer: &mut Answer) -> Result<(), AllocError> {
-        let id = String::from_str(self.alloc, id)?;
-        match &self.database.state().answer(Question::Winner { id }) {
-            Ok(DbAnswer::Winner(Some(winner))) => answer.line(Rev(winner.rev)),
-            Ok(DbAnswer::Winner(None)) => answer.line("none"),
-            _ => Err(AllocError),
-        }
-    }
-
-    fn info(&self, answer: &mut Answer) -> Result<(), AllocError> {
-        match &self.database.state().answer(Question::Info) {
-            Ok(DbAnswer::Info(info)) => answer.line(format_args!("{info:?}")),
-            Ok(_) => answer.line("another answer"),
-            Err(fault) => answer.line(format_args!("{fault:?}")),
-        }
-    }
-
-    fn note(&mut self, name: &str) -> Result<(), AllocError> {
-        let notice = Notice::new(self.alloc, UpdateKind::Created, name)?;
-        if let Err((notice, _fault)) = self.log.note(notice) {
-            notice.lapse();
-            return Err(AllocError);
-        }
-        Ok(())
-    }
-
-    fn hand_log<R: Wait>(&mut self, rt: &R, answer: &mut Answer) -> Result<(), AllocError> {
-        let Ok(params) = FeedParams::read(self.alloc, b"", b"") else {
-            return Err(AllocError);
-        };
-        let Ok((id, mut end)) = begun_of_log(&mut self.log, params) else {
-            return Err(AllocError);
-        };
-        for _ in 0..3 {
-            let handed = self.log.hand(&Directly, id)?;
-            answer.line(format_args!("{handed:?}"))?;
-        }
-        let over = self.log.hand_over(rt, id);
-        answer.line(format_args!("{over:?}"))?;
-        for _ in 0..3 {
-            put_item(&end.take(rt), answer)?;
-        }
-        answer.line(format_args!("{} notes", self.log.state().update_seq()))
     }
 }

@@ -1,11 +1,12 @@
-//! How rows, items and revisions are written.
+//! How rows, items, revisions and the outcomes of writes are written.
 
-use hub_document::{ChangeRow, RevId, UpdateRow};
-use hub_model::Item;
-use hub_shared::Receipt;
+use hub_database::{Answer as DbAnswer, DbFault, Descending, Diff, Lookup, OpenRev, Receipt};
+use hub_document::{Body, ChangeRow, RevId, UpdateRow};
+use hub_model::{Item, Outcome};
 use hub_transcript::Answer;
-use std::alloc::AllocError;
-use std::{fmt, str};
+use std::alloc::{AllocError, Global};
+use std::fmt::{self, Debug};
+use std::str;
 
 /// A revision as its text.
 #[derive(Drop)]
@@ -19,48 +20,155 @@ impl fmt::Display for Rev {
     }
 }
 
-/// A row that is written in a line.
+/// A row that is written in a line, and its document in another one.
 pub(crate) trait Row {
-    fn put(&self, answer: &mut Answer) -> Result<(), AllocError>;
+    fn put(&self, alloc: Global, answer: &mut Answer) -> Result<(), AllocError>;
 }
 
-/// Its sequence, its document, and its first revision.
+/// Its sequence, its document's id, and its first revision; then its document, if it has one.
 impl Row for ChangeRow {
-    fn put(&self, answer: &mut Answer) -> Result<(), AllocError> {
-        match self.changes.get(0) {
-            Some(rev) => {
-                let rev = Rev(rev);
-                answer.line(format_args!("row {} {} {rev}", self.seq, self.id.as_str()))
-            }
-            None => answer.line("no revision"),
+    fn put(&self, alloc: Global, answer: &mut Answer) -> Result<(), AllocError> {
+        let Some(rev) = self.changes.get(0) else {
+            return answer.line("no revision");
+        };
+        let rev = Rev(rev);
+        answer.line(format_args!("row {} {} {rev}", self.seq, self.id.as_str()))?;
+        match &self.doc {
+            Some(body) => put_shown(alloc, self, body, answer),
+            None => Ok(()),
         }
     }
 }
 
 /// Its sequence, what happened, and to which database.
 impl Row for UpdateRow {
-    fn put(&self, answer: &mut Answer) -> Result<(), AllocError> {
+    fn put(&self, _: Global, answer: &mut Answer) -> Result<(), AllocError> {
         answer.line(format_args!("row {} {:?} {}", self.seq, self.kind, self.db_name.as_str()))
     }
 }
 
-/// Writes a receipt: its sequence, its document, and its revision.
-pub(crate) fn put_receipt(receipt: &Receipt, answer: &mut Answer) -> Result<(), AllocError> {
-    let rev = Rev(receipt.rev);
-    answer.line(format_args!("{} {} {rev}", receipt.seq, receipt.id.as_str()))
+/// Writes a value as its `Debug` shows it.
+pub(crate) fn put_debug<D: Debug>(value: &D, answer: &mut Answer) -> Result<(), AllocError> {
+    answer.line(format_args!("{value:?}"))
+}
+
+// Writes the text of a document.
+fn put_text(text: &[u8], answer: &mut Answer) -> Result<(), AllocError> {
+    answer.line(str::from_utf8(text).unwrap_or("?"))
+}
+
+// Writes the document that a row shows.
+fn put_shown(
+    alloc: Global,
+    row: &ChangeRow,
+    body: &Body,
+    answer: &mut Answer,
+) -> Result<(), AllocError> {
+    let mut text = Vec::new(alloc);
+    row.write_doc(&mut text, body)?;
+    put_text(text.as_slice(), answer)
 }
 
 /// Writes an item.
 pub(crate) fn put_item<T: Row>(
+    alloc: Global,
     item: &Option<Item<T>>,
     answer: &mut Answer,
 ) -> Result<(), AllocError> {
     match item {
-        Some(Item::Row(row)) => row.put(answer),
+        Some(Item::Row(row)) => row.put(alloc, answer),
         Some(Item::Beat) => answer.line("beat"),
         Some(Item::End { last_seq, pending }) => {
             answer.line(format_args!("end {last_seq} pending {pending}"))
         }
         None => answer.line("none"),
     }
+}
+
+// Writes leaves: a document as its text.
+fn put_opened(alloc: Global, opened: &[OpenRev], answer: &mut Answer) -> Result<(), AllocError> {
+    for open in opened {
+        match open {
+            OpenRev::Found(doc) => {
+                let mut text = Vec::new(alloc);
+                doc.write(&mut text)?;
+                put_text(text.as_slice(), answer)?;
+            }
+            OpenRev::Missing(rev) => answer.line(format_args!("missing {}", Rev(*rev)))?,
+        }
+    }
+    Ok(())
+}
+
+// Writes which revisions are missing, and what may be their ancestors.
+fn put_diffs(diffs: &[Diff], answer: &mut Answer) -> Result<(), AllocError> {
+    for diff in diffs {
+        answer.line(diff.id.as_str())?;
+        for rev in diff.missing.as_slice() {
+            answer.line(format_args!("missing {}", Rev(*rev)))?;
+        }
+        for rev in diff.possible_ancestors.as_slice() {
+            answer.line(format_args!("behind {}", Rev(*rev)))?;
+        }
+    }
+    Ok(())
+}
+
+// Writes rows downwards, and where they end.
+fn put_falling(alloc: Global, falling: &Descending, answer: &mut Answer) -> Result<(), AllocError> {
+    for row in &falling.rows {
+        row.put(alloc, answer)?;
+    }
+    answer.line(format_args!(
+        "last {} pending {} life {}",
+        falling.last_seq, falling.pending, falling.life
+    ))
+}
+
+/// Writes the answer to a question: a document as its text, a winner as its revision and its mark. An error
+/// where it found no memory.
+pub(crate) fn put_answer(
+    alloc: Global,
+    told: &Result<DbAnswer, DbFault>,
+    answer: &mut Answer,
+) -> Result<(), AllocError> {
+    match told {
+        Ok(DbAnswer::Get(Lookup::Found(doc))) => {
+            let mut text = Vec::new(alloc);
+            doc.write(&mut text)?;
+            put_text(text.as_slice(), answer)
+        }
+        Ok(DbAnswer::Winner(Some(winner))) => {
+            let rev = Rev(winner.rev);
+            answer.line(format_args!("{rev} deleted {}", winner.deleted))
+        }
+        Ok(DbAnswer::OpenRevs(opened)) => put_opened(alloc, opened.as_slice(), answer),
+        Ok(DbAnswer::RevsDiff(diffs)) => put_diffs(diffs.as_slice(), answer),
+        Ok(DbAnswer::Descending(falling)) => put_falling(alloc, falling, answer),
+        Err(DbFault::NoMemory) => Err(AllocError),
+        other => put_debug(other, answer),
+    }
+}
+
+/// Writes what became of documents: of one that was stored its revision, and each other outcome.
+pub(crate) fn put_replies(
+    replies: &[Outcome<RevId>],
+    answer: &mut Answer,
+) -> Result<(), AllocError> {
+    for reply in replies {
+        match reply {
+            Outcome::Stored(rev) => answer.line(Rev(*rev))?,
+            other => put_debug(other, answer)?,
+        }
+    }
+    Ok(())
+}
+
+/// Writes receipts: of each its sequence, its document's id, and its revision.
+pub(crate) fn put_receipts(receipts: &[Receipt], answer: &mut Answer) -> Result<(), AllocError> {
+    for receipt in receipts {
+        let rev = Rev(receipt.rev);
+        answer.line(format_args!("{} {} {rev}", receipt.seq, receipt.id.as_str()))?;
+    }
+    Ok(())
 }

@@ -1,8 +1,8 @@
 //! Two databases have two locks.
 
-use crate::tests::{FIVE, Stepping, database, docs, open, pumps, store};
-use hub_document::Doc;
+use crate::tests::{Asked, Stepping, begin, database, pumps, put_many};
 use hub_shared::{Gate, Handle, Plain, Point};
+use std::alloc::Global;
 use std::sync::Wait;
 use std::sync::atomic::{AtomicBool, Ordering};
 use std::test::Fail;
@@ -49,9 +49,9 @@ impl<R: time::Clock> Gate for Held<R> {
 // Writes once a pump stands at the gate, and opens it once the write is answered.
 fn write_and_open<R: Wait, K: time::Clock>(
     rt: &R,
+    alloc: Global,
     gate: &Held<K>,
     handle: &mut Handle<Plain>,
-    docs: Vec<Doc>,
 ) -> bool {
     for _ in rt.forever() {
         if gate.is_reached.load(Ordering::SeqCst) {
@@ -59,23 +59,26 @@ fn write_and_open<R: Wait, K: time::Clock>(
         }
         thread::yield_now();
     }
-    let is_written = handle.write(rt, docs, false).is_ok();
+    let is_written = put_many(rt, alloc, handle, 5).is_some();
     gate.is_open.store(true, Ordering::SeqCst);
     is_written
 }
 
+const FULL: Asked = Asked {
+    lane: 64,
+    documents: 5,
+    query: "",
+};
+
 #[test]
 fn a_held_database_holds_no_other(rt: HostRuntime) -> Result<(), Fail> {
-    let (db, mut handle) = database(rt.alloc(), 64, 64)?;
     let (_other, mut writer) = database(rt.alloc(), 64, 64)?;
-    store(&rt, rt.alloc(), &mut handle, &FIVE)?;
-    let feed = open(&rt, rt.alloc(), &mut handle, "")?;
-    let written = docs(rt.alloc(), &FIVE)?;
+    let (db, _handle, feed) = begin(&rt, rt.alloc(), &FULL)?;
     let (id, gate, clock) = (feed.id(), Held::new(rt), Stepping::new(0));
     let (is_ok, is_written) = thread::join(
         &rt,
         || pumps(&rt, &db, id, &gate, &clock),
-        || write_and_open(&rt, &gate, &mut writer, written),
+        || write_and_open(&rt, rt.alloc(), &gate, &mut writer),
     );
     assert!(rt; is_ok && is_written);
     assert!(rt; !gate.gave_up.load(Ordering::SeqCst));

@@ -1,44 +1,84 @@
 //! Readers of feeds whose pumps run in other threads.
 
-use crate::tests::Told::{self, End, Row};
-use crate::tests::feeds::finished;
-use crate::tests::{Counting, FIVE, Stepping, database, docs, next, open, pumps, same, store};
-use hub_document::Doc;
-use hub_shared::{Db, Feed, Handle, Plain, Question};
+use crate::tests::Told::{self, Beat, End, Row};
+use crate::tests::{Asked, Counting, Stepping, begin, finished, next, pumps, put_many, same};
+use hub_shared::{Db, Feed, Handed, Handle, Plain, Question, Turn};
 use std::alloc::Global;
 use std::sync::Wait;
 use std::test::Fail;
 use std::thread::{self, Threads};
 use std::time;
 
-// Whether a reader that took nothing gets two rows once its feed is finished. The database is asked
-// once the pump has held the lock: so the pump has handed what it can.
-fn gets_two_rows<R: Wait>(
+// Waits until the pump has handed what it can. The database is asked once the pump has held the lock.
+fn wait_for_pump<R: Wait>(rt: &R, gate: &Counting, handle: &mut Handle<Plain>) -> bool {
+    gate.wait_for_pump(rt);
+    handle.read(rt, Question::Info).is_ok()
+}
+
+const STOPPED: Asked = Asked {
+    lane: 2,
+    documents: 5,
+    query: "",
+};
+
+// A reader that took nothing gets two rows once its feed is finished.
+#[test]
+fn a_stopped_reader_lets_its_pump_end(rt: HostRuntime) -> Result<(), Fail> {
+    let (db, mut handle, feed) = begin(&rt, rt.alloc(), &STOPPED)?;
+    let (id, gate, clock) = (feed.id(), Counting::new(), Stepping::new(0));
+    let (is_ok, (is_read, items)) = thread::join(
+        &rt,
+        || pumps(&rt, &db, id, &gate, &clock),
+        || {
+            let is_read = wait_for_pump(&rt, &gate, &mut handle);
+            (is_read, finished(&rt, feed))
+        },
+    );
+    assert!(rt; is_ok && is_read);
+    same(&rt, &items, &(Some(Row(1)), Some(Row(2)), None));
+    Ok(())
+}
+
+const GOING_ON: Asked = Asked {
+    lane: 2,
+    documents: 5,
+    query: "feed=continuous",
+};
+
+// Whether the lane is full, and its pump still there, once that has handed what it can.
+fn is_full<R: Wait>(
     rt: &R,
     gate: &Counting,
     handle: &mut Handle<Plain>,
-    feed: Feed<Plain>,
+    feed: &Feed<Plain>,
 ) -> bool {
-    gate.wait_for_pump(rt);
-    let is_read = handle.read(rt, Question::Info).is_ok();
-    let items = finished(rt, feed);
-    is_read && items == (Some(Row(1)), Some(Row(2)), None)
+    let is_read = wait_for_pump(rt, gate, handle);
+    let handed = feed.hold(rt, Turn::Hand, &Counting::new());
+    is_read && matches!(handed, Ok(Handed::Full)) && !feed.is_over()
 }
 
 #[test]
-fn a_stopped_reader_lets_its_pump_end(rt: HostRuntime) -> Result<(), Fail> {
-    let (db, mut handle) = database(rt.alloc(), 2, 64)?;
-    store(&rt, rt.alloc(), &mut handle, &FIVE)?;
-    let feed = open(&rt, rt.alloc(), &mut handle, "")?;
+fn a_stopped_reader_leaves_what_fits_its_lane(rt: HostRuntime) -> Result<(), Fail> {
+    let (db, mut handle, feed) = begin(&rt, rt.alloc(), &GOING_ON)?;
     let (id, gate, clock) = (feed.id(), Counting::new(), Stepping::new(0));
-    let (is_ok, gets) = thread::join(
+    let (is_ok, (is_full, items)) = thread::join(
         &rt,
         || pumps(&rt, &db, id, &gate, &clock),
-        || gets_two_rows(&rt, &gate, &mut handle, feed),
+        || {
+            let is_full = is_full(&rt, &gate, &mut handle, &feed);
+            (is_full, finished(&rt, feed))
+        },
     );
-    assert!(rt; is_ok && gets);
+    assert!(rt; is_ok && is_full);
+    same(&rt, &items, &(Some(Row(1)), Some(Row(2)), None));
     Ok(())
 }
+
+const SLOW: Asked = Asked {
+    lane: 2,
+    documents: 50,
+    query: "",
+};
 
 // How many rows came in order, from 1 on, before the end that shows them all; None where another
 // item came.
@@ -55,32 +95,9 @@ fn rows_to_end<R: Wait>(rt: &R, mut feed: Feed<Plain>) -> Option<u64> {
     Some(rows)
 }
 
-// The document of this number.
-fn numbered(alloc: Global, number: u64) -> Result<Doc, Fail> {
-    let text = format!(in alloc; r#"{{"_id":"d{number}","_rev":"1-a"}}"#)?;
-    Ok(Doc::read(alloc, text.as_bytes(), false)?)
-}
-
-// Stores so many documents.
-fn store_many<R: Wait>(
-    rt: &R,
-    alloc: Global,
-    handle: &mut Handle<Plain>,
-    count: u64,
-) -> Result<(), Fail> {
-    let mut docs = Vec::new(alloc);
-    for number in 0..count {
-        docs.push(numbered(alloc, number)?)?;
-    }
-    let _accepted = handle.write(rt, docs, false)?;
-    Ok(())
-}
-
 #[test]
 fn a_slow_reader_gets_every_row(rt: HostRuntime) -> Result<(), Fail> {
-    let (db, mut handle) = database(rt.alloc(), 2, 64)?;
-    store_many(&rt, rt.alloc(), &mut handle, 50)?;
-    let feed = open(&rt, rt.alloc(), &mut handle, "")?;
+    let (db, _handle, feed) = begin(&rt, rt.alloc(), &SLOW)?;
     let (id, gate, clock) = (feed.id(), Counting::new(), Stepping::new(0));
     let (is_ok, rows) = thread::join(
         &rt,
@@ -92,17 +109,6 @@ fn a_slow_reader_gets_every_row(rt: HostRuntime) -> Result<(), Fail> {
     Ok(())
 }
 
-// Writes documents once a pump has found nothing to hand.
-fn write_later<R: Wait>(
-    rt: &R,
-    gate: &Counting,
-    handle: &mut Handle<Plain>,
-    docs: Vec<Doc>,
-) -> bool {
-    gate.wait_for_pump(rt);
-    handle.write(rt, docs, false).is_ok()
-}
-
 // The first two items; the feed is finished behind them.
 fn first_two<R: Wait>(rt: &R, mut feed: Feed<Plain>) -> (Option<Told>, Option<Told>) {
     let first = next(rt, &mut feed);
@@ -111,48 +117,129 @@ fn first_two<R: Wait>(rt: &R, mut feed: Feed<Plain>) -> (Option<Told>, Option<To
     (first, second)
 }
 
-// What a feed's reader gets that waits before these documents are written; None where its pump or the write
-// fails.
+// Writes so many documents once a pump has found nothing to hand; whether they are stored.
+fn write_later<R: Wait>(
+    rt: &R,
+    alloc: Global,
+    gate: &Counting,
+    handle: &mut Handle<Plain>,
+    count: u64,
+) -> bool {
+    gate.wait_for_pump(rt);
+    put_many(rt, alloc, handle, count).is_some()
+}
+
+// What a feed's reader gets that waits before so many documents are written, and whether they are stored; None
+// where its pump does not end well.
 fn got_later<R: Threads + Wait + time::Clock + Sync>(
     rt: &R,
+    alloc: Global,
     db: &Db<Plain>,
     handle: &mut Handle<Plain>,
     feed: Feed<Plain>,
-    docs: Vec<Doc>,
-) -> Option<(Option<Told>, Option<Told>)> {
+    count: u64,
+) -> Option<((Option<Told>, Option<Told>), bool)> {
     let (id, gate, clock) = (feed.id(), Counting::new(), Stepping::new(0));
-    let (is_ok, (got, is_written)) = thread::join(
+    let (is_ok, read) = thread::join(
         rt,
         || pumps(rt, db, id, &gate, &clock),
         || {
             thread::join(
                 rt,
                 move || first_two(rt, feed),
-                || write_later(rt, &gate, handle, docs),
+                || write_later(rt, alloc, &gate, handle, count),
             )
         },
     );
-    (is_ok && is_written).then_some(got)
+    is_ok.then_some(read)
 }
 
-// The same of a feed of a new database, and of the documents that the texts are.
+// The same of a feed of a new database.
 fn answered_later<R: Threads + Wait + time::Clock + Sync>(
     rt: &R,
     alloc: Global,
-    query: &str,
-    texts: &[&str],
-) -> Result<Option<(Option<Told>, Option<Told>)>, Fail> {
-    let written = docs(alloc, texts)?;
-    let (db, mut handle) = database(alloc, 64, 64)?;
-    let feed = open(rt, alloc, &mut handle, query)?;
-    Ok(got_later(rt, &db, &mut handle, feed, written))
+    query: &'static str,
+    count: u64,
+) -> Result<Option<((Option<Told>, Option<Told>), bool)>, Fail> {
+    let asked = Asked {
+        lane: 64,
+        documents: 0,
+        query,
+    };
+    let (db, mut handle, feed) = begin(rt, alloc, &asked)?;
+    Ok(got_later(rt, alloc, &db, &mut handle, feed, count))
 }
 
 #[test]
 fn a_waiting_feed_is_told_of_a_write(rt: HostRuntime) -> Result<(), Fail> {
-    let longpoll = answered_later(&rt, rt.alloc(), "feed=longpoll", &FIVE[..1])?;
-    assert!(rt; longpoll == Some((Some(Row(1)), Some(End(1)))));
-    let continuous = answered_later(&rt, rt.alloc(), "feed=continuous", &FIVE[..2])?;
-    assert!(rt; continuous == Some((Some(Row(1)), Some(Row(2)))));
+    let longpoll = answered_later(&rt, rt.alloc(), "feed=longpoll", 1)?;
+    same(&rt, &longpoll, &Some(((Some(Row(1)), Some(End(1))), true)));
+    let continuous = answered_later(&rt, rt.alloc(), "feed=continuous", 2)?;
+    same(
+        &rt,
+        &continuous,
+        &Some(((Some(Row(1)), Some(Row(2))), true)),
+    );
+    Ok(())
+}
+
+const BEATING: Asked = Asked {
+    lane: 64,
+    documents: 0,
+    query: "feed=continuous&heartbeat=1",
+};
+
+// The first item; the feed is finished behind it.
+fn first<R: Wait>(rt: &R, mut feed: Feed<Plain>) -> Option<Told> {
+    let first = next(rt, &mut feed);
+    drop(feed.finish(rt));
+    first
+}
+
+#[test]
+fn a_feed_without_news_beats(rt: HostRuntime) -> Result<(), Fail> {
+    let (db, _handle, feed) = begin(&rt, rt.alloc(), &BEATING)?;
+    let (id, gate, clock) = (feed.id(), Counting::new(), Stepping::new(1000));
+    let (is_ok, read) = thread::join(
+        &rt,
+        || pumps(&rt, &db, id, &gate, &clock),
+        move || first(&rt, feed),
+    );
+    assert!(rt; is_ok);
+    same(&rt, &read, &Some(Beat));
+    Ok(())
+}
+
+const NOT_BEATING: Asked = Asked {
+    lane: 64,
+    documents: 0,
+    query: "feed=continuous&heartbeat=60000",
+};
+
+// The first item of a feed for which a document is written once its pump has found nothing to hand, and
+// whether that is stored.
+fn first_behind_write<R: Wait>(
+    rt: &R,
+    alloc: Global,
+    gate: &Counting,
+    handle: &mut Handle<Plain>,
+    feed: Feed<Plain>,
+) -> (bool, Option<Told>) {
+    let is_written = write_later(rt, alloc, gate, handle, 1);
+    (is_written, first(rt, feed))
+}
+
+// A millisecond passes with each reading, and the heartbeat is due after a minute.
+#[test]
+fn no_heartbeat_comes_before_its_time(rt: HostRuntime) -> Result<(), Fail> {
+    let (db, mut handle, feed) = begin(&rt, rt.alloc(), &NOT_BEATING)?;
+    let (id, gate, clock) = (feed.id(), Counting::new(), Stepping::new(1));
+    let (is_ok, read) = thread::join(
+        &rt,
+        || pumps(&rt, &db, id, &gate, &clock),
+        || first_behind_write(&rt, rt.alloc(), &gate, &mut handle, feed),
+    );
+    assert!(rt; is_ok);
+    same(&rt, &read, &(true, Some(Row(1))));
     Ok(())
 }

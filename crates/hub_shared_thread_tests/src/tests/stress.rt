@@ -1,10 +1,9 @@
 //! Many writers, and feeds of each mode, at once: what each reader took is compared with the edits
 //! that the receipts tell.
 
-use crate::tests::{Counting, LIFE, database, pumps, same};
-use hub_document::{ChangeRow, Doc, RevId};
+use crate::tests::{Counting, LIFE, database, open, pumps, put_text, same};
+use hub_document::{ChangeRow, RevId};
 use hub_model::Item;
-use hub_params::FeedParams;
 use hub_shared::{Clock, Db, Feed, Handle, Plain};
 use std::alloc::{AllocError, Global};
 use std::sync::Wait;
@@ -108,10 +107,7 @@ fn make_edit<R: Wait>(
     number: u64,
 ) -> Option<Edit> {
     let text = edit_text(alloc, writer, number).ok()?;
-    let doc = Doc::read(alloc, text.as_bytes(), false).ok()?;
-    let accepted = handle.write(rt, vec![in alloc; doc].ok()?, false).ok()?;
-    handle.audit(rt, accepted.receipts.as_slice()).ok()?;
-    let receipt = accepted.receipts.first()?;
+    let receipt = put_text(rt, alloc, handle, text.as_str())?;
     Some(Edit {
         seq: receipt.seq,
         doc: number_of(receipt.id.as_str())?,
@@ -214,8 +210,8 @@ fn follow<R: Wait>(
 ) -> Option<Feed<Plain>> {
     let query = asked.query;
     let query = format!(in alloc; "{query}&since={since}-{LIFE}").ok()?;
-    let params = FeedParams::read(alloc, query.as_bytes(), asked.body.as_bytes()).ok()?;
-    scene.db.handle().ok()?.open_feed(rt, params).ok()
+    let mut handle = scene.db.handle().ok()?;
+    open(rt, alloc, &mut handle, query.as_str(), asked.body)
 }
 
 // Keeps an item; whether it was the end.
@@ -253,48 +249,6 @@ fn read_slowly<R: Wait>(rt: &R, brought: &mut Brought, mut feed: Feed<Plain>) ->
     Some(())
 }
 
-// A feed, with a pump of its own, until its end.
-fn round<R: Threads + Wait + time::Clock + Sync>(
-    rt: &R,
-    scene: &Scene,
-    brought: &mut Brought,
-    feed: Feed<Plain>,
-) -> Option<()> {
-    let (id, gate) = (feed.id(), Counting::new());
-    let clock = Ending {
-        scene,
-        now: AtomicU64::new(0),
-    };
-    let (is_ok, is_whole) = thread::join(
-        rt,
-        || pumps(rt, &scene.db, id, &gate, &clock),
-        || read_slowly(rt, brought, feed),
-    );
-    is_whole?;
-    is_ok.then_some(())
-}
-
-// One feed after the other, each behind the last one's end, until one began that the writers were
-// done before.
-fn rows<R: Threads + Wait + time::Clock + Sync>(
-    rt: &R,
-    alloc: Global,
-    scene: &Scene,
-    asked: &Asked,
-) -> Option<Brought> {
-    let mut brought = Brought::new(alloc);
-    for _ in rt.forever() {
-        let is_last = scene.is_written();
-        let feed = follow(rt, alloc, scene, asked, brought.end.unwrap_or(0))?;
-        round(rt, scene, &mut brought, feed)?;
-        if is_last {
-            break;
-        }
-        thread::yield_now();
-    }
-    Some(brought)
-}
-
 // Takes nothing until the writers are done, and then what is left of a finished feed.
 fn read_late<R: Wait + time::Clock>(
     rt: &R,
@@ -318,14 +272,15 @@ fn read_late<R: Wait + time::Clock>(
     Some(())
 }
 
-// A reader that stopped, of a feed that goes on.
-fn stopped<R: Threads + Wait + time::Clock + Sync>(
+// What a reader takes of a feed, with a pump of its own: all until its end, or what is left once the writers
+// are done.
+fn round<R: Threads + Wait + time::Clock + Sync>(
     rt: &R,
-    alloc: Global,
     scene: &Scene,
-) -> Option<Brought> {
-    let mut brought = Brought::new(alloc);
-    let feed = follow(rt, alloc, scene, &FEEDS[5], 0)?;
+    brought: &mut Brought,
+    feed: Feed<Plain>,
+    is_late: bool,
+) -> Option<()> {
     let (id, gate) = (feed.id(), Counting::new());
     let clock = Ending {
         scene,
@@ -334,10 +289,49 @@ fn stopped<R: Threads + Wait + time::Clock + Sync>(
     let (is_ok, is_whole) = thread::join(
         rt,
         || pumps(rt, &scene.db, id, &gate, &clock),
-        || read_late(rt, scene, &mut brought, feed),
+        || {
+            if is_late {
+                read_late(rt, scene, brought, feed)
+            } else {
+                read_slowly(rt, brought, feed)
+            }
+        },
     );
     is_whole?;
-    is_ok.then_some(brought)
+    is_ok.then_some(())
+}
+
+// One feed after the other, each behind the last one's end, until one began that the writers were
+// done before.
+fn rows<R: Threads + Wait + time::Clock + Sync>(
+    rt: &R,
+    alloc: Global,
+    scene: &Scene,
+    asked: &Asked,
+) -> Option<Brought> {
+    let mut brought = Brought::new(alloc);
+    for _ in rt.forever() {
+        let is_last = scene.is_written();
+        let feed = follow(rt, alloc, scene, asked, brought.end.unwrap_or(0))?;
+        round(rt, scene, &mut brought, feed, false)?;
+        if is_last {
+            break;
+        }
+        thread::yield_now();
+    }
+    Some(brought)
+}
+
+// A reader that stopped, of a feed that goes on.
+fn stopped<R: Threads + Wait + time::Clock + Sync>(
+    rt: &R,
+    alloc: Global,
+    scene: &Scene,
+) -> Option<Brought> {
+    let mut brought = Brought::new(alloc);
+    let feed = follow(rt, alloc, scene, &FEEDS[5], 0)?;
+    round(rt, scene, &mut brought, feed, true)?;
+    Some(brought)
 }
 
 // What the thread of this number does: eight feeds, a stopped reader, and writers.
@@ -358,23 +352,29 @@ fn part<R: Threads + Wait + time::Clock + Sync>(
     brought
 }
 
-// The edits of all writers by their sequences; None where one is missing or there twice.
-fn journal(alloc: Global, parts: &[Brought]) -> Option<Vec<Edit>> {
+// The edits of all writers by their sequences; None where one is missing or there twice, or a thread did not
+// get on.
+fn journal(alloc: Global, parts: &[Option<Brought>]) -> Option<Vec<Edit>> {
     let mut all = Vec::new(alloc);
     for part in parts {
-        for edit in &part.edits {
+        for edit in &part.as_ref()?.edits {
             all.push(*edit).ok()?;
         }
     }
     all.sort_unstable_by(|one, other| one.seq.cmp(&other.seq));
+    are_in_order(all.as_slice()).then_some(all)
+}
+
+// Whether these are the edits from the first one on, each once.
+fn are_in_order(all: &[Edit]) -> bool {
     let mut last = 0u64;
-    for edit in &all {
+    for edit in all {
         if last.checked_add(1) != Some(edit.seq) {
-            return None;
+            return false;
         }
         last = edit.seq;
     }
-    Some(all)
+    true
 }
 
 // The edits of a document among the first so many; None where there are fewer.
@@ -479,12 +479,32 @@ fn is_held(alloc: Global, all: &[Edit], brought: &Brought) -> bool {
     brought.end.is_none() && rows.len() <= 4 && are_right(alloc, all, &FEEDS[5], rows)
 }
 
-// What the threads of a run with so many writers brought; None where one did not get on.
+// Whether what this thread brought is right; of a writer nothing is asked here.
+fn is_right_part(alloc: Global, all: &[Edit], at: usize, part: &Option<Brought>) -> bool {
+    match part {
+        Some(brought) if at < 8 => is_whole(alloc, all, &FEEDS[at], brought),
+        Some(brought) if at == 8 => is_held(alloc, all, brought),
+        Some(_) => true,
+        None => false,
+    }
+}
+
+// The number of the first thread that brought what is not right.
+fn first_wrong(alloc: Global, all: &[Edit], parts: &[Option<Brought>]) -> Option<usize> {
+    for at in 0..parts.len() {
+        if !is_right_part(alloc, all, at, &parts[at]) {
+            return Some(at);
+        }
+    }
+    None
+}
+
+// How many edits so many writers made, and the number of the first thread that brought what is not right.
 fn run<R: Threads + Wait + time::Clock + Sync>(
     rt: &R,
     alloc: Global,
     writers: u64,
-) -> Result<Option<Vec<Brought>>, Fail> {
+) -> Result<(usize, Option<usize>), Fail> {
     let (db, _handle) = database(alloc, 4, 8)?;
     let scene = Scene {
         db,
@@ -492,49 +512,20 @@ fn run<R: Threads + Wait + time::Clock + Sync>(
     };
     let count = 9 + writers.min(8) as usize;
     let parts = thread::map_indices(rt, alloc, count, &|at| part(rt, alloc, &scene, at))?;
-    let mut all = Vec::new(alloc);
-    for part in parts {
-        match part {
-            Some(brought) => all.push(brought)?,
-            None => return Ok(None),
-        }
-    }
-    Ok(Some(all))
-}
-
-// The number of the first feed whose reader took what is not right.
-fn first_wrong(alloc: Global, all: &[Edit], parts: &[Brought]) -> Option<usize> {
-    for at in 0..parts.len().min(9) {
-        let is_so = if at < 8 {
-            is_whole(alloc, all, &FEEDS[at], &parts[at])
-        } else {
-            is_held(alloc, all, &parts[at])
-        };
-        if !is_so {
-            return Some(at);
-        }
-    }
-    None
+    let Some(all) = journal(alloc, parts.as_slice()) else {
+        return Err(Fail::new("the receipts are not of the journal"));
+    };
+    Ok((
+        all.len(),
+        first_wrong(alloc, all.as_slice(), parts.as_slice()),
+    ))
 }
 
 #[test]
 fn readers_take_what_writers_are_told(rt: HostRuntime) -> Result<(), Fail> {
     for writers in [1u64, 2, 8] {
-        let Some(parts) = run(&rt, rt.alloc(), writers)? else {
-            return Err(Fail::new("a thread did not get on"));
-        };
-        let Some(all) = journal(rt.alloc(), parts.as_slice()) else {
-            return Err(Fail::new("the receipts are not of the journal"));
-        };
-        same(&rt, &(all.len() as u64), &(writers * EDITS));
-        same(
-            &rt,
-            &(
-                writers,
-                first_wrong(rt.alloc(), all.as_slice(), parts.as_slice()),
-            ),
-            &(writers, None),
-        );
+        let wanted = (writers * EDITS) as usize;
+        same(&rt, &run(&rt, rt.alloc(), writers)?, &(wanted, None));
     }
     Ok(())
 }

@@ -1,8 +1,7 @@
 //! One worker that sends the feeds of two databases, while others write to these.
 
-use crate::tests::Told::Row;
-use crate::tests::feeds::poll;
-use crate::tests::{Counting, Stepping, database, open, put};
+use crate::tests::Told::{self, Row};
+use crate::tests::{Counting, Stepping, database, open, put_many, told_of};
 use hub_shared::{Bell, Feed, Handle, Plain, Watch};
 use std::alloc::Global;
 use std::sync::{Arc, Wait};
@@ -16,6 +15,13 @@ const WRITES: u64 = 200;
 /// How often the worker looks at its bell before it gives up, a millisecond apart where it is not rung.
 const LOOKS: u64 = 20_000;
 
+// The next item that a poll gives.
+fn poll<R: Wait>(rt: &R, feed: &mut Feed<Plain>) -> Option<Told> {
+    let mut next = None;
+    feed.poll(rt, &Counting::new(), &Stepping::new(0), &mut next);
+    told_of(next)
+}
+
 /// A feed, and how many of its rows came.
 #[derive(Drop)]
 struct Shown {
@@ -27,7 +33,7 @@ impl Shown {
     // Polls the feed until it waits; whether each item was the next row.
     fn catch_up<R: Wait>(&mut self, rt: &R) -> bool {
         for _ in 0..=WRITES {
-            match poll(rt, &mut self.feed, &Counting::new(), &Stepping::new(0)) {
+            match poll(rt, &mut self.feed) {
                 None => return true,
                 Some(Row(seq)) if self.rows.checked_add(1) == Some(seq) => self.rows = seq,
                 Some(_) => return false,
@@ -55,7 +61,9 @@ impl Watched {
         let watch = Arc::new(alloc, Watch::new(bell))?;
         let mut shown = Vec::new(alloc);
         for _ in 0..3 {
-            let feed = open(rt, alloc, &mut handle, "feed=continuous")?;
+            let Some(feed) = open(rt, alloc, &mut handle, "feed=continuous", "") else {
+                return Err(Fail::new("no feed"));
+            };
             feed.watch(rt, Arc::try_clone(&watch)?);
             shown.push(Shown { feed, rows: 0 })?;
         }
@@ -106,28 +114,6 @@ impl Worker {
     }
 }
 
-// Stores a document of this number; None where it is not stored.
-fn write_one<R: Wait>(
-    rt: &R,
-    alloc: Global,
-    handle: &mut Handle<Plain>,
-    number: u64,
-) -> Option<()> {
-    let text = format!(in alloc; r#"{{"_id":"d{number}","_rev":"1-a"}}"#).ok()?;
-    put(rt, alloc, handle, text.as_str())
-}
-
-// Whether all documents of a database are stored.
-fn writes<R: Wait>(rt: &R, alloc: Global, handle: &mut Handle<Plain>) -> bool {
-    for number in 0..WRITES {
-        if write_one(rt, alloc, handle, number).is_none() {
-            return false;
-        }
-        thread::yield_now();
-    }
-    true
-}
-
 // Whether a worker sends what two threads write, each to a database of its own.
 fn sends_all<R: Threads + Wait + Clock + Sync>(rt: &R, alloc: Global) -> Result<bool, Fail> {
     let bell = Arc::new(alloc, Bell::new())?;
@@ -144,8 +130,8 @@ fn sends_all<R: Threads + Wait + Clock + Sync>(rt: &R, alloc: Global) -> Result<
         || {
             thread::join(
                 rt,
-                || writes(rt, alloc, &mut one),
-                || writes(rt, alloc, &mut other),
+                || put_many(rt, alloc, &mut one, WRITES).is_some(),
+                || put_many(rt, alloc, &mut other, WRITES).is_some(),
             )
         },
     );
