@@ -1,11 +1,9 @@
 //! Transcripts of two databases and a follower between them.
 
-use crate::tests::{
-    LOG, Told, begin, database, edits, number, seq_of, tell_begun, tell_checkpoint, tell_end,
-    tell_leaves, tell_logs, tell_round, tell_written, text_of, write,
-};
-use hub_document::{Asked, Limits, LocalDoc};
-use hub_follower::{Changes, DbPeer, Follower, Peer, Seq};
+use crate::tests::desk::{Desk, Lost};
+use crate::tests::{LOG, database, number, text_of};
+use hub_document::Limits;
+use hub_follower::DbPeer;
 use hub_shared::{Db, Plain};
 use hub_transcript::{Answer, Subject, Words};
 use std::alloc::{AllocError, Global};
@@ -14,32 +12,46 @@ use std::sync::Wait;
 /// A source and a target, at first empty and of the life 1, and a follower of one into the other. A place is
 /// told as a log has it: its number, with its life where that is known.
 ///
-/// - `make END LIFE [LIMIT]`: a new database in the place of `source` or `target`, with room for one `feed`
-///   or one `edit` alone, where that is the limit.
+/// - `make END LIFE [LIMIT]`: a new database in the place of `source` or `target`, also for the session that
+///   is on, with room for one `feed` or one `edit` alone, where that is the limit.
 /// - `put DOC ..`: stores documents at the source with their histories, and tells how many edits it has.
 /// - `fill N`: stores the documents d0, d1 and so on there, each with the revision 1-a.
 /// - `delete END`: deletes the database.
-/// - `keep END SEQ`: keeps a log there of the session S0 alone, which recorded this, as JSON.
+/// - `keep END LOG`: keeps a log there, which is written as in `logs`.
 /// - `logs ID`: the sessions to come have logs of this id.
+/// - `loses END N LOSS`: the sessions to come lose the call of this number of the end, `before` its effect or
+///   `after` it.
 /// - `session ID`: a session begins, and tells its place. Where none begins, it tells why, and how many
-///   faults source and target counted.
+///   faults source and target counted, and how many of them their databases did. In `session ID numbers` the
+///   databases are told no lives of the sequences that they are asked for changes above.
 /// - `round`: tells what a round did, and its place.
 /// - `copy`: makes rounds until there is nothing new and one more, of which it tells the same.
 /// - `checkpoint`: records the place, and tells what the logs of source and target record.
-/// - `end`: ends the session, and tells how many faults source and target counted.
+/// - `end`: ends the session, and tells how many faults were counted, as `session` does.
+/// - `library ID OTHER`: copies the source by the example of README.md, in a session of this id, and of the
+///   other one where that finds no memory.
 /// - `count`: tells how many edits the target has.
-/// - `log`: tells what the logs of source and target record; `log END` is the log's text.
+/// - `log END`: the text of the log.
 /// - `leaves ID`: the leaves of a document at both ends, best first.
 /// - `changes SEQ`: how many rows the source lists above a sequence, and where they end.
 /// - `missing SEQ`: the documents of which the target misses revisions that the source lists above it.
+/// - `first DOC ..`: what the source has when a first session copies it, and records that.
+/// - `then DOC ..`: what it gets behind that.
+/// - `ids ID ..`: the documents that it then has.
+/// - `lose END N LOSS`: between two new databases a second session, which loses such a call, and a third one,
+///   which loses none. It tells how the second one ended, and how many edits the target then had; and where
+///   the third one began, and how many edits are copied behind it: the target has all the source's leaves and
+///   as many edits, and both logs record all of them.
+///
+/// Where a growth of a session of `lose` that loses a call is refused, the third one goes on as behind any
+/// other failure. All is made until it tells the same twice: where a call that is to be lost finds no memory
+/// itself, it has no effect.
 #[derive(Drop)]
 pub(crate) struct Copier<'a, R: Wait> {
     rt: &'a R,
-    alloc: Global,
     source: Db<Plain>,
     target: Db<Plain>,
-    log_id: String,
-    follower: Option<Follower<DbPeer<'a, R>, DbPeer<'a, R>>>,
+    desk: Desk<DbPeer<'a, R>>,
 }
 
 // The limits of a database with room for one feed or one edit alone, or of a hub that serves.
@@ -54,233 +66,91 @@ fn limits_of(limit: &str) -> Limits {
     limits
 }
 
-// The database of the end of this name; an error each time where there is none.
-fn end_of<'d>(
-    (source, target): (&'d Db<Plain>, &'d Db<Plain>),
-    name: &str,
-) -> Result<&'d Db<Plain>, AllocError> {
-    if name == "source" {
-        return Ok(source);
-    }
-    if name == "target" {
-        return Ok(target);
-    }
-    Err(AllocError)
-}
-
-// Stores so many documents.
-fn fill<R: Wait>(
-    rt: &R,
-    alloc: Global,
-    source: &Db<Plain>,
-    count: u64,
-    answer: &mut Answer,
-) -> Result<(), AllocError> {
-    for number in 0..count {
-        let text = format!(in alloc; r#"{{"_id":"d{number}","_rev":"1-a"}}"#)?;
-        if !write(rt, alloc, source, text.as_str())? {
-            return answer.line("other edits than it says");
+impl<'a, R: Wait> Copier<'a, R> {
+    // The database of the end of this name.
+    fn db(&self, name: &str) -> &Db<Plain> {
+        if name == "source" {
+            &self.source
+        } else {
+            &self.target
         }
     }
-    let stored = edits(rt, source)?;
-    answer.line(format_args!("source {stored}"))
-}
 
-// What a source lists above a sequence; an error where it finds no memory, and each time where it fails.
-fn rows_above<R: Wait>(
-    rt: &R,
-    alloc: Global,
-    source: &Db<Plain>,
-    since: &str,
-) -> Result<Changes, AllocError> {
-    let since = seq_of(since)?;
-    match DbPeer::new(rt, alloc, source.handle()?).changes(since) {
-        Ok(changes) => Ok(changes),
-        Err(_) => Err(AllocError),
-    }
-}
-
-// The documents of rows, with the leaves that they list.
-fn listed(alloc: Global, changes: Changes) -> Result<Vec<Asked>, AllocError> {
-    let mut asked = Vec::new(alloc);
-    for row in changes.rows {
-        asked.push(Asked {
-            id: row.id.to_text(alloc)?,
-            revs: row.changes.into_revisions(alloc)?,
-        })?;
-    }
-    Ok(asked)
-}
-
-// Tells the documents of which a target misses some of these revisions.
-fn tell_missing<R: Wait>(
-    rt: &R,
-    alloc: Global,
-    target: &Db<Plain>,
-    asked: &[Asked],
-    answer: &mut Answer,
-) -> Result<(), AllocError> {
-    let Ok(missing) = DbPeer::new(rt, alloc, target.handle()?).revs_diff(asked) else {
-        return Err(AllocError);
-    };
-    for diff in &missing {
-        answer.line(diff.id.as_str())?;
-    }
-    answer.line(format_args!("{} missing", missing.len()))
-}
-
-// Keeps the log of the session S0 that recorded this sequence, as JSON; an error where it finds no memory,
-// and each time where it is refused.
-fn keep<R: Wait>(rt: &R, alloc: Global, db: &Db<Plain>, seq: &str) -> Result<(), AllocError> {
-    let entry = format!(in alloc;
-        r#"{{"end_last_seq":{seq},"recorded_seq":{seq},"session_id":"S0","start_last_seq":0}}"#
-    )?;
-    let text = format!(in alloc;
-        r#"{{"history":[{entry}],"replication_id_version":3,"session_id":"S0","source_last_seq":{seq}}}"#
-    )?;
-    let Ok(log) = LocalDoc::read(alloc, LOG, text.as_bytes()) else {
-        return Err(AllocError);
-    };
-    match db.handle()?.local_put(rt, log) {
-        Ok(_count) => Ok(()),
-        Err(_) => Err(AllocError),
-    }
-}
-
-// Tells the text of the log that a database keeps.
-fn tell_text<R: Wait>(rt: &R, db: &Db<Plain>, answer: &mut Answer) -> Result<(), AllocError> {
-    match db.handle()?.look(rt, |state| state.local_copy(LOG)) {
-        Ok(Some(local)) => answer.line(text_of(local.body.as_bytes())?),
-        Ok(None) => answer.line("none"),
-        Err(_) => Err(AllocError),
-    }
-}
-
-// Deletes a database.
-fn delete<R: Wait>(rt: &R, db: &Db<Plain>, answer: &mut Answer) -> Result<(), AllocError> {
-    match db.handle()?.delete(rt) {
-        Ok(()) => Ok(()),
-        Err(fault) => answer.line(format_args!("{fault:?}")),
-    }
-}
-
-// Carries out a command on what source and target have.
-fn tell<R: Wait>(
-    rt: &R,
-    alloc: Global,
-    dbs: (&Db<Plain>, &Db<Plain>),
-    verb: &str,
-    rest: &str,
-    answer: &mut Answer,
-) -> Result<(), AllocError> {
-    if verb == "put" {
-        return tell_written(rt, alloc, dbs.0, rest, answer);
-    }
-    if verb == "fill" {
-        return fill(rt, alloc, dbs.0, number(rest)?, answer);
-    }
-    if verb == "delete" {
-        return delete(rt, end_of(dbs, rest)?, answer);
-    }
-    if verb == "log" && !rest.is_empty() {
-        return tell_text(rt, end_of(dbs, rest)?, answer);
-    }
-    if verb == "changes" {
-        let changes = rows_above(rt, alloc, dbs.0, rest)?;
-        let end = Told(Some(Seq::of_life(changes.last_seq, changes.life)));
-        return answer.line(format_args!("{} rows up to {end}", changes.rows.len()));
-    }
-    if verb == "missing" {
-        let asked = listed(alloc, rows_above(rt, alloc, dbs.0, rest)?)?;
-        return tell_missing(rt, alloc, dbs.1, asked.as_slice(), answer);
-    }
-    tell_both(rt, alloc, dbs, verb, rest, answer)
-}
-
-/// Carries out a command on what two databases have: `leaves`, `log` or `count`.
-pub(crate) fn tell_both<R: Wait>(
-    rt: &R,
-    alloc: Global,
-    dbs: (&Db<Plain>, &Db<Plain>),
-    verb: &str,
-    rest: &str,
-    answer: &mut Answer,
-) -> Result<(), AllocError> {
-    if verb == "leaves" {
-        return tell_leaves(rt, alloc, dbs, rest, answer);
-    }
-    if verb == "log" {
-        return tell_logs(rt, alloc, dbs, answer);
-    }
-    if verb == "count" {
-        let stored = edits(rt, dbs.1)?;
-        return answer.line(format_args!("target {stored}"));
-    }
-    answer.line("?")
-}
-
-impl<'a, R: Wait> Copier<'a, R> {
     // Puts a new database in the place of one.
-    fn make(&mut self, words: &mut Words<'_>) -> Result<(), AllocError> {
-        let is_source = words.word() == "source";
-        let life = number(words.word())?;
-        let db = database(self.alloc, limits_of(words.word()), life)?;
+    fn make(&mut self, is_source: bool, life: u64, limits: Limits) -> Result<(), AllocError> {
+        let alloc = self.desk.alloc;
+        let db = database(alloc, limits, life)?;
+        let peer = DbPeer::new(self.rt, alloc, db.handle()?);
         if is_source {
             self.source = db;
+            self.desk.source.put(peer)
         } else {
             self.target = db;
+            self.desk.target.put(peer)
         }
-        Ok(())
     }
 
-    fn session(&mut self, session_id: &str, answer: &mut Answer) -> Result<(), AllocError> {
-        let source = DbPeer::new(self.rt, self.alloc, self.source.handle()?);
-        let target = DbPeer::new(self.rt, self.alloc, self.target.handle()?);
-        let begun = begin(self.alloc, source, target, self.log_id.as_str(), session_id);
-        tell_begun(self.alloc, begun, &mut self.follower, answer)
+    // Deletes a database.
+    fn delete(&mut self, name: &str, answer: &mut Answer) -> Result<(), AllocError> {
+        match self.db(name).handle()?.delete(self.rt) {
+            Ok(()) => Ok(()),
+            Err(fault) => answer.line(format_args!("{fault:?}")),
+        }
+    }
+
+    // Tells the text of the log that a database keeps.
+    fn log(&self, name: &str, answer: &mut Answer) -> Result<(), AllocError> {
+        let mut handle = self.db(name).handle()?;
+        match handle.look(self.rt, |state| state.local_copy(LOG)) {
+            Ok(Some(local)) => answer.line(text_of(local.body.as_bytes())?),
+            Ok(None) => answer.line("none"),
+            Err(_) => Err(AllocError),
+        }
+    }
+
+    // Runs sessions that lose a call until two runs are alike.
+    fn lose(&mut self, lost: Lost, answer: &mut Answer) -> Result<(), AllocError> {
+        let mut last = String::new(self.desk.alloc);
+        for _ in 0..3 {
+            self.make(true, 1, Limits::full())?;
+            self.make(false, 1, Limits::full())?;
+            let told = self.desk.run(lost)?;
+            if told.as_str() == last.as_str() {
+                return answer.line(told.as_str());
+            }
+            last = told;
+        }
+        answer.line("each time something else")
     }
 }
 
 impl<'a, R: Wait> Subject<&'a R> for Copier<'a, R> {
     fn begin(rt: &&'a R, alloc: Global, _: &str) -> Result<Copier<'a, R>, AllocError> {
+        let source = database(alloc, Limits::full(), 1)?;
+        let target = database(alloc, Limits::full(), 1)?;
+        let source_peer = DbPeer::new(*rt, alloc, source.handle()?);
+        let target_peer = DbPeer::new(*rt, alloc, target.handle()?);
+        let desk = Desk::new(alloc, source_peer, target_peer)?;
         Ok(Copier {
             rt: *rt,
-            alloc,
-            source: database(alloc, Limits::full(), 1)?,
-            target: database(alloc, Limits::full(), 1)?,
-            log_id: String::from_str(alloc, LOG)?,
-            follower: None,
+            source,
+            target,
+            desk,
         })
     }
 
     fn answer(&mut self, _: &&'a R, command: &str, answer: &mut Answer) -> Result<(), AllocError> {
         let mut words = Words::of(command);
-        let verb = words.word();
-        if verb == "session" {
-            return self.session(words.rest(), answer);
+        match words.verb("make delete log lose") {
+            0 => {
+                let is_source = words.word() == "source";
+                let life = number(words.word())?;
+                self.make(is_source, life, limits_of(words.word()))
+            }
+            1 => self.delete(words.rest(), answer),
+            2 => self.log(words.rest(), answer),
+            3 => self.lose(Lost::read(&mut words)?, answer),
+            _ => self.desk.answer(command, answer),
         }
-        if verb == "round" || verb == "copy" {
-            return tell_round(self.alloc, &mut self.follower, verb == "copy", answer);
-        }
-        if verb == "end" {
-            return tell_end(&mut self.follower, answer);
-        }
-        if verb == "make" {
-            return self.make(&mut words);
-        }
-        if verb == "logs" {
-            self.log_id = String::from_str(self.alloc, words.rest())?;
-            return Ok(());
-        }
-        let dbs = (&self.source, &self.target);
-        if verb == "keep" {
-            let db = end_of(dbs, words.word())?;
-            return keep(self.rt, self.alloc, db, words.rest());
-        }
-        if verb == "checkpoint" {
-            tell_checkpoint(self.alloc, &mut self.follower, answer)?;
-            return tell_logs(self.rt, self.alloc, dbs, answer);
-        }
-        tell(self.rt, self.alloc, dbs, verb, words.rest(), answer)
     }
 }

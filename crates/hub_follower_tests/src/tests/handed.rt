@@ -1,28 +1,19 @@
 //! Which items are an answer to a follower that asks for changes.
 
-use crate::tests::{docs, number, text_of};
+use crate::tests::values::Values;
+use crate::tests::{docs, number, numbered, text_of};
 use hub_database::DbState;
-use hub_document::{ChangeRow, Changes, DocId, Limits, RevId, Revisions};
+use hub_document::{ChangeRow, Changes, Doc, DocId, Limits, RevId, Revisions};
 use hub_feed::{FeedHost, FeedId, Next};
 use hub_filter::Filter;
 use hub_follower::rightly_handed;
 use hub_model::{Item, Mode, Since, Style};
 use hub_params::FeedParams;
-use hub_transcript::{Answer, Subject, Words, replay};
+use hub_transcript::{Answer, Words, replay};
 use std::alloc::{AllocError, Global};
 use std::test::Fail;
 
-/// A database of one thread, the same behind its deletion, and the items that a feed of it handed. A row is
-/// told as `SEQ:ID:REV,REV..:SEEN`: its sequence, its document, its leaves, and the update sequence when it
-/// was made; an end as `end:LAST`, and a heartbeat as `beat`.
-///
-/// - `put DOC ..`: stores documents with their histories, and tells how many edits there are.
-/// - `feed SINCE`: opens a feed as a follower asks for it.
-/// - `hand`: tells what the feed hands next.
-/// - `handed`: whether what the feed handed is right.
-/// - `above SINCE ITEM ..`: whether these items are right above a sequence.
-/// - `rows N`: stores the documents d0, d1 and so on, and tells whether a row of each, and their end, are
-///   right.
+/// A database of one thread, the same behind its deletion, and the items that a feed of it handed.
 #[derive(Drop)]
 pub(crate) struct Handed {
     alloc: Global,
@@ -124,10 +115,9 @@ fn tell_item(alloc: Global, item: &Item<ChangeRow>, answer: &mut Answer) -> Resu
     }
 }
 
-// Stores the documents that the words are. Where one finds no memory, those before it stand; written again,
-// they are known.
-fn write(alloc: Global, db: &mut DbState, words: &str) -> Result<(), AllocError> {
-    match db.write_edits(docs(alloc, words)?, false) {
+// Stores documents. Where one finds no memory, those before it stand; written again, they are known.
+fn write(db: &mut DbState, docs: Vec<Doc>) -> Result<(), AllocError> {
+    match db.write_edits(docs, false) {
         Ok(batch) if !batch.stopped => Ok(()),
         _ => Err(AllocError),
     }
@@ -148,31 +138,23 @@ fn asked(since: u64) -> FeedParams {
     }
 }
 
-// Takes and tells what a feed hands next. Where that finds no memory it is due still.
-fn hand(
-    alloc: Global,
-    db: &mut DbState,
-    feed: FeedId,
-    answer: &mut Answer,
-) -> Result<Option<Item<ChangeRow>>, AllocError> {
-    match db.next_item(feed) {
-        Ok(Next::Give(item)) => {
-            tell_item(alloc, &item, answer)?;
-            db.accept_item(feed, &item);
-            Ok(Some(item))
-        }
-        Ok(Next::Nothing) | Ok(Next::Gone) => {
-            answer.line("nothing is due")?;
-            Ok(None)
-        }
-        Err(AllocError) => Err(AllocError),
-    }
-}
-
 impl Handed {
-    fn put(&mut self, words: &str) -> Result<(), AllocError> {
-        write(self.alloc, &mut self.db, words)?;
-        write(self.alloc, &mut self.deleted, words)
+    /// An empty database.
+    pub(crate) fn new(alloc: Global) -> Handed {
+        Handed {
+            alloc,
+            db: DbState::new(alloc, Limits::full(), 1),
+            deleted: DbState::new(alloc, Limits::full(), 1),
+            since: 0,
+            feed: None,
+            items: Vec::new(alloc),
+        }
+    }
+
+    fn put(&mut self, words: &str, answer: &mut Answer) -> Result<(), AllocError> {
+        write(&mut self.db, docs(self.alloc, words)?)?;
+        write(&mut self.deleted, docs(self.alloc, words)?)?;
+        answer.line(format_args!("{} edits", self.db.update_seq()))
     }
 
     // Tells whether items are right, and once the database is deleted.
@@ -211,25 +193,32 @@ impl Handed {
         }
     }
 
+    // Takes and tells what the feed hands next. Where that finds no memory it is due still.
     fn hand(&mut self, answer: &mut Answer) -> Result<(), AllocError> {
         let Some(feed) = self.feed else {
             return answer.line("no feed");
         };
         self.items.reserve(1)?;
-        if let Some(item) = hand(self.alloc, &mut self.db, feed, answer)? {
-            self.items.push(item)?;
+        match self.db.next_item(feed)? {
+            Next::Give(item) => {
+                tell_item(self.alloc, &item, answer)?;
+                self.db.accept_item(feed, &item);
+                self.items.push(item)?;
+                Ok(())
+            }
+            Next::Nothing | Next::Gone => answer.line("nothing is due"),
         }
-        Ok(())
     }
 
+    // Whether rows of so many documents, and their end, are right.
     fn rows(&mut self, count: u64, answer: &mut Answer) -> Result<(), AllocError> {
+        write(&mut self.db, numbered(self.alloc, count)?)?;
+        write(&mut self.deleted, numbered(self.alloc, count)?)?;
         let mut items = Vec::new(self.alloc);
         for number in 0..count {
-            let text = format!(in self.alloc; r#"{{"_id":"d{number}","_rev":"1-a"}}"#)?;
-            self.put(text.as_str())?;
             let seq = number.saturating_add(1);
             let row = format!(in self.alloc; "{seq}:d{number}:1-a:{seq}")?;
-            items.push(Item::Row(row_of(self.alloc, row.as_str())?))?;
+            items.push(item_of(self.alloc, row.as_str())?)?;
         }
         items.push(Item::End {
             last_seq: count,
@@ -237,43 +226,19 @@ impl Handed {
         })?;
         self.decide(0, items.as_slice(), answer)
     }
-}
 
-impl<R> Subject<R> for Handed {
-    fn begin(_: &R, alloc: Global, _: &str) -> Result<Handed, AllocError> {
-        Ok(Handed {
-            alloc,
-            db: DbState::new(alloc, Limits::full(), 1),
-            deleted: DbState::new(alloc, Limits::full(), 1),
-            since: 0,
-            feed: None,
-            items: Vec::new(alloc),
-        })
-    }
-
-    fn answer(&mut self, _: &R, command: &str, answer: &mut Answer) -> Result<(), AllocError> {
+    /// Carries out a command.
+    pub(crate) fn answer(&mut self, command: &str, answer: &mut Answer) -> Result<(), AllocError> {
         let mut words = Words::of(command);
-        let verb = words.word();
-        if verb == "put" {
-            self.put(words.rest())?;
-            return answer.line(format_args!("{} edits", self.db.update_seq()));
+        match words.verb("put feed hand handed above rows") {
+            0 => self.put(words.rest(), answer),
+            1 => self.open(number(words.rest())?),
+            2 => self.hand(answer),
+            3 => self.decide(self.since, self.items.as_slice(), answer),
+            4 => self.above(&mut words, answer),
+            5 => self.rows(number(words.rest())?, answer),
+            _ => answer.line("?"),
         }
-        if verb == "feed" {
-            return self.open(number(words.rest())?);
-        }
-        if verb == "hand" {
-            return self.hand(answer);
-        }
-        if verb == "handed" {
-            return self.decide(self.since, self.items.as_slice(), answer);
-        }
-        if verb == "above" {
-            return self.above(&mut words, answer);
-        }
-        if verb == "rows" {
-            return self.rows(number(words.rest())?, answer);
-        }
-        answer.line("?")
     }
 }
 
@@ -345,7 +310,7 @@ right
 
 #[test]
 fn what_feeds_hand_is_right(rt: HostRuntime) -> Result<(), Fail> {
-    replay::<Handed, _>(&rt, rt.alloc(), FEEDS)
+    replay::<Values, _>(&rt, rt.alloc(), FEEDS)
 }
 
 // Behind edits of three documents, of which x has three leaves; and behind a parent that came late. A hundred
@@ -453,5 +418,5 @@ wrong
 
 #[test]
 fn items_are_decided(rt: HostRuntime) -> Result<(), Fail> {
-    replay::<Handed, _>(&rt, rt.alloc(), DECIDED)
+    replay::<Values, _>(&rt, rt.alloc(), DECIDED)
 }

@@ -1,23 +1,19 @@
 //! How a user of the libraries copies one database into another.
 
-use crate::tests::{database, edits, write};
-use hub_document::Limits;
-use hub_follower::{DbPeer, FollowFault, Follower, Round};
-use hub_shared::{Db, Plain};
+use crate::tests::copier::Copier;
+use crate::tests::held::Held;
+use hub_follower::{FollowFault, Follower, Peer, Round};
+use hub_transcript::replay;
 use std::alloc::Global;
-use std::sync::Wait;
 use std::test::Fail;
 
 // The example of README.md.
-fn copy<R: Wait>(
-    rt: &R,
+fn copy<S: Peer + Drop, T: Peer + Drop>(
     alloc: Global,
-    source: &Db<Plain>,
-    target: &Db<Plain>,
+    source: S,
+    target: T,
     session_id: &str,
 ) -> Result<(), FollowFault> {
-    let source = DbPeer::new(rt, alloc, source.handle()?);
-    let target = DbPeer::new(rt, alloc, target.handle()?);
     let log_id = "_local/copy";
     let mut follower = match Follower::start(alloc, source, target, log_id, session_id) {
         Ok(follower) => follower,
@@ -32,37 +28,46 @@ fn copy<R: Wait>(
     Ok(())
 }
 
-// Whether that copies all, also where a growth of it is refused: then under another id.
-fn copies<R: Wait>(
-    rt: &R,
+// One session of the example.
+fn copy_once<P: Peer + Drop>(
     alloc: Global,
-    source: &Db<Plain>,
-    target: &Db<Plain>,
+    source: &Held<P>,
+    target: &Held<P>,
+    session_id: &str,
+) -> Result<(), FollowFault> {
+    copy(alloc, source.again(true)?, target.again(true)?, session_id)
+}
+
+/// Whether that copies all, also where a growth of it is refused: then under another id.
+pub(crate) fn copies<P: Peer + Drop>(
+    alloc: Global,
+    source: &Held<P>,
+    target: &Held<P>,
     (session_id, other_id): (&str, &str),
 ) -> bool {
-    match copy(rt, alloc, source, target, session_id) {
-        Err(FollowFault::NoMemory) => copy(rt, alloc, source, target, other_id).is_ok(),
+    match copy_once(alloc, source, target, session_id) {
+        Err(FollowFault::NoMemory) => copy_once(alloc, source, target, other_id).is_ok(),
         copied => copied.is_ok(),
     }
 }
 
-// Two documents.
-const TWO: &str = r#"{"_id":"a","_rev":"1-a"} {"_id":"b","_rev":"1-b"}"#;
-
 // The ids of two sessions, each with the one of a session that is made where it finds no memory.
-const SESSIONS: &[(&str, &str)] = &[
-    ("2026-01-01", "2026-01-01T12"),
-    ("2026-01-02", "2026-01-02T12"),
-];
+const COPIED: &str = r#"
+# a database is copied
+> put {"_id":"a","_rev":"1-a"} {"_id":"b","_rev":"1-b"}
+source 2
+> library 2026-01-01 2026-01-01T12
+copied
+> count
+target 2
+> library 2026-01-02 2026-01-02T12
+copied
+> count
+target 2
+"#;
 
 #[test]
 fn a_database_is_copied(rt: HostRuntime) -> Result<(), Fail> {
-    let source = database(rt.alloc(), Limits::full(), 1)?;
-    let target = database(rt.alloc(), Limits::full(), 1)?;
-    assert!(rt; write(&rt, rt.alloc(), &source, TWO)?);
-    for ids in SESSIONS {
-        assert!(rt; copies(&rt, rt.alloc(), &source, &target, *ids));
-        assert_eq!(rt; edits(&rt, &target)?, 2);
-    }
-    Ok(())
+    let handle = &rt;
+    replay::<Copier<'_, HostRuntime>, _>(&handle, rt.alloc(), COPIED)
 }

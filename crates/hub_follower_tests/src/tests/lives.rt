@@ -1,7 +1,6 @@
 //! Sources that are deleted and made again, and logs of an earlier life.
 
 use crate::tests::copier::Copier;
-use crate::tests::named::Named;
 use hub_transcript::replay;
 use std::test::Fail;
 
@@ -9,11 +8,11 @@ use std::test::Fail;
 // first two documents of the new source for good.
 const MADE_AGAIN: &str = r#"
 # a source that is made again is copied anew
-> make source
-> make target
+> make source 1
+> make target 2
 > put {"_id":"a","_rev":"1-a"} {"_id":"b","_rev":"1-b"}
 source 2
-> follow lives
+> session S1
 at 0
 > round
 moved at 2-1
@@ -21,8 +20,8 @@ moved at 2-1
 target 2
 > delete source
 > delete target
-> make source
-> make target
+> make source 3
+> make target 4
 > put {"_id":"a","_rev":"1-z"} {"_id":"c","_rev":"1-c"} {"_id":"d","_rev":"1-d"}
 source 3
 > round
@@ -42,11 +41,11 @@ target {"_id":"c","_rev":"1-c","_revisions":{"start":1,"ids":["c"]}}
 source {"_id":"d","_rev":"1-d","_revisions":{"start":1,"ids":["d"]}}
 target {"_id":"d","_rev":"1-d","_revisions":{"start":1,"ids":["d"]}}
 # numbers alone leave out what the new source has
-> make source
-> make target
+> make source 1
+> make target 2
 > put {"_id":"a","_rev":"1-a"} {"_id":"b","_rev":"1-b"}
 source 2
-> follow numbers
+> session S1 numbers
 at 0
 > round
 moved at 2-1
@@ -54,8 +53,8 @@ moved at 2-1
 target 2
 > delete source
 > delete target
-> make source
-> make target
+> make source 3
+> make target 4
 > put {"_id":"a","_rev":"1-z"} {"_id":"c","_rev":"1-c"} {"_id":"d","_rev":"1-d"}
 source 3
 > round
@@ -74,11 +73,11 @@ target {"_id":"d","_rev":"1-d","_revisions":{"start":1,"ids":["d"]}}
 // moves, and then the new source's.
 const EMPTY_AT_FIRST: &str = r#"
 # a source that is made again is empty at first
-> make source
-> make target
+> make source 1
+> make target 2
 > put {"_id":"a","_rev":"1-a"} {"_id":"b","_rev":"1-b"}
 source 2
-> follow lives
+> session S1
 at 0
 > round
 moved at 2-1
@@ -87,7 +86,7 @@ target 2
 > delete source
 > round
 a peer failed at 2-1
-> make source
+> make source 3
 > round
 idle at 0-3
 > count
@@ -99,15 +98,14 @@ moved at 3-3
 > count
 target 5
 > checkpoint
-> log
 logs 3-3 3-3
 "#;
 
 #[test]
 fn a_source_that_is_made_again_is_copied_anew(rt: HostRuntime) -> Result<(), Fail> {
     let handle = &rt;
-    replay::<Named<'_, HostRuntime>, _>(&handle, rt.alloc(), MADE_AGAIN)?;
-    replay::<Named<'_, HostRuntime>, _>(&handle, rt.alloc(), EMPTY_AT_FIRST)
+    replay::<Copier<'_, HostRuntime>, _>(&handle, rt.alloc(), MADE_AGAIN)?;
+    replay::<Copier<'_, HostRuntime>, _>(&handle, rt.alloc(), EMPTY_AT_FIRST)
 }
 
 // Sequences that a source of life 1 with two documents is asked for changes above, a number alone or with a
@@ -149,8 +147,8 @@ const RECORDED: &str = r#"
 > make target 3
 > put {"_id":"a","_rev":"1-z"} {"_id":"c","_rev":"1-c"} {"_id":"d","_rev":"1-d"}
 source 3
-> keep source 2
-> keep target 2
+> keep source S0:2/S0:2
+> keep target S0:2/S0:2
 > session S1
 at 2
 > copy
@@ -164,8 +162,8 @@ logs 3-2 3-2
 > make target 3
 > put {"_id":"a","_rev":"1-z"} {"_id":"c","_rev":"1-c"} {"_id":"d","_rev":"1-d"}
 source 3
-> keep source 2
-> keep target 1
+> keep source S0:2/S0:2
+> keep target S0:1/S0:1
 > session S1
 at 1
 > copy
@@ -179,8 +177,8 @@ logs 3-2 3-2
 > make target 3
 > put {"_id":"a","_rev":"1-z"} {"_id":"c","_rev":"1-c"} {"_id":"d","_rev":"1-d"}
 source 3
-> keep source "2-2"
-> keep target "2-2"
+> keep source S0:2-2/S0:2-2
+> keep target S0:2-2/S0:2-2
 > session S1
 at 2-2
 > copy
@@ -194,8 +192,8 @@ logs 3-2 3-2
 > make target 3
 > put {"_id":"a","_rev":"1-z"} {"_id":"c","_rev":"1-c"} {"_id":"d","_rev":"1-d"}
 source 3
-> keep source 2
-> keep target "2-2"
+> keep source S0:2/S0:2
+> keep target S0:2-2/S0:2-2
 > session S1
 at 2-2
 > copy
@@ -209,8 +207,8 @@ logs 3-2 3-2
 > make target 3
 > put {"_id":"a","_rev":"1-z"} {"_id":"c","_rev":"1-c"} {"_id":"d","_rev":"1-d"}
 source 3
-> keep source "2-2"
-> keep target 1
+> keep source S0:2-2/S0:2-2
+> keep target S0:1/S0:1
 > session S1
 at 1-2
 > copy
@@ -224,8 +222,8 @@ logs 3-2 3-2
 > make target 3
 > put {"_id":"a","_rev":"1-z"} {"_id":"c","_rev":"1-c"} {"_id":"d","_rev":"1-d"}
 source 3
-> keep source "2-1"
-> keep target "2-1"
+> keep source S0:2-1/S0:2-1
+> keep target S0:2-1/S0:2-1
 > session S1
 at 2-1
 > copy
@@ -239,8 +237,8 @@ logs 3-2 3-2
 > make target 3
 > put {"_id":"a","_rev":"1-z"} {"_id":"c","_rev":"1-c"} {"_id":"d","_rev":"1-d"}
 source 3
-> keep source "9-1"
-> keep target 2
+> keep source S0:9-1/S0:9-1
+> keep target S0:2/S0:2
 > session S1
 at 2-1
 > copy
@@ -254,8 +252,8 @@ logs 3-2 3-2
 > make target 3
 > put {"_id":"a","_rev":"1-z"} {"_id":"c","_rev":"1-c"} {"_id":"d","_rev":"1-d"}
 source 3
-> keep source 2
-> keep target "7-1"
+> keep source S0:2/S0:2
+> keep target S0:7-1/S0:7-1
 > session S1
 at 2-1
 > copy
@@ -269,8 +267,8 @@ logs 3-2 3-2
 > make target 3
 > put {"_id":"a","_rev":"1-z"} {"_id":"c","_rev":"1-c"} {"_id":"d","_rev":"1-d"}
 source 3
-> keep source "2-2"
-> keep target "2-1"
+> keep source S0:2-2/S0:2-2
+> keep target S0:2-1/S0:2-1
 > session S1
 at 0
 > copy
@@ -284,8 +282,8 @@ logs 3-2 3-2
 > make target 3
 > put {"_id":"a","_rev":"1-z"} {"_id":"c","_rev":"1-c"} {"_id":"d","_rev":"1-d"}
 source 3
-> keep source 2
-> keep target 2
+> keep source S0:2/S0:2
+> keep target S0:2/S0:2
 > session S1
 at 2
 > round

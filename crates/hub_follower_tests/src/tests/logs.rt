@@ -1,24 +1,11 @@
 //! Replication logs.
 
+use crate::tests::values::Values;
 use crate::tests::{Told, number, seq_of, text_of};
 use hub_follower::{HistoryEntry, Log, Seq, common_sequence};
-use hub_transcript::{Answer, Subject, Words, replay};
+use hub_transcript::{Answer, Words, replay};
 use std::alloc::{AllocError, Global};
 use std::test::Fail;
-
-/// Logs, and what is read of them. A log is written `ID:SEQ/ID:SEQ,ID:SEQ..`: its last session, with the
-/// sequence that it recorded, and those of its history, each of which began at 0; `none` is no log. A
-/// sequence is a number, with its life where that is known, as `7-1`.
-///
-/// - `write LOG`: the log's text.
-/// - `read TEXT`: the log that the text is: its last session with its sequence, and behind it the sessions of
-///   its history, each with the sequence that it began at, the last one and the recorded one; or `none`.
-/// - `agree LOG LOG`: the sequence up to which the logs of source and target agree, read from their texts.
-/// - `history N`: how many entries are read of a log with a history of so many, or `none`.
-#[derive(Drop)]
-struct Logs {
-    alloc: Global,
-}
 
 // An entry of a history, or a last session; an error where it finds no memory, and each time where the word
 // is none.
@@ -33,8 +20,8 @@ fn entry_of(alloc: Global, word: &str) -> Result<HistoryEntry, AllocError> {
     })
 }
 
-// The log that a word is.
-fn log_of(alloc: Global, word: &str) -> Result<Log, AllocError> {
+/// The log that a word is.
+pub(crate) fn log_of(alloc: Global, word: &str) -> Result<Log, AllocError> {
     let (last, entries) = word.split_once('/').unwrap_or((word, ""));
     let mut history = Vec::new(alloc);
     for entry in entries.split(',') {
@@ -74,194 +61,187 @@ pub(crate) fn tell_log(log: &Log, answer: &mut Answer) -> Result<(), AllocError>
     Ok(())
 }
 
-impl Logs {
-    fn write(&self, word: &str, answer: &mut Answer) -> Result<(), AllocError> {
-        let text = log_of(self.alloc, word)?.text(self.alloc)?;
-        answer.line(text_of(text.as_slice())?)
-    }
+// Tells the text of a log.
+fn write(alloc: Global, word: &str, answer: &mut Answer) -> Result<(), AllocError> {
+    let text = log_of(alloc, word)?.text(alloc)?;
+    answer.line(text_of(text.as_slice())?)
+}
 
-    fn read(&self, text: &str, answer: &mut Answer) -> Result<(), AllocError> {
-        match Log::read(self.alloc, text.as_bytes())? {
-            Some(log) => tell_log(&log, answer),
-            None => answer.line("none"),
-        }
-    }
-
-    fn agree(&self, words: &mut Words<'_>, answer: &mut Answer) -> Result<(), AllocError> {
-        let source = read_back(self.alloc, words.word())?;
-        let target = read_back(self.alloc, words.word())?;
-        let common = Told(Some(common_sequence(source.as_ref(), target.as_ref())));
-        answer.line(format_args!("up to {common}"))
-    }
-
-    fn history(&self, count: u64, answer: &mut Answer) -> Result<(), AllocError> {
-        let mut log = log_of(self.alloc, "S:1/S:1")?;
-        for _ in 1..count {
-            log.history.push(entry_of(self.alloc, "S:1")?)?;
-        }
-        let text = log.text(self.alloc)?;
-        match Log::read(self.alloc, text.as_slice())? {
-            Some(log) => answer.line(format_args!("{} entries", log.history.len())),
-            None => answer.line("none"),
-        }
+// Tells the log that a text is.
+fn read(alloc: Global, text: &str, answer: &mut Answer) -> Result<(), AllocError> {
+    match Log::read(alloc, text.as_bytes())? {
+        Some(log) => tell_log(&log, answer),
+        None => answer.line("none"),
     }
 }
 
-impl<R> Subject<R> for Logs {
-    fn begin(_: &R, alloc: Global, _: &str) -> Result<Logs, AllocError> {
-        Ok(Logs { alloc })
-    }
+// Tells up to which sequence two logs agree.
+fn agree(alloc: Global, words: &mut Words<'_>, answer: &mut Answer) -> Result<(), AllocError> {
+    let source = read_back(alloc, words.word())?;
+    let target = read_back(alloc, words.word())?;
+    let common = Told(Some(common_sequence(source.as_ref(), target.as_ref())));
+    answer.line(format_args!("up to {common}"))
+}
 
-    fn answer(&mut self, _: &R, command: &str, answer: &mut Answer) -> Result<(), AllocError> {
-        let mut words = Words::of(command);
-        let verb = words.word();
-        if verb == "write" {
-            return self.write(words.rest(), answer);
-        }
-        if verb == "read" {
-            return self.read(words.rest(), answer);
-        }
-        if verb == "agree" {
-            return self.agree(&mut words, answer);
-        }
-        if verb == "history" {
-            return self.history(number(words.rest())?, answer);
-        }
-        answer.line("?")
+// Tells how many entries of a long history are read.
+fn history(alloc: Global, count: u64, answer: &mut Answer) -> Result<(), AllocError> {
+    let mut log = log_of(alloc, "S:1/S:1")?;
+    for _ in 1..count {
+        log.history.push(entry_of(alloc, "S:1")?)?;
+    }
+    let text = log.text(alloc)?;
+    match Log::read(alloc, text.as_slice())? {
+        Some(log) => answer.line(format_args!("{} entries", log.history.len())),
+        None => answer.line("none"),
+    }
+}
+
+/// Carries out a command on logs.
+pub(crate) fn answer_of_logs(
+    alloc: Global,
+    words: &mut Words<'_>,
+    answer: &mut Answer,
+) -> Result<(), AllocError> {
+    match words.verb("write read agree history") {
+        0 => write(alloc, words.rest(), answer),
+        1 => read(alloc, words.rest(), answer),
+        2 => agree(alloc, words, answer),
+        3 => history(alloc, number(words.rest())?, answer),
+        _ => answer.line("?"),
     }
 }
 
 const AGREED: &str = "
 # sequences up to which logs agree
-> agree S3:9/S3:9,S1:4 S2:7/S2:7,S1:4
+> log agree S3:9/S3:9,S1:4 S2:7/S2:7,S1:4
 up to 4
-> agree S3:9/S3:9,S1:4 S3:7/S3:7,S1:4
+> log agree S3:9/S3:9,S1:4 S3:7/S3:7,S1:4
 up to 7
-> agree S3:9/S3:9,S1:4 none
+> log agree S3:9/S3:9,S1:4 none
 up to 0
-> agree none S3:9/S3:9,S1:4
+> log agree none S3:9/S3:9,S1:4
 up to 0
-> agree S3:7/S3:7,S1:4 none
+> log agree S3:7/S3:7,S1:4 none
 up to 0
-> agree none S3:7/S3:7,S1:4
+> log agree none S3:7/S3:7,S1:4
 up to 0
 # the session is the last one of both logs
-> agree S3:9/S3:9 S3:7/S3:7
+> log agree S3:9/S3:9 S3:7/S3:7
 up to 7
-> agree S3:9-1/S3:9-1 S3:7-1/S3:7-1
+> log agree S3:9-1/S3:9-1 S3:7-1/S3:7-1
 up to 7-1
-> agree S3:7-1/S3:7-1 S3:9-1/S3:9-1
+> log agree S3:7-1/S3:7-1 S3:9-1/S3:9-1
 up to 7-1
-> agree S3:9-2/S3:9-2 S3:7-1/S3:7-1
+> log agree S3:9-2/S3:9-2 S3:7-1/S3:7-1
 up to 0
-> agree S3:7-0/S3:7-0 S3:7-1/S3:7-1
+> log agree S3:7-0/S3:7-0 S3:7-1/S3:7-1
 up to 0
-> agree S3:9/S3:9 S3:7-1/S3:7-1
+> log agree S3:9/S3:9 S3:7-1/S3:7-1
 up to 7-1
-> agree S3:9-2/S3:9-2 S3:7/S3:7
+> log agree S3:9-2/S3:9-2 S3:7/S3:7
 up to 7-2
-> agree S3:3-2/S3:3-2 S3:7-2/S3:7-2
+> log agree S3:3-2/S3:3-2 S3:7-2/S3:7-2
 up to 3-2
 # the session is the last one of the source's log
-> agree S3:9/S3:9 S4:7/S3:7
+> log agree S3:9/S3:9 S4:7/S3:7
 up to 7
-> agree S3:9-1/S3:9-1 S4:7-1/S3:7-1
+> log agree S3:9-1/S3:9-1 S4:7-1/S3:7-1
 up to 7-1
-> agree S3:7-1/S3:7-1 S4:9-1/S3:9-1
+> log agree S3:7-1/S3:7-1 S4:9-1/S3:9-1
 up to 7-1
-> agree S3:9-2/S3:9-2 S4:7-1/S3:7-1
+> log agree S3:9-2/S3:9-2 S4:7-1/S3:7-1
 up to 0
-> agree S3:7-0/S3:7-0 S4:7-1/S3:7-1
+> log agree S3:7-0/S3:7-0 S4:7-1/S3:7-1
 up to 0
-> agree S3:9/S3:9 S4:7-1/S3:7-1
+> log agree S3:9/S3:9 S4:7-1/S3:7-1
 up to 7-1
-> agree S3:9-2/S3:9-2 S4:7/S3:7
+> log agree S3:9-2/S3:9-2 S4:7/S3:7
 up to 7-2
-> agree S3:3-2/S3:3-2 S4:7-2/S3:7-2
+> log agree S3:3-2/S3:3-2 S4:7-2/S3:7-2
 up to 3-2
 # the session stands in the histories
-> agree S5:9/S3:9 S4:7/S3:7
+> log agree S5:9/S3:9 S4:7/S3:7
 up to 7
-> agree S5:9-1/S3:9-1 S4:7-1/S3:7-1
+> log agree S5:9-1/S3:9-1 S4:7-1/S3:7-1
 up to 7-1
-> agree S5:7-1/S3:7-1 S4:9-1/S3:9-1
+> log agree S5:7-1/S3:7-1 S4:9-1/S3:9-1
 up to 7-1
-> agree S5:9-2/S3:9-2 S4:7-1/S3:7-1
+> log agree S5:9-2/S3:9-2 S4:7-1/S3:7-1
 up to 0
-> agree S5:7-0/S3:7-0 S4:7-1/S3:7-1
+> log agree S5:7-0/S3:7-0 S4:7-1/S3:7-1
 up to 0
-> agree S5:9/S3:9 S4:7-1/S3:7-1
+> log agree S5:9/S3:9 S4:7-1/S3:7-1
 up to 7-1
-> agree S5:9-2/S3:9-2 S4:7/S3:7
+> log agree S5:9-2/S3:9-2 S4:7/S3:7
 up to 7-2
-> agree S5:3-2/S3:3-2 S4:7-2/S3:7-2
+> log agree S5:3-2/S3:3-2 S4:7-2/S3:7-2
 up to 3-2
 ";
 
 #[test]
 fn sequences_up_to_which_logs_agree(rt: HostRuntime) -> Result<(), Fail> {
-    replay::<Logs, _>(&rt, rt.alloc(), AGREED)
+    replay::<Values, _>(&rt, rt.alloc(), AGREED)
 }
 
 // Each place may have a whole number or a text, whatever the others have.
 const TEXTS: &str = r#"
 # a log is read as it was written
-> write S"2:7-1/S"2:7-1,S1:4
+> log write S"2:7-1/S"2:7-1,S1:4
 {"history":[{"end_last_seq":"7-1","recorded_seq":"7-1","session_id":"S\"2","start_last_seq":0},{"end_last_seq":4,"recorded_seq":4,"session_id":"S1","start_last_seq":0}],"replication_id_version":3,"session_id":"S\"2","source_last_seq":"7-1"}
-> read {"history":[{"end_last_seq":"7-1","recorded_seq":"7-1","session_id":"S\"2","start_last_seq":0},{"end_last_seq":4,"recorded_seq":4,"session_id":"S1","start_last_seq":0}],"replication_id_version":3,"session_id":"S\"2","source_last_seq":"7-1"}
+> log read {"history":[{"end_last_seq":"7-1","recorded_seq":"7-1","session_id":"S\"2","start_last_seq":0},{"end_last_seq":4,"recorded_seq":4,"session_id":"S1","start_last_seq":0}],"replication_id_version":3,"session_id":"S\"2","source_last_seq":"7-1"}
 S"2 7-1
 S"2 0 7-1 7-1
 S1 0 4 4
 # a log of numbers and texts is read
-> read {"history":[{"end_last_seq":2,"recorded_seq":"03-1","session_id":"S","start_last_seq":"1-7"}],"replication_id_version":3,"session_id":"S","source_last_seq":18446744073709551615}
+> log read {"history":[{"end_last_seq":2,"recorded_seq":"03-1","session_id":"S","start_last_seq":"1-7"}],"replication_id_version":3,"session_id":"S","source_last_seq":18446744073709551615}
 S 18446744073709551615
 S 1-7 2 3-1
 # sequences that are written
-> read {"history":[],"replication_id_version":3,"session_id":"S","source_last_seq":1}
+> log read {"history":[],"replication_id_version":3,"session_id":"S","source_last_seq":1}
 S 1
-> read {"history":[],"replication_id_version":3,"session_id":"S","source_last_seq":"1-1"}
+> log read {"history":[],"replication_id_version":3,"session_id":"S","source_last_seq":"1-1"}
 S 1-1
-> read {"history":[],"replication_id_version":3,"session_id":"S","source_last_seq":"18446744073709551615-18446744073709551615"}
+> log read {"history":[],"replication_id_version":3,"session_id":"S","source_last_seq":"18446744073709551615-18446744073709551615"}
 S 18446744073709551615-18446744073709551615
-> read {"history":[],"replication_id_version":3,"session_id":"S","source_last_seq":"1"}
+> log read {"history":[],"replication_id_version":3,"session_id":"S","source_last_seq":"1"}
 none
-> read {"history":[],"replication_id_version":3,"session_id":"S","source_last_seq":"1-"}
+> log read {"history":[],"replication_id_version":3,"session_id":"S","source_last_seq":"1-"}
 none
-> read {"history":[],"replication_id_version":3,"session_id":"S","source_last_seq":"-1"}
+> log read {"history":[],"replication_id_version":3,"session_id":"S","source_last_seq":"-1"}
 none
-> read {"history":[],"replication_id_version":3,"session_id":"S","source_last_seq":"1-x"}
+> log read {"history":[],"replication_id_version":3,"session_id":"S","source_last_seq":"1-x"}
 none
-> read {"history":[],"replication_id_version":3,"session_id":"S","source_last_seq":"1-1-1"}
+> log read {"history":[],"replication_id_version":3,"session_id":"S","source_last_seq":"1-1-1"}
 none
-> read {"history":[],"replication_id_version":3,"session_id":"S","source_last_seq":"\"1-1\""}
+> log read {"history":[],"replication_id_version":3,"session_id":"S","source_last_seq":"\"1-1\""}
 none
-> read {"history":[],"replication_id_version":3,"session_id":"S","source_last_seq":"18446744073709551616-1"}
+> log read {"history":[],"replication_id_version":3,"session_id":"S","source_last_seq":"18446744073709551616-1"}
 none
-> read {"history":[],"replication_id_version":3,"session_id":"S","source_last_seq":1.5}
+> log read {"history":[],"replication_id_version":3,"session_id":"S","source_last_seq":1.5}
 none
-> read {"history":[],"replication_id_version":3,"session_id":"S","source_last_seq":-1}
+> log read {"history":[],"replication_id_version":3,"session_id":"S","source_last_seq":-1}
 none
 # logs that are absent: a member is absent or of another kind, or the version is another
-> read []
+> log read []
 none
-> read {
+> log read {
 none
-> read {"history":[],"replication_id_version":3,"session_id":"S"}
+> log read {"history":[],"replication_id_version":3,"session_id":"S"}
 none
-> read {"history":[],"replication_id_version":2,"session_id":"S","source_last_seq":1}
+> log read {"history":[],"replication_id_version":2,"session_id":"S","source_last_seq":1}
 none
-> read {"history":[],"replication_id_version":"3","session_id":"S","source_last_seq":"1-1"}
+> log read {"history":[],"replication_id_version":"3","session_id":"S","source_last_seq":"1-1"}
 none
-> read {"history":[{}],"replication_id_version":3,"session_id":"S","source_last_seq":1}
+> log read {"history":[{}],"replication_id_version":3,"session_id":"S","source_last_seq":1}
 none
 # a history that is too long
-> history 50
+> log history 50
 50 entries
-> history 51
+> log history 51
 none
 "#;
 
 #[test]
 fn texts_of_logs(rt: HostRuntime) -> Result<(), Fail> {
-    replay::<Logs, _>(&rt, rt.alloc(), TEXTS)
+    replay::<Values, _>(&rt, rt.alloc(), TEXTS)
 }

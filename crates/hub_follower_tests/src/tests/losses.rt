@@ -1,6 +1,6 @@
 //! Calls and answers that are lost, at every call of a session.
 
-use crate::tests::lossy::Lossy;
+use crate::tests::copier::Copier;
 use hub_transcript::replay;
 use std::test::Fail;
 
@@ -8,8 +8,9 @@ use std::test::Fail;
 // the target for its log, what it misses, to store, and to keep its log.
 const ALL: &str = r#"
 # peers come back from a failed start
-> start 1
-a peer failed, faults 1 0 0
+> loses source 1 before
+> session S1
+a peer failed, faults 1 0, of databases 0 0
 # a session of five edits of three documents, of which x has three leaves
 > then {"_id":"a","_revisions":{"start":2,"ids":["c","a"]}} {"_id":"b","_rev":"1-b"} {"_id":"x","_revisions":{"start":2,"ids":["b","q"]},"_deleted":true} {"_id":"x","_revisions":{"start":2,"ids":["a","q"]}} {"_id":"x","_rev":"1-z"}
 > ids a b x
@@ -132,12 +133,12 @@ copied, target 11; then from 11-1 to 11
 #[test]
 fn whatever_is_lost_all_is_copied(rt: HostRuntime) -> Result<(), Fail> {
     let handle = &rt;
-    replay::<Lossy<'_, HostRuntime>, _>(&handle, rt.alloc(), ALL)
+    replay::<Copier<'_, HostRuntime>, _>(&handle, rt.alloc(), ALL)
 }
 
 // Histories end above the first generation: leaves, winners and what stands behind each are copied.
 #[test]
 fn whatever_is_lost_parents_are_copied(rt: HostRuntime) -> Result<(), Fail> {
     let handle = &rt;
-    replay::<Lossy<'_, HostRuntime>, _>(&handle, rt.alloc(), PARENTS)
+    replay::<Copier<'_, HostRuntime>, _>(&handle, rt.alloc(), PARENTS)
 }

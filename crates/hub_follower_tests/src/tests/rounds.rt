@@ -75,24 +75,24 @@ a peer failed at 0
 > count
 target 0
 > end
-faults 1 0
+faults 1 0, of databases 1 0
 # a deleted target begins no session
 > delete target
 > session S1
-a peer failed, faults 0 1
+a peer failed, faults 0 1, of databases 0 1
 # a bad log id begins no session
 > logs follower
 > session S1
-no local document may have the id of the replication logs, faults 0 0
+no local document may have the id of the replication logs, faults 0 0, of databases 0 0
 > logs _local/
 > session S1
-no local document may have the id of the replication logs, faults 0 0
+no local document may have the id of the replication logs, faults 0 0, of databases 0 0
 > logs
 > session S1
-no local document may have the id of the replication logs, faults 0 0
+no local document may have the id of the replication logs, faults 0 0, of databases 0 0
 > logs _design/x
 > session S1
-no local document may have the id of the replication logs, faults 0 0
+no local document may have the id of the replication logs, faults 0 0, of databases 0 0
 "#;
 
 #[test]

@@ -1,7 +1,6 @@
 //! Followers that stop behind an earlier checkpoint.
 
 use crate::tests::copier::Copier;
-use crate::tests::lossy::Lossy;
 use hub_transcript::replay;
 use std::test::Fail;
 
@@ -104,13 +103,13 @@ target 3
 #[test]
 fn a_follower_that_stopped_at_a_call_of_its_source(rt: HostRuntime) -> Result<(), Fail> {
     let handle = &rt;
-    replay::<Lossy<'_, HostRuntime>, _>(&handle, rt.alloc(), SOURCE_CALLS)
+    replay::<Copier<'_, HostRuntime>, _>(&handle, rt.alloc(), SOURCE_CALLS)
 }
 
 #[test]
 fn a_follower_that_stopped_at_a_call_of_its_target(rt: HostRuntime) -> Result<(), Fail> {
     let handle = &rt;
-    replay::<Lossy<'_, HostRuntime>, _>(&handle, rt.alloc(), TARGET_CALLS)
+    replay::<Copier<'_, HostRuntime>, _>(&handle, rt.alloc(), TARGET_CALLS)
 }
 
 #[test]

@@ -1,25 +1,12 @@
 //! A follower's machine, driven by hand.
 
 use crate::tests::logs::tell_log;
+use crate::tests::values::Values;
 use crate::tests::{Told, tell_fault};
 use hub_follower::{Answer as Answered, Call, FollowCore, FollowFault, Seq, Session};
-use hub_transcript::{Answer, Subject, Words, replay};
+use hub_transcript::{Answer, Words, replay};
 use std::alloc::{AllocError, Global};
 use std::test::Fail;
-
-/// A follower's machine without a session. Each command tells what call it owes then, and its place.
-///
-/// - `look`: changes nothing.
-/// - `start ID`: a session begins, where no call is owed.
-/// - `absent`: the log that is asked for is absent.
-/// - `round`, `checkpoint`: one begins.
-/// - `fail`: the call that is owed fails.
-/// - `kept`: tells before that the logs that are to be kept at the source and at the target.
-#[derive(Drop)]
-struct Machine {
-    alloc: Global,
-    core: FollowCore,
-}
 
 // The call that a machine owes, in words.
 fn owed(core: &FollowCore) -> &'static str {
@@ -47,112 +34,106 @@ fn tell_kept(alloc: Global, session: &Session, answer: &mut Answer) -> Result<()
     tell_log(&target, answer)
 }
 
-impl Machine {
-    fn start(&mut self, session_id: &str) -> Result<(), AllocError> {
-        let session_id = String::from_str(self.alloc, session_id)?;
-        if self.core.is_free() {
-            self.core.start(session_id);
-        }
-        Ok(())
+// A session begins, where no call is owed.
+fn start(alloc: Global, core: &mut FollowCore, session_id: &str) -> Result<(), AllocError> {
+    let session_id = String::from_str(alloc, session_id)?;
+    if core.is_free() {
+        core.start(session_id);
     }
+    Ok(())
+}
 
-    fn absent(&mut self) -> Result<(), FollowFault> {
-        match self.core.next_call() {
-            Some(Call::GetSource) => self.core.accept(self.alloc, Answered::Log(None)),
-            Some(Call::GetTarget) => self.core.accept(self.alloc, Answered::Log(None)),
-            _ => Ok(()),
-        }
-    }
-
-    fn kept(&self, answer: &mut Answer) -> Result<(), AllocError> {
-        match self.core.next_call() {
-            Some(Call::PutSource(session)) => tell_kept(self.alloc, session, answer),
-            Some(Call::PutTarget(session)) => tell_kept(self.alloc, session, answer),
-            _ => answer.line("no log"),
-        }
-    }
-
-    // Carries out a command; whether it is one.
-    fn go_on(&mut self, command: &str, answer: &mut Answer) -> Result<bool, AllocError> {
-        if command == "look" {
-            return Ok(true);
-        }
-        if command == "absent" {
-            match self.absent() {
-                Ok(()) => return Ok(true),
-                Err(fault) => tell_fault(self.alloc, fault, answer)?,
-            }
-            return Ok(true);
-        }
-        if command == "round" {
-            self.core.begin_round();
-            return Ok(true);
-        }
-        if command == "checkpoint" {
-            self.core.begin_checkpoint();
-            return Ok(true);
-        }
-        if command == "fail" {
-            self.core.fail();
-            return Ok(true);
-        }
-        if command == "kept" {
-            self.kept(answer)?;
-            return Ok(true);
-        }
-        Ok(false)
+// The log that is asked for is absent.
+fn absent(alloc: Global, core: &mut FollowCore, answer: &mut Answer) -> Result<(), AllocError> {
+    let done = match core.next_call() {
+        Some(Call::GetSource) => core.accept(alloc, Answered::Log(None)),
+        Some(Call::GetTarget) => core.accept(alloc, Answered::Log(None)),
+        _ => Ok(()),
+    };
+    match done {
+        Ok(()) => Ok(()),
+        Err(fault) => tell_fault(alloc, fault, answer),
     }
 }
 
-impl<R> Subject<R> for Machine {
-    fn begin(_: &R, alloc: Global, _: &str) -> Result<Machine, AllocError> {
-        Ok(Machine {
-            alloc,
-            core: FollowCore::new(),
-        })
+// Tells the logs that are to be kept.
+fn kept(alloc: Global, core: &FollowCore, answer: &mut Answer) -> Result<(), AllocError> {
+    match core.next_call() {
+        Some(Call::PutSource(session)) => tell_kept(alloc, session, answer),
+        Some(Call::PutTarget(session)) => tell_kept(alloc, session, answer),
+        _ => answer.line("no log"),
     }
+}
 
-    fn answer(&mut self, _: &R, command: &str, answer: &mut Answer) -> Result<(), AllocError> {
-        let mut words = Words::of(command);
-        if words.word() == "start" {
-            self.start(words.rest())?;
-        } else if !self.go_on(command, answer)? {
-            return answer.line("?");
+// Carries out a command on a machine.
+fn go_on(
+    alloc: Global,
+    core: &mut FollowCore,
+    words: &mut Words<'_>,
+    answer: &mut Answer,
+) -> Result<(), AllocError> {
+    match words.verb("look start absent round checkpoint fail kept") {
+        0 => Ok(()),
+        1 => start(alloc, core, words.rest()),
+        2 => absent(alloc, core, answer),
+        3 => {
+            core.begin_round();
+            Ok(())
         }
-        let place = Told(self.core.place());
-        let rests = if self.core.is_free() { "free" } else { "busy" };
-        answer.line(format_args!("{rests}, owes {}, at {place}", owed(&self.core)))
+        4 => {
+            core.begin_checkpoint();
+            Ok(())
+        }
+        5 => {
+            core.fail();
+            Ok(())
+        }
+        6 => kept(alloc, core, answer),
+        _ => answer.line("?"),
     }
+}
+
+/// Carries out a command on a machine, and tells what call it owes then, and its place.
+pub(crate) fn answer_of_machine(
+    alloc: Global,
+    core: &mut FollowCore,
+    words: &mut Words<'_>,
+    answer: &mut Answer,
+) -> Result<(), AllocError> {
+    go_on(alloc, core, words, answer)?;
+    let place = Told(core.place());
+    let rests = if core.is_free() { "free" } else { "busy" };
+    answer.line(format_args!("{rests}, owes {}, at {place}", owed(core)))
 }
 
 const CALLS: &str = "
 # a machine owes its calls
-> look
+> machine look
 free, owes nothing, at none
-> start S1
+> machine start S1
 busy, owes the source's log, at none
-> absent
+> machine absent
 busy, owes the target's log, at none
-> absent
+> machine absent
 free, owes nothing, at 0
-> round
+> machine round
 busy, owes all changes, at 0
-> fail
+> machine fail
 free, owes nothing, at 0
-> checkpoint
+> machine checkpoint
 busy, owes keeping at the source, at 0
-> kept
+> machine kept
 0
 S1 0
 S1 0 0 0
 S1 0
 S1 0 0 0
 busy, owes keeping at the source, at 0
-> fail
+> machine fail
 free, owes nothing, at 0
 ";
 
 #[test]
 fn a_machine_owes_its_calls(rt: HostRuntime) -> Result<(), Fail> {
-    replay::<Machine, _>(&rt, rt.alloc(), CALLS)
+    replay::<Values, _>(&rt, rt.alloc(), CALLS)
 }

@@ -1,6 +1,7 @@
 //! A follower beside a writer.
 
-use crate::tests::{LOG, agree, database, edits};
+use crate::tests::telling::{agree, count};
+use crate::tests::{LOG, database};
 use hub_document::{Doc, Limits};
 use hub_follower::{DbPeer, FaultPeer, FollowFault, Follower, Loss, Peer, Round};
 use hub_shared::{Db, Plain};
@@ -65,21 +66,32 @@ fn run_three<S: Peer + Drop, T: Peer + Drop>(
 
 // One session of three rounds: whether the last round found nothing new. Each seventh answer of the target is
 // lost, and each 61st of the source, which is asked once for each document: a round asks for 50.
-fn three_rounds<R: Wait>(
-    rt: &R,
+fn three_rounds<S: Peer + Drop, T: Peer + Drop>(
     alloc: Global,
-    source: &Db<Plain>,
-    target: &Db<Plain>,
+    source: S,
+    target: T,
     session_id: &str,
 ) -> Result<bool, FollowFault> {
-    let source = DbPeer::new(rt, alloc, source.handle()?);
-    let target = DbPeer::new(rt, alloc, target.handle()?);
     let source = FaultPeer::repeating(source, 61, Loss::After);
     let target = FaultPeer::repeating(target, 7, Loss::After);
     match Follower::start(alloc, source, target, LOG, session_id) {
         Ok(mut follower) => run_three(&mut follower),
         Err(failed) => Err(failed.fault),
     }
+}
+
+// Such a session between two databases.
+fn session<R: Wait>(
+    rt: &R,
+    alloc: Global,
+    source: &Db<Plain>,
+    target: &Db<Plain>,
+    number: u64,
+) -> Result<bool, FollowFault> {
+    let session_id = format!(in alloc; "S{number}")?;
+    let source = DbPeer::new(rt, alloc, source.handle()?);
+    let target = DbPeer::new(rt, alloc, target.handle()?);
+    three_rounds(alloc, source, target, session_id.as_str())
 }
 
 // Sessions, one after the other, until one that began behind the last edit found nothing new.
@@ -92,8 +104,7 @@ fn follow_all<R: Wait>(
 ) -> Option<()> {
     for number in 0..u64::MAX {
         let is_written = done.load(Ordering::SeqCst) == 1;
-        let session_id = format!(in alloc; "S{number}").ok()?;
-        let is_idle = three_rounds(rt, alloc, source, target, session_id.as_str()).ok()?;
+        let is_idle = session(rt, alloc, source, target, number).ok()?;
         if is_idle && is_written {
             return Some(());
         }
@@ -119,20 +130,21 @@ fn run<R: Threads + Wait + Sync>(
     followed
 }
 
-// How many documents have the same leaves at both ends, before the first that has others.
-fn agreed_count<R: Wait>(
-    rt: &R,
+// How many edits a source has, and how many documents have the same leaves at both ends, before the first
+// that has others.
+fn agreed_count<S: Peer, T: Peer>(
     alloc: Global,
-    source: &Db<Plain>,
-    target: &Db<Plain>,
-) -> Result<u64, Fail> {
+    source: &mut S,
+    target: &mut T,
+) -> Result<(u64, u64), AllocError> {
+    let edits = count(source)?;
     for number in 0..DOCUMENTS {
         let id = format!(in alloc; "d{number}")?;
-        if !agree(rt, alloc, source, target, id.as_str())? {
-            return Ok(number);
+        if !agree(alloc, source, target, id.as_str())? {
+            return Ok((edits, number));
         }
     }
-    Ok(DOCUMENTS)
+    Ok((edits, DOCUMENTS))
 }
 
 #[test]
@@ -140,7 +152,11 @@ fn a_follower_beside_a_writer(rt: HostRuntime) -> Result<(), Fail> {
     let source = database(rt.alloc(), Limits::full(), 1)?;
     let target = database(rt.alloc(), Limits::full(), 1)?;
     assert!(rt; run(&rt, rt.alloc(), &source, &target).is_some());
-    assert_eq!(rt; edits(&rt, &source)?, EDITS);
-    assert_eq!(rt; agreed_count(&rt, rt.alloc(), &source, &target)?, DOCUMENTS);
+    let mut source = DbPeer::new(&rt, rt.alloc(), source.handle()?);
+    let mut target = DbPeer::new(&rt, rt.alloc(), target.handle()?);
+    assert_eq!(rt;
+        agreed_count(rt.alloc(), &mut source, &mut target)?,
+        (EDITS, DOCUMENTS)
+    );
     Ok(())
 }

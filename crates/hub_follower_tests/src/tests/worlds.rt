@@ -1,63 +1,38 @@
 //! Runs of a follower's world.
 
 use crate::tests::handed::items_of;
+use crate::tests::values::Values;
 use crate::tests::{Told, docs};
 use hub_follower::{FollowEvent, FollowWorld};
-use hub_transcript::{Answer, Subject, Words, replay};
+use hub_transcript::{Answer, Words, replay};
 use std::alloc::{AllocError, Global};
 use std::test::Fail;
 
 // Two documents, b behind a.
 const TWO: &str = r#"{"_id":"a","_rev":"1-a"} {"_id":"b","_rev":"1-b"}"#;
 
-/// Runs of two empty databases and a follower, each from its beginning.
-///
-/// - `run EVENT ..`: lets these events happen one behind the other, and tells the follower's place, and
-///   whether it owes a call. An event is `write`, by which the source stores a and b, `start ID`, `round`,
-///   `checkpoint`, `answer`, `changes ITEM+ITEM..`, `lost-before`, `lost-after` or `restart`. Items are
-///   written as in `handed`.
-#[derive(Drop)]
-struct Runs {
-    alloc: Global,
-}
-
-// The event that a word alone is.
-fn event_of(word: &str) -> Option<FollowEvent> {
-    if word == "round" {
-        return Some(FollowEvent::Round);
+// The event that a word alone is, by its place among the verbs of `next_event`; an error each time where it
+// is none.
+fn event_of(place: usize) -> Result<FollowEvent, AllocError> {
+    match place {
+        0 => Ok(FollowEvent::Round),
+        1 => Ok(FollowEvent::Checkpoint),
+        2 => Ok(FollowEvent::Answer),
+        3 => Ok(FollowEvent::LostBefore),
+        4 => Ok(FollowEvent::LostAfter),
+        5 => Ok(FollowEvent::Restart),
+        _ => Err(AllocError),
     }
-    if word == "checkpoint" {
-        return Some(FollowEvent::Checkpoint);
-    }
-    if word == "answer" {
-        return Some(FollowEvent::Answer);
-    }
-    if word == "lost-before" {
-        return Some(FollowEvent::LostBefore);
-    }
-    if word == "lost-after" {
-        return Some(FollowEvent::LostAfter);
-    }
-    if word == "restart" {
-        return Some(FollowEvent::Restart);
-    }
-    None
 }
 
 // The event that the next words are; an error where they find no memory, and each time where they are none.
 fn next_event(alloc: Global, words: &mut Words<'_>) -> Result<FollowEvent, AllocError> {
-    let word = words.word();
-    if word == "write" {
-        return Ok(FollowEvent::Write(docs(alloc, TWO)?));
+    match words.verb("round checkpoint answer lost-before lost-after restart write start changes") {
+        6 => Ok(FollowEvent::Write(docs(alloc, TWO)?)),
+        7 => Ok(FollowEvent::Start(String::from_str(alloc, words.word())?)),
+        8 => Ok(FollowEvent::Changes(items_of(alloc, words.word(), '+')?)),
+        place => event_of(place),
     }
-    if word == "start" {
-        let session_id = String::from_str(alloc, words.word())?;
-        return Ok(FollowEvent::Start(session_id));
-    }
-    if word == "changes" {
-        return Ok(FollowEvent::Changes(items_of(alloc, words.word(), '+')?));
-    }
-    event_of(word).ok_or(AllocError)
 }
 
 // All events that the words are.
@@ -72,25 +47,20 @@ fn events_of(alloc: Global, words: &mut Words<'_>) -> Result<Vec<FollowEvent>, A
     Ok(events)
 }
 
-impl<R> Subject<R> for Runs {
-    fn begin(_: &R, alloc: Global, _: &str) -> Result<Runs, AllocError> {
-        Ok(Runs { alloc })
-    }
-
-    fn answer(&mut self, _: &R, command: &str, answer: &mut Answer) -> Result<(), AllocError> {
-        let mut words = Words::of(command);
-        if words.word() != "run" {
-            return answer.line("?");
-        }
-        let world = FollowWorld::run(self.alloc, events_of(self.alloc, &mut words)?)?;
-        let place = Told(world.core().place());
-        let call = if world.core().is_free() {
-            "no call"
-        } else {
-            "a call"
-        };
-        answer.line(format_args!("at {place}, owes {call}"))
-    }
+/// Lets events happen in a new world, and tells the follower's place, and whether it owes a call.
+pub(crate) fn run(
+    alloc: Global,
+    words: &mut Words<'_>,
+    answer: &mut Answer,
+) -> Result<(), AllocError> {
+    let world = FollowWorld::run(alloc, events_of(alloc, words)?)?;
+    let place = Told(world.core().place());
+    let call = if world.core().is_free() {
+        "no call"
+    } else {
+        "a call"
+    };
+    answer.line(format_args!("at {place}, owes {call}"))
 }
 
 const RUNS: &str = "
@@ -123,5 +93,5 @@ at 2-1, owes no call
 
 #[test]
 fn runs_of_a_world(rt: HostRuntime) -> Result<(), Fail> {
-    replay::<Runs, _>(&rt, rt.alloc(), RUNS)
+    replay::<Values, _>(&rt, rt.alloc(), RUNS)
 }

@@ -1,55 +1,56 @@
-//! What a hub has under a name, as a follower's peer.
+//! A peer that a test and a follower share.
 
 ghost use Rattle.std.specs.Prelude.{◌≡◌};
 ghost use Rattle.hub_follower.specs.Peers.{CallCounts};
 
 use hub_database::{Diff, Replies};
-use hub_databases::Hub;
 use hub_document::{Asked, Doc};
-use hub_follower::{CallFault, Changes, DbPeer, FetchedRevs, Log, Peer, Seq};
-use std::alloc::Global;
+use hub_follower::{CallFault, Changes, FetchedRevs, Log, Peer, Seq};
+use std::alloc::{AllocError, Global};
+use std::cell::RefCell;
 use std::rc::Rc;
-use std::sync::Wait;
 
-/// The database that a hub has under a name whenever it is called: another one, once it was made again. A
-/// call while there is none is a fault of the peer, and counted.
+/// A peer that a test holds beside a follower. The test may put another one in its place, as where a database
+/// is made again. A call that fails is counted.
 #[derive(Drop)]
-pub(crate) struct NamedPeer<'a, R: Wait> {
-    rt: &'a R,
-    alloc: Global,
-    hub: Rc<Hub>,
-    name: &'static str,
+pub(crate) struct Held<P> {
+    peer: Rc<RefCell<P>>,
     /// Whether it is told the life of the sequence that it is asked for changes above, or the number alone.
     tells_lives: bool,
     faults: u64,
 }
 
-impl<'a, R: Wait> NamedPeer<'a, R> {
-    pub(crate) fn new(
-        rt: &'a R,
-        alloc: Global,
-        hub: Rc<Hub>,
-        name: &'static str,
-        tells_lives: bool,
-    ) -> NamedPeer<'a, R> {
-        NamedPeer {
-            rt,
-            alloc,
-            hub,
-            name,
+impl<P: Peer + Drop> Held<P> {
+    pub(crate) fn new(alloc: Global, peer: P) -> Result<Held<P>, AllocError> {
+        Ok(Held {
+            peer: Rc::new(alloc, RefCell::new(peer))?,
+            tells_lives: true,
+            faults: 0,
+        })
+    }
+
+    /// The same peer for a follower, which has counted nothing.
+    pub(crate) fn again(&self, tells_lives: bool) -> Result<Held<P>, AllocError> {
+        Ok(Held {
+            peer: self.peer.clone()?,
             tells_lives,
             faults: 0,
+        })
+    }
+
+    /// Puts another peer in the place of this one.
+    pub(crate) fn put(&self, peer: P) -> Result<(), AllocError> {
+        match self.peer.try_replace(peer) {
+            Ok(_old) => Ok(()),
+            Err(_peer) => Err(AllocError),
         }
     }
 
-    // The database that has the name now.
-    fn found(&self) -> Result<DbPeer<'a, R>, CallFault> {
-        let Ok(db) = self.hub.find(self.rt, self.name) else {
-            return Err(CallFault::Peer);
-        };
-        match db.handle() {
-            Ok(handle) => Ok(DbPeer::new(self.rt, self.alloc, handle)),
-            Err(_) => Err(CallFault::NoMemory),
+    /// How many faults the peer itself counted.
+    pub(crate) fn own_faults(&self) -> u64 {
+        match self.peer.try_borrow() {
+            Ok(peer) => peer.faults(),
+            Err(_) => u64::MAX,
         }
     }
 
@@ -76,7 +77,7 @@ impl<'a, R: Wait> NamedPeer<'a, R> {
     }
 }
 
-impl<'a, R: Wait> Peer for NamedPeer<'a, R> {
+impl<P: Peer + Drop> Peer for Held<P> {
     // nothing is said of its answers
     ghost gives = { λ s call answer new. Unit };
 
@@ -86,49 +87,49 @@ impl<'a, R: Wait> Peer for NamedPeer<'a, R> {
 
     fn changes(&mut self, since: Seq) -> Result<Changes, CallFault> {
         let since = self.told(since);
-        let changes = match self.found() {
+        let changes = match self.peer.try_borrow_mut() {
             Ok(mut peer) => peer.changes(since),
-            Err(fault) => Err(fault),
+            Err(_) => Err(CallFault::Peer),
         };
         self.counted(changes)
     }
 
     fn revs_diff(&mut self, asked: &[Asked]) -> Result<Vec<Diff>, CallFault> {
-        let diffs = match self.found() {
+        let diffs = match self.peer.try_borrow_mut() {
             Ok(mut peer) => peer.revs_diff(asked),
-            Err(fault) => Err(fault),
+            Err(_) => Err(CallFault::Peer),
         };
         self.counted(diffs)
     }
 
     fn open_revs(&mut self, asked: &Asked) -> Result<FetchedRevs, CallFault> {
-        let found = match self.found() {
+        let found = match self.peer.try_borrow_mut() {
             Ok(mut peer) => peer.open_revs(asked),
-            Err(fault) => Err(fault),
+            Err(_) => Err(CallFault::Peer),
         };
         self.counted(found)
     }
 
     fn merge(&mut self, docs: &[Doc]) -> Result<Replies, CallFault> {
-        let replies = match self.found() {
+        let replies = match self.peer.try_borrow_mut() {
             Ok(mut peer) => peer.merge(docs),
-            Err(fault) => Err(fault),
+            Err(_) => Err(CallFault::Peer),
         };
         self.counted(replies)
     }
 
     fn local_get(&mut self, log_id: &str) -> Result<Option<Log>, CallFault> {
-        let log = match self.found() {
+        let log = match self.peer.try_borrow_mut() {
             Ok(mut peer) => peer.local_get(log_id),
-            Err(fault) => Err(fault),
+            Err(_) => Err(CallFault::Peer),
         };
         self.counted(log)
     }
 
     fn local_put(&mut self, log_id: &str, log: &Log) -> Result<(), CallFault> {
-        let done = match self.found() {
+        let done = match self.peer.try_borrow_mut() {
             Ok(mut peer) => peer.local_put(log_id, log),
-            Err(fault) => Err(fault),
+            Err(_) => Err(CallFault::Peer),
         };
         self.counted(done)
     }
