@@ -1,55 +1,70 @@
 //! Guesses of the numbers of ids, beside the ids.
 
-ghost use Rattle.std.specs.Prelude.{map, string_bytes};
-
+use crate::ids::Ids;
 use crate::tests::same;
-use hub_index::{IdHints, Named};
+use hub_index::IdHints;
 use std::alloc::{AllocError, Global};
 use std::test::Fail;
 
-// Ids by number, each of them a text of digits.
-#[derive(Debug, Drop)]
-struct Ids {
-    list: Vec<String>,
+// Takes in an id under the next number, which is this.
+fn add(ids: &mut Ids, hints: &mut IdHints, number: u32, id: String) -> Result<(), AllocError> {
+    hints.remember(id.as_str(), number);
+    ids.list.push(id)?;
+    Ok(())
 }
 
-impl Named for Ids {
-    ghost ids = { λ s. map string_bytes s.list.items };
-
-    fn id(&self, number: u32) -> &str {
-        match self.list.get(number as usize) {
-            Some(id) => id.as_str(),
-            None => "",
-        }
-    }
-}
-
-// So many ids in order, and their hints.
+// So many ids in order, each of them a text of digits, and their hints.
 fn ids_of(alloc: Global, count: u32) -> Result<(Ids, IdHints), AllocError> {
-    let mut list = Vec::new(alloc);
+    let mut ids = Ids {
+        list: Vec::new(alloc),
+    };
     let mut hints = IdHints::new(alloc);
     for number in 0..count {
         let id = format!(in alloc; "{:05}", number)?;
-        hints.remember(id.as_str(), number);
-        list.push(id)?;
+        add(&mut ids, &mut hints, number, id)?;
     }
-    Ok((Ids { list }, hints))
+    Ok((ids, hints))
+}
+
+// These ids, which a text lists, and their hints.
+fn listed(alloc: Global, texts: &str) -> Result<(Ids, IdHints), AllocError> {
+    let (mut ids, mut hints) = ids_of(alloc, 0)?;
+    let mut number = 0u32;
+    for text in texts.split(" ") {
+        add(&mut ids, &mut hints, number, String::from_str(alloc, text)?)?;
+        number = number.saturating_add(1);
+    }
+    Ok((ids, hints))
 }
 
 // How many of the ids are found, each with its own number.
 fn found(ids: &Ids, hints: &IdHints) -> usize {
-    ids.list
-        .iter()
-        .enumerate()
-        .filter(|(at, id)| hints.find(ids, id.as_str()) == u32::try_from(*at).ok())
-        .count()
+    let mut count = 0usize;
+    let mut number = 0u32;
+    for id in &ids.list {
+        if hints.find(ids, id.as_str()) == Some(number) {
+            count = count.saturating_add(1);
+        }
+        number = number.saturating_add(1);
+    }
+    count
+}
+
+// Whether of so many ids none is found under the texts of greater numbers, nor under no text.
+fn finds_no_other(alloc: Global, count: u32) -> Result<bool, AllocError> {
+    let (ids, hints) = ids_of(alloc, count)?;
+    let mut found = hints.find(&ids, "").is_some();
+    for number in count..9999u32 {
+        let id = format!(in alloc; "{:05}", number)?;
+        found = found || hints.find(&ids, id.as_str()).is_some();
+    }
+    Ok(!found)
 }
 
 #[test]
-fn nothing_is_remembered_at_first(rt: HostRuntime) -> Result<(), Fail> {
-    let (ids, hints) = ids_of(rt.alloc(), 0)?;
-    let found = [hints.find(&ids, "00000"), hints.find(&ids, "")];
-    same(&rt, &found, &[None, None]);
+fn another_id_is_not_found(rt: HostRuntime) -> Result<(), Fail> {
+    assert!(rt; finds_no_other(rt.alloc(), 0)?, "of none");
+    assert!(rt; finds_no_other(rt.alloc(), 1000)?, "of many");
     Ok(())
 }
 
@@ -63,37 +78,16 @@ fn most_are_found_after_growth(rt: HostRuntime) -> Result<(), Fail> {
     Ok(())
 }
 
-#[test]
-fn another_id_is_not_found(rt: HostRuntime) -> Result<(), Fail> {
-    let (ids, hints) = ids_of(rt.alloc(), 1000)?;
-    for number in 1000..9999u32 {
-        let id = format!(in rt.alloc(); "{:05}", number)?;
-        same(&rt, &hints.find(&ids, id.as_str()), &None);
-    }
-    same(&rt, &hints.find(&ids, ""), &None);
-    Ok(())
-}
-
 // Texts whose hashes begin at one place, where there are 32 slots.
-const COLLIDING: [&str; 12] = [
-    "00001", "00011", "00017", "00018", "00020", "00025", "00027", "00032", "00035", "00038",
-    "00041", "00043",
-];
+const COLLIDING: &str = "00001 00011 00017 00018 00020 00025 00027 00032 00035 00038 00041 00043";
 
 #[test]
 fn of_ids_that_collide_each_place_has_one(rt: HostRuntime) -> Result<(), Fail> {
-    let mut ids = Ids {
-        list: Vec::new(rt.alloc()),
-    };
-    let mut hints = IdHints::new(rt.alloc());
-    for (number, id) in (0u32..).zip(COLLIDING) {
-        hints.remember(id, number);
-        ids.list.push(String::from_str(rt.alloc(), id)?)?;
-    }
+    let (ids, hints) = listed(rt.alloc(), COLLIDING)?;
     same(&rt, &found(&ids, &hints), &8);
-    for (id, number) in [("00001", None), ("00011", Some(1)), ("00043", Some(11))] {
-        same(&rt, &(id, hints.find(&ids, id)), &(id, number));
-    }
+    same(&rt, &hints.find(&ids, "00001"), &None);
+    same(&rt, &hints.find(&ids, "00011"), &Some(1));
+    same(&rt, &hints.find(&ids, "00043"), &Some(11));
     Ok(())
 }
 
@@ -101,7 +95,7 @@ fn of_ids_that_collide_each_place_has_one(rt: HostRuntime) -> Result<(), Fail> {
 fn a_number_of_another_id_is_not_given(rt: HostRuntime) -> Result<(), Fail> {
     let (ids, mut hints) = ids_of(rt.alloc(), 4)?;
     hints.remember("00007", 3);
-    let found = [hints.find(&ids, "00007"), hints.find(&ids, "00003")];
-    same(&rt, &found, &[None, Some(3)]);
+    same(&rt, &hints.find(&ids, "00007"), &None);
+    same(&rt, &hints.find(&ids, "00003"), &Some(3));
     Ok(())
 }

@@ -1,30 +1,12 @@
-//! Numbers in the order of their ids, beside a map from ids to numbers.
+//! Numbers in the order of their ids, beside a list of the numbers.
 
 ghost use Rattle.std.specs.Prelude.{map, string_bytes, OnOk};
 ghost use Rattle.hub_index.specs.Order.{IsOrder};
 
-use crate::tests::same;
-use hub_index::{IdOrder, Named};
+use crate::ids::Ids;
+use hub_index::IdOrder;
 use std::alloc::{AllocError, Global};
-use std::collections::BTreeMap;
 use std::test::Fail;
-
-// Ids by number.
-#[derive(Debug, Drop)]
-struct Ids {
-    list: Vec<String>,
-}
-
-impl Named for Ids {
-    ghost ids = { λ s. map string_bytes s.list.items };
-
-    fn id(&self, number: u32) -> &str {
-        match self.list.get(number as usize) {
-            Some(id) => id.as_str(),
-            None => "",
-        }
-    }
-}
 
 // Takes in an id that is new, under the next number.
 fn enter(ids: &mut Ids, order: &mut IdOrder, alloc: Global, id: &str) -> Result<(), AllocError>
@@ -56,50 +38,32 @@ fn agree_by_steps(alloc: Global, count: u32, first: u64, step: u64) -> Result<bo
         list: Vec::new(alloc),
     };
     let mut order = IdOrder::new(alloc);
-    let mut numbers = BTreeMap::new(alloc);
+    let mut numbers: Vec<Option<u32>> = Vec::new(alloc);
+    numbers.resize(9973, None)?;
     let mut at = first;
     for number in 0..count {
         at = at.wrapping_add(step) % 9973;
-        let id = text_of(alloc, at)?;
-        if numbers.get(id.as_str()).is_none() {
-            enter(&mut ids, &mut order, alloc, id.as_str())?;
-            numbers.insert(id, number)?;
+        if let Some(place) = numbers.get_mut(at as usize)
+            && place.is_none()
+        {
+            *place = Some(number);
+            enter(&mut ids, &mut order, alloc, text_of(alloc, at)?.as_str())?;
         }
     }
-    let mut agree = true;
-    for tried in 0..9973 {
-        let id = text_of(alloc, tried)?;
-        let found = order.find(&ids, id.as_str());
-        agree = agree && found == numbers.get(id.as_str()).copied();
+    let mut agree = order.find(&ids, "").is_none() && order.find(&ids, "a").is_none();
+    for tried in 0..9973u64 {
+        let found = order.find(&ids, text_of(alloc, tried)?.as_str());
+        agree = agree && numbers.get(tried as usize) == Some(&found);
     }
     Ok(agree)
 }
 
+/// None is found among none; ids are found that came in order, in the reverse order, and scattered.
 #[test]
-fn nothing_is_found_among_none(rt: HostRuntime) -> Result<(), Fail> {
-    let ids = Ids {
-        list: Vec::new(rt.alloc()),
-    };
-    let order = IdOrder::new(rt.alloc());
-    let found = [order.find(&ids, "a"), order.find(&ids, "")];
-    same(&rt, &found, &[None, None]);
-    Ok(())
-}
-
-#[test]
-fn ids_in_order_are_found(rt: HostRuntime) -> Result<(), Fail> {
+fn ids_are_found(rt: HostRuntime) -> Result<(), Fail> {
+    assert!(rt; agree_by_steps(rt.alloc(), 0, 0, 3)?, "none");
     assert!(rt; agree_by_steps(rt.alloc(), 1500, 0, 3)?, "rising");
-    Ok(())
-}
-
-#[test]
-fn ids_in_reverse_order_are_found(rt: HostRuntime) -> Result<(), Fail> {
     assert!(rt; agree_by_steps(rt.alloc(), 1500, 9970, 9970)?, "falling");
-    Ok(())
-}
-
-#[test]
-fn scattered_ids_are_found(rt: HostRuntime) -> Result<(), Fail> {
     assert!(rt; agree_by_steps(rt.alloc(), 3000, 1, 3571)?, "scattered");
     assert!(rt; agree_by_steps(rt.alloc(), 3000, 17, 6133)?, "scattered");
     Ok(())

@@ -6,6 +6,8 @@ mod hint_tests;
 #[cfg(test)]
 mod id_tests;
 #[cfg(test)]
+mod ids;
+#[cfg(test)]
 mod page_tests;
 #[cfg(test)]
 mod tests;

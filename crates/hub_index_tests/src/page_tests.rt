@@ -3,7 +3,7 @@
 ghost use Rattle.std.specs.Prelude.{◌≡◌, ◌+◌, ◌^◌, ◌<◌, ◌≤◌, ◌∷◌, [], IfOk, OnOk};
 ghost use Rattle.std.specs.List.{All};
 
-use crate::tests::{four_moves, move_again, move_both, room_for, same, seq_in};
+use crate::tests::{around, four_moves, move_again, move_both, room_for, same, seq_in};
 use hub_index::{PageIndex, SeqIndex, TreeIndex};
 use std::alloc::{AllocError, Global};
 use std::test::Fail;
@@ -18,15 +18,6 @@ fn border_rows(alloc: Global) -> Result<PageIndex, AllocError>
     move_again(&mut index, 3, None, 512)?;
     move_again(&mut index, 4, None, 513)?;
     Ok(index)
-}
-
-// The first row behind a place, the last before it, and how many there are behind it.
-fn around(index: &PageIndex, place: u64) -> (Option<(u64, u32)>, Option<(u64, u32)>, u64) {
-    (
-        index.next_after(place, None),
-        index.last_before(place),
-        index.count_after(place),
-    )
 }
 
 #[test]
@@ -44,11 +35,7 @@ fn rows_are_read_across_borders(rt: HostRuntime) -> Result<(), Fail> {
         (514, None, Some((513, 4)), 0),
         (u64::MAX, None, Some((513, 4)), 0),
     ] {
-        same(
-            &rt,
-            &(place, around(&index, place)),
-            &(place, (next, last, count)),
-        );
+        same(&rt, &around(&index, place), &(next, last, count));
     }
     Ok(())
 }
@@ -67,11 +54,7 @@ fn bounds_end_rows_within_a_page(rt: HostRuntime) -> Result<(), Fail> {
         (512, 512, None),
         (513, u64::MAX, None),
     ] {
-        same(
-            &rt,
-            &(place, bound, index.next_after(place, Some(bound))),
-            &(place, bound, wanted),
-        );
+        same(&rt, &index.next_after(place, Some(bound)), &wanted);
     }
     Ok(())
 }
@@ -112,18 +95,27 @@ fn a_page_goes_with_its_last_row(rt: HostRuntime) -> Result<(), Fail> {
     Ok(())
 }
 
+// Moves the one row of an index.
+fn move_one(index: &mut PageIndex, old: u64, new: u64) -> Result<(), AllocError>
+    requires one { index.old ≡ (old, 7) ∷ [] }
+    requires above { old < new }
+    ensures { OnOk result (index.new ≡ (new, 7) ∷ []) }
+{
+    move_again(index, 7, Some(old), new)
+}
+
 #[test]
 fn an_index_may_have_one_row(rt: HostRuntime) -> Result<(), Fail> {
     let mut index = PageIndex::new(rt.alloc());
     same(&rt, &index.pages(), &0);
     move_again(&mut index, 7, None, 256)?;
-    move_again(&mut index, 7, Some(256), 257)?;
+    move_one(&mut index, 256, 257)?;
     same(&rt, &index.last_before(257), &None);
-    move_again(&mut index, 7, Some(257), 258)?;
-    same(&rt, &index.pages(), &1);
-    move_again(&mut index, 7, Some(258), u64::MAX)?;
+    move_one(&mut index, 257, 258)?;
     same(&rt, &index.pages(), &1);
     let last = u64::MAX;
+    move_one(&mut index, 258, last)?;
+    same(&rt, &index.pages(), &1);
     same(&rt, &around(&index, last - 1), &(Some((last, 7)), None, 1));
     same(&rt, &around(&index, last), &(None, None, 0));
     Ok(())

@@ -72,24 +72,35 @@ pub(crate) fn four_moves<I: SeqIndex>(index: &mut I) -> Result<(), AllocError>
     Ok(())
 }
 
+// The first row behind a place, the last before it, and how many there are behind it.
+pub(crate) fn around<I: SeqIndex>(index: &I, place: u64) -> Around {
+    (
+        index.next_after(place, None),
+        index.last_before(place),
+        index.count_after(place),
+    )
+}
+
+/// What stands around a place.
+pub(crate) type Around = (Option<(u64, u32)>, Option<(u64, u32)>, u64);
+
 #[test]
 fn rows_come_in_order(rt: HostRuntime) -> Result<(), Fail> {
     let mut index = TreeIndex::new(rt.alloc());
+    same(&rt, &around(&index, 0), &(None, None, 0));
+    same(&rt, &around(&index, 9), &(None, None, 0));
+    same(&rt, &index.next_after(0, Some(9)), &None);
     four_moves(&mut index)?;
-    same(&rt, &first_row(&index), &Some((2, 8)));
-    for (place, wanted) in [
-        (0u64, Some((2u64, 8u32))),
-        (1, Some((2, 8))),
-        (2, Some((3, 9))),
-        (3, Some((4, 7))),
-        (4, None),
-        (u64::MAX, None),
+    for (place, next, last, count) in [
+        (0u64, Some((2u64, 8u32)), None, 3u64),
+        (1, Some((2, 8)), None, 3),
+        (2, Some((3, 9)), None, 2),
+        (3, Some((4, 7)), Some((2u64, 8u32)), 1),
+        (4, None, Some((3, 9)), 0),
+        (5, None, Some((4, 7)), 0),
+        (u64::MAX, None, Some((4, 7)), 0),
     ] {
-        same(
-            &rt,
-            &(place, index.next_after(place, None)),
-            &(place, wanted),
-        );
+        same(&rt, &around(&index, place), &(next, last, count));
     }
     Ok(())
 }
@@ -111,51 +122,8 @@ fn bounds_end_the_rows(rt: HostRuntime) -> Result<(), Fail> {
         (0, 1, None),
         (0, 2, Some((2, 8))),
     ] {
-        same(
-            &rt,
-            &(place, bound, index.next_after(place, Some(bound))),
-            &(place, bound, wanted),
-        );
+        same(&rt, &index.next_after(place, Some(bound)), &wanted);
     }
-    Ok(())
-}
-
-#[test]
-fn rows_come_from_the_end(rt: HostRuntime) -> Result<(), Fail> {
-    let mut index = TreeIndex::new(rt.alloc());
-    four_moves(&mut index)?;
-    same(&rt, &last_row(&index), &Some((4, 7)));
-    for (place, wanted) in [
-        (0u64, None),
-        (1, None),
-        (2, None),
-        (3, Some((2u64, 8u32))),
-        (4, Some((3, 9))),
-        (5, Some((4, 7))),
-        (u64::MAX, Some((4, 7))),
-    ] {
-        same(&rt, &(place, index.last_before(place)), &(place, wanted));
-    }
-    Ok(())
-}
-
-#[test]
-fn rows_above_are_counted(rt: HostRuntime) -> Result<(), Fail> {
-    let mut index = TreeIndex::new(rt.alloc());
-    four_moves(&mut index)?;
-    for (place, wanted) in [(0u64, 3u64), (1, 3), (2, 2), (3, 1), (4, 0), (u64::MAX, 0)] {
-        same(&rt, &(place, index.count_after(place)), &(place, wanted));
-    }
-    Ok(())
-}
-
-#[test]
-fn an_empty_index_has_no_row(rt: HostRuntime) -> Result<(), Fail> {
-    let index = TreeIndex::new(rt.alloc());
-    let rows = (first_row(&index), index.next_after(0, Some(9)));
-    same(&rt, &rows, &(None, None));
-    let others = (index.last_before(9), index.count_after(0));
-    same(&rt, &others, &(None, 0));
     Ok(())
 }
 
@@ -197,9 +165,18 @@ pub(crate) fn move_both<I: SeqIndex>(
 
 // Whether an index answers at the place as a plain list, which rises, does.
 fn answers_as<I: SeqIndex>(index: &I, plain: &[(u64, u32)], place: u64, bound: u64) -> bool {
-    let first = plain.iter().find(|row| row.0 > place).copied();
-    let within = first.filter(|row| row.0 <= bound);
-    let above = plain.iter().filter(|row| row.0 > place).count() as u64;
+    let mut first = None;
+    let mut within = None;
+    let mut above = 0u64;
+    for row in plain {
+        if row.0 > place {
+            if above == 0 {
+                first = Some(*row);
+                within = if row.0 <= bound { Some(*row) } else { None };
+            }
+            above = above.saturating_add(1);
+        }
+    }
     index.count_after(place) == above
         && index.next_after(place, None) == first
         && index.next_after(place, Some(bound)) == within
