@@ -1,33 +1,44 @@
-//! A database that is deleted: its feeds come to their ends, and it takes and shows nothing.
+//! A database that is deleted: its feeds come to their ends, and it takes nothing.
 
 use crate::session::Session;
 use hub_transcript::replay;
 use std::test::Fail;
 
 const DELETED: &str = r#"
-# a database is deleted once
-> merge {"_id":"a","_rev":"1-a","v":1} {"_id":"b","_rev":"1-b"} {"_id":"c","_rev":"1-c"}
-stored 1-a
-stored 1-b
-stored 1-c
+# a database is deleted once, and takes nothing then
+> merge {"_id":"a","_rev":"1-a","v":1}
+seq 1
+> merge {"_id":"b","_rev":"1-b"}
+seq 2
+> merge {"_id":"c","_rev":"1-c"}
 seq 3
-> is-deleted
-false
+> state
+seq 3, length 3, life 6, stands
 > delete
-> is-deleted
-true
+> state
+seq 3, length 3, life 6, deleted
 > delete
 refused Deleted
-> is-deleted
-true
-> seq
-3
+> state
+seq 3, length 3, life 6, deleted
+> merge {"_id":"a","_revisions":{"start":2,"ids":["b","a"]}}
+seq 3
+> bulk {"_id":"e"}
+seq 3
+> open
+refused Deleted
+> state
+seq 3, length 3, life 6, deleted
+> entry 4
+none
+none
 
 # deletion ends feeds at their places: feed 3 is over before it, and feed 4 is finished after it
-> merge {"_id":"a","_rev":"1-a","v":1} {"_id":"b","_rev":"1-b"} {"_id":"c","_rev":"1-c"}
-stored 1-a
-stored 1-b
-stored 1-c
+> merge {"_id":"a","_rev":"1-a","v":1}
+seq 1
+> merge {"_id":"b","_rev":"1-b"}
+seq 2
+> merge {"_id":"c","_rev":"1-c"}
 seq 3
 > open feed=continuous
 feed 0
@@ -65,7 +76,6 @@ Gone
 
 # a feed that began at 0 and has handed the one row that there is ends behind it
 > merge {"_id":"a","_rev":"1-a","v":1}
-stored 1-a
 seq 1
 > open feed=continuous&since=0&include_docs=true
 feed 0
@@ -77,73 +87,10 @@ Nothing
 End 1, 0 pending
 Gone
 Gone
-
-# a deleted database takes nothing
-> merge {"_id":"a","_rev":"1-a","v":1} {"_id":"b","_rev":"1-b"} {"_id":"c","_rev":"1-c"}
-stored 1-a
-stored 1-b
-stored 1-c
-seq 3
-> delete
-> merge {"_id":"a","_rev":"1-a","v":1} {"_id":"b","_rev":"1-b"}
-refused Deleted
-refused Deleted
-seq 3
-> merge
-seq 3
-> bulk {"_id":"a","_rev":"1-a","v":1} {"_id":"b","_rev":"1-b"}
-refused Deleted
-refused Deleted
-seq 3
-> bulk
-seq 3
-> is-deleted
-true
-> seq
-3
-> put {"_id":"e"}
-refused Deleted
-> local-put _local/x {}
-refused Deleted
-> open
-refused Deleted
-> is-deleted
-true
-> seq
-3
-
-# a deleted database shows nothing
-> merge {"_id":"a","_rev":"1-a","v":1} {"_id":"b","_rev":"1-b"} {"_id":"c","_rev":"1-c"}
-stored 1-a
-stored 1-b
-stored 1-c
-seq 3
-> local-put _local/x {}
-written 1
-> delete
-> local-get _local/x
-refused Deleted
-> local-get _local/y
-refused Deleted
-> info
-refused Deleted
-> get a
-refused Deleted
-> open_revs a all revs
-refused Deleted
-> get z
-refused Deleted
-> open_revs z all revs
-refused Deleted
-> revs_diff {}
-refused Deleted
-> changes descending=true
-refused Deleted
-> seq
-3
 "#;
 
+/// A deleted database takes nothing, and its feeds come to their ends.
 #[test]
-fn a_deleted_database_takes_and_shows_nothing(rt: HostRuntime) -> Result<(), Fail> {
+fn a_deleted_database_ends_its_feeds(rt: HostRuntime) -> Result<(), Fail> {
     replay::<Session, _>(&rt, rt.alloc(), DELETED)
 }

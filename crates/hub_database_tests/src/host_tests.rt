@@ -6,9 +6,9 @@ use std::test::Fail;
 
 const HOSTED: &str = r#"
 # a host drives the feeds of a database
-> merge {"_id":"a","_rev":"1-a"} {"_id":"b","_rev":"1-b"}
-stored 1-a
-stored 1-b
+> merge {"_id":"a","_rev":"1-a"}
+seq 1
+> merge {"_id":"b","_rev":"1-b"}
 seq 2
 > open
 feed 0
@@ -38,16 +38,16 @@ End 2, 0 pending
 > finish 1
 > hand 1
 Gone
-> length
-2
+> state
+seq 2, length 2, life 6, stands
 > delete
 > open
 refused Deleted
 
 # a feed goes on where its host left it
-> merge {"_id":"a","_rev":"1-a"} {"_id":"b","_rev":"1-b"}
-stored 1-a
-stored 1-b
+> merge {"_id":"a","_rev":"1-a"}
+seq 1
+> merge {"_id":"b","_rev":"1-b"}
 seq 2
 > open
 feed 0
@@ -62,7 +62,6 @@ Gone
 
 # a list has the row that it took
 > merge {"_id":"a","_rev":"1-a","v":1}
-stored 1-a
 seq 1
 > open include_docs=true
 feed 0
@@ -72,9 +71,9 @@ End 1, 0 pending
 Gone
 
 # a full list leaves a feed as it was
-> merge {"_id":"a","_rev":"1-a"} {"_id":"b","_rev":"1-b"}
-stored 1-a
-stored 1-b
+> merge {"_id":"a","_rev":"1-a"}
+seq 1
+> merge {"_id":"b","_rev":"1-b"}
 seq 2
 > open feed=continuous&heartbeat=1000
 feed 0
@@ -97,9 +96,9 @@ End 2, 0 pending
 Gone
 
 # a hand to no feed is gone
-> merge {"_id":"a","_rev":"1-a"} {"_id":"b","_rev":"1-b"}
-stored 1-a
-stored 1-b
+> merge {"_id":"a","_rev":"1-a"}
+seq 1
+> merge {"_id":"b","_rev":"1-b"}
 seq 2
 > hand 0
 Gone
@@ -111,6 +110,7 @@ Gone
 Row 1/2 a 1-a
 "#;
 
+/// A host hands items into lists, of which some are full.
 #[test]
 fn a_host_drives_the_feeds_of_a_database(rt: HostRuntime) -> Result<(), Fail> {
     replay::<Session, _>(&rt, rt.alloc(), HOSTED)

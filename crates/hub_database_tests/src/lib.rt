@@ -4,9 +4,9 @@
 #[cfg(test)]
 mod deletion_tests;
 #[cfg(test)]
-mod feed_tests;
+mod entry_tests;
 #[cfg(test)]
-mod history_tests;
+mod feed_tests;
 #[cfg(test)]
 mod host_tests;
 #[cfg(test)]
@@ -16,24 +16,8 @@ mod listed;
 #[cfg(test)]
 mod listed_tests;
 #[cfg(test)]
-mod local_tests;
-#[cfg(test)]
-mod made_tests;
-#[cfg(test)]
-mod model;
-#[cfg(test)]
-mod random_edits;
-#[cfg(test)]
 mod random_tests;
 #[cfg(test)]
-mod read_tests;
-#[cfg(test)]
 mod session;
-#[cfg(test)]
-mod tests;
-#[cfg(test)]
-mod text;
-#[cfg(test)]
-mod texts;
 #[cfg(test)]
 mod waiting_tests;

@@ -8,18 +8,18 @@ use std::test::Fail;
 // not there, or every hundredth, the last first.
 const LISTED: &str = r#"
 # a listed document that is edited goes behind the others, and one that comes goes behind that
-> merge-next times 300
-> seq
-300
+> next times 300
+> state
+seq 300, length 300, life 6, stands
 > open feed=continuous&filter=_doc_ids&doc_ids=["15","30","45","60","75","90","105","120","135","150","165","180","195","210","225","240","255","270","285","300","x"]
 feed 0
 > hand 0 times 3
 Row 15/300 15 1-a
 Row 30/300 30 1-a
 Row 45/300 45 1-a
-> merge {"_id":"90","_rev":"1-b"} {"_id":"x","_rev":"1-b"}
-stored 1-b
-stored 1-b
+> merge {"_id":"90","_rev":"1-b"}
+seq 301
+> merge {"_id":"x","_rev":"1-b"}
 seq 302
 > hand 0 times 19
 Row 60/302 60 1-a
@@ -43,9 +43,9 @@ Row 302/302 x 1-b
 Nothing
 
 # feeds of listed documents take turns: one keeps its rows, then the other
-> merge-next times 300
-> seq
-300
+> next times 300
+> state
+seq 300, length 300, life 6, stands
 > open filter=_doc_ids&doc_ids=["15","30","45","60","75","90","105","120","135","150","165","180","195","210","225","240","255","270","285","300","x"]
 feed 0
 > open filter=_doc_ids&doc_ids=["300","200","100","200"]
@@ -69,9 +69,9 @@ Gone
 Row 75/300 75 1-a
 
 # a feed whose rows are kept is finished, and one goes on in a database that is deleted
-> merge-next times 300
-> seq
-300
+> next times 300
+> state
+seq 300, length 300, life 6, stands
 > open feed=continuous&filter=_doc_ids&doc_ids=["15","30","45","60","75","90","105","120","135","150","165","180","195","210","225","240","255","270","285","300","x"]
 feed 0
 > hand 0 times 3
@@ -92,6 +92,7 @@ End 200, 100 pending
 Gone
 "#;
 
+/// Feeds of listed documents hand their rows.
 #[test]
 fn feeds_of_listed_documents_hand_their_rows(rt: HostRuntime) -> Result<(), Fail> {
     replay::<Session, _>(&rt, rt.alloc(), LISTED)

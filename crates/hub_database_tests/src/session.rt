@@ -1,54 +1,34 @@
 //! A database that commands are put to, as in a database's shell.
 
+mod asks;
 mod feeds;
-mod reads;
-mod writes;
+mod items;
 
-use crate::text::Text;
-use hub_database::{DbFault, DbState, Info};
-use hub_document::Limits;
-use hub_feed::FeedHost;
-use hub_revtree::Winner;
+use crate::session::items::put_refusal;
+use hub_database::{DbFault, DbState};
+use hub_document::{Doc, Limits};
 use hub_transcript::{Answer, Subject, Words};
 use std::alloc::{AllocError, Global};
-use std::process::Abort;
+use std::fmt::Write;
 
 // The number of the life of each database.
 const LIFE: u64 = 6;
 
-// The room of an answer: behind a call that changes a database none is taken.
+// The room of what a command is answered: behind a call that changes the database none is taken.
 const ROOM: usize = 4_000;
 
-/// A database of life 6. A call that refuses a command answers `refused` and why.
+/// A database of life 6. In a case whose name begins with `one feed: ` one feed of it may be open. A call
+/// that refuses a command answers `refused` and why.
 ///
-/// Of itself:
+/// Of itself, each document a JSON text without blanks:
 ///
-/// - `new one-edit`, `new one-feed`: is a new database, which takes one edit, or has one feed open
-/// - `info`: counts its documents and edits, and tells its life
-/// - `seq`: counts its edits; `length`: the same, as a host of feeds
-/// - `life`: tells the number of its life
-/// - `delete`: is deleted; `is-deleted`: tells whether it was
-///
-/// Writes, each document a JSON text without blanks (`writes.rt`). Each tells what became of each document,
-/// and how many edits there are then:
-///
-/// - `merge DOC..`: stores documents that another database made
-/// - `bulk DOC..`: stores documents whose revisions are made here
-/// - `put DOC`: stores one edit whose revision is made here
-/// - `merge-long`: merges a document `a` with 65,535 revisions `x`, which is the longest history that there
-///   is
-/// - `merge-next`: merges a document whose id is its sequence, with the revision `1-a`, and says nothing
-/// - `local-put ID MEMBERS`: stores a local document, and tells how often it was written
-///
-/// Reads (`reads.rt`), with `revs` with the histories:
-///
-/// - `winner ID`: tells the best leaf of a document
-/// - `get ID [revs]`: shows the winner
-/// - `open_revs ID all|LIST [revs]`: shows all leaves, or the revisions of a JSON list
-/// - `revs_diff ASKED`: tells what documents miss of revisions
+/// - `merge DOC`: stores a document that another database made, and counts the edits
+/// - `bulk DOC`: stores one whose revision is made here, and counts the edits
+/// - `next`: stores one whose id is its sequence, with the revision `1-a`
+/// - `delete`: is deleted
+/// - `state`: counts its edits, once more as a host of feeds, and tells its life, and whether it was deleted
 /// - `entry SEQ`: names the document and the revision of an edit, and shows it as it came
-/// - `changes QUERY`: shows the rows of a descending answer, and where it ends
-/// - `local-get ID`: tells how often a local document was written, and shows its members
+/// - `winner ID`: tells the best leaf of a document
 ///
 /// Feeds by number (`feeds.rt`). A row is `Row SEQ/SEEN ID REV..`, with `deleted`, with its members:
 ///
@@ -65,141 +45,96 @@ const ROOM: usize = 4_000;
 /// the growths of the test itself, as of a document's text, are among them.
 #[derive(Drop)]
 pub(crate) struct Session {
-    pub(crate) alloc: Global,
+    alloc: Global,
     state: DbState,
 }
 
-// Limits within which a database takes one edit.
-fn one_edit() -> Limits {
-    let mut limits = Limits::full();
-    limits.journal = 1;
-    limits
-}
-
-// Limits within which one feed may be open.
-fn one_feed() -> Limits {
-    let mut limits = Limits::full();
-    limits.feeds = 1;
-    limits
-}
-
-// What a database shows of itself and of two documents, for which it takes no memory.
-fn shown(state: &DbState) -> (Result<Info, DbFault>, Option<Winner>, Option<Winner>) {
-    (state.info(), state.winner("a"), state.winner("b"))
-}
-
-impl<R: Abort> Subject<R> for Session {
-    fn begin(_: &R, alloc: Global, _: &str) -> Result<Session, AllocError> {
-        Ok(Session::new(alloc))
+impl<R> Subject<R> for Session {
+    fn begin(_: &R, alloc: Global, case: &str) -> Result<Session, AllocError> {
+        let mut limits = Limits::full();
+        if case.starts_with("one feed: ") {
+            limits.feeds = 1;
+        }
+        Ok(Session {
+            alloc,
+            state: DbState::new(alloc, limits, LIFE),
+        })
     }
 
-    fn answer(&mut self, rt: &R, command: &str, answer: &mut Answer) -> Result<(), AllocError> {
+    fn answer(&mut self, _: &R, command: &str, answer: &mut Answer) -> Result<(), AllocError> {
         let (command, times) = command.split_once(" times ").unwrap_or((command, "1"));
+        let mut out = String::with_capacity(self.alloc, ROOM)?;
         for _ in 0..times.parse::<u64>().unwrap_or(0) {
-            answer.text(self.put_again(rt, command)?.as_str())?;
+            out.clear();
+            self.put_again(command, &mut out)?;
+            answer.text(out.as_str())?;
         }
         Ok(())
     }
 }
 
 impl Session {
-    /// A new database.
-    pub(crate) fn new(alloc: Global) -> Session {
-        Session {
-            alloc,
-            state: DbState::new(alloc, Limits::full(), LIFE),
-        }
-    }
-
     // What a command is answered. One that finds no memory leaves what the database shows, and is put again.
-    fn put_again(&mut self, rt: &impl Abort, command: &str) -> Result<String, AllocError> {
-        let before = shown(&self.state);
-        if let Ok(out) = self.put(command) {
-            return Ok(out);
+    fn put_again(&mut self, command: &str, out: &mut String) -> Result<(), AllocError> {
+        let (info, winner) = (self.state.info(), self.state.winner("a"));
+        if self.run(command, out).is_ok() {
+            return Ok(());
         }
-        assert!(rt;
-            shown(&self.state) == before,
-            "{command}: it failed and changed the database"
-        );
-        match self.put(command) {
-            Ok(out) => Ok(out),
-            Err(AllocError) => String::from_str(self.alloc, "unreadable, or no memory twice"),
+        out.clear();
+        if info != self.state.info() || winner != self.state.winner("a") {
+            return out.push_str("it failed and changed the database\n");
         }
-    }
-
-    /// What a command is answered that is put once.
-    pub(crate) fn put(&mut self, command: &str) -> Result<String, AllocError> {
-        let mut out = Text::with_room(self.alloc, ROOM)?;
-        match self.run(command, &mut out) {
-            Ok(()) => {}
-            Err(DbFault::NoMemory) => return Err(AllocError),
-            Err(DbFault::Refused(fault)) => out.refused(&fault),
-        }
-        out.done()
+        self.run(command, out)
     }
 
     // Carries out a command.
-    fn run(&mut self, command: &str, out: &mut Text) -> Result<(), DbFault> {
+    fn run(&mut self, command: &str, out: &mut String) -> Result<(), AllocError> {
         let mut words = Words::of(command);
-        let verb = words.word();
-        if verb == "new" {
-            self.renew(words.word(), out);
-            return Ok(());
-        }
-        if verb == "info" {
-            return self.info(out);
-        }
-        if verb == "delete" {
-            return self.state.delete();
-        }
-        if verb == "is-deleted" {
-            out.word(&self.state.is_deleted());
-            return Ok(());
-        }
-        if let Some(number) = self.number(verb) {
-            out.number(number);
-            return Ok(());
-        }
-        self.run_write(verb, words, out)
-    }
-
-    // The number that is asked for.
-    fn number(&self, verb: &str) -> Option<u64> {
-        if verb == "seq" {
-            return Some(self.state.update_seq());
-        }
-        if verb == "length" {
-            return Some(FeedHost::length(&self.state));
-        }
-        if verb == "life" {
-            return Some(self.state.life());
-        }
-        None
-    }
-
-    // Begins anew within other limits.
-    fn renew(&mut self, limit: &str, out: &mut Text) {
-        if limit == "one-edit" {
-            self.state = DbState::new(self.alloc, one_edit(), LIFE);
-        } else if limit == "one-feed" {
-            self.state = DbState::new(self.alloc, one_feed(), LIFE);
-        } else {
-            out.put("?");
+        match words.verb("merge bulk next delete state entry winner open") {
+            0 => self.write(words.rest(), false, out),
+            1 => self.write(words.rest(), true, out),
+            2 => self.write_next(),
+            3 => self.delete(out),
+            4 => self.tell(out),
+            5 => self.entry(words.number(), out),
+            6 => self.winner(words.rest(), out),
+            7 => self.open(words.rest(), out),
+            _ => self.run_feed(command, out),
         }
     }
 
-    // Counts.
-    fn info(&self, out: &mut Text) -> Result<(), DbFault> {
-        let info = self.state.info()?;
-        out.put("docs ");
-        out.number(info.doc_count);
-        out.put(", deleted ");
-        out.number(info.doc_del_count);
-        out.put(", seq ");
-        out.number(info.update_seq);
-        out.put(", life ");
-        out.number(info.life);
-        out.put("\n");
-        Ok(())
+    // Stores a document; an error where it found no memory, and each time where the text is none.
+    fn store(&mut self, text: &str, new_edits: bool) -> Result<(), AllocError> {
+        let Ok(doc) = Doc::read(self.alloc, text.as_bytes(), new_edits) else {
+            return Err(AllocError);
+        };
+        let mut docs = Vec::new(self.alloc);
+        docs.push(doc)?;
+        match self.state.write_edits(docs, new_edits) {
+            Ok(batch) if !batch.stopped => Ok(()),
+            _ => Err(AllocError),
+        }
+    }
+
+    // Stores a document, and counts the edits.
+    fn write(&mut self, text: &str, new_edits: bool, out: &mut String) -> Result<(), AllocError> {
+        self.store(text, new_edits)?;
+        writeln!(out, "seq {}", self.state.update_seq())
+    }
+
+    // Stores a document whose id is its sequence.
+    fn write_next(&mut self) -> Result<(), AllocError> {
+        let next = self.state.update_seq().saturating_add(1);
+        let text = format!(in self.alloc; r#"{{"_id":"{next}","_rev":"1-a"}}"#)?;
+        self.store(text.as_str(), false)
+    }
+
+    // Is deleted.
+    fn delete(&mut self, out: &mut String) -> Result<(), AllocError> {
+        match self.state.delete() {
+            Ok(()) => Ok(()),
+            Err(DbFault::Refused(fault)) => put_refusal(out, &fault),
+            Err(DbFault::NoMemory) => Err(AllocError),
+        }
     }
 }

@@ -7,9 +7,9 @@ use std::test::Fail;
 // No feed 99 is ever opened.
 const WAITING: &str = r#"
 # beats are due where they were asked for
-> merge {"_id":"a","_rev":"1-a"} {"_id":"b","_rev":"1-b"}
-stored 1-a
-stored 1-b
+> merge {"_id":"a","_rev":"1-a"}
+seq 1
+> merge {"_id":"b","_rev":"1-b"}
 seq 2
 > open feed=continuous&heartbeat=1000
 feed 0
@@ -43,9 +43,9 @@ false
 false
 
 # no beat is due to a feed that is ending
-> merge {"_id":"a","_rev":"1-a"} {"_id":"b","_rev":"1-b"}
-stored 1-a
-stored 1-b
+> merge {"_id":"a","_rev":"1-a"}
+seq 1
+> merge {"_id":"b","_rev":"1-b"}
 seq 2
 > open feed=continuous&heartbeat=1000
 feed 0
@@ -67,9 +67,9 @@ true
 false
 
 # feeds that wait end once their time is over
-> merge {"_id":"a","_rev":"1-a"} {"_id":"b","_rev":"1-b"}
-stored 1-a
-stored 1-b
+> merge {"_id":"a","_rev":"1-a"}
+seq 1
+> merge {"_id":"b","_rev":"1-b"}
 seq 2
 > open feed=longpoll
 feed 0
@@ -104,9 +104,9 @@ End 2, 0 pending
 Gone
 
 # a normal feed hands its rest once its time is over
-> merge {"_id":"a","_rev":"1-a"} {"_id":"b","_rev":"1-b"}
-stored 1-a
-stored 1-b
+> merge {"_id":"a","_rev":"1-a"}
+seq 1
+> merge {"_id":"b","_rev":"1-b"}
 seq 2
 > open
 feed 0
@@ -122,9 +122,9 @@ Gone
 Gone
 
 # a continuous feed outlives others
-> merge {"_id":"a","_rev":"1-a"} {"_id":"b","_rev":"1-b"}
-stored 1-a
-stored 1-b
+> merge {"_id":"a","_rev":"1-a"}
+seq 1
+> merge {"_id":"b","_rev":"1-b"}
 seq 2
 > open feed=longpoll
 feed 0
@@ -144,6 +144,7 @@ Row 2/2 b 1-b
 Nothing
 "#;
 
+/// Feeds that wait beat where it was asked for, and end once their time is over.
 #[test]
 fn feeds_that_wait_beat_and_end_by_their_time(rt: HostRuntime) -> Result<(), Fail> {
     replay::<Session, _>(&rt, rt.alloc(), WAITING)

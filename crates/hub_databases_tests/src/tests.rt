@@ -1,13 +1,9 @@
-//! Databases under names, and what the log of updates tells of them: transcripts of a hub's shell.
+//! What no request shows of a hub's databases: whom its changes tell, those who have a database that is
+//! removed, and threads. The rest is shown by `hub_service_tests`.
 //!
-//! Where a growth is refused the call says so, the hub shows the same as before it, and the same call then
-//! answers as it does with ample memory. So these tests hold whichever one of their growths is refused; the
-//! growths of the tests themselves, as of a document's text, are among them. Those of threads that wait for
-//! one another are not (`locks`).
+//! The transcripts hold whichever one of their growths is refused: the command is given once more. Those of
+//! threads that wait for one another do not (`locks`).
 
 mod locks;
-mod names;
-mod rows;
 mod shell;
-mod single_edits;
 mod watches;

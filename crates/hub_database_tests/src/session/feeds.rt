@@ -2,13 +2,14 @@
 
 use crate::listed::{Listed, NoHandle};
 use crate::session::Session;
-use crate::session::reads::params;
-use crate::text::Text;
-use hub_database::{DbFault, DbState};
+use crate::session::items::{put_item, put_refusal};
+use hub_database::DbState;
 use hub_document::ChangeRow;
 use hub_feed::{FeedHost, FeedId, Next, OpenFault};
-use hub_model::Item;
-use std::alloc::{AllocError, Global};
+use hub_params::FeedParams;
+use hub_transcript::Words;
+use std::alloc::AllocError;
+use std::fmt::Write;
 
 // What a feed has to hand, which is then accepted.
 fn take(state: &mut DbState, feed: FeedId) -> Result<Next<ChangeRow>, AllocError> {
@@ -22,115 +23,63 @@ fn take(state: &mut DbState, feed: FeedId) -> Result<Next<ChangeRow>, AllocError
     }
 }
 
-// What an item has, behind its word.
-fn say_item(out: &mut Text, item: &Item<ChangeRow>) {
-    match item {
-        Item::Row(row) => out.row(row),
-        Item::End { last_seq, pending } => out.end(*last_seq, *pending),
-        Item::Beat => out.put(" beat\n"),
-    }
-}
-
-// What a feed had to hand.
-fn say_next(out: &mut Text, next: &Next<ChangeRow>) {
+// Writes what a feed had to hand.
+fn put_next(out: &mut String, next: &Next<ChangeRow>) -> Result<(), AllocError> {
     match next {
         Next::Give(item) => {
-            out.put(if item.is_end() { "End" } else { "Row" });
-            say_item(out, item);
+            out.push_str(if item.is_end() { "End" } else { "Row" })?;
+            put_item(out, item)
         }
-        Next::Nothing => out.put("Nothing\n"),
-        Next::Gone => out.put("Gone\n"),
+        Next::Nothing => out.push_str("Nothing\n"),
+        Next::Gone => out.push_str("Gone\n"),
     }
-}
-
-// Opens a feed of a host.
-fn open<H: FeedHost<Row = ChangeRow>>(
-    alloc: Global,
-    host: &mut H,
-    query: &str,
-    out: &mut Text,
-) -> Result<(), DbFault> {
-    match host.open_feed(params(alloc, query)?) {
-        Ok(feed) => {
-            out.put("feed ");
-            out.number(feed.number);
-        }
-        Err(OpenFault::NoMemory) => return Err(DbFault::NoMemory),
-        Err(fault) => out.refused(&fault),
-    }
-    Ok(())
-}
-
-// Hands what a feed of a host has next to a list with room for so many.
-fn hand<H: FeedHost<Row = ChangeRow>>(
-    alloc: Global,
-    host: &mut H,
-    feed: FeedId,
-    room: usize,
-    out: &mut Text,
-) -> Result<(), DbFault> {
-    let mut list = Listed::new(alloc, room)?;
-    let did = host.hand(feed, &NoHandle, &mut list)?;
-    out.word(&did);
-    match list.items().first() {
-        Some(item) => say_item(out, item),
-        None => out.put("\n"),
-    }
-    Ok(())
-}
-
-// Carries out a command on a feed of a host.
-fn drive<H: FeedHost<Row = ChangeRow>>(
-    alloc: Global,
-    host: &mut H,
-    verb: &str,
-    feed: FeedId,
-    out: &mut Text,
-) -> Result<(), DbFault> {
-    if verb == "hand" {
-        return hand(alloc, host, feed, 1, out);
-    }
-    if verb == "full" {
-        return hand(alloc, host, feed, 0, out);
-    }
-    if verb == "beat-due" {
-        out.word(&host.beat_due(feed));
-        return Ok(());
-    }
-    if verb == "expire" {
-        host.expire(feed);
-        return Ok(());
-    }
-    if verb == "finish" {
-        host.finish(feed);
-        return Ok(());
-    }
-    out.put("?");
-    Ok(())
 }
 
 impl Session {
-    // Carries out a command on a feed.
-    pub(super) fn run_feed(
-        &mut self,
-        verb: &str,
-        first: &str,
-        rest: &str,
-        out: &mut Text,
-    ) -> Result<(), DbFault> {
-        if verb == "open" && rest.is_empty() {
-            return open(self.alloc, &mut self.state, first, out);
-        }
-        let Ok(number) = first.parse::<u64>() else {
-            out.put("?");
-            return Ok(());
+    // Opens a feed; an error where it found no memory, and each time where the query is refused.
+    pub(super) fn open(&mut self, query: &str, out: &mut String) -> Result<(), AllocError> {
+        let Ok(params) = FeedParams::read(self.alloc, query.as_bytes(), b"") else {
+            return Err(AllocError);
         };
-        let feed = FeedId { number };
-        if verb == "take" {
-            let next = take(&mut self.state, feed)?;
-            say_next(out, &next);
-            return Ok(());
+        match self.state.open_feed(params) {
+            Ok(feed) => writeln!(out, "feed {}", feed.number),
+            Err(OpenFault::NoMemory) => Err(AllocError),
+            Err(fault) => put_refusal(out, &fault),
         }
-        drive(self.alloc, &mut self.state, verb, feed, out)
+    }
+
+    // Hands what a feed has next to a list with room for so many.
+    fn hand(&mut self, feed: FeedId, room: usize, out: &mut String) -> Result<(), AllocError> {
+        let mut list = Listed::new(self.alloc, room)?;
+        let did = self.state.hand(feed, &NoHandle, &mut list)?;
+        write!(out, "{did:?}")?;
+        match list.items().first() {
+            Some(item) => put_item(out, item),
+            None => out.push('\n'),
+        }
+    }
+
+    // Carries out a command on a feed.
+    pub(super) fn run_feed(&mut self, command: &str, out: &mut String) -> Result<(), AllocError> {
+        let mut words = Words::of(command);
+        let place = words.verb("take hand full beat-due expire finish");
+        let feed = FeedId {
+            number: words.number(),
+        };
+        match place {
+            0 => put_next(out, &take(&mut self.state, feed)?),
+            1 => self.hand(feed, 1, out),
+            2 => self.hand(feed, 0, out),
+            3 => writeln!(out, "{}", self.state.beat_due(feed)),
+            4 => {
+                self.state.expire(feed);
+                Ok(())
+            }
+            5 => {
+                self.state.finish(feed);
+                Ok(())
+            }
+            _ => out.push_str("?"),
+        }
     }
 }

@@ -1,4 +1,5 @@
 //! Whom the changes of a hub tell: feeds of the database that is changed, and feeds of the log of updates.
+//! And what those meet who have a database that was removed.
 
 use crate::tests::shell::Shell;
 use hub_transcript::replay;
@@ -8,46 +9,104 @@ use std::test::Fail;
 const CHANGES: &str = r#"
 # changes of a hub are told
 > create d
-ok
+Ok(())
 > find d
 d
-> follow feed=continuous
-life 1 since 0
-> watch
+> follow
+> follow-log
 > news
-> write {"_id":"a","_rev":"1-a"}
-1-a
+> write
+stored
 > news
 bell
 database
 log
 > news
 > create e
-ok
+Ok(())
 > news
 bell
 log
 > create e
-Exists
+Err(Exists)
 > news
 > remove e
-ok
+Ok(())
 > news
 bell
 log
 > remove d
-ok
+Ok(())
 > news
 bell
 database
 log
 > finish
 > create e
-ok
+Ok(())
 > news
 "#;
 
+/// A write and a removal tell feeds of both, and another name those of the log alone.
 #[test]
 fn changes_of_a_hub_are_told(rt: HostRuntime) -> Result<(), Fail> {
     replay::<Shell, _>(&rt, rt.alloc(), CHANGES)
+}
+
+const HELD: &str = r#"
+# a removed database refuses writes, and a new one of its name is another
+> create a
+Ok(())
+> find a
+a
+> remove a
+Ok(())
+> create a
+Ok(())
+> write
+[Refused(Deleted)]
+> find a
+a
+> write
+stored
+# a text without a byte, which no path names, is no name
+> create
+Err(BadName)
+> find
+Err(BadName)
+> remove
+Err(BadName)
+"#;
+
+/// Who has a removed database is refused, also where its name is given again.
+#[test]
+fn a_removed_database_refuses_writes(rt: HostRuntime) -> Result<(), Fail> {
+    replay::<Shell, _>(&rt, rt.alloc(), HELD)
+}
+
+const REMOVED: &str = r#"
+# a feed that follows a database ends where the database did
+> create d
+Ok(())
+> find d
+d
+> write
+stored
+> follow
+> hand
+Nothing
+> remove d
+Ok(())
+> hand
+End
+> take
+the end at the last document, pending 0
+> take
+None
+"#;
+
+/// A feed that waits comes to its end where its database was removed.
+#[test]
+fn a_feed_of_a_removed_database_ends(rt: HostRuntime) -> Result<(), Fail> {
+    replay::<Shell, _>(&rt, rt.alloc(), REMOVED)
 }

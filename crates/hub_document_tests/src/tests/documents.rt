@@ -1,4 +1,4 @@
-//! Documents, ids, and what is asked for of documents.
+//! Documents and local documents that texts are, as no answer over HTTP shows them.
 
 use super::session::Session;
 use hub_transcript::replay;
@@ -6,271 +6,204 @@ use std::test::Fail;
 
 const DOCUMENTS: &str = concat!(
     r#"
-# edits that came
-> came {"b":[1,{"d":-2,"c":"\u00e9\n"}],"_id":"x","_rev":"2-c","_revisions":{"start":2,"ids":["c","a"]},"_deleted":true,"a":null,"_conflicts":[],"":true}
-x rev 2-c deleted path 2-c 1-a {"":true,"a":null,"b":[1,{"c":"é\n","d":-2}]}
-> came {"_id":"a","_rev":"1-a"}
-a rev 1-a path 1-a {}
 # edits that are made here
-> new {"b":[1,{"d":-2,"c":"\u00e9\n"}],"_id":"x","_rev":"2-c","_revisions":{"start":2,"ids":["c","a"]},"_deleted":true,"a":null,"_conflicts":[],"":true}
-x rev 2-c deleted {"":true,"a":null,"b":[1,{"c":"é\n","d":-2}]}
-> new {"_id":"_design/x"}
+> new {"_id":"a"}
+a {}
+{"_id":"a"}
+{"_id":"a"}
+{}
+> new {"v":7,"_id":"a"}
+a {"v":7}
+{"_id":"a","v":7}
+{"_id":"a","v":7}
+{"v":7}
+> new {"b":1,"_id":"z","a":{"d":2,"c":3},"B":"é\n"}
+z {"B":"é\n","a":{"c":3,"d":2},"b":1}
+{"_id":"z","B":"é\n","a":{"c":3,"d":2},"b":1}
+{"_id":"z","B":"é\n","a":{"c":3,"d":2},"b":1}
+{"B":"é\n","a":{"c":3,"d":2},"b":1}
+> new {"_deleted":true,"_rev":"1-x","_id":"a"}
+a rev 1-x deleted {}
+{"_id":"a","_rev":"1-x","_deleted":true}
+{"_id":"a","_rev":"1-x","_deleted":true}
+{}
+> new {"_deleted":false,"_id":"a","_conflicts":[]}
+a {}
+{"_id":"a"}
+{"_id":"a"}
+{}
+> new {"_id":"q\"\\\n\u0001\u00e9\/"}
+q"\
+"#,
+    "\u{1}",
+    r#"é/ {}
+{"_id":"q\"\\\n\u0001é/"}
+{"_id":"q\"\\\n\u0001é/"}
+{}
+> new {"_id":"_design/x","_revisions":{"start":2,"ids":[]}}
 _design/x {}
-# values that were read before
-> new-value {"v":7,"_rev":"2-c","_id":"a","_revisions":{"start":2,"ids":["c","a"]}}
-a rev 2-c {"v":7}
-> new-value []
-not an object
-> came-value {"v":7,"_rev":"2-c","_id":"a","_revisions":{"start":2,"ids":["c","a"]}}
-a rev 2-c path 2-c 1-a {"v":7}
-# paths may end above the first generation
-> came {"b":[1,{"d":-2,"c":"\u00e9\n"}],"_id":"x","_rev":"2-c","_revisions":{"start":2,"ids":["c","a"]},"_deleted":true,"a":null,"_conflicts":[],"":true}
-x rev 2-c deleted path 2-c 1-a {"":true,"a":null,"b":[1,{"c":"é\n","d":-2}]}
-> show head
-head 2-c
-> show front
-front 2-c 1-a
-> show list
-list 2-c 1-a
-> came {"_id":"a","_rev":"1-a"}
-a rev 1-a path 1-a {}
-> show head
-head 1-a
-> show front
-front 1-a
-> show list
-list 1-a
+{"_id":"_design/x"}
+{"_id":"_design/x"}
+{}
+# edits that came
+> came {"_id":"a","_rev":"2-c","_revisions":{"start":2,"ids":["c","a"]}}
+a rev 2-c path 2-c 1-a {}
+{"_id":"a","_rev":"2-c","_revisions":{"start":2,"ids":["c","a"]}}
+{"_id":"a","_rev":"2-c","_revisions":{"start":2,"ids":["c","a"]}}
+{}
+head 2-c front 2-c 1-a list 2-c 1-a
+> came {"_id":"a","_rev":"1-c","v":[]}
+a rev 1-c path 1-c {"v":[]}
+{"_id":"a","_rev":"1-c","_revisions":{"start":1,"ids":["c"]},"v":[]}
+{"_id":"a","_rev":"1-c","_revisions":{"start":1,"ids":["c"]},"v":[]}
+{"v":[]}
+head 1-c front 1-c list 1-c
 > came {"_id":"a","_rev":"5-e"}
 a rev 5-e path 5-e {}
-> show head
-head 5-e
-> show front
-front 5-e
-> show list
-list 5-e
+{"_id":"a","_rev":"5-e","_revisions":{"start":5,"ids":["e"]}}
+{"_id":"a","_rev":"5-e","_revisions":{"start":5,"ids":["e"]}}
+{}
+head 5-e front 5-e list 5-e
 > came {"_id":"a","_revisions":{"start":5,"ids":["e"]}}
 a rev 5-e path 5-e {}
-> show head
-head 5-e
-> show front
-front 5-e
-> show list
-list 5-e
-> came {"_id":"a","_revisions":{"start":6,"ids":["f","e","d"]}}
-a rev 6-f path 6-f 5-e 4-d {}
-> show head
-head 6-f
-> show front
-front 6-f 5-e
-> show list
-list 6-f 5-e 4-d
+{"_id":"a","_rev":"5-e","_revisions":{"start":5,"ids":["e"]}}
+{"_id":"a","_rev":"5-e","_revisions":{"start":5,"ids":["e"]}}
+{}
+head 5-e front 5-e list 5-e
+> came {"_id":"a","_revisions":{"start":6,"ids":["f","e","d"]},"v":1}
+a rev 6-f path 6-f 5-e 4-d {"v":1}
+{"_id":"a","_rev":"6-f","_revisions":{"start":6,"ids":["f","e","d"]},"v":1}
+{"_id":"a","_rev":"6-f","_revisions":{"start":6,"ids":["f","e","d"]},"v":1}
+{"v":1}
+head 6-f front 6-f 5-e list 6-f 5-e 4-d
 > came {"_id":"a","_rev":"3-c","_revisions":{"start":3,"ids":["c","b","a"]}}
 a rev 3-c path 3-c 2-b 1-a {}
-> show head
-head 3-c
-> show front
-front 3-c 2-b
-> show list
-list 3-c 2-b 1-a
-> came {"_id":"a","_revisions":{"start":3,"ids":["c","b","a"]}}
-a rev 3-c path 3-c 2-b 1-a {}
-> show head
-head 3-c
-> show front
-front 3-c 2-b
-> show list
-list 3-c 2-b 1-a
-> came {"_id":"a","_revisions":{"start":2,"ids":["c","a"]},"v":1}
-a rev 2-c path 2-c 1-a {"v":1}
-> show head
-head 2-c
-> show front
-front 2-c 1-a
-> show list
-list 2-c 1-a
-# a copy of the members
-> came {"_id":"a","_revisions":{"start":2,"ids":["c","a"]},"v":1}
-a rev 2-c path 2-c 1-a {"v":1}
-> show body
+{"_id":"a","_rev":"3-c","_revisions":{"start":3,"ids":["c","b","a"]}}
+{"_id":"a","_rev":"3-c","_revisions":{"start":3,"ids":["c","b","a"]}}
+{}
+head 3-c front 3-c 2-b list 3-c 2-b 1-a
+> came {"_id":"a","_deleted":true,"v":1,"_revisions":{"ids":["c","b","a"],"start":3}}
+a rev 3-c deleted path 3-c 2-b 1-a {"v":1}
+{"_id":"a","_rev":"3-c","_deleted":true,"_revisions":{"start":3,"ids":["c","b","a"]},"v":1}
+{"_id":"a","_rev":"3-c","_deleted":true,"_revisions":{"start":3,"ids":["c","b","a"]},"v":1}
 {"v":1}
-# values of each kind
-> new {"_id":"a","s":"\u00e9"}
-a {"s":"é"}
-> new {"_id":"a","s":"\ud83d\ude00"}
-a {"s":"😀"}
-> new {"_id":"a","s":"\/\b\f"}
-a {"s":"/\b\f"}
-> new {"_id":"a","v":1,"v":2}
-a {"v":2}
-> new {"_id":"a","v":{"w":1,"w":[]}}
-a {"v":{"w":[]}}
-> new {"_id":"a","v":-9223372036854775808}
-a {"v":-9223372036854775808}
-> new {"_id":"a","v":18446744073709551615}
-a {"v":18446744073709551615}
-> new {"_id":"a", "b" : 1 , "B":2}
-a {"B":2,"b":1}
-> new {"_id":"a","s":"\u007f\u001f"}
-a {"s":""#,
-    "\u{7f}",
-    r#"\u001f"}
-# one room reads one text after another
-> room {"_id":"a","s":"\u00e9"}
-a {"s":"é"}
-> room {"_id":"a","s":"\ud83d\ude00"}
-a {"s":"😀"}
-> room {"_id":"a","s":"\/\b\f"}
-a {"s":"/\b\f"}
-> room {"_id":"a","v":1,"v":2}
-a {"v":2}
-> room {"_id":"a","v":{"w":1,"w":[]}}
-a {"v":{"w":[]}}
-> room {"_id":"a","v":-9223372036854775808}
-a {"v":-9223372036854775808}
-> room {"_id":"a","v":18446744073709551615}
-a {"v":18446744073709551615}
-> room {"_id":"a", "b" : 1 , "B":2}
-a {"B":2,"b":1}
-> room {"_id":"a","s":"\ud83d"}
+head 3-c front 3-c 2-b list 3-c 2-b 1-a
+> came {"b":[1,{"d":-2,"c":"\u00e9\n"}],"_id":"x","_rev":"2-c","_revisions":{"start":2,"ids":["c","a"]},"_deleted":true,"a":null,"_conflicts":[],"":true}
+x rev 2-c deleted path 2-c 1-a {"":true,"a":null,"b":[1,{"c":"é\n","d":-2}]}
+{"_id":"x","_rev":"2-c","_deleted":true,"_revisions":{"start":2,"ids":["c","a"]},"":true,"a":null,"b":[1,{"c":"é\n","d":-2}]}
+{"_id":"x","_rev":"2-c","_deleted":true,"_revisions":{"start":2,"ids":["c","a"]},"":true,"a":null,"b":[1,{"c":"é\n","d":-2}]}
+{"":true,"a":null,"b":[1,{"c":"é\n","d":-2}]}
+head 2-c front 2-c 1-a list 2-c 1-a
+# a fault of a text
+> new
 not JSON
-> room {"_id":"a","s":"\ude00\ud83d"}
+> new {"_id":"a"} x
 not JSON
-> room {"_id":"a","s":"\x"}
+> came [1.5
 not JSON
-> room {"_id":"a","v":01}
-not JSON
-> room {"_id":"a","v":1,}
-not JSON
-> room {"_id":"a","v":1e400}
-not JSON
-> room {"_id":"a","v":18446744073709551616}
+> came [1.5]
+not an object
+> new {"_id":"a","n":[{"m":[1,0.0]}]}
 number out of profile
-> room {"_id":"a","v":-9223372036854775809}
-number out of profile
-> room {"_id":"a","v":1e2}
-number out of profile
-> room {"_id":"a","v":1.0}
-number out of profile
-> room {"_id":"a","v":-0}
-number out of profile
-> room {"_id":"a","s":"\u00e9"}
-a {"s":"é"}
-> room {"_id":"a","s":"\ud83d\ude00"}
-a {"s":"😀"}
-> room {"_id":"a","s":"\/\b\f"}
-a {"s":"/\b\f"}
-> room {"_id":"a","v":1,"v":2}
-a {"v":2}
-> room {"_id":"a","v":{"w":1,"w":[]}}
-a {"v":{"w":[]}}
-> room {"_id":"a","v":-9223372036854775808}
-a {"v":-9223372036854775808}
-> room {"_id":"a","v":18446744073709551615}
-a {"v":18446744073709551615}
-> room {"_id":"a", "b" : 1 , "B":2}
-a {"B":2,"b":1}
-> room
-not JSON
-> room {} {}
-not JSON
-> room {}
+> came {"_id":"a"}
+bad rev
+> came {"_id":"a","_rev":"2-a","_revisions":[],"_x":1}
+bad _revisions
+> new {"_id":"a","_x":1}
+bad member
+# ids under which no route puts a document
+> put  | {}
 bad id
-# ids
-> id a
+> put _x | {}
+bad id
+> put _local/a | {}
+bad id
+> put-came , x | [
+not JSON
+> put-came , x | [1.5]
+not an object
+> put-came , x | {"v":1.5}
+number out of profile
+> put-came , x | {}
+bad id
+> put a, 1-a | {"_rev":"1-a","v":7}
+a rev 1-a {"v":7}
+{"_id":"a","_rev":"1-a","v":7}
+{"_id":"a","_rev":"1-a","v":7}
+{"v":7}
+# a line feed, a control character, a tab, and a byte that is no text, within a string
+> byte 10 {"_id":"a","s":"$"}
+not JSON
+> room 10 {"_id":"a","s":"$"}
+not JSON
+> byte 1 {"_id":"a","s":"$"}
+not JSON
+> room 1 {"_id":"a","s":"$"}
+not JSON
+> byte 9 {"_id":"a","s":"$"}
+not JSON
+> room 9 {"_id":"a","s":"$"}
+not JSON
+> byte 255 {"_id":"a","s":"$"}
+not JSON
+> room 255 {"_id":"a","s":"$"}
+not JSON
+> byte 255 {"_id":"$"}
+not JSON
+> byte 98 {"_id":"a","s":"$"}
+a {"s":"b"}
+{"_id":"a","s":"b"}
+{"_id":"a","s":"b"}
+{"s":"b"}
+> room 98 {"_id":"a","s":"$"}
+a {"s":"b"}
+{"_id":"a","s":"b"}
+{"_id":"a","s":"b"}
+{"s":"b"}
+# local documents: the greatest count, ids under which no route puts one, and of several faults the first
+> local 18446744073709551615 _local/q" | {"v":{"w":7},"b":""}
+{"_id":"_local/q\"","_rev":"0-18446744073709551615","b":"","v":{"w":7}} body {"b":"","v":{"w":7}} id _local/q"
+> local 1 _local/x | {}
+{"_id":"_local/x","_rev":"0-1"} body {} id _local/x
+> local 1 x | {}
+bad id
+> local 1  | {}
+bad id
+> local 1 _local | {}
+bad id
+> local 1 _local/ | {}
+bad id
+> local 1 _design/x | {}
+bad id
+> local 1 x | {
+not JSON
+> local 1 x | [1.5]
+not an object
+> local 1 x | {"v":1.5}
+number out of profile
+> local 1 x | {"_deleted":true}
+bad id
+# ids of local documents, of 8 and 512 bytes, and texts that are none, of 7 and 513 bytes
+> local-id x
+no id
+> local-id _local
+no id
+> local-id _design/x
+no id
+> local-id _local_/x
+no id
+> local-id /_local/x
+no id
+> local-id _local/
+no id
+> local-id
+no id
+> local-id _local/i
 id
-> id a_
+> local-id _local/iiiiiiiiiiiiiiiiiiiiiiiiiiiiiiiiiiiiiiiiiiiiiiiiiiiiiiiiiiiiiiiiiiiiiiiiiiiiiiiiiiiiiiiiiiiiiiiiiiiiiiiiiiiiiiiiiiiiiiiiiiiiiiiiiiiiiiiiiiiiiiiiiiiiiiiiiiiiiiiiiiiiiiiiiiiiiiiiiiiiiiiiiiiiiiiiiiiiiiiiiiiiiiiiiiiiiiiiiiiiiiiiiiiiiiiiiiiiiiiiiiiiiiiiiiiiiiiiiiiiiiiiiiiiiiiiiiiiiiiiiiiiiiiiiiiiiiiiiiiiiiiiiiiiiiiiiiiiiiiiiiiiiiiiiiiiiiiiiiiiiiiiiiiiiiiiiiiiiiiiiiiiiiiiiiiiiiiiiiiiiiiiiiiiiiiiiiiiiiiiiiiiiiiiiiiiiiiiiiiiiiiiiiiiiiiiiiiiiiiiiiiiiiiiiiiiiiiiiiiiiiiiiiiiiiiiiiiiiiiiiiiiiiiiiiiiiiiiiiiiiiiii
 id
-> id _design/x
-id
-> id é
-id
-> id a/b
-id
-> id
-no id
-> id _
-no id
-> id _x
-no id
-> id _design
-no id
-> id _design/
-no id
-> id _local/x
-no id
-# which revisions of one document are asked for
-> open-revs all
-all
-> open-revs ["1-a","2-c","9-z"]
-listed 1-a 2-c 9-z
-> open-revs ["2-a","2-a"]
-listed 2-a 2-a
-> add 1  [ "1-\u0061" ]
-> byte 1 32
-> open-revs $
-listed 1-a
-> open-revs []
-listed
-> open-revs
-no list
-> open-revs [
-no list
-> open-revs All
-no list
-> open-revs "all"
-no list
-> open-revs {}
-no list
-> open-revs ["all"]
-no list
-> open-revs ["1-a",2]
-no list
-> open-revs ["1-a",["2-b"]]
-no list
-> open-revs ["1-a","0-b"]
-no list
-> open-revs ["x","1-a"]
-no list
-# what is asked for of several documents
-> asked {}
-
-> asked {"a":["1-a","2-d"],"b":[]}
-a[ 1-a 2-d]b[]
-> asked {"b":["1-b"],"":[],"a":["1-a"]}
-[]a[ 1-a]b[ 1-b]
-> asked {"a":["1-a"],"b":[],"a":["2-c"]}
-a[ 2-c]b[]
-> asked {"_local/x":["1-a"],"_y":[]}
-_local/x[ 1-a]_y[]
-> asked {"a":["2-c","1-a","2-c"]}
-a[ 2-c 1-a 2-c]
-# faults of what is asked for
-> asked []
-not an object
-> asked null
-not an object
-> asked {"a":1}
-not an object
-> asked {"a":"1-a"}
-not an object
-> asked {"a":{}}
-not an object
-> asked {"a":["1-a",2]}
-not an object
-> asked {"a":["x"],"b":1}
-not an object
-> asked {"a":["x",1]}
-not an object
-> asked {"a":["1-a"],"b":["x"],"c":[null]}
-not an object
-> asked {"a":["x"]}
-bad rev
-> asked {"a":["1-a","0-a"],"b":[]}
-bad rev
-> asked {"a":["x"],"b":["1-a"]}
-bad rev
-> asked {"a":[""]}
-bad rev"#
+> local-id _local/iiiiiiiiiiiiiiiiiiiiiiiiiiiiiiiiiiiiiiiiiiiiiiiiiiiiiiiiiiiiiiiiiiiiiiiiiiiiiiiiiiiiiiiiiiiiiiiiiiiiiiiiiiiiiiiiiiiiiiiiiiiiiiiiiiiiiiiiiiiiiiiiiiiiiiiiiiiiiiiiiiiiiiiiiiiiiiiiiiiiiiiiiiiiiiiiiiiiiiiiiiiiiiiiiiiiiiiiiiiiiiiiiiiiiiiiiiiiiiiiiiiiiiiiiiiiiiiiiiiiiiiiiiiiiiiiiiiiiiiiiiiiiiiiiiiiiiiiiiiiiiiiiiiiiiiiiiiiiiiiiiiiiiiiiiiiiiiiiiiiiiiiiiiiiiiiiiiiiiiiiiiiiiiiiiiiiiiiiiiiiiiiiiiiiiiiiiiiiiiiiiiiiiiiiiiiiiiiiiiiiiiiiiiiiiiiiiiiiiiiiiiiiiiiiiiiiiiiiiiiiiiiiiiiiiiiiiiiiiiiiiiiiiiiiiiiiiiiiiiiiiiiii
+no id"#
 );
 
 #[test]

@@ -4,47 +4,21 @@ use super::session::Session;
 use hub_transcript::replay;
 use std::test::Fail;
 
-const REVISIONS: &str = concat!(
-    r#"
+const REVISIONS: &str = r#"
 # texts of revisions
 > rev 1-a
-text 1-a hash a parts 1-a generation 1
+hash a parts 1-a generation 1
 > rev 10-0aZ
-text 10-0aZ hash 0aZ parts 10-0aZ generation 10
+hash 0aZ parts 10-0aZ generation 10
 > rev 65535-9
-text 65535-9 hash 9 parts 65535-9 generation 65535
+hash 9 parts 65535-9 generation 65535
 > rev 2-0123456789012345678901234567890123456789012345678901234567890123
-text 2-0123456789012345678901234567890123456789012345678901234567890123 hash 0123456789012345678901234567890123456789012345678901234567890123 parts 2-0123456789012345678901234567890123456789012345678901234567890123 generation 2
-# texts that are no revisions
+hash 0123456789012345678901234567890123456789012345678901234567890123 parts 2-0123456789012345678901234567890123456789012345678901234567890123 generation 2
 > rev
-none
-> rev 1
-none
-> rev a
-none
-> rev -a
 none
 > rev 1-
 none
-> rev 0-a
-none
-> rev 01-a
-none
-> rev +1-a
-none
-> rev  1-a
-none
-> add 1 1-a
-> byte 1 32
-> rev $
-none
-> rev 1-a-b
-none
-> rev 1-é
-none
 > rev 65536-a
-none
-> rev 18446744073709551617-a
 none
 > rev 2-01234567890123456789012345678901234567890123456789012345678901234
 none
@@ -68,21 +42,24 @@ many at none none none list len 0
 > changes 1-x 1-b
 many 1-x 1-b at 1-x 1-b none list 1-x 1-b len 2
 # rows of changes and what is written of them
-> row deleted
+> row deleted {"_id":"a","v":7}
 a seq 3 deleted true seen 4 many at none none none list len 0
 members {"v":7} text {"_id":"a","_deleted":true,"v":7}
+> row deleted {"_id":"a"}
+a seq 3 deleted true seen 4 many at none none none list len 0
 members {} text {"_id":"a","_deleted":true}
-local {"_id":"_local/x","_rev":"0-1"}
-> row live 1-x 1-b
+> row live {"_id":"a","v":7} 1-x 1-b
 a seq 3 deleted false seen 4 many 1-x 1-b at 1-x 1-b none list 1-x 1-b len 2
 members {"v":7} text {"_id":"a","_rev":"1-x","v":7}
+> row live {"_id":"a"} 1-x 1-b
+a seq 3 deleted false seen 4 many 1-x 1-b at 1-x 1-b none list 1-x 1-b len 2
 members {} text {"_id":"a","_rev":"1-x"}
-local {"_id":"_local/x","_rev":"0-1"}
-> row deleted 1-x 1-b
+> row deleted {"_id":"a","v":7} 1-x 1-b
 a seq 3 deleted true seen 4 many 1-x 1-b at 1-x 1-b none list 1-x 1-b len 2
 members {"v":7} text {"_id":"a","_rev":"1-x","_deleted":true,"v":7}
+> row deleted {"_id":"a"} 1-x 1-b
+a seq 3 deleted true seen 4 many 1-x 1-b at 1-x 1-b none list 1-x 1-b len 2
 members {} text {"_id":"a","_rev":"1-x","_deleted":true}
-local {"_id":"_local/x","_rev":"0-1"}
 # rows of updates
 > update created 1 1
 UpdateRow { db_name: "", kind: Created, seq: 1, seen: 1 }
@@ -101,44 +78,31 @@ out of memory
 "0-0"
 > sequence 18446744073709551615 12
 "18446744073709551615-12"
-# texts in quotes, of each length round those that are looked at in one step
-> quote "q\"\\\n\u0001"
-escaped "q\"\\\n\u0001"
-> quote "é/漢"
-plain "é/漢"
-> quote ""
-plain ""
-> quote "é漢😀\u007f"
-plain "é漢😀"#,
-    "\u{7f}",
-    r#""
-> quote "abcdefg"
-plain "abcdefg"
-> quote "abcdefgh"
-plain "abcdefgh"
-> quote "abcdefghijklmnop"
-plain "abcdefghijklmnop"
-> quote "abcdefghijklmnopq"
-plain "abcdefghijklmnopq"
-> quote "abcdefghijklmnopqrstuvwxyzabcdefghi"
-plain "abcdefghijklmnopqrstuvwxyzabcdefghi"
-> quote "\""
-escaped "\""
-> quote "\\"
-escaped "\\"
-> quote "\u001f"
-escaped "\u001f"
-> quote "abcdefg\""
-escaped "abcdefg\""
-> quote "\u0000bcdefghijklmnop"
-escaped "\u0000bcdefghijklmnop"
-> quote "abcdefghijklmno\\"
-escaped "abcdefghijklmno\\"
-> quote "abcdefghijklmnop\n"
-escaped "abcdefghijklmnop\n"
-> quote "abcdefghijklmnopq\"stuvwxyzabcdefghi"
-escaped "abcdefghijklmnopq\"stuvwxyzabcdefghi""#
-);
+# texts that need no escape, and texts that do, of each length round those that are looked at in one step
+> plain
+true
+> plain é/漢
+true
+> plain é漢😀
+true
+> plain abcdefg
+true
+> plain abcdefgh
+true
+> plain abcdefghijklmnop
+true
+> plain abcdefghijklmnopq
+true
+> plain "
+false
+> plain \
+false
+> plain abcdefg"
+false
+> plain abcdefghijklmno\
+false
+> plain abcdefghijklmnopq"stuvwxyzabcdefghi
+false"#;
 
 #[test]
 fn revisions_and_rows(rt: HostRuntime) -> Result<(), Fail> {

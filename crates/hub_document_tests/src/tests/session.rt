@@ -1,54 +1,48 @@
 //! The interpreter of transcripts.
 
-use super::made::{bytes_of, put, room_value, value};
-use super::shown::{Out, show};
-use super::texts::text;
-use hub_document::{Doc, DocFault, JsonRoom};
+use super::parts::part;
+use super::shown::{Out, keep};
+use hub_document::{
+    Doc, DocFault, JsonRoom, LocalDoc, LocalId, put_doc, read_doc, read_value, write_local,
+};
 use hub_transcript::{Answer, Subject, Words};
 use std::alloc::{AllocError, Global};
 use std::str;
 
-/// Reads documents and shows them. In a command `$` stands for the text that was built, which is empty at
-/// first. A command that finds a fault answers its reason.
+/// Reads documents and shows them. A command that finds a fault answers its reason.
 ///
-/// These build a text, and answer nothing:
-/// - `add COUNT PIECE` appends the piece so many times;
-/// - `byte COUNT NUMBER` appends the byte of this number so many times.
-///
-/// These read a document and keep it, and answer its id, `rev REV`, `deleted`, `path REV ..` and its members,
-/// as far as they are there:
+/// These read a document, and answer its id, `rev REV`, `deleted`, `path REV ..` and its members, as far as
+/// they are there, then what is written of it, and what of a copy, then a copy of its members, and at last
+/// the head of its path, the first two revisions, and a list of all:
 /// - `new TEXT` reads a text, of an edit that is made here, and `came TEXT` one of an edit that came;
-/// - `new-value TEXT` and `came-value TEXT` read a text as a value, and the document that this is;
-/// - `room TEXT` reads an edit that is made here so, with the room of the case;
 /// - `put ID | TEXT` and `put ID, REV | TEXT` read what is put under an id, and `put-came` with an edit that
-///   came.
+///   came;
+/// - `byte NUMBER TEXT` reads a text that has the byte of this number in place of its `$`, and `room NUMBER
+///   TEXT` reads it with a room.
 ///
-/// The other commands are those of `show`, `text` and `part`.
+/// These read a local document, or its id:
+/// - `local COUNT ID | TEXT` answers what is written of it with so many edits, its members and its id;
+/// - `local-id TEXT` answers whether the text is an id, as it stands.
+///
+/// The other commands are those of `part`.
 #[derive(Drop)]
 pub(super) struct Session {
     alloc: Global,
-    room: JsonRoom,
-    built: Vec<u8>,
-    doc: Option<Doc>,
     out: Out,
 }
 
 impl<R> Subject<R> for Session {
     fn begin(_: &R, alloc: Global, _: &str) -> Result<Session, AllocError> {
-        let out = Out::new(alloc)?;
+        let bytes = Vec::with_capacity(alloc, 65_536)?;
         Ok(Session {
             alloc,
-            room: JsonRoom::new(alloc),
-            built: Vec::new(alloc),
-            doc: None,
-            out,
+            out: Out { bytes },
         })
     }
 
     fn answer(&mut self, _: &R, command: &str, answer: &mut Answer) -> Result<(), AllocError> {
         self.out.bytes.clear();
-        let (verb, rest) = command.split_once(' ').unwrap_or((command, ""));
-        match self.made(verb, rest) {
+        match carry_out(self.alloc, command, &mut self.out) {
             Ok(()) => answer.text(text_of(self.out.bytes.as_slice())),
             Err(DocFault::NoMemory) => Err(AllocError),
             Err(fault) => answer.line(fault),
@@ -61,78 +55,69 @@ fn text_of(bytes: &[u8]) -> &str {
     str::from_utf8(bytes).unwrap_or("no text")
 }
 
-impl Session {
-    // Appends a piece to the text that is built, so many times.
-    fn add(&mut self, count: u64, piece: &[u8]) -> Result<(), DocFault> {
-        self.built
-            .reserve(piece.len().saturating_mul(count as usize))?;
-        for _ in 0..count {
-            let _ = self.built.extend_from_slice(piece);
-        }
-        Ok(())
-    }
+// The document that the value of a text is under an id.
+fn put(alloc: Global, rest: &str, new_edits: bool) -> Result<Doc, DocFault> {
+    let (place, text) = rest.split_once(" | ").unwrap_or((rest, ""));
+    let (id, rev) = match place.split_once(", ") {
+        Some((id, rev)) => (id, Some(rev)),
+        None => (place, None),
+    };
+    let value = read_value(alloc, text.as_bytes())?;
+    put_doc(alloc, id, rev, new_edits, &value)
+}
 
-    // Keeps a document that was read, and shows it whole.
-    fn keep(&mut self, read: Result<Doc, DocFault>) -> Result<(), DocFault> {
-        let doc = read?;
-        self.out.whole(&doc);
-        self.doc = Some(doc);
-        Ok(())
+// The document that a text is with a byte of this number in it, read with a room or without.
+fn with_byte(alloc: Global, rest: &str, room: bool) -> Result<Doc, DocFault> {
+    let mut words = Words::of(rest);
+    let byte = u8::try_from(words.number()).unwrap_or(0);
+    let (front, behind) = words.rest().split_once('$').unwrap_or(("", ""));
+    let mut bytes = Vec::from_slice(alloc, front.as_bytes())?;
+    bytes.extend_from_slice(&[byte])?;
+    bytes.extend_from_slice(behind.as_bytes())?;
+    if !room {
+        return Doc::read(alloc, bytes.as_slice(), true);
     }
+    let value = JsonRoom::new(alloc).read(alloc, bytes.as_slice())?;
+    read_doc(alloc, &value, true)
+}
 
-    // Carries out a command.
-    fn made(&mut self, verb: &str, rest: &str) -> Result<(), DocFault> {
-        let mut words = Words::of(rest);
-        if verb == "add" {
-            return self.add(words.number(), words.rest().as_bytes());
-        }
-        if verb == "byte" {
-            let count = words.number();
-            let byte = u8::try_from(words.number()).unwrap_or(0);
-            return self.add(count, &[byte]);
-        }
-        self.read(verb, rest)
-    }
+// A local document: what is written of it with so many edits, its members and its id.
+fn local(alloc: Global, rest: &str, out: &mut Out) -> Result<(), DocFault> {
+    let mut words = Words::of(rest);
+    let count = words.number();
+    let (id, text) = words.rest().split_once(" | ").unwrap_or(("", ""));
+    let doc = LocalDoc::read(alloc, id, text.as_bytes())?;
+    write_local(&mut out.bytes, doc.id.as_str(), count, &doc.body)?;
+    out.both(" body ", doc.body.as_bytes());
+    out.both(" id ", doc.id.into_string().as_bytes());
+    Ok(())
+}
 
-    // Reads a document.
-    fn read(&mut self, verb: &str, rest: &str) -> Result<(), DocFault> {
-        let alloc = self.alloc;
-        let bytes = bytes_of(self.built.as_slice(), rest);
-        let read = if verb == "new" {
-            Doc::read(alloc, bytes, true)
-        } else if verb == "came" {
-            Doc::read(alloc, bytes, false)
-        } else if verb == "new-value" {
-            value(alloc, bytes, true)
-        } else if verb == "came-value" {
-            value(alloc, bytes, false)
-        } else if verb == "room" {
-            room_value(alloc, &mut self.room, bytes)
-        } else if verb == "put" {
-            put(alloc, self.built.as_slice(), rest, true)
-        } else if verb == "put-came" {
-            put(alloc, self.built.as_slice(), rest, false)
-        } else {
-            return self.ask(verb, rest);
-        };
-        self.keep(read)
-    }
+fn local_id(alloc: Global, text: &str, out: &mut Out) -> Result<(), DocFault> {
+    let id = LocalId::read(alloc, text)?;
+    out.put(match &id {
+        Some(id) if id.as_str() == text => "id",
+        Some(_) => "another id",
+        None => "no id",
+    });
+    Ok(())
+}
 
-    // Shows the document that was read last, or carries out another command.
-    fn ask(&mut self, verb: &str, rest: &str) -> Result<(), DocFault> {
-        let Session {
-            alloc,
-            built,
-            doc,
-            out,
-            ..
-        } = self;
-        if verb == "show" {
-            return show(*alloc, doc, rest, out);
-        }
-        if rest == "$" {
-            return text(*alloc, verb, text_of(built.as_slice()), out);
-        }
-        text(*alloc, verb, rest, out)
-    }
+// Carries out a command.
+fn carry_out(alloc: Global, command: &str, out: &mut Out) -> Result<(), DocFault> {
+    let mut words = Words::of(command);
+    let verb = words.verb("new came put put-came byte room local local-id");
+    let rest = words.rest();
+    let read = match verb {
+        0 => Doc::read(alloc, rest.as_bytes(), true),
+        1 => Doc::read(alloc, rest.as_bytes(), false),
+        2 => put(alloc, rest, true),
+        3 => put(alloc, rest, false),
+        4 => with_byte(alloc, rest, false),
+        5 => with_byte(alloc, rest, true),
+        6 => return local(alloc, rest, out),
+        7 => return local_id(alloc, rest, out),
+        _ => return part(alloc, command, out),
+    };
+    keep(alloc, read, out)
 }

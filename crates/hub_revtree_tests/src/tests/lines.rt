@@ -40,95 +40,87 @@ contradicts
 > sizes
 1 edits 2 revisions 1 leaves
 > delete 2-y
-made 3-e1af6878896b48760d8d82bc14804b59
+made
 > sizes
 2 edits 3 revisions 1 leaves
 # line of edits is kept once
-> times 5000 extend live
+> make
+made
+> times 4999 best edit
 made
 > sizes
 5000 edits 5000 revisions 1 leaves
 > winner
-winner 5000-5790fc468f5a00fdca44b53dd6e39e0d {} alone 5000-5790fc468f5a00fdca44b53dd6e39e0d of 1 best 5000-5790fc468f5a00fdca44b53dd6e39e0d
+winner 5000-5790fc468f5a00fdca44b53dd6e39e0d {} alone 5000-5790fc468f5a00fdca44b53dd6e39e0d best 5000-5790fc468f5a00fdca44b53dd6e39e0d
 > leaves
 leaves 5000-5790fc468f5a00fdca44b53dd6e39e0d
-> whole live
-whole
+> path 5000-5790fc468f5a00fdca44b53dd6e39e0d
+5000 revisions, sum 2817582114044708176, room 5000
 # longest path is kept whole
 > long 65535
 added
 > winner
-winner 65535-a {} alone 65535-a of 1 best 65535-a
+winner 65535-a {} alone 65535-a best 65535-a
 > sizes
 1 edits 65535 revisions 1 leaves
-> long-path 65535-a
-yes
+> path 65535-a
+65535 revisions, sum 4846910180744581607, room 65535
 # two lines of many edits
-> times 300 extend live & whole live
+> times 300 extend live
 made
-whole
 > merge {"_id":"a","_deleted":true,"_rev":"1-00000000000000000000000000000000"}
 added
-> older dead 1-00000000000000000000000000000000
-> whole dead
-whole
-> times 50 extend dead & whole dead
+> times 50 extend dead
 made
-whole
-> times 5 extend live & whole live & extend dead & whole dead
+> times 5 extend live & extend dead
 made
-whole
 made
-whole
-> times 50 extend live & whole live
+> times 50 extend live
 made
-whole
 > sizes
 411 edits 411 revisions 2 leaves
 > leaves
 leaves 355-d1de5ff2b936d18793055543f1117adf 56-fb6eeecbea210c393eecc4462d323db4
+> path 355-d1de5ff2b936d18793055543f1117adf
+355 revisions, sum 7217600721867396724, room 355
+> path 56-fb6eeecbea210c393eecc4462d323db4
+56 revisions, sum 2913429427499840058, room 56
 # line is shared with an edit that is not taken
-> times 300 extend live & whole live
+> times 300 extend live
 made
-whole
 > second
 made
-> whole live
-whole
-> times 20 extend live & whole live
+> path 301-83ead5079bdab9ce1433d57342abd53c
+301 revisions, sum 8221523564864140281, room 301
+> times 20 extend live
 made
-whole
 > sizes
 321 edits 321 revisions 1 leaves
+> path 321-6946003014e1d6f5f0905920157db7b2
+321 revisions, sum 13069605538286300981, room 321
 # line that gets older revisions
 > merge {"_id":"a","_rev":"5-00000000000000000000000000000005"}
 added
-> older live 5-00000000000000000000000000000005
-> whole live
-whole
-> times 300 extend live & whole live
+> times 300 extend live
 made
-whole
 > merge {"_id":"a","_deleted":true,"_revisions":{"start":6,"ids":["00000000000000000000000000000066","00000000000000000000000000000005","00000000000000000000000000000004","00000000000000000000000000000003"]}}
 added
-> older live 4-00000000000000000000000000000004
-> older live 3-00000000000000000000000000000003
-> whole live
-whole
-> times 20 extend live & whole live
+> path 305-ffe3eead1f1413815de303bb54307473
+303 revisions, sum 14713004260167773308, room 303
+> times 20 extend live
 made
-whole
 > merge {"_id":"a","_deleted":true,"_revisions":{"start":4,"ids":["00000000000000000000000000000044","00000000000000000000000000000003","00000000000000000000000000000002","00000000000000000000000000000001"]}}
 added
-> older live 2-00000000000000000000000000000002
-> older live 1-00000000000000000000000000000001
-> whole live
-whole
-> times 20 extend live & whole live
+> path 325-3da14741882dcf2a99cf9e3c79aeecab
+325 revisions, sum 18029771574917945361, room 325
+> path 25-7dad071783d087c23e5fba5b7200881c
+25 revisions, sum 5739493802251211995, room 25
+> times 20 extend live
 made
-whole
 > sizes
-343 edits 347 revisions 3 leaves"#;
+343 edits 347 revisions 3 leaves
+> path 345-14f9b2058139a6ab1cd988a09b9a7923
+345 revisions, sum 9523564039981955638, room 345"#;
 
 #[test]
 fn lines_are_kept_once(rt: HostRuntime) -> Result<(), Fail> {

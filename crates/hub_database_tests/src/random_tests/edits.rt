@@ -1,0 +1,161 @@
+//! Random edits of one document. Histories are parts of larger ones and come in any order; edits that are
+//! made here stand between them.
+
+ghost use Rattle.std.specs.Prelude.{◌<◌};
+
+use super::model::Model;
+use super::texts::{hash_of, put_doc};
+use hub_document::{Doc, RevId};
+use std::alloc::{AllocError, Global};
+use std::test::Fail;
+
+/// A linear congruential generator.
+#[derive(Clone, Copy)]
+pub(super) struct Random {
+    pub(super) state: u64,
+}
+
+impl Random {
+    /// The next number, below this one.
+    pub(super) fn below(&mut self, end: u64) -> u64
+        requires { 0 < end }
+        ensures { result < end }
+    {
+        self.state = self
+            .state
+            .wrapping_mul(6_364_136_223_846_793_005)
+            .wrapping_add(1_442_695_040_888_963_407);
+        self.state / 4_294_967_296 % end
+    }
+}
+
+/// Puts the revision of a generation and of one of three hashes behind a history; none of the generation 0.
+pub(super) fn push(
+    line: &mut Vec<RevId>,
+    alloc: Global,
+    generation: u64,
+    hash: u64,
+) -> Result<(), AllocError> {
+    let hash = if hash == 0 {
+        "a"
+    } else if hash == 1 {
+        "b"
+    } else {
+        "c"
+    };
+    let text = format!(in alloc; "{generation}-{hash}")?;
+    if let Some(rev) = RevId::read(text.as_str()) {
+        line.push(rev)?;
+    }
+    Ok(())
+}
+
+// Puts a part of the tree of this salt behind a history: a revision and some of those behind it. Now and then
+// one of them is another.
+fn put_part(
+    line: &mut Vec<RevId>,
+    alloc: Global,
+    random: &mut Random,
+    salt: u64,
+) -> Result<(), AllocError> {
+    let mut generation = random.below(6) + 1;
+    let mut hash = random.below(3);
+    for _ in 0..random.below(generation) + 1 {
+        push(line, alloc, generation, hash)?;
+        let number = generation.wrapping_mul(3).wrapping_add(hash);
+        hash = salt.wrapping_mul(number) / 65_536 % 3;
+        if random.below(20) == 0 {
+            hash = random.below(3);
+        }
+        generation = generation.saturating_sub(1);
+    }
+    Ok(())
+}
+
+// Puts a history behind nothing: a part of the tree, or a revision on the leaf with some of those behind it.
+fn put_history(
+    line: &mut Vec<RevId>,
+    alloc: Global,
+    random: &mut Random,
+    model: &Model,
+    leaf: &Option<RevId>,
+) -> Result<(), AllocError> {
+    let Some(leaf) = leaf else {
+        return put_part(line, alloc, random, model.salt);
+    };
+    if random.below(3) > 0 {
+        return put_part(line, alloc, random, model.salt);
+    }
+    let next = u64::from(leaf.generation()).saturating_add(1);
+    push(line, alloc, next, random.below(3))?;
+    let behind = model.line(alloc, leaf)?;
+    let count = behind.len().min(random.below(8) as usize);
+    line.extend_from_slice(&behind.as_slice()[..count])
+}
+
+// A document whose revision is to be made, on this one or on none.
+fn draft(
+    alloc: Global,
+    id: &str,
+    rev: &Option<RevId>,
+    deleted: bool,
+    members: &str,
+) -> Result<String, AllocError> {
+    match rev {
+        Some(rev) => {
+            let (generation, hash) = (rev.generation(), hash_of(rev));
+            format!(in alloc;
+                r#"{{"_id":"{id}","_rev":"{generation}-{hash}","_deleted":{deleted},{members}"#
+            )
+        }
+        None => format!(in alloc; r#"{{"_id":"{id}","_deleted":{deleted},{members}"#),
+    }
+}
+
+// Puts the revision behind a history that a draft would make here, if it would make one.
+fn put_made(line: &mut Vec<RevId>, alloc: Global, model: &Model, draft: &str) -> Result<(), Fail> {
+    let doc = Doc::read(alloc, draft.as_bytes(), true)?;
+    if let Some(rev) = model.made(alloc, &doc)? {
+        line.push(rev)?;
+    }
+    Ok(())
+}
+
+/// Writes the document that comes next, and tells whether its revision is to be made. A revision as it would
+/// be made here is told by another database too, and alone.
+pub(super) fn next(
+    alloc: Global,
+    random: &mut Random,
+    model: &Model,
+    out: &mut String,
+) -> Result<bool, Fail> {
+    let leaves = model.leaves(alloc)?;
+    let place = random.below((leaves.len() as u64).max(1)) as usize;
+    let leaf = leaves.get(place).copied();
+    let members = if random.below(2) == 0 {
+        "\"v\":0}"
+    } else {
+        "\"v\":1}"
+    };
+    let deleted = random.below(3) == 0;
+    let kind = random.below(9);
+    let named = match kind {
+        0 => None,
+        1 => RevId::read("2-a"),
+        _ => leaf,
+    };
+    let id = model.id.as_str();
+    let draft = draft(alloc, id, &named, deleted, members)?;
+    let mut line = Vec::new(alloc);
+    if kind == 4 {
+        put_made(&mut line, alloc, model, draft.as_str())?;
+    } else if kind > 4 {
+        put_history(&mut line, alloc, random, model, &leaf)?;
+    }
+    if line.is_empty() {
+        out.push_str(draft.as_str())?;
+        return Ok(true);
+    }
+    put_doc(out, id, line.as_slice(), deleted, members)?;
+    Ok(false)
+}
