@@ -1,6 +1,6 @@
 //! The texts of items, in feeds of changes and of updates, and the names of methods.
 
-use crate::texts::{Shown, place_of, undone};
+use crate::texts::{Shown, undone};
 use hub_document::{ChangeRow, Changes, Doc, DocFault, RevId, Revisions, UpdateRow};
 use hub_http::{MethodName, RowText, item_text};
 use hub_model::{Item, Mode, UpdateKind};
@@ -161,8 +161,10 @@ impl<R> Subject<R> for Feed {
     }
 
     fn answer(&mut self, _: &R, command: &str, answer: &mut Answer) -> Result<(), AllocError> {
-        let (verb, rest) = command.split_once(' ').unwrap_or((command, ""));
-        match place_of(verb, VERBS) {
+        let mut words = Words::of(command);
+        let place = words.verb(VERBS);
+        let rest = words.rest();
+        match place {
             0 => self.set(rest, answer),
             1 => self.row(false, rest, answer),
             2 => self.row(true, rest, answer),

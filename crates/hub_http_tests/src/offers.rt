@@ -112,23 +112,19 @@ impl<R> Subject<R> for Offers {
     }
 
     fn answer(&mut self, _: &R, command: &str, answer: &mut Answer) -> Result<(), AllocError> {
-        let (verb, rest) = command.split_once(' ').unwrap_or((command, ""));
-        if verb == "offer" {
-            return self.offer(rest, answer);
+        let mut words = Words::of(command);
+        let place = words.verb("offer put next over fronts");
+        let rest = words.rest();
+        match place {
+            0 => self.offer(rest, answer),
+            1 => self.put(rest),
+            2 => answer.line(next_of(&mut self.inbox)?),
+            3 => {
+                self.inbox.end();
+                Ok(())
+            }
+            4 => self.fronts(rest, answer),
+            _ => answer.text("?\n"),
         }
-        if verb == "put" {
-            return self.put(rest);
-        }
-        if verb == "next" {
-            return answer.line(next_of(&mut self.inbox)?);
-        }
-        if verb == "over" {
-            self.inbox.end();
-            return Ok(());
-        }
-        if verb == "fronts" {
-            return self.fronts(rest, answer);
-        }
-        answer.text("?\n")
     }
 }

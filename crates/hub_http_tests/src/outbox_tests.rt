@@ -1,7 +1,7 @@
 //! Bytes that wait to be sent.
 
 use crate::sink::Sink;
-use crate::texts::{Shown, place_of, undone};
+use crate::texts::{Shown, undone};
 use hub_http::{Outbox, Output, send_vec};
 use hub_transcript::{Answer, Subject, Words, replay};
 use std::alloc::{AllocError, Global};
@@ -99,8 +99,10 @@ impl<R> Subject<R> for Waiting {
     }
 
     fn answer(&mut self, _: &R, command: &str, answer: &mut Answer) -> Result<(), AllocError> {
-        let (verb, rest) = command.split_once(' ').unwrap_or((command, ""));
-        match place_of(verb, "write vector front holds empty sent writer hand held") {
+        let mut words = Words::of(command);
+        let place = words.verb("write vector front holds empty sent writer hand held");
+        let rest = words.rest();
+        match place {
             0 => self.write(rest.as_bytes(), answer),
             1 => self.vector(rest, answer),
             2 => answer.line(Shown(self.outbox.front())),

@@ -1,6 +1,6 @@
 //! Requests that transcripts read.
 
-use crate::texts::{Came, Shown, place_of, repeated, undone};
+use crate::texts::{Came, Shown, repeated, undone};
 use hub_http::{HttpFault, Input, Requests, Tally};
 use hub_transcript::{Answer, Subject, Words};
 use std::alloc::{AllocError, Global};
@@ -228,11 +228,10 @@ impl<R> Subject<R> for Reading {
     }
 
     fn answer(&mut self, _: &R, command: &str, answer: &mut Answer) -> Result<(), AllocError> {
-        let (verb, rest) = command.split_once(' ').unwrap_or((command, ""));
-        match place_of(
-            verb,
-            "read add all slow next room counts memory fronts failing",
-        ) {
+        let mut words = Words::of(command);
+        let place = words.verb("read add all slow next room counts memory fronts failing");
+        let rest = words.rest();
+        match place {
             0 => self.read(rest, answer),
             1 => self.add(rest),
             2 => self.all(answer),

@@ -1,6 +1,6 @@
 //! The texts of whole answers, of the heads of streams, and of chunks.
 
-use crate::texts::{Shown, place_of, undone};
+use crate::texts::{Shown, undone};
 use hub_document::DocFault;
 use hub_http::{
     ChunkWriter, Refusal, Reply, StatusCode, Tally, Text, reply_bytes, stream_head_text,
@@ -178,8 +178,10 @@ impl<R> Subject<R> for Answers {
     }
 
     fn answer(&mut self, _: &R, command: &str, answer: &mut Answer) -> Result<(), AllocError> {
-        let (verb, rest) = command.split_once(' ').unwrap_or((command, ""));
-        match place_of(verb, "made refuse stream from tell chunk greet") {
+        let mut words = Words::of(command);
+        let place = words.verb("made refuse stream from tell chunk greet");
+        let rest = words.rest();
+        match place {
             0 => self.make(rest, answer),
             1 => self.refuse(rest, answer),
             2 => tell_stream(rest, answer),

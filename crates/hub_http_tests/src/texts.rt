@@ -40,19 +40,6 @@ pub(crate) fn undone(alloc: Global, text: &str) -> Result<Vec<u8>, AllocError> {
     Ok(bytes)
 }
 
-/// The place of a word among others, which stand behind one another with a blank between them; past the last
-/// where it is none of them.
-pub(crate) fn place_of(word: &str, words: &str) -> u64 {
-    let mut place = 0u64;
-    for other in words.split(' ') {
-        if other == word {
-            return place;
-        }
-        place = place.saturating_add(1);
-    }
-    u64::MAX
-}
-
 /// The bytes of the words `TIMES TEXT`: a text so often. Where no text stands there they are so many bytes
 /// that count from 0 to 250, and from 0 again.
 pub(crate) fn repeated(alloc: Global, words: &mut Words<'_>) -> Result<Vec<u8>, AllocError> {

@@ -64,14 +64,15 @@ impl<R> Subject<R> for Writing {
     }
 
     fn answer(&mut self, _: &R, command: &str, answer: &mut Answer) -> Result<(), AllocError> {
-        let (verb, rest) = command.split_once(' ').unwrap_or((command, ""));
-        if verb == "write" || verb == "send" {
-            return self.put(verb == "send", rest, answer);
+        let mut words = Words::of(command);
+        let place = words.verb("write send memory");
+        let rest = words.rest();
+        match place {
+            0 => self.put(false, rest, answer),
+            1 => self.put(true, rest, answer),
+            2 => keep(self.alloc, rest.as_bytes(), answer),
+            _ => answer.text("?\n"),
         }
-        if verb == "memory" {
-            return keep(self.alloc, rest.as_bytes(), answer);
-        }
-        answer.text("?\n")
     }
 }
 

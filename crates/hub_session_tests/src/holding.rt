@@ -5,10 +5,10 @@
 //! last one, and a stream may be cut. Held again over fresh values it is right.
 
 use crate::held::{Setting, Told, driven, given_up, refused, served, streamed};
-use crate::shown::{Shown, place_of, undone};
+use crate::shown::{Shown, undone};
 use hub_http::HttpFault;
 use hub_session::Closing;
-use hub_transcript::{Answer, Subject};
+use hub_transcript::{Answer, Subject, Words};
 use std::alloc::{AllocError, Global};
 use std::str;
 
@@ -92,10 +92,7 @@ fn tell_closing(closing: Option<Closing>, answer: &mut Answer) -> Result<(), All
 
 // What became of a session; none where the word names none.
 fn held(setting: &Setting, verb: &str, input: &[u8]) -> Result<Option<Told>, AllocError> {
-    let told = match place_of(
-        verb,
-        "serve serve_one serve_again stream drive lose give_up",
-    ) {
+    let told = match Words::of(verb).verb("serve serve_one serve_again stream drive lose give_up") {
         0 => served(setting, input, false, false),
         1 => served(setting, input, true, false),
         2 => served(setting, input, false, true),
@@ -220,7 +217,7 @@ impl Holding {
     }
 
     // Changes the setting at this place of `SETTINGS`.
-    fn set(&mut self, place: u64, number: u64) {
+    fn set(&mut self, place: usize, number: u64) {
         let setting = &mut self.setting;
         match place {
             0 => *setting = Setting::ample(setting.alloc),
@@ -253,13 +250,12 @@ impl<R> Subject<R> for Holding {
 
     fn answer(&mut self, _: &R, command: &str, answer: &mut Answer) -> Result<(), AllocError> {
         let (verb, rest) = command.split_once(' ').unwrap_or((command, ""));
-        let place = place_of(verb, SETTINGS);
-        if place < u64::MAX {
+        let place = Words::of(verb).verb(SETTINGS);
+        if place < usize::MAX {
             self.set(place, rest.parse().unwrap_or(0));
             return Ok(());
         }
-        match place_of(
-            verb,
+        match Words::of(verb).verb(
             "ask output writes flushes faults given_back waits cuts breaks",
         ) {
             0 => self.ask(rest),

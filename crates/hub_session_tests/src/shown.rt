@@ -25,19 +25,6 @@ pub(crate) fn undone(alloc: Global, text: &str) -> Result<Vec<u8>, AllocError> {
     Ok(bytes)
 }
 
-/// The place of a word among others, which stand behind one another with a blank between them; past the last
-/// where it is none of them.
-pub(crate) fn place_of(word: &str, words: &str) -> u64 {
-    let mut place = 0u64;
-    for other in words.split(' ') {
-        if other == word {
-            return place;
-        }
-        place = place.saturating_add(1);
-    }
-    u64::MAX
-}
-
 /// Bytes as they are shown: what prints as it stands, the others by escapes. Behind each line feed a line
 /// begins.
 #[derive(Drop)]

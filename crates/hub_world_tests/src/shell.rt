@@ -97,41 +97,27 @@ fn begin(alloc: Global, query: &str, is_empty: bool) -> Result<Event, AllocError
 // The event that a command is, but for so many of its documents.
 fn event(alloc: Global, command: &str, skipped: usize) -> Result<Event, AllocError> {
     let (verb, rest) = command.split_once(' ').unwrap_or((command, ""));
-    if verb == "write" || verb == "make" {
-        return write(alloc, rest, skipped, verb == "make");
+    match Words::of(verb).verb("write make begin empty delete") {
+        0 => write(alloc, rest, skipped, false),
+        1 => write(alloc, rest, skipped, true),
+        2 => begin(alloc, rest, false),
+        3 => begin(alloc, rest, true),
+        4 => Ok(Event::Delete),
+        _ => feed_event(verb, number(rest)?),
     }
-    if verb == "begin" || verb == "empty" {
-        return begin(alloc, rest, verb == "empty");
-    }
-    if verb == "delete" {
-        return Ok(Event::Delete);
-    }
-    feed_event(
-        verb,
-        FeedId {
-            number: number(rest)?,
-        },
-    )
 }
 
-// The event of a feed that a verb is.
-fn feed_event(verb: &str, feed: FeedId) -> Result<Event, AllocError> {
-    if verb == "hand" {
-        return Ok(Event::Hand(feed));
+// The event that a verb is of the feed of this number.
+fn feed_event(verb: &str, number: u64) -> Result<Event, AllocError> {
+    let feed = FeedId { number };
+    match Words::of(verb).verb("hand beat expire take finish") {
+        0 => Ok(Event::Hand(feed)),
+        1 => Ok(Event::Heartbeat(feed)),
+        2 => Ok(Event::Expire(feed)),
+        3 => Ok(Event::Take(feed)),
+        4 => Ok(Event::Finish(feed)),
+        _ => Err(AllocError),
     }
-    if verb == "beat" {
-        return Ok(Event::Heartbeat(feed));
-    }
-    if verb == "expire" {
-        return Ok(Event::Expire(feed));
-    }
-    if verb == "take" {
-        return Ok(Event::Take(feed));
-    }
-    if verb == "finish" {
-        return Ok(Event::Finish(feed));
-    }
-    Err(AllocError)
 }
 
 impl Shell {

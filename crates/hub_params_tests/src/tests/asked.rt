@@ -2,7 +2,7 @@
 
 use hub_filter::Filter;
 use hub_params::{DocParams, FeedParams, ParamFault, read_tagged};
-use hub_transcript::{Answer, Subject};
+use hub_transcript::{Answer, Subject, Words};
 use std::alloc::{AllocError, Global};
 
 /// The ids of which a filter shows some.
@@ -24,19 +24,6 @@ pub(crate) struct Asked {
     alloc: Global,
     body: Vec<u8>,
     usual: String,
-}
-
-// The place of a word among others, which stand behind one another with a blank between them; past the last
-// where it is none of them.
-fn place_of(word: &str, words: &str) -> u64 {
-    let mut place = 0u64;
-    for other in words.split(' ') {
-        if other == word {
-            return place;
-        }
-        place = place.saturating_add(1);
-    }
-    u64::MAX
 }
 
 fn text_of(alloc: Global, params: &FeedParams) -> Result<String, AllocError> {
@@ -104,7 +91,7 @@ impl Asked {
 
     // Answers a command of a query's parameters.
     fn ask(&self, verb: &str, params: &FeedParams, answer: &mut Answer) -> Result<(), AllocError> {
-        match place_of(verb, "read whole shows ids waits begins") {
+        match Words::of(verb).verb("read whole shows ids waits begins") {
             0 => self.tell(params, answer),
             1 => self.whole(params, answer),
             2 => tell_passed(&params.filter, answer),
@@ -151,7 +138,7 @@ impl<R> Subject<R> for Asked {
 
     fn answer(&mut self, _: &R, command: &str, answer: &mut Answer) -> Result<(), AllocError> {
         let (verb, rest) = command.split_once(' ').unwrap_or((command, ""));
-        match place_of(verb, "body byte tagged doc") {
+        match Words::of(verb).verb("body byte tagged doc") {
             0 => self.set_body(rest),
             1 => self.put_byte(rest),
             2 => tell_tagged(rest, answer),

@@ -81,102 +81,83 @@ impl Client {
         command: &str,
         answer: &mut String,
     ) -> io::Result<()> {
-        let mut words = Words::of(command);
-        let verb = words.word();
+        let (verb, text) = command.split_once(' ').unwrap_or((command, ""));
         if is_method(verb) {
             self.ask(command)?;
             return self.answer(answer);
         }
-        if verb == "begins" {
-            return self.begin(rt, words.rest(), answer);
+        match Words::of(verb).verb("begins barely follows") {
+            0 => self.begin(rt, text, answer),
+            1 => self.begin_barely(rt, text, answer),
+            2 => {
+                self.begin(rt, text, answer)?;
+                self.head(answer)
+            }
+            _ => self.exchange(verb, text, answer),
         }
-        if verb == "barely" {
-            return self.begin_barely(rt, words.rest(), answer);
-        }
-        if verb == "follows" {
-            self.begin(rt, words.rest(), answer)?;
-            return self.head(answer);
-        }
-        if self.write(verb, words.rest())? {
+    }
+
+    /// Does what a command says that sends or reads.
+    fn exchange(&mut self, verb: &str, text: &str, answer: &mut String) -> io::Result<()> {
+        if self.write(verb, text)? {
             return Ok(());
         }
-        self.read(verb, words.rest(), answer)
+        self.read(verb, text, answer)
     }
 
     /// Does what a command says that sends; whether it is one.
     fn write(&mut self, verb: &str, text: &str) -> io::Result<bool> {
-        if verb == "asks" {
-            self.ask(text)?;
-            return Ok(true);
+        match Words::of(verb).verb("asks sends repeats types half-closes") {
+            0 => self.ask(text)?,
+            1 => self.send(text)?,
+            2 => self.repeat(Words::of(text))?,
+            3 => self.type_one(Words::of(text))?,
+            4 => self.reader.get_ref().shutdown(Shutdown::Write)?,
+            _ => return Ok(false),
         }
-        if verb == "sends" {
-            self.send(text)?;
-            return Ok(true);
-        }
-        if verb == "repeats" {
-            self.repeat(Words::of(text))?;
-            return Ok(true);
-        }
-        if verb == "types" {
-            self.type_one(Words::of(text))?;
-            return Ok(true);
-        }
-        if verb == "half-closes" {
-            self.reader.get_ref().shutdown(Shutdown::Write)?;
-            return Ok(true);
-        }
-        Ok(false)
+        Ok(true)
     }
 
     /// Does what a command says that reads.
     fn read(&mut self, verb: &str, text: &str, answer: &mut String) -> io::Result<()> {
-        if verb == "answer" {
-            return self.answer(answer);
+        match Words::of(verb).verb("answer gets status counts byte rest") {
+            0 => self.answer(answer),
+            1 => {
+                self.ask(text)?;
+                self.say_status(answer)
+            }
+            2 => self.say_status(answer),
+            3 => self.count(text, answer),
+            4 => self.byte(),
+            5 => self.rest(answer),
+            _ => self.read_some(verb, text, answer),
         }
-        if verb == "gets" {
-            self.ask(text)?;
-            return self.say_status(answer);
-        }
-        if verb == "status" {
-            return self.say_status(answer);
-        }
-        if verb == "counts" {
-            return self.count(text, answer);
-        }
-        if verb == "byte" {
-            return self.byte();
-        }
-        if verb == "rest" {
-            return self.rest(answer);
-        }
-        self.read_some(verb, text, answer)
     }
 
     /// Does what a command says that reads a part of an answer.
     fn read_some(&mut self, verb: &str, text: &str, answer: &mut String) -> io::Result<()> {
-        if verb == "chunk" {
-            let chunk = self.chunk()?;
-            return self.compare(chunk.as_str(), text, answer);
-        }
-        if verb == "row" {
-            let row = self.row()?;
-            return self.compare(row.as_str(), text, answer);
-        }
-        if verb == "chunks" {
-            let chunks = self.chunks()?;
-            return self.compare(chunks.as_str(), text, answer);
-        }
-        let Ok(count) = text.parse() else {
-            return Ok(say(answer, "?")?);
+        let part = match Words::of(verb).verb("chunk row chunks") {
+            0 => self.chunk()?,
+            1 => self.row()?,
+            2 => self.chunks()?,
+            _ => return self.read_text(verb, text, answer),
         };
-        let taken = self.text(count)?;
-        if verb == "takes" {
-            return Ok(show(self.alloc, answer, taken.as_str())?);
+        self.compare(part.as_str(), text, answer)
+    }
+
+    /// Does what a command says that reads so many bytes.
+    fn read_text(&mut self, verb: &str, count: &str, answer: &mut String) -> io::Result<()> {
+        let place = Words::of(verb).verb("takes skips");
+        match count.parse() {
+            Ok(count) if place < 2 => {
+                let taken = self.text(count)?;
+                if place == 0 {
+                    show(self.alloc, answer, taken.as_str())?;
+                }
+                Ok(())
+            }
+            _ => Ok(say(answer, "?")?),
         }
-        if verb == "skips" {
-            return Ok(());
-        }
-        Ok(say(answer, "?")?)
     }
 
     /// Sends these bytes.

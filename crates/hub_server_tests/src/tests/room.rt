@@ -67,13 +67,11 @@ fn decide(answer: &mut String, is_so: bool) -> io::Result<()> {
 
 /// Does what a command of a gate says.
 fn gate(rt: &impl Host, verb: &str, answer: &mut String) -> io::Result<()> {
-    if verb == "holds" {
-        return decide(answer, rt.scene().is_held(rt));
+    match Words::of(verb).verb("holds opens") {
+        0 => decide(answer, rt.scene().is_held(rt)),
+        1 => decide(answer, rt.scene().opens()),
+        _ => Ok(say(answer, "?")?),
     }
-    if verb == "opens" {
-        return decide(answer, rt.scene().opens());
-    }
-    Ok(say(answer, "?")?)
 }
 
 /// Waits for so many milliseconds.
