@@ -6,7 +6,8 @@
 
 It counts lines of code, functions, functions whose body is one call of a function of the same name (pass-ons), clauses of
 contracts that stand more than once, `unreachable!()`, and calls that are made only for the prover (`let _name = ..;`).
-Tests and crates of tests are left out. It reads texts, so a count is a place to look.
+Tests, crates of tests and what replays them (`hub_transcript`) are left out. It reads texts, so a count is a place to
+look.
 """
 import collections
 import os
@@ -20,7 +21,7 @@ HEAD = re.compile(r"^[ ]*(?:pub(?:\([^)]*\))? )?(?:const )?fn (\w+)", re.M)
 
 def crates(words):
     names = sorted(os.listdir(f"{TOP}/crates"))
-    product = [it for it in names if not it.endswith("_tests") and it != "threads_bench"]
+    product = [it for it in names if not it.endswith("_tests") and it not in ("hub_transcript", "threads_bench")]
     return words or product
 
 
