@@ -350,7 +350,7 @@ impl FeedState {
     /// if there is one. The item is made, then `sink` takes it, and only then the feed goes on. Where
     /// `sink` gives it back nothing changes, and the next hand makes it again. A feed that has nothing
     /// to hand goes to the source's length. Only a row takes memory, and without it nothing changes. It
-    /// costs what `next_item_at` does, and a push.
+    /// costs the row, a look for the next one in reach, and a push.
     pub fn hand<S: Source, K: Sink<Item<S::Row>>, H: Pushes<K, Item<S::Row>>>(
         &mut self,
         source: &S,

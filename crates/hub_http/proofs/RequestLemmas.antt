@@ -17,11 +17,11 @@ use Rattle.hub_http.specs.declared.fault.HttpFault.TheVariants.{Version, Coding,
 use Rattle.hub_http.specs.declared.head.Head.{Head}
 use Rattle.hub_http.specs.declared.request.Request.{Request}
 use Rattle.hub_http.specs.Heads.{Pair, Begins, BeginsFaulty, BeginsTooLong, GoesOn}
-use Rattle.hub_http.specs.Heads.{NeverHasHead, HasHeadFault, IsPartOfHead, length_of, length_or_fault}
+use Rattle.hub_http.specs.Heads.{NeverHasHead, HasHeadFault, length_of, length_or_fault}
 use Rattle.hub_http.specs.Heads.{is_digits, is_target, values_named, pairs_of, body_limit}
 use Rattle.hub_http.proofs.HeadLemmas.{head_has_bytes}
 use Rattle.hub_http.specs.Stream.{Spells, asked_by, Leaves}
-use Rattle.hub_http.specs.Looking.{IsHeadAt, FindFaults}
+use Rattle.hub_http.specs.Looking.{IsHeadAt}
 
 -- where a text ends in its front
 splits : (p r a m : List ℕ) → p ++ r ≡ a ++ m → length p ≤ length a → (q : List ℕ) × (a ≡ p ++ q)
@@ -86,24 +86,6 @@ head_fault_more held y Coding f = faulty_more held y Coding f
 head_fault_more held y NoMemory f = f
 head_fault_more held y Ended f = f
 head_fault_more held y IoFault f = f
-
-faults_more : (held y : List ℕ) (fault : HttpFault) → FindFaults held (Some y) fault
-    → Leaves (held ++ y) (Err fault) (Some (held ++ y))
-faults_more held y NoMemory f = (refl, f)
-faults_more held y Ended f =
-    let same : held ++ y ≡ held = ap (λ l. held ++ l) f.1 ∙ append-nil held in
-    inl (subst IsPartOfHead (sym same) f.0)
-faults_more held y IoFault f = tt
-faults_more held y fault f = head_fault_more held y fault f
-
--- a fault of looking for a head is one of the bytes
-pub told_fault : (a0 left : Option (List ℕ)) (held : List ℕ) (fault : HttpFault)
-    → Keeps a0 (prepend_known held left) → FindFaults held left fault
-    → IfSome a0 (λ bytes. Leaves bytes (Err fault) (prepend_known held left))
-told_fault a0 None held fault k f = keeps_some a0 None (λ bytes. Leaves bytes (Err fault) None) k tt
-told_fault a0 (Some y) held fault k f =
-    keeps_some a0 (Some (held ++ y)) (λ bytes. Leaves bytes (Err fault) (Some (held ++ y))) k
-    (faults_more held y fault f)
 
 pub spelled : (held1 held2 held3 y : List ℕ) (head : Head) (request : Request)
     (n : ℕ) (x : (other : RequestHead) × IsHeadAt held1 head other)

@@ -521,8 +521,3 @@ named_in stems a revision = same_truth _ _
     (ap (λ p. names p revision) f.1
     ∙ names_front (own_path stems i.1) f.0 revision
     (names_front i.1.revisions (one_of (rev_at stems i.1.parent)) revision i.3)))
-
--- how many stems a walk from a place visits at most
-abbrev pub steps_left : Option Place → ℕ
-steps_left None = 0
-steps_left (Some place) = place.stem + 1
