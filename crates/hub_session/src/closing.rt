@@ -1,5 +1,8 @@
 //! Why streams and sessions end.
 
+ghost use Rattle.std.specs.Prelude.{◌↔◌, IsTrue};
+ghost use Rattle.hub_session.specs.Closings.{IsEndedHere};
+
 use hub_http::HttpFault;
 use thiserror::Error;
 
@@ -44,4 +47,13 @@ pub enum Closing {
     /// After 2^64 - 1 requests, or items of a stream.
     #[error("the session is too long")]
     Exhausted,
+}
+
+impl Closing {
+    /// Whether the client may still send to a connection that closed for this reason, and read.
+    pub fn is_ended_here(self) -> bool
+        ensures { IsTrue result ↔ IsEndedHere self }
+    {
+        matches!(self, Closing::Requested | Closing::Fault(_) | Closing::Cut)
+    }
 }

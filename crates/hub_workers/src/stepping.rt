@@ -1,8 +1,5 @@
 //! How connections go on.
 
-ghost use Rattle.std.specs.Prelude.{◌↔◌, IsTrue};
-ghost use Rattle.hub_workers.specs.Sockets.{IsEndedHere};
-
 use crate::awaits::Awaits;
 use crate::budget::Budget;
 use crate::conn::Conn;
@@ -14,16 +11,6 @@ use std::net::Shutdown;
 
 /// How many bytes are read of a client to whom all is said: a longest body, twice.
 const FAREWELL: usize = 16_777_216;
-
-/// Whether the client may still send to a connection that closed for this reason, and read.
-fn is_left_open(closing: Closing) -> bool
-    ensures { IsTrue result ↔ IsEndedHere closing }
-{
-    matches!(
-        closing,
-        Closing::Requested | Closing::Fault(_) | Closing::Cut
-    )
-}
 
 /// What a read of a socket gave.
 enum Got {
@@ -136,7 +123,7 @@ impl<S: Service + Watchable + Drop> Conn<S> {
     // Ends what is sent where the client may still send: bytes that nobody reads would make the system take
     // back an answer that the client has not read.
     fn close(&mut self, closing: Closing) -> Option<Awaits> {
-        if !is_left_open(closing) || self.stream.shutdown(Shutdown::Write).is_err() {
+        if !closing.is_ended_here() || self.stream.shutdown(Shutdown::Write).is_err() {
             return Some(Awaits::Nothing);
         }
         self.unread = Some(0);
