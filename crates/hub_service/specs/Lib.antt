@@ -7,3 +7,4 @@ pub mod Deletions
 pub mod Feeds
 pub mod Requests
 pub mod Laws
+pub mod AnswerLaws

@@ -1,5 +1,6 @@
-//! What the streams of a connection show.
+//! What the streams of a connection show, and what its answers tell of a document.
 
+ghost use Rattle.hub_service.specs.AnswerLaws.{GotIsThere, PutIsStored};
 ghost use Rattle.hub_service.specs.Laws.{CompleteChangesAreRight, CompleteListIsWhole};
 ghost use Rattle.hub_service.specs.Laws.{CompleteUpdatesAreRight, StreamsOfChangesAreRight};
 ghost use Rattle.hub_service.specs.Laws.{StreamsOfUpdatesAreRight};
@@ -14,4 +15,10 @@ pub fn streams_are_right()
     ensures updates { StreamsOfUpdatesAreRight }
     ensures all_updates { CompleteUpdatesAreRight }
     ensures listed { CompleteListIsWhole }
+{}
+
+/// What the answer to a document tells: one that is got is there, and one that is put is stored.
+pub fn answers_are_right()
+    ensures got { GotIsThere }
+    ensures put { PutIsStored }
 {}

@@ -19,7 +19,7 @@ mod sent;
 mod stream;
 
 pub use connection::Connection;
-pub use laws::streams_are_right;
+pub use laws::{answers_are_right, streams_are_right};
 pub use pumping::{ByTurns, Pumping};
 pub use rooms::JsonRooms;
 pub use stream::answer_stream;
