@@ -1,6 +1,6 @@
 -- What the answer to a document tells.
 use Rattle.std.proofs.Common.{◌≡◌, ℕ, List, Bool, true, false, refl, sym, ◌∙◌, subst, inl, inr}
-use Rattle.std.specs.Prelude.{⊥, Option, Some, None, Result, Ok, Err, if◌then◌else◌}
+use Rattle.std.specs.Prelude.{Option, Some, None, Result, Ok, Err, if◌then◌else◌}
 use Rattle.hub_model.specs.Journal.{Edit}
 use Rattle.hub_model.specs.Revision.{Revision}
 use Rattle.hub_model.specs.declared.outcomes.Outcome.{Outcome}
@@ -70,7 +70,7 @@ found : (look : Lookup) (r : Result Response Refusal) (n : ℕ) (a : List ℕ) �
 found Unknown r n a says told = absurd (no_refusal r n a refusal.Missing says told)
 found Deleted r n a says told = absurd (no_refusal r n a refusal.DocDeleted says told)
 found (Found doc) r n a says told =
-    let same = one_body r n 200 a (doc_body doc) says told in (same.0, doc, refl, same.1)
+    let same = one_body r n 200 a (doc_body doc) says told in (same.0, (doc, refl, same.1))
 
 got : (journal : List Edit) (id : List ℕ) (revs : Bool) (rev open_revs : Option (List ℕ))
     (r : Result Response Refusal) (n : ℕ) (a : List ℕ) → open_revs ≡ None → Says r (Body n a)
@@ -97,7 +97,7 @@ edited : (outcome : Outcome Revision) (id : List ℕ) (r : Result Response Refus
     → Says r (Body n a) → Says r (says_edit 201 id outcome)
     → (n ≡ 201) × ((rev : Revision) × (outcome ≡ Stored rev) × (a ≡ edit_body id rev))
 edited (Stored rev) id r n a says told =
-    let same = one_body r n 201 a (edit_body id rev) says told in (same.0, rev, refl, same.1)
+    let same = one_body r n 201 a (edit_body id rev) says told in (same.0, (rev, refl, same.1))
 edited Known id r n a says told = absurd (no_refusal r n a refusal.Conflict says told)
 edited (Refused fault) id r n a says told = absurd (no_refusal r n a (of_fault fault) says told)
 
@@ -109,7 +109,7 @@ put : (db : Database) (read : Result Doc DocFault) (r : Result Response Refusal)
 put db (Err fault) r n a says told = absurd (no_refusal r n a (of_doc_fault fault) says told)
 put db (Ok doc) r n a says told =
     let stored = edited (one_draft_result db.deleted db.limits.journal db.journal doc).outcome doc.id r n a says
-    told in (stored.0, doc, stored.1.0, refl, stored.1.1, stored.1.2)
+    told in (stored.0, (doc, stored.1.0, refl, stored.1.1, stored.1.2))
 
 pub put_is_stored : PutIsStored
 put_is_stored name id query asked body r status answers says =
