@@ -1,8 +1,9 @@
 -- Appends to a buffer.
 use Rattle.std.proofs.Common.{◌≡◌, ℕ, List, ◌++◌, Result, Ok, Err, OnOk, ap, sym, ◌∙◌, length, take, arith}
-use Rattle.std.proofs.Common.{append_assoc}
-use Rattle.std.specs.Prelude.{is_ok, if◌then◌else◌}
+use Rattle.std.proofs.Common.{append_assoc, drop, take_all}
+use Rattle.std.specs.Prelude.{IsErr, is_ok, if◌then◌else◌}
 use Rattle.std.proofs.lemmas.Grind.{common_steps}
+use Rattle.std.proofs.lemmas.List.{take-append-drop}
 use lib.Seq.{take-append_seam}
 use Rattle.hub_document.specs.Appends.{Appends}
 
@@ -36,3 +37,20 @@ appended_behind (Ok u) text first last old mid new whole there now =
     ∙ ap (λ l. old ++ l) (sym whole))
 appended_behind (Err e) text first last old mid new whole there now =
     record { ok = tt; front = front_of first old new (now ∙ there) }
+
+-- what stands at the front of a front stands at the front
+pub front_by : (old mid new : List ℕ) → take (length old) mid ≡ old → take (length mid) new ≡ mid
+    → take (length old) new ≡ old
+front_by old mid new first last =
+    front-front old mid new (drop (length old) mid)
+    (sym (take-append-drop (length old) mid) ∙ ap (λ l. l ++ drop (length old) mid) first) last
+
+-- what did not change stands in front
+pub front_same : (old new : List ℕ) → new ≡ old → take (length old) new ≡ old
+front_same old new e = ap (take (length old)) e ∙ take_all (length old) old (omega arith)
+
+-- where there was no memory for a text, what was held stands in front
+pub refused : {E : Type 0} (result : Result (Unit {0}) E) (text old new : List ℕ) → IsErr result
+    → take (length old) new ≡ old → Appends text result old new
+refused (Ok u) text old new e h = absurd (cc)
+refused (Err x) text old new e h = record { ok = tt; front = h }

@@ -3,6 +3,7 @@ mod AskedLemmas
 mod BodyLemmas
 pub mod MadeLemmas
 pub mod DigestLemmas
+pub mod FrontLemmas
 pub mod PartLemmas
 pub mod PathLemmas
 pub mod PlaceLemmas

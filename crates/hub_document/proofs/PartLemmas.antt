@@ -1,8 +1,9 @@
 -- The parts of a document's text, and the text that they make together.
 use Rattle.std.proofs.Common.{◌≡◌, ℕ, ◌+◌, ◌-◌, ◌<◌, ◌≤◌, ◌^◌, List, [], ◌∷◌, ◌++◌, length, map, take, drop}
-use Rattle.std.proofs.Common.{take_all, refl, sym, ap, ◌∙◌, arith, append_assoc, append-nil}
+use Rattle.std.proofs.Common.{get_or, take_all, refl, sym, ap, ◌∙◌, arith, append_assoc, append-nil}
 use Rattle.std.proofs.Common.{decimal, codes, true, Option, None, Some}
-use Rattle.std.proofs.lemmas.List.{length-take-le, length-drop, length-append}
+use Rattle.std.proofs.lemmas.Grind.{flat_map-append}
+use Rattle.std.proofs.lemmas.List.{length-take-le, length-drop, length-append, take_more}
 use Rattle.std.specs.Prelude.{flat_map, option_map}
 use Rattle.std.specs.List.{join_with_byte}
 use Rattle.json.specs.Print.{escape, escape_byte, quoted}
@@ -14,7 +15,7 @@ use Rattle.hub_document.specs.DocText.{history_text, inside, if_some, doc_text, 
 use Rattle.hub_document.specs.Joined.{after_commas, head_text, ids_text, count_text, rest_text}
 use Rattle.hub_document.specs.SpecialText.{special_text}
 use Rattle.hub_document.specs.Braced.{IsBraced}
-use Rattle.hub_document.proofs.WriteLemmas.{quoted_count}
+use Rattle.hub_document.proofs.WriteLemmas.{quoted_count, three_parts}
 
 -- ---- the names of members
 
@@ -151,6 +152,24 @@ hashes_written held mid new revision revisions all i e first later end =
     ∙ ap (λ l. l ++ flat_map (λ s. 44 ∷ quoted s.hash) revisions) first
     ∙ append_assoc held (quoted revision.hash) (flat_map (λ s. 44 ∷ quoted s.hash) revisions)
     ∙ ap (λ l. held ++ l) (sym (ap ids_text e ∙ all_hashes revision revisions))
+
+-- one more of the others
+pub one_more_hash : (first held mid new : List ℕ) (revision : Revision) (revisions : List Revision) (i : ℕ)
+    → i < length revisions → revision ≡ get_or revisions i revision
+    → held ≡ first ++ flat_map (λ s. 44 ∷ quoted s.hash) (take i revisions) → mid ≡ held ++ 44 ∷ []
+    → new ≡ mid ++ quoted revision.hash
+    → new ≡ first ++ flat_map (λ s. 44 ∷ quoted s.hash) (take (i + 1) revisions)
+one_more_hash first held mid new r rs i low is h m n =
+    let f : Revision → List ℕ = λ s. 44 ∷ quoted s.hash in
+    let here : take (i + 1) rs ≡ take i rs ++ r ∷ [] =
+    take_more rs i r low ∙ ap (λ x. take i rs ++ x ∷ []) (sym is) in
+    let more : flat_map f (take (i + 1) rs) ≡ flat_map f (take i rs) ++ (44 ∷ quoted r.hash) =
+    ap (flat_map f) here
+    ∙ flat_map-append f (take i rs) (r ∷ [])
+    ∙ ap (λ l. flat_map f (take i rs) ++ 44 ∷ l) (append-nil (quoted r.hash)) in
+    n ∙ ap (λ l. l ++ quoted r.hash) (m ∙ ap (λ l. l ++ 44 ∷ []) h)
+    ∙ three_parts first (flat_map f (take i rs)) (44 ∷ []) (quoted r.hash)
+    ∙ ap (λ l. first ++ l) (sym more)
 
 -- the member of a history
 pub history_written : (path : List Revision)

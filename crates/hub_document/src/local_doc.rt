@@ -1,13 +1,18 @@
 //! Local documents.
 
-ghost use Rattle.std.specs.Prelude.{◌≡◌, ◌⊎◌, IfOk, IfErr};
+ghost use Rattle.std.specs.Prelude.{◌≡◌, ◌⊎◌, IfOk, IfErr, IfSome, IfNone, false};
 ghost use Rattle.std.specs.Prelude.{IsSome, Ok, Err, string_bytes};
 ghost use Rattle.hub_document.specs.Appends.{Appends, AppendsWhole};
 ghost use Rattle.hub_document.specs.DocText.{local_text};
+ghost use Rattle.serde_json.specs.Find.{as_object};
 ghost use Rattle.serde_json.specs.View.{view, members_view};
+ghost use Rattle.serde_json.specs.Written.{members_have_float as members_have_float_in};
+ghost use Rattle.hub_document.specs.BodyText.{body_text};
 ghost use Rattle.hub_document.specs.Local.{IsLocalId, is_local_id as is_local};
 ghost use Rattle.hub_document.specs.Reading.{Reads};
 ghost use Rattle.hub_document.specs.Local.{short_local_id, local_of, local_in};
+ghost use Rattle.hub_document.specs.Read.{or_fault};
+ghost use Rattle.hub_document.specs.declared.doc.DocFault.TheVariants.{NotObject};
 
 use crate::body::{Body, body_of};
 use crate::doc::DocFault;
@@ -92,28 +97,53 @@ impl LocalDoc {
         ensures err { IfErr result (λ e. (e ≡ DocFault.NoMemory) ⊎ (local_in id.now bytes.now ≡ Err e)) }
     {
         let value = read_value(alloc, bytes)?;
-        let Some(members) = value.as_object() else {
-            return Err(DocFault::NotObject);
-        };
-        if members_have_float(members) {
-            return Err(DocFault::BadNumber);
-        }
-        if !is_local_id(id) || !is_named_so(id, &value) {
-            return Err(DocFault::BadId);
-        }
-        if !are_good_members(members) || is_deleted(&value) {
-            return Err(DocFault::BadMember);
-        }
-        if id.len() > 512 {
-            return Err(DocFault::TooLong);
-        }
-        let text = String::from_str(alloc, id)?;
-        let body = body_of(alloc, members)?;
-        Ok(LocalDoc {
-            id: LocalId { text },
-            body,
-        })
+        doc_of(alloc, id, &value)
     }
+}
+
+// The first fault of a local document of this id that is an object of these members.
+fn fault_of(id: &str, value: &Value, members: &Map<String, Value>) -> Option<DocFault>
+    ensures some { IfSome result
+        (λ e. local_of id.now (view value.now) (members_view members.now.entries) ≡ Err e) }
+    ensures none { IfNone result (local_of id.now (view value.now) (members_view members.now.entries)
+        ≡ Ok (record { id = id.now; body = body_text (members_view members.now.entries) })) }
+    ensures whole { IfNone result (members_have_float_in (members_view members.now.entries) ≡ false) }
+    ensures good { IfNone result (IsLocalId id.now) }
+{
+    if members_have_float(members) {
+        return Some(DocFault::BadNumber);
+    }
+    if !is_local_id(id) || !is_named_so(id, value) {
+        return Some(DocFault::BadId);
+    }
+    if !are_good_members(members) || is_deleted(value) {
+        return Some(DocFault::BadMember);
+    }
+    if id.len() > 512 {
+        return Some(DocFault::TooLong);
+    }
+    None
+}
+
+// The local document of this id that a JSON value is, or the first fault.
+fn doc_of(alloc: Global, id: &str, value: &Value) -> Result<LocalDoc, DocFault>
+    ensures ok { IfOk result
+        (λ d. or_fault (as_object (view value.now)) NotObject (local_of id.now (view value.now)) ≡ Ok d) }
+    ensures err { IfErr result (λ e. (e ≡ DocFault.NoMemory)
+        ⊎ (or_fault (as_object (view value.now)) NotObject (local_of id.now (view value.now)) ≡ Err e)) }
+{
+    let Some(members) = value.as_object() else {
+        return Err(DocFault::NotObject);
+    };
+    if let Some(fault) = fault_of(id, value, members) {
+        return Err(fault);
+    }
+    let text = String::from_str(alloc, id)?;
+    let body = body_of(alloc, members)?;
+    Ok(LocalDoc {
+        id: LocalId { text },
+        body,
+    })
 }
 
 fn put_local(out: &mut Vec<u8>, id: &str, count: u64, body: &Body) -> Result<(), AllocError>

@@ -38,7 +38,7 @@ pub(crate) enum Status {
 }
 
 /// What is due to a feed, by its sequence: what a feed needs to know of an item to go on behind it.
-#[derive(Clone, Copy, Debug)]
+#[derive(Clone, Copy)]
 pub(crate) enum DueSequence {
     /// The row of this sequence.
     Row(u64),

@@ -13,6 +13,10 @@ last_of name [] = None
 last_of name (p ∷ pairs) =
     option_or (last_of name pairs) (if bytes_eq (decoded_text p.0) name then Some p.1 else None)
 
+-- the value that a name has after one more pair: this one where the pair has that name, and else the one before
+abbrev pub kept_of : List ℕ → List ℕ → List ℕ → Option (List ℕ) → Option (List ℕ)
+kept_of wanted name value before = option_or (if bytes_eq name wanted then Some value else None) before
+
 -- the value that a query gives a name, as it is written: of a repeated name the last. a=1&b=2&a=%33 gives
 -- the name a the value %33, and the name c none.
 abbrev pub written_of : List ℕ → List ℕ → Option (List ℕ)

@@ -1,11 +1,12 @@
 //! The parameters of a document's routes.
 
-ghost use Rattle.std.specs.Prelude.{◌≡◌, IfOk, OnErr, option_map, string_bytes};
+ghost use Rattle.std.specs.Prelude.{◌≡◌, IfOk, OnErr, codes, option_map, string_bytes};
 ghost use Rattle.std.specs.Cow.{cow_str_bytes};
 ghost use Rattle.std.specs.Option.{option_copied};
 ghost use Rattle.hub_params.specs.DocParams.{doc_asked, is_value};
 ghost use Rattle.hub_params.specs.Encoded.{text_in};
-ghost use Rattle.hub_params.specs.Room.{DocNeedsRoom, HasBytes};
+ghost use Rattle.hub_params.specs.Query.{written_of};
+ghost use Rattle.hub_params.specs.Room.{DocNeedsRoom, HasBytes, HasEscapedName, IsEscaped};
 
 use crate::query::{decoded, later};
 use form_urlencoded::{decode, raw_pairs};
@@ -40,6 +41,46 @@ impl Model for DocParams {
     } };
 }
 
+// The last value of each name that is read, not decoded yet.
+#[derive(Clone, Copy)]
+struct DocTexts<'q> {
+    rev: Option<&'q [u8]>,
+    open_revs: Option<&'q [u8]>,
+    revs: Option<&'q [u8]>,
+    new_edits: Option<&'q [u8]>,
+}
+
+impl<'q> DocTexts<'q> {
+    // The values that a query gives. It costs the query's length.
+    fn read(alloc: Global, query: &'q [u8]) -> Result<DocTexts<'q>, AllocError>
+        ensures rev { IfOk result (λ t. option_copied t.rev ≡ written_of (codes "rev") query.now) }
+        ensures open_revs { IfOk result
+            (λ t. option_copied t.open_revs ≡ written_of (codes "open_revs") query.now) }
+        ensures revs { IfOk result (λ t. option_copied t.revs ≡ written_of (codes "revs") query.now) }
+        ensures new_edits { IfOk result
+            (λ t. option_copied t.new_edits ≡ written_of (codes "new_edits") query.now) }
+        ensures memory { OnErr result (HasEscapedName query.now) }
+    {
+        let mut texts = DocTexts {
+            rev: None,
+            open_revs: None,
+            revs: None,
+            new_edits: None,
+        };
+        for (encoded, value) in raw_pairs(query) {
+            let decoded_name = decode(alloc, encoded)?;
+            let name = decoded_name.as_str();
+            texts = DocTexts {
+                rev: later("rev", name, value, texts.rev),
+                open_revs: later("open_revs", name, value, texts.open_revs),
+                revs: later("revs", name, value, texts.revs),
+                new_edits: later("new_edits", name, value, texts.new_edits),
+            };
+        }
+        Ok(texts)
+    }
+}
+
 impl DocParams {
     /// The parameters that a query gives: names and values are compared decoded, and of a repeated
     /// name the last value counts. It costs the query's length. Memory is taken for what has to be
@@ -48,22 +89,11 @@ impl DocParams {
         ensures asked { IfOk result (λ p. p ≡ doc_asked query.now) }
         ensures memory { OnErr result (DocNeedsRoom query.now) }
     {
-        let mut rev = None;
-        let mut open_revs = None;
-        let mut revs = None;
-        let mut new_edits = None;
-        for (encoded, value) in raw_pairs(query) {
-            let decoded_name = decode(alloc, encoded)?;
-            let name = decoded_name.as_str();
-            rev = later("rev", name, value, rev);
-            open_revs = later("open_revs", name, value, open_revs);
-            revs = later("revs", name, value, revs);
-            new_edits = later("new_edits", name, value, new_edits);
-        }
-        let rev = text(alloc, rev)?;
-        let open_revs = text(alloc, open_revs)?;
-        let revs = is_text(&decoded(alloc, revs)?, "true");
-        let keeps_revs = is_text(&decoded(alloc, new_edits)?, "false");
+        let texts = DocTexts::read(alloc, query)?;
+        let revs = is_written(alloc, texts.revs, "true")?;
+        let keeps_revs = is_written(alloc, texts.new_edits, "false")?;
+        let rev = text(alloc, texts.rev)?;
+        let open_revs = text(alloc, texts.open_revs)?;
         Ok(DocParams {
             rev,
             open_revs,
@@ -87,6 +117,15 @@ fn text(alloc: Global, value: Option<&[u8]>) -> Result<Option<String>, AllocErro
             Ok(Some(own))
         }
     }
+}
+
+// Whether a value is there, and it is this text, decoded.
+fn is_written(alloc: Global, value: Option<&[u8]>, wanted: &str) -> Result<bool, AllocError>
+    ensures value { IfOk result (λ b. b ≡ is_value wanted.now (text_in value.entry)) }
+    ensures memory { OnErr result (IsEscaped (option_copied value.entry)) }
+{
+    let found = decoded(alloc, value)?;
+    Ok(is_text(&found, wanted))
 }
 
 // Whether there is a value, and it is this text.

@@ -73,12 +73,21 @@ pub(crate) fn rows_of(
     ensures memory { IfErr result (λ e. e ≡ ParamFault.NoMemory
         → RowsNeedRoom (option_copied since.entry) (option_copied limit.entry) (option_copied style.entry)) }
 {
-    let since_text = decoded(alloc, since)?;
-    let since = since_of(lent(&since_text)).ok_or(ParamFault::BadSince)?;
-    let limit_text = decoded(alloc, limit)?;
-    let limit = limit_of(lent(&limit_text)).ok_or(ParamFault::BadLimit)?;
-    let style_text = decoded(alloc, style)?;
-    let style = style_of(lent(&style_text)).ok_or(ParamFault::BadStyle)?;
+    let since = {
+        let since_text = decoded(alloc, since)?;
+        since_of(lent(&since_text))
+    };
+    let since = since.ok_or(ParamFault::BadSince)?;
+    let limit = {
+        let limit_text = decoded(alloc, limit)?;
+        limit_of(lent(&limit_text))
+    };
+    let limit = limit.ok_or(ParamFault::BadLimit)?;
+    let style = {
+        let style_text = decoded(alloc, style)?;
+        style_of(lent(&style_text))
+    };
+    let style = style.ok_or(ParamFault::BadStyle)?;
     Ok(Rows {
         since,
         limit,
@@ -98,10 +107,16 @@ pub(crate) fn kind_of(
     ensures memory { IfErr result (λ e. e ≡ ParamFault.NoMemory
         → KindNeedsRoom (option_copied feed.entry) (option_copied filter.entry)) }
 {
-    let feed_text = decoded(alloc, feed)?;
-    let mode = mode_of(lent(&feed_text)).ok_or(ParamFault::BadFeed)?;
-    let filter_text = decoded(alloc, filter)?;
-    let shown = shown_of(lent(&filter_text)).ok_or(ParamFault::BadFilter)?;
+    let mode = {
+        let feed_text = decoded(alloc, feed)?;
+        mode_of(lent(&feed_text))
+    };
+    let mode = mode.ok_or(ParamFault::BadFeed)?;
+    let shown = {
+        let filter_text = decoded(alloc, filter)?;
+        shown_of(lent(&filter_text))
+    };
+    let shown = shown.ok_or(ParamFault::BadFilter)?;
     Ok(Kind { mode, shown })
 }
 
@@ -141,10 +156,16 @@ pub(crate) fn waits_of(
     ensures memory { IfErr result (λ e. e ≡ ParamFault.NoMemory
         → WaitsNeedRoom (option_copied heartbeat.entry) (option_copied timeout.entry)) }
 {
-    let heartbeat_text = decoded(alloc, heartbeat)?;
-    let heartbeat = heartbeat_of(lent(&heartbeat_text)).ok_or(ParamFault::BadHeartbeat)?;
-    let timeout_text = decoded(alloc, timeout)?;
-    let timeout = timeout_of(lent(&timeout_text)).ok_or(ParamFault::BadHeartbeat)?;
+    let heartbeat = {
+        let heartbeat_text = decoded(alloc, heartbeat)?;
+        heartbeat_of(lent(&heartbeat_text))
+    };
+    let heartbeat = heartbeat.ok_or(ParamFault::BadHeartbeat)?;
+    let timeout = {
+        let timeout_text = decoded(alloc, timeout)?;
+        timeout_of(lent(&timeout_text))
+    };
+    let timeout = timeout.ok_or(ParamFault::BadHeartbeat)?;
     Ok(Waits { heartbeat, timeout })
 }
 
@@ -162,14 +183,19 @@ pub(crate) fn flags_of(
     ensures memory { IfErr result (λ e. e ≡ ParamFault.NoMemory
         → FlagsNeedRoom mode (option_copied descending.entry) (option_copied include_docs.entry)) }
 {
-    let descending_text = decoded(alloc, descending)?;
-    let descending = flag_of(lent(&descending_text));
+    let descending = {
+        let descending_text = decoded(alloc, descending)?;
+        flag_of(lent(&descending_text))
+    };
     if descending == Some(true) && mode.waits() {
         return Err(ParamFault::DescendingMode);
     }
     let descending = descending.ok_or(ParamFault::BadFlag)?;
-    let docs_text = decoded(alloc, include_docs)?;
-    let include_docs = flag_of(lent(&docs_text)).ok_or(ParamFault::BadFlag)?;
+    let include_docs = {
+        let docs_text = decoded(alloc, include_docs)?;
+        flag_of(lent(&docs_text))
+    };
+    let include_docs = include_docs.ok_or(ParamFault::BadFlag)?;
     Ok(Flags {
         descending,
         include_docs,

@@ -2,7 +2,7 @@
 
 ghost use Rattle.std.specs.Prelude.{◌≡◌, IfOk, OnErr, codes};
 ghost use Rattle.std.specs.Option.{option_copied};
-ghost use Rattle.hub_params.specs.Query.{written_of};
+ghost use Rattle.hub_params.specs.Query.{written_of, kept_of};
 ghost use Rattle.hub_params.specs.Room.{HasEscapedName};
 
 use crate::query::later;
@@ -25,6 +25,43 @@ pub(crate) struct FeedTexts<'q> {
 }
 
 impl<'q> FeedTexts<'q> {
+    // The values after one more pair.
+    fn with(self, name: &str, value: &'q [u8]) -> FeedTexts<'q>
+        ensures since { option_copied result.since
+            ≡ kept_of (codes "since") name.now value.now (option_copied self.entry.since) }
+        ensures limit { option_copied result.limit
+            ≡ kept_of (codes "limit") name.now value.now (option_copied self.entry.limit) }
+        ensures style { option_copied result.style
+            ≡ kept_of (codes "style") name.now value.now (option_copied self.entry.style) }
+        ensures feed { option_copied result.feed
+            ≡ kept_of (codes "feed") name.now value.now (option_copied self.entry.feed) }
+        ensures filter { option_copied result.filter
+            ≡ kept_of (codes "filter") name.now value.now (option_copied self.entry.filter) }
+        ensures doc_ids { option_copied result.doc_ids
+            ≡ kept_of (codes "doc_ids") name.now value.now (option_copied self.entry.doc_ids) }
+        ensures heartbeat { option_copied result.heartbeat
+            ≡ kept_of (codes "heartbeat") name.now value.now (option_copied self.entry.heartbeat) }
+        ensures timeout { option_copied result.timeout
+            ≡ kept_of (codes "timeout") name.now value.now (option_copied self.entry.timeout) }
+        ensures descending { option_copied result.descending
+            ≡ kept_of (codes "descending") name.now value.now (option_copied self.entry.descending) }
+        ensures include_docs { option_copied result.include_docs
+            ≡ kept_of (codes "include_docs") name.now value.now (option_copied self.entry.include_docs) }
+    {
+        FeedTexts {
+            since: later("since", name, value, self.since),
+            limit: later("limit", name, value, self.limit),
+            style: later("style", name, value, self.style),
+            feed: later("feed", name, value, self.feed),
+            filter: later("filter", name, value, self.filter),
+            doc_ids: later("doc_ids", name, value, self.doc_ids),
+            heartbeat: later("heartbeat", name, value, self.heartbeat),
+            timeout: later("timeout", name, value, self.timeout),
+            descending: later("descending", name, value, self.descending),
+            include_docs: later("include_docs", name, value, self.include_docs),
+        }
+    }
+
     /// The values that a query gives. It costs the query's length.
     pub(crate) fn read(alloc: Global, query: &'q [u8]) -> Result<FeedTexts<'q>, AllocError>
         ensures since { IfOk result (λ t. option_copied t.since ≡ written_of (codes "since") query.now) }
@@ -59,18 +96,7 @@ impl<'q> FeedTexts<'q> {
         for (encoded, value) in raw_pairs(query) {
             let decoded_name = decode(alloc, encoded)?;
             let name = decoded_name.as_str();
-            texts = FeedTexts {
-                since: later("since", name, value, texts.since),
-                limit: later("limit", name, value, texts.limit),
-                style: later("style", name, value, texts.style),
-                feed: later("feed", name, value, texts.feed),
-                filter: later("filter", name, value, texts.filter),
-                doc_ids: later("doc_ids", name, value, texts.doc_ids),
-                heartbeat: later("heartbeat", name, value, texts.heartbeat),
-                timeout: later("timeout", name, value, texts.timeout),
-                descending: later("descending", name, value, texts.descending),
-                include_docs: later("include_docs", name, value, texts.include_docs),
-            };
+            texts = texts.with(name, value);
         }
         Ok(texts)
     }

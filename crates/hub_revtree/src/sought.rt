@@ -12,7 +12,7 @@ use std::marker::Model;
 const MANY: usize = 16;
 
 // What is made of a hash.
-#[derive(Debug, Drop)]
+#[derive(Drop)]
 enum Form {
     // The digest whose text it is.
     Digest([u8; 16]),
@@ -24,7 +24,7 @@ enum Form {
 
 /// A revision that is looked for. For many looks its digest is made once, and each compares 16 bytes; for a
 /// few each compares the digits.
-#[derive(Debug, Drop)]
+#[derive(Drop)]
 pub(crate) struct Sought<'a> {
     rev: &'a RevId,
     form: Form,

@@ -20,7 +20,7 @@ use std::mem::size_of;
 
 /// Where a revision stands: among the revisions of the stem of this number, at this place from the
 /// newest.
-#[derive(Clone, Copy, Debug)]
+#[derive(Clone, Copy)]
 pub(crate) struct Place {
     pub(crate) stem: usize,
     pub(crate) at: u16,
@@ -47,7 +47,7 @@ pub(crate) struct Stem {
 }
 
 /// How an edit's path goes on behind the revisions that its stem keeps.
-#[derive(Clone, Copy, Debug)]
+#[derive(Clone, Copy)]
 pub(crate) struct Standing {
     /// Where the next revision stands, if there is one that an edit brought.
     pub(crate) parent: Option<Place>,

@@ -149,7 +149,7 @@ pub(crate) fn place_behind(stems: &[Stem], index: Option<&Index>, rev: &RevId) -
 }
 
 /// How a path that may be stored meets the stored ones.
-#[derive(Clone, Copy, Debug)]
+#[derive(Clone, Copy)]
 pub(crate) struct Meeting {
     /// How many of its revisions its edit's stem keeps.
     pub(crate) at: usize,

@@ -1,4 +1,4 @@
-use Rattle.hub_document.proofs.AppendLemmas.{appended}
+use Rattle.hub_document.proofs.AppendLemmas.{appended, refused, front_of, front_by, front_same}
 use Rattle.hub_document.proofs.PartLemmas.{plain_head}
 use Rattle.hub_document.proofs.change_row.put_plain_head.Goals as goal
 
@@ -14,3 +14,15 @@ returns c =
       c.in_ok-extend_from_slice.ensures.items,
     )
     (plain_head c.args.out.now.items _ _ c.requires))
+
+pub returns-in_err-extend_from_slice : goal.returns-in_err-extend_from_slice
+returns-in_err-extend_from_slice c =
+    refused _ _ _ _ c.from_residual.ensures.0 (front_same _ _ c.in_err-extend_from_slice.ensures.items)
+
+pub returns-in_err-extend_from_slice-2 : goal.returns-in_err-extend_from_slice-2
+returns-in_err-extend_from_slice-2 c =
+    refused _ _ _ _ c.from_residual-in_err-extend_from_slice-2.ensures.0 (front_by _ _ _ (front_of _ _ _ c.in_ok-extend_from_slice.ensures.items) (front_same _ _ c.in_err-extend_from_slice-2.ensures.items))
+
+pub returns-in_err-extend_from_slice-3 : goal.returns-in_err-extend_from_slice-3
+returns-in_err-extend_from_slice-3 c =
+    refused _ _ _ _ c.from_residual-in_err-extend_from_slice-3.ensures.0 (front_by _ _ _ (front_by _ _ _ (front_of _ _ _ c.in_ok-extend_from_slice.ensures.items) (front_of _ _ _ c.in_ok-extend_from_slice-2.ensures.items)) (front_same _ _ c.in_err-extend_from_slice-3.ensures.items))

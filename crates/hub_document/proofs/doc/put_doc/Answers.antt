@@ -1,4 +1,4 @@
-use Rattle.hub_document.proofs.AppendLemmas.{appended}
+use Rattle.hub_document.proofs.AppendLemmas.{appended, refused, front_by}
 use Rattle.hub_document.proofs.PartLemmas.{doc_written}
 use Rattle.hub_document.proofs.WriteLemmas.{four_parts}
 use Rattle.hub_document.proofs.doc.put_doc.Goals as goal
@@ -16,3 +16,23 @@ returns c =
     )
     (four_parts c.args.out.now.items _ _ _ _))
     c.in_ok-put_rest.ensures.ok)
+
+pub returns-in_err-put_head : goal.returns-in_err-put_head
+returns-in_err-put_head c =
+    refused _ _ _ _ c.from_residual.ensures.0 c.in_err-put_head.ensures.front
+
+pub returns-in_err-put_rev : goal.returns-in_err-put_rev
+returns-in_err-put_rev c =
+    refused _ _ _ _ c.from_residual-in_err-put_rev.ensures.0 (front_by _ _ _ c.in_ok-put_head.ensures.front c.in_err-put_rev.ensures.front)
+
+pub returns-in_err-put_deleted : goal.returns-in_err-put_deleted
+returns-in_err-put_deleted c =
+    refused _ _ _ _ c.from_residual-in_err-put_deleted.ensures.0 (front_by _ _ _ (front_by _ _ _ c.in_ok-put_head.ensures.front c.in_ok-put_rev.ensures.front) c.in_err-put_deleted.ensures.front)
+
+pub returns-in_err-put_path : goal.returns-in_err-put_path
+returns-in_err-put_path c =
+    refused _ _ _ _ c.from_residual-in_err-put_path.ensures.0 (front_by _ _ _ (front_by _ _ _ (front_by _ _ _ c.in_ok-put_head.ensures.front c.in_ok-put_rev.ensures.front) c.in_ok-put_deleted.ensures.front) c.in_err-put_path.ensures.front)
+
+pub returns-in_err-put_rest : goal.returns-in_err-put_rest
+returns-in_err-put_rest c =
+    refused _ _ _ _ c.from_residual-in_err-put_rest.ensures.0 (front_by _ _ _ (front_by _ _ _ (front_by _ _ _ (front_by _ _ _ c.in_ok-put_head.ensures.front c.in_ok-put_rev.ensures.front) c.in_ok-put_deleted.ensures.front) c.in_ok-put_path.ensures.front) c.in_err-put_rest.ensures.front)

@@ -1,4 +1,5 @@
-use Rattle.std.proofs.Common.{◌∙◌, ◌++◌, ◌∷◌, [], ap, sym}
+use Rattle.std.proofs.Common.{◌∙◌, ◌++◌, ◌∷◌, [], take_all, ap, sym}
+use Rattle.hub_revtree.specs.Branch.{unnamed_in}
 use Rattle.hub_revtree.proofs.BranchLemmas.{on_err, one_named, one_unnamed, some_unnamed}
 use Rattle.hub_revtree.proofs.branches.unnamed.Goals as goal
 
@@ -20,3 +21,9 @@ loop-rev-preserved c =
     ∙ (ap (λ revs. revs ++ c.rev-item.result ∷ []) c.loop-rev.invariant
     ∙ sym (one_unnamed c.args.branches.now.list c.args.revs.now c.loop-rev.rev-index c.rev-item.result
     c.loop-rev-test.true c.rev-item.is (sym c.is_named.ensures ∙ c.if-is_named.false)))
+
+pub returns-clause-ok : goal.returns-clause-ok
+returns-clause-ok c =
+    c.loop-rev.invariant
+    ∙ ap (unnamed_in c.args.branches.now.list) (take_all c.loop-rev.rev-index c.args.revs.now
+    c.loop-rev-test.false)

@@ -1,4 +1,4 @@
-use Rattle.hub_document.proofs.AppendLemmas.{appended}
+use Rattle.hub_document.proofs.AppendLemmas.{appended, refused, front_by}
 use Rattle.std.proofs.Common.{◌≡◌, ℕ, List, [], ◌++◌, append-nil, append_assoc}
 use Rattle.hub_document.proofs.PartLemmas.{doc_written, rev_of_text}
 use Rattle.hub_document.proofs.change_row.ChangeRow.write_plain_doc.Goals as goal
@@ -19,3 +19,15 @@ returns c =
     (rev_of_text _ _ (rw (← c.self.view_is) at c.requires.rev))
     c.in_ok-put_deleted.ensures.ok)
     c.in_ok-put_rest.ensures.ok))
+
+pub returns-in_err-put_plain_head : goal.returns-in_err-put_plain_head
+returns-in_err-put_plain_head c =
+    refused _ _ _ _ c.from_residual.ensures.0 c.in_err-put_plain_head.ensures.front
+
+pub returns-in_err-put_deleted : goal.returns-in_err-put_deleted
+returns-in_err-put_deleted c =
+    refused _ _ _ _ c.from_residual-in_err-put_deleted.ensures.0 (front_by _ _ _ c.in_ok-put_plain_head.ensures.front c.in_err-put_deleted.ensures.front)
+
+pub returns-in_err-put_rest : goal.returns-in_err-put_rest
+returns-in_err-put_rest c =
+    refused _ _ _ _ c.from_residual-in_err-put_rest.ensures.0 (front_by _ _ _ (front_by _ _ _ c.in_ok-put_plain_head.ensures.front c.in_ok-put_deleted.ensures.front) c.in_err-put_rest.ensures.front)

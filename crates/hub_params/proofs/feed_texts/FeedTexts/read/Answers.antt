@@ -48,35 +48,35 @@ loop-encoded-preserved-in_ok-decoded_name c =
     record {
       plain = plain_from_rest c.args.query.now name value left rest taken c.loop-encoded.invariant.plain;
       since =
-          read_one (codes "since") name value text left rest _ _ _ taken named c.later.ensures
+          read_one (codes "since") name value text left rest _ _ _ taken named c.with-texts.ensures.since
           c.loop-encoded.invariant.since;
       limit =
-          read_one (codes "limit") name value text left rest _ _ _ taken named c.later-in-loop-encoded.ensures
+          read_one (codes "limit") name value text left rest _ _ _ taken named c.with-texts.ensures.limit
           c.loop-encoded.invariant.limit;
       style =
           read_one (codes "style") name value text left rest _ _ _ taken named
-          c.later-in-loop-encoded-2.ensures c.loop-encoded.invariant.style;
+          c.with-texts.ensures.style c.loop-encoded.invariant.style;
       feed =
           read_one (codes "feed") name value text left rest _ _ _ taken
-          named c.later-in-loop-encoded-3.ensures c.loop-encoded.invariant.feed;
+          named c.with-texts.ensures.feed c.loop-encoded.invariant.feed;
       filter =
           read_one (codes "filter") name value text left rest _ _ _ taken named
-          c.later-in-loop-encoded-4.ensures c.loop-encoded.invariant.filter;
+          c.with-texts.ensures.filter c.loop-encoded.invariant.filter;
       doc_ids =
           read_one (codes "doc_ids") name value text left rest _ _ _ taken named
-          c.later-in-loop-encoded-5.ensures c.loop-encoded.invariant.doc_ids;
+          c.with-texts.ensures.doc_ids c.loop-encoded.invariant.doc_ids;
       heartbeat =
           read_one (codes "heartbeat") name value text left rest _ _ _ taken named
-          c.later-in-loop-encoded-6.ensures c.loop-encoded.invariant.heartbeat;
+          c.with-texts.ensures.heartbeat c.loop-encoded.invariant.heartbeat;
       timeout =
           read_one (codes "timeout") name value text left rest _ _ _ taken named
-          c.later-in-loop-encoded-7.ensures c.loop-encoded.invariant.timeout;
+          c.with-texts.ensures.timeout c.loop-encoded.invariant.timeout;
       descending =
           read_one (codes "descending") name value text left rest _ _ _ taken named
-          c.later-in-loop-encoded-8.ensures c.loop-encoded.invariant.descending;
+          c.with-texts.ensures.descending c.loop-encoded.invariant.descending;
       include_docs =
           read_one (codes "include_docs") name value text left rest _ _ _ taken
-          named c.later-in-loop-encoded-9.ensures c.loop-encoded.invariant.include_docs;
+          named c.with-texts.ensures.include_docs c.loop-encoded.invariant.include_docs;
     }
 
 pub loop-encoded-preserved : goal.loop-encoded-preserved
@@ -91,33 +91,33 @@ loop-encoded-preserved c =
     record {
       plain = plain_from_rest c.args.query.now name value left rest taken c.loop-encoded.invariant.plain;
       since =
-          read_one (codes "since") name value text left rest _ _ _ taken named c.later.ensures
+          read_one (codes "since") name value text left rest _ _ _ taken named c.with-texts.ensures.since
           c.loop-encoded.invariant.since;
       limit =
-          read_one (codes "limit") name value text left rest _ _ _ taken named c.later-in-loop-encoded.ensures
+          read_one (codes "limit") name value text left rest _ _ _ taken named c.with-texts.ensures.limit
           c.loop-encoded.invariant.limit;
       style =
           read_one (codes "style") name value text left rest _ _ _ taken named
-          c.later-in-loop-encoded-2.ensures c.loop-encoded.invariant.style;
+          c.with-texts.ensures.style c.loop-encoded.invariant.style;
       feed =
           read_one (codes "feed") name value text left rest _ _ _ taken
-          named c.later-in-loop-encoded-3.ensures c.loop-encoded.invariant.feed;
+          named c.with-texts.ensures.feed c.loop-encoded.invariant.feed;
       filter =
           read_one (codes "filter") name value text left rest _ _ _ taken named
-          c.later-in-loop-encoded-4.ensures c.loop-encoded.invariant.filter;
+          c.with-texts.ensures.filter c.loop-encoded.invariant.filter;
       doc_ids =
           read_one (codes "doc_ids") name value text left rest _ _ _ taken named
-          c.later-in-loop-encoded-5.ensures c.loop-encoded.invariant.doc_ids;
+          c.with-texts.ensures.doc_ids c.loop-encoded.invariant.doc_ids;
       heartbeat =
           read_one (codes "heartbeat") name value text left rest _ _ _ taken named
-          c.later-in-loop-encoded-6.ensures c.loop-encoded.invariant.heartbeat;
+          c.with-texts.ensures.heartbeat c.loop-encoded.invariant.heartbeat;
       timeout =
           read_one (codes "timeout") name value text left rest _ _ _ taken named
-          c.later-in-loop-encoded-7.ensures c.loop-encoded.invariant.timeout;
+          c.with-texts.ensures.timeout c.loop-encoded.invariant.timeout;
       descending =
           read_one (codes "descending") name value text left rest _ _ _ taken named
-          c.later-in-loop-encoded-8.ensures c.loop-encoded.invariant.descending;
+          c.with-texts.ensures.descending c.loop-encoded.invariant.descending;
       include_docs =
           read_one (codes "include_docs") name value text left rest _ _ _ taken
-          named c.later-in-loop-encoded-9.ensures c.loop-encoded.invariant.include_docs;
+          named c.with-texts.ensures.include_docs c.loop-encoded.invariant.include_docs;
     }

@@ -2,11 +2,10 @@ use Rattle.std.proofs.Common.{◌≡◌, ◌∷◌, codes, rules, ◌∙◌}
 use Rattle.form_urlencoded.specs.Form.{raw_pairs}
 use Rattle.form_urlencoded.specs.Parse.{raw_pairs_left}
 use Rattle.hub_params.specs.Encoded.{decoded_text}
-use Rattle.hub_params.specs.Room.{DocNeedsRoom}
-use Rattle.hub_params.specs.Room as needs
+use Rattle.hub_params.specs.Room.{HasEscapedName}
 use Rattle.hub_params.proofs.QueryLemmas.{read_none, read_one, plain_from_all, plain_from_rest, escaped_name}
 use Rattle.hub_params.proofs.RoomLemmas.{at_any_error}
-use Rattle.hub_params.proofs.doc_params.DocParams.read.Goals as goal
+use Rattle.hub_params.proofs.doc_params.DocTexts.read.Goals as goal
 
 pub loop-encoded-init : goal.loop-encoded-init
 loop-encoded-init c =
@@ -28,9 +27,8 @@ returns-in_err-decoded_name-clause-memory c =
     let left = raw_pairs_left c.loop-encoded.encoded-iterator in
     let rest = raw_pairs_left c.next.new.self in
     let taken : left ≡ (name, value) ∷ rest = search rules in
-    at_any_error _ (λ _. DocNeedsRoom c.args.query.now)
-    (λ _. needs.name (escaped_name c.args.query.now name value left rest taken
-    c.loop-encoded.invariant.plain c.in_err-decoded_name.ensures.borrows))
+    at_any_error _ (λ _. HasEscapedName c.args.query.now) (λ _. escaped_name c.args.query.now name value
+    left rest taken c.loop-encoded.invariant.plain c.in_err-decoded_name.ensures.borrows)
 
 pub loop-encoded-preserved-in_ok-decoded_name : goal.loop-encoded-preserved-in_ok-decoded_name
 loop-encoded-preserved-in_ok-decoded_name c =
@@ -44,16 +42,16 @@ loop-encoded-preserved-in_ok-decoded_name c =
     record {
       plain = plain_from_rest c.args.query.now name value left rest taken c.loop-encoded.invariant.plain;
       rev =
-          read_one (codes "rev") name value text left rest _ _ _ taken named c.later-rev.ensures
+          read_one (codes "rev") name value text left rest _ _ _ taken named c.later.ensures
           c.loop-encoded.invariant.rev;
       open_revs =
-          read_one (codes "open_revs") name value text left rest _ _ _ taken named c.later-open_revs.ensures
+          read_one (codes "open_revs") name value text left rest _ _ _ taken named c.later-in-loop-encoded.ensures
           c.loop-encoded.invariant.open_revs;
       revs =
-          read_one (codes "revs") name value text left rest _ _ _ taken named c.later-revs.ensures
+          read_one (codes "revs") name value text left rest _ _ _ taken named c.later-in-loop-encoded-2.ensures
           c.loop-encoded.invariant.revs;
       new_edits =
-          read_one (codes "new_edits") name value text left rest _ _ _ taken named c.later-new_edits.ensures
+          read_one (codes "new_edits") name value text left rest _ _ _ taken named c.later-in-loop-encoded-3.ensures
           c.loop-encoded.invariant.new_edits;
     }
 
@@ -69,15 +67,15 @@ loop-encoded-preserved c =
     record {
       plain = plain_from_rest c.args.query.now name value left rest taken c.loop-encoded.invariant.plain;
       rev =
-          read_one (codes "rev") name value text left rest _ _ _ taken named c.later-rev.ensures
+          read_one (codes "rev") name value text left rest _ _ _ taken named c.later.ensures
           c.loop-encoded.invariant.rev;
       open_revs =
-          read_one (codes "open_revs") name value text left rest _ _ _ taken named c.later-open_revs.ensures
+          read_one (codes "open_revs") name value text left rest _ _ _ taken named c.later-in-loop-encoded.ensures
           c.loop-encoded.invariant.open_revs;
       revs =
-          read_one (codes "revs") name value text left rest _ _ _ taken named c.later-revs.ensures
+          read_one (codes "revs") name value text left rest _ _ _ taken named c.later-in-loop-encoded-2.ensures
           c.loop-encoded.invariant.revs;
       new_edits =
-          read_one (codes "new_edits") name value text left rest _ _ _ taken named c.later-new_edits.ensures
+          read_one (codes "new_edits") name value text left rest _ _ _ taken named c.later-in-loop-encoded-3.ensures
           c.loop-encoded.invariant.new_edits;
     }
