@@ -220,6 +220,14 @@ impl<S: Peer + Drop, T: Peer + Drop> Follower<S, T> {
     pub fn into_peers(self) -> (S, T)
         ensures { (result.0 ≡ self.source) × (result.1 ≡ self.target) }
     {
-        (self.source, self.target)
+        let Follower {
+            alloc: _,
+            source,
+            target,
+            log_id: _,
+            core,
+        } = self;
+        drop(core);
+        (source, target)
     }
 }

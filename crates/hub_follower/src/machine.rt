@@ -164,32 +164,41 @@ impl FollowCore {
         }
     }
 
+    // This state stands from here on.
+    fn put(&mut self, state: State)
+        ensures { self.new ≡ follower_of state }
+    {
+        self.state = state;
+    }
+
     /// A session of this id begins: the logs are to be read.
     pub fn start(&mut self, session_id: String)
         requires { world.is_free self.old ≡ true }
         ensures { self.new ≡ follow.SourceStart (string_bytes session_id) }
     {
-        self.state = State::SourceStart(session_id);
+        self.put(State::SourceStart(session_id));
     }
 
     /// A round begins, where there is a session and no call is owed.
     pub fn begin_round(&mut self)
         ensures { self.new ≡ world.round_start self.old }
     {
-        self.state = match mem::replace(&mut self.state, State::Down) {
+        let state = match mem::replace(&mut self.state, State::Down) {
             State::Ready(session) => State::Busy(session, Phase::Listing),
             state => state,
         };
+        self.put(state);
     }
 
     /// A checkpoint begins, where there is a session and no call is owed.
     pub fn begin_checkpoint(&mut self)
         ensures { self.new ≡ world.checkpoint_start self.old }
     {
-        self.state = match mem::replace(&mut self.state, State::Down) {
+        let state = match mem::replace(&mut self.state, State::Down) {
             State::Ready(session) => State::Busy(session, Phase::SourceCheckpoint),
             state => state,
         };
+        self.put(state);
     }
 
     /// The call that it owes, to be made of the peer that the call names.
@@ -224,7 +233,7 @@ impl FollowCore {
     {
         let state = mem::replace(&mut self.state, State::Down);
         let (state, result) = after(alloc, state, answer);
-        self.state = state;
+        self.put(state);
         result
     }
 
@@ -232,12 +241,13 @@ impl FollowCore {
     pub fn fail(&mut self)
         ensures { self.new ≡ follow.after_failure self.old }
     {
-        self.state = match mem::replace(&mut self.state, State::Down) {
+        let state = match mem::replace(&mut self.state, State::Down) {
             State::Ready(session) => State::Ready(session),
             State::Busy(session, _phase) => State::Ready(session),
             State::Down => State::Down,
             State::SourceStart(_session_id) => State::Down,
             State::TargetStart(_session_id, _source) => State::Down,
         };
+        self.put(state);
     }
 }
