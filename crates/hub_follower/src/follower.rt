@@ -155,11 +155,14 @@ impl<S: Peer + Drop, T: Peer + Drop> Follower<S, T> {
                 log_id,
                 core,
             }),
-            Err(fault) => Err(FailedStart {
-                fault,
-                source,
-                target,
-            }),
+            Err(why) => {
+                drop(core);
+                Err(FailedStart {
+                    fault: why,
+                    source,
+                    target,
+                })
+            }
         }
     }
 

@@ -81,7 +81,11 @@ fn answered(
         }
         (Phase::SourceCheckpoint, Answer::Put) => Ok(Next::Busy(Phase::TargetCheckpoint)),
         (Phase::TargetCheckpoint, Answer::Put) => Ok(Next::Ready),
-        (_phase, _answer) => Err(FollowFault::Peer),
+        (phase, answer) => {
+            drop(phase);
+            drop(answer);
+            Err(FollowFault::Peer)
+        }
     }
 }
 
@@ -116,8 +120,15 @@ fn after(alloc: Global, state: State, answer: Answer) -> (State, Result<(), Foll
             Ok(next) => (gone_on(session, next), Ok(())),
             Err(fault) => (State::Ready(session), Err(fault)),
         },
-        (State::Ready(session), _answer) => (State::Ready(session), Err(FollowFault::Peer)),
-        (_state, _answer) => (State::Down, Err(FollowFault::Peer)),
+        (State::Ready(session), answer) => {
+            drop(answer);
+            (State::Ready(session), Err(FollowFault::Peer))
+        }
+        (state, answer) => {
+            drop(state);
+            drop(answer);
+            (State::Down, Err(FollowFault::Peer))
+        }
     }
 }
 
@@ -169,6 +180,13 @@ impl FollowCore {
         ensures { self.new ≡ follower_of state }
     {
         self.state = state;
+    }
+
+    /// All that it holds is dropped, its session too.
+    pub(crate) fn restart(&mut self)
+        ensures { self.new ≡ follow.Down }
+    {
+        self.put(State::Down);
     }
 
     /// A session of this id begins: the logs are to be read.
@@ -243,7 +261,10 @@ impl FollowCore {
     {
         let state = match mem::replace(&mut self.state, State::Down) {
             State::Ready(session) => State::Ready(session),
-            State::Busy(session, _phase) => State::Ready(session),
+            State::Busy(session, phase) => {
+                drop(phase);
+                State::Ready(session)
+            }
             State::Down => State::Down,
             State::SourceStart(_session_id) => State::Down,
             State::TargetStart(_session_id, _source) => State::Down,
