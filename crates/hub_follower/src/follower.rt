@@ -155,11 +155,14 @@ impl<S: Peer + Drop, T: Peer + Drop> Follower<S, T> {
                 log_id,
                 core,
             }),
-            Err(fault) => Err(FailedStart {
-                fault,
-                source,
-                target,
-            }),
+            Err(why) => {
+                drop(core);
+                Err(FailedStart {
+                    fault: why,
+                    source,
+                    target,
+                })
+            }
         }
     }
 
@@ -220,6 +223,14 @@ impl<S: Peer + Drop, T: Peer + Drop> Follower<S, T> {
     pub fn into_peers(self) -> (S, T)
         ensures { (result.0 ≡ self.source) × (result.1 ≡ self.target) }
     {
-        (self.source, self.target)
+        let Follower {
+            alloc: _,
+            source,
+            target,
+            log_id: _,
+            core,
+        } = self;
+        drop(core);
+        (source, target)
     }
 }

@@ -81,7 +81,11 @@ fn answered(
         }
         (Phase::SourceCheckpoint, Answer::Put) => Ok(Next::Busy(Phase::TargetCheckpoint)),
         (Phase::TargetCheckpoint, Answer::Put) => Ok(Next::Ready),
-        (_phase, _answer) => Err(FollowFault::Peer),
+        (phase, answer) => {
+            drop(phase);
+            drop(answer);
+            Err(FollowFault::Peer)
+        }
     }
 }
 
@@ -116,8 +120,15 @@ fn after(alloc: Global, state: State, answer: Answer) -> (State, Result<(), Foll
             Ok(next) => (gone_on(session, next), Ok(())),
             Err(fault) => (State::Ready(session), Err(fault)),
         },
-        (State::Ready(session), _answer) => (State::Ready(session), Err(FollowFault::Peer)),
-        (_state, _answer) => (State::Down, Err(FollowFault::Peer)),
+        (State::Ready(session), answer) => {
+            drop(answer);
+            (State::Ready(session), Err(FollowFault::Peer))
+        }
+        (state, answer) => {
+            drop(state);
+            drop(answer);
+            (State::Down, Err(FollowFault::Peer))
+        }
     }
 }
 
@@ -164,32 +175,48 @@ impl FollowCore {
         }
     }
 
+    // This state stands from here on.
+    fn put(&mut self, state: State)
+        ensures { self.new ≡ follower_of state }
+    {
+        self.state = state;
+    }
+
+    /// All that it holds is dropped, its session too.
+    pub(crate) fn restart(&mut self)
+        ensures { self.new ≡ follow.Down }
+    {
+        self.put(State::Down);
+    }
+
     /// A session of this id begins: the logs are to be read.
     pub fn start(&mut self, session_id: String)
         requires { world.is_free self.old ≡ true }
         ensures { self.new ≡ follow.SourceStart (string_bytes session_id) }
     {
-        self.state = State::SourceStart(session_id);
+        self.put(State::SourceStart(session_id));
     }
 
     /// A round begins, where there is a session and no call is owed.
     pub fn begin_round(&mut self)
         ensures { self.new ≡ world.round_start self.old }
     {
-        self.state = match mem::replace(&mut self.state, State::Down) {
+        let state = match mem::replace(&mut self.state, State::Down) {
             State::Ready(session) => State::Busy(session, Phase::Listing),
             state => state,
         };
+        self.put(state);
     }
 
     /// A checkpoint begins, where there is a session and no call is owed.
     pub fn begin_checkpoint(&mut self)
         ensures { self.new ≡ world.checkpoint_start self.old }
     {
-        self.state = match mem::replace(&mut self.state, State::Down) {
+        let state = match mem::replace(&mut self.state, State::Down) {
             State::Ready(session) => State::Busy(session, Phase::SourceCheckpoint),
             state => state,
         };
+        self.put(state);
     }
 
     /// The call that it owes, to be made of the peer that the call names.
@@ -224,7 +251,7 @@ impl FollowCore {
     {
         let state = mem::replace(&mut self.state, State::Down);
         let (state, result) = after(alloc, state, answer);
-        self.state = state;
+        self.put(state);
         result
     }
 
@@ -232,12 +259,16 @@ impl FollowCore {
     pub fn fail(&mut self)
         ensures { self.new ≡ follow.after_failure self.old }
     {
-        self.state = match mem::replace(&mut self.state, State::Down) {
+        let state = match mem::replace(&mut self.state, State::Down) {
             State::Ready(session) => State::Ready(session),
-            State::Busy(session, _phase) => State::Ready(session),
+            State::Busy(session, phase) => {
+                drop(phase);
+                State::Ready(session)
+            }
             State::Down => State::Down,
             State::SourceStart(_session_id) => State::Down,
             State::TargetStart(_session_id, _source) => State::Down,
         };
+        self.put(state);
     }
 }

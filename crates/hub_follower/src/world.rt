@@ -207,7 +207,7 @@ impl FollowWorld {
                 Ok(())
             }
             FollowEvent::Restart => {
-                self.core = FollowCore::new();
+                self.core.restart();
                 Ok(())
             }
         }
