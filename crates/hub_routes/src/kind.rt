@@ -1,6 +1,6 @@
 //! What paths name (CouchDB API reference, the paths of the server, databases and documents).
 
-ghost use Rattle.std.specs.Prelude.{◌≡◌, IfOk, OnOk};
+ghost use Rattle.std.specs.Prelude.{◌≡◌, IfOk, OnOk, codes};
 ghost use Rattle.hub_routes.specs.Table.{with_route, table};
 ghost use Rattle.hub_routes.specs.Paths.{kind_by_id};
 
@@ -9,7 +9,7 @@ use matchit::Router;
 use std::alloc::{AllocError, Global};
 
 /// What a path names.
-#[derive(Clone, Copy, Debug, PartialEq, Eq)]
+#[derive(Clone, Copy, PartialEq, Eq)]
 pub enum Kind {
     /// The hub.
     Welcome,
@@ -43,24 +43,52 @@ fn add(router: &mut Router<Kind>, route: &str, kind: Kind) -> Result<(), AllocEr
     }
 }
 
+// Adds the paths of the hub and of databases.
+fn add_names(router: &mut Router<Kind>) -> Result<(), AllocError>
+    ensures { OnOk result (router.new
+        ≡ with_route (codes "/{db}/") Kind.Database
+        (with_route (codes "/{db}") Kind.Database
+        (with_route (codes "/_db_updates") Kind.DbUpdates
+        (with_route (codes "/_all_dbs") Kind.AllDbs
+        (with_route (codes "/") Kind.Welcome router.old))))) }
+{
+    add(router, "/", Kind::Welcome)?;
+    add(router, "/_all_dbs", Kind::AllDbs)?;
+    add(router, "/_db_updates", Kind::DbUpdates)?;
+    add(router, "/{db}", Kind::Database)?;
+    add(router, "/{db}/", Kind::Database)?;
+    Ok(())
+}
+
+// Adds the paths of what a database has.
+fn add_parts(router: &mut Router<Kind>) -> Result<(), AllocError>
+    ensures { OnOk result (router.new
+        ≡ with_route (codes "/{db}/_local/{name}") Kind.Local
+        (with_route (codes "/{db}/_design/{name}") Kind.Document
+        (with_route (codes "/{db}/{id}") Kind.Document
+        (with_route (codes "/{db}/_ensure_full_commit") Kind.FullCommit
+        (with_route (codes "/{db}/_revs_diff") Kind.RevsDiff
+        (with_route (codes "/{db}/_changes") Kind.Changes
+        (with_route (codes "/{db}/_bulk_docs") Kind.BulkDocs router.old))))))) }
+{
+    add(router, "/{db}/_bulk_docs", Kind::BulkDocs)?;
+    add(router, "/{db}/_changes", Kind::Changes)?;
+    add(router, "/{db}/_revs_diff", Kind::RevsDiff)?;
+    add(router, "/{db}/_ensure_full_commit", Kind::FullCommit)?;
+    add(router, "/{db}/{id}", Kind::Document)?;
+    add(router, "/{db}/_design/{name}", Kind::Document)?;
+    add(router, "/{db}/_local/{name}", Kind::Local)?;
+    Ok(())
+}
+
 // The paths of the hub stand beside those of databases, so that none of them is taken for the name
 // of a database.
 pub fn table(alloc: Global) -> Result<Router<Kind>, AllocError>
     ensures { IfOk result (λ r. r ≡ table) }
 {
     let mut router = Router::new(alloc);
-    add(&mut router, "/", Kind::Welcome)?;
-    add(&mut router, "/_all_dbs", Kind::AllDbs)?;
-    add(&mut router, "/_db_updates", Kind::DbUpdates)?;
-    add(&mut router, "/{db}", Kind::Database)?;
-    add(&mut router, "/{db}/", Kind::Database)?;
-    add(&mut router, "/{db}/_bulk_docs", Kind::BulkDocs)?;
-    add(&mut router, "/{db}/_changes", Kind::Changes)?;
-    add(&mut router, "/{db}/_revs_diff", Kind::RevsDiff)?;
-    add(&mut router, "/{db}/_ensure_full_commit", Kind::FullCommit)?;
-    add(&mut router, "/{db}/{id}", Kind::Document)?;
-    add(&mut router, "/{db}/_design/{name}", Kind::Document)?;
-    add(&mut router, "/{db}/_local/{name}", Kind::Local)?;
+    add_names(&mut router)?;
+    add_parts(&mut router)?;
     Ok(router)
 }
 

@@ -8,7 +8,7 @@ use crate::path::is_id;
 use crate::route::Call;
 
 /// A request's method.
-#[derive(Clone, Copy, Debug, PartialEq, Eq)]
+#[derive(Clone, Copy)]
 pub enum Method {
     /// `GET`
     Get,

@@ -44,7 +44,7 @@ pub enum Call {
 /// Where a request goes: a call, with what the request lends to it. The name and the id are parts of the path
 /// with their escapes read (an id may have any length), and are still to be looked up. Each is a text of its
 /// own only where an escape was read in it.
-#[derive(Debug, Drop)]
+#[derive(Drop)]
 pub struct Route<'r> {
     /// What is asked for.
     pub call: Call,
