@@ -28,7 +28,7 @@ pub(crate) struct Document {
 }
 
 /// Where an edit's revision is made.
-#[derive(Debug, Drop)]
+#[derive(Drop)]
 pub(crate) enum Origin {
     /// In another database: it comes with its history.
     Elsewhere(Path),
@@ -37,7 +37,7 @@ pub(crate) enum Origin {
 }
 
 /// A document's part of a write.
-#[derive(Debug, Drop)]
+#[derive(Drop)]
 pub(crate) struct Incoming {
     pub(crate) origin: Origin,
     pub(crate) deleted: bool,
@@ -45,7 +45,7 @@ pub(crate) struct Incoming {
 }
 
 /// What a look at a tree gives.
-#[derive(Debug, Drop)]
+#[derive(Drop)]
 pub(crate) enum Looked {
     /// The revision is known.
     Known,

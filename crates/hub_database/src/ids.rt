@@ -9,7 +9,7 @@ use crate::document::Document;
 use hub_index::{IdHints, IdOrder, Named};
 
 /// Documents, of which each has an id.
-#[derive(Debug, Drop)]
+#[derive(Drop)]
 pub(crate) struct Ids<'a> {
     pub(crate) documents: &'a [Document],
 }

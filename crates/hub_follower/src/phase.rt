@@ -33,7 +33,7 @@ pub(crate) enum Phase {
 }
 
 /// How a session goes on.
-#[derive(Debug, Drop)]
+#[derive(Drop)]
 pub(crate) enum Next {
     /// Its checkpoint is done.
     Ready,

@@ -17,11 +17,11 @@ use Rattle.hub_http.specs.declared.fault.HttpFault.TheVariants.{Version, Coding,
 use Rattle.hub_http.specs.declared.head.Head.{Head}
 use Rattle.hub_http.specs.declared.request.Request.{Request}
 use Rattle.hub_http.specs.Heads.{Pair, Begins, BeginsFaulty, BeginsTooLong, GoesOn}
-use Rattle.hub_http.specs.Heads.{NeverHasHead, HasHeadFault, length_of, length_or_fault}
+use Rattle.hub_http.specs.Heads.{NeverHasHead, HasHeadFault, IsPartOfHead, length_of, length_or_fault}
 use Rattle.hub_http.specs.Heads.{is_digits, is_target, values_named, pairs_of, body_limit}
 use Rattle.hub_http.proofs.HeadLemmas.{head_has_bytes}
 use Rattle.hub_http.specs.Stream.{Spells, asked_by, Leaves}
-use Rattle.hub_http.specs.Looking.{IsHeadAt}
+use Rattle.hub_http.specs.Looking.{IsHeadAt, FindFaults, LookFaults}
 
 -- where a text ends in its front
 splits : (p r a m : List ℕ) → p ++ r ≡ a ++ m → length p ≤ length a → (q : List ℕ) × (a ≡ p ++ q)
@@ -86,6 +86,75 @@ head_fault_more held y Coding f = faulty_more held y Coding f
 head_fault_more held y NoMemory f = f
 head_fault_more held y Ended f = f
 head_fault_more held y IoFault f = f
+
+faults_more : (held y : List ℕ) (fault : HttpFault) → FindFaults held (Some y) fault
+    → Leaves (held ++ y) (Err fault) (Some (held ++ y))
+faults_more held y NoMemory f = (refl, f)
+faults_more held y Ended f =
+    let same : held ++ y ≡ held = ap (λ l. held ++ l) f.1 ∙ append-nil held in
+    inl (subst IsPartOfHead (sym same) f.0)
+faults_more held y IoFault f = tt
+faults_more held y fault f = head_fault_more held y fault f
+
+-- a fault of looking for a head is one of the bytes
+pub told_fault : (a0 left : Option (List ℕ)) (held : List ℕ) (fault : HttpFault)
+    → Keeps a0 (prepend_known held left) → FindFaults held left fault
+    → IfSome a0 (λ bytes. Leaves bytes (Err fault) (prepend_known held left))
+told_fault a0 None held fault k f = keeps_some a0 None (λ bytes. Leaves bytes (Err fault) None) k tt
+told_fault a0 (Some y) held fault k f =
+    keeps_some a0 (Some (held ++ y)) (λ bytes. Leaves bytes (Err fault) (Some (held ++ y))) k
+    (faults_more held y fault f)
+
+more_bytes : (held more : List ℕ) → 0 < length held → 0 < length (held ++ more)
+more_bytes held more some = grind (arith, common_steps)
+
+block_bytes : (held block more : List ℕ) → 0 < length block → 0 < length (held ++ (block ++ more))
+block_bytes held block more some = grind (arith, common_steps)
+
+some_held : (held : List ℕ) (left : Option (List ℕ)) → 0 < length held
+    → IfSome left (λ more. 0 < length (held ++ more))
+some_held held None some = tt
+some_held held (Some more) some = more_bytes held more some
+
+some_known : (held block : List ℕ) (left : Option (List ℕ)) → 0 < length block
+    → IfSome (prepend_known block left) (λ more. 0 < length (held ++ more))
+some_known held block None some = tt
+some_known held block (Some more) some = block_bytes held block more some
+
+-- a fault of looking for a head in what is held is one of finding a head
+pub looked_fault : (held : List ℕ) (left : Option (List ℕ)) (fault : HttpFault) → LookFaults held fault
+    → FindFaults held left fault
+looked_fault held left NoMemory f = some_held held left f
+looked_fault held left BadHead f = f
+looked_fault held left HeadTooLong f = f
+looked_fault held left BodyTooLong f = f
+looked_fault held left Version f = f
+looked_fault held left Coding f = f
+looked_fault held left Ended f = absurd f
+looked_fault held left IoFault f = absurd f
+
+-- and none of the reader's
+pub looked_not_read : {T : Type 0} (held : List ℕ) (fault : HttpFault) (r : Result T HttpFault)
+    → LookFaults held fault → r ≡ Err fault → r ≡ Err IoFault → ⊥
+looked_not_read held fault r f is e =
+    let same : fault ≡ IoFault = cc in subst (λ (other : HttpFault). LookFaults held other) same f
+
+-- a fault of reading more is one of finding a head
+pub read_fault : (held block : List ℕ) (left : Option (List ℕ)) (fault : HttpFault)
+    → (fault ≡ NoMemory) ⊎ (fault ≡ IoFault) → (fault ≡ NoMemory → 0 < length block)
+    → FindFaults held (prepend_known block left) fault
+read_fault held block left fault (inl p) memory =
+    subst (λ (other : HttpFault). FindFaults held (prepend_known block left) other) (sym p)
+    (some_known held block left (memory p))
+read_fault held block left fault (inr p) memory =
+    subst (λ (other : HttpFault). FindFaults held (prepend_known block left) other) (sym p) tt
+
+-- what keeps known bytes, and then again
+pub keeps_behind : (a b d : Option (List ℕ)) → Keeps a b → Keeps b d → Keeps a d
+keeps_behind None b d p q = tt
+keeps_behind (Some x) None d p q = absurd p
+keeps_behind (Some x) (Some y) None p q = absurd q
+keeps_behind (Some x) (Some y) (Some z) p q = q ∙ p
 
 pub spelled : (held1 held2 held3 y : List ℕ) (head : Head) (request : Request)
     (n : ℕ) (x : (other : RequestHead) × IsHeadAt held1 head other)

@@ -15,7 +15,7 @@ use Rattle.hub_routes.specs.Routes.{kind, name, document, GoesTo}
 use Rattle.hub_routes.specs.declared.kind.Kind.{Kind}
 use Rattle.hub_routes.specs.declared.route.Route.{Route}
 use Rattle.hub_routes.specs.declared.route.RouteFault.{RouteFault}
-use Rattle.hub_routes.specs.declared.route.RouteFault.TheVariants.{NoMemory, BadId}
+use Rattle.hub_routes.specs.declared.route.RouteFault.TheVariants.{NoMemory, BadId, BadName}
 
 some_of : (b : Bool) (n i : ℕ) → cond b (Some n) None ≡ Some i → n ≡ i
 some_of true n i e = cc
@@ -61,10 +61,12 @@ pub path_has_no_room : (asked : PlainRequest) (r : Result Route RouteFault) → 
     → NeedsRoomForKind (path_of asked.target) → GoesTo asked r
 path_has_no_room asked r none room = rw none (kind room)
 
--- a request whose name has no room
-pub name_has_no_room : (a : PlainRequest) (k : Kind) (r : Result Route RouteFault) → r ≡ Err NoMemory → IsServed a k
-    → HasPercent (name_part (path_of a.target)) → GoesTo a r
-name_has_no_room a k r none asked room = rw none (name k asked room)
+-- a request whose name has no room, or is no text
+pub name_refuses : (a : PlainRequest) (k : Kind) (fault : RouteFault) → IsServed a k
+    → ((fault ≡ NoMemory) × HasPercent (name_part (path_of a.target)))
+    ⊎ ((fault ≡ BadName) × (¬ IsUtf8 (database_of a))) → GoesTo a (Err fault)
+name_refuses a k fault asked (inl (none, room)) = rw none (name k asked room)
+name_refuses a k fault asked (inr (bad, other)) = rw bad (k, asked, other)
 
 -- a request whose id has no room, or is refused
 pub id_refuses : (a : PlainRequest) (k : Kind) (fault : RouteFault) → IsServed a k → IsUtf8 (database_of a)

@@ -9,7 +9,7 @@ ghost use Rattle.percent_encoding.specs.Percent.{percent_decode};
 ghost use Rattle.hub_http.specs.Stream.{asked_by};
 ghost use Rattle.hub_routes.specs.Table.{table, kind_at};
 ghost use Rattle.hub_routes.specs.Paths.{path_of, query_of, id_part, id_of, kind_of, HasPercent};
-ghost use Rattle.hub_routes.specs.Paths.{NeedsRoomForKind};
+ghost use Rattle.hub_routes.specs.Paths.{HasOtherBytes, NeedsRoomForKind, ascii_path};
 ghost use Rattle.hub_routes.specs.Methods.{has_document};
 ghost use Rattle.hub_routes.specs.Routes.{IsGoodId, IsBadId, GoesTo};
 
@@ -67,6 +67,19 @@ fn document_id<'p>(
     }
 }
 
+// The name of the database that this part of a path names.
+fn database_name<'p>(alloc: Global, name: &'p [u8]) -> Result<CowStr<'p>, RouteFault>
+    ensures value { IfOk result (λ s. cow_str_bytes s ≡ percent_decode name.now) }
+    ensures text { OnOk result (IsUtf8 (percent_decode name.now)) }
+    ensures none { IfErr result (λ e. ((e ≡ RouteFault.NoMemory) × HasPercent name.now)
+        ⊎ ((e ≡ RouteFault.BadName) × (¬ IsUtf8 (percent_decode name.now)))) }
+{
+    let Some(db) = text_of(decoded(alloc, name)?) else {
+        return Err(RouteFault::BadName);
+    };
+    Ok(db)
+}
+
 /// The table of routes. One serves every session.
 #[derive(Drop)]
 pub struct Routes {
@@ -88,8 +101,17 @@ impl Routes {
         Some(*found.value)
     }
 
-    // What a path names, which has this part for an id. That is read only where it may be a local document's.
+    // What the table says that a path names. Its bytes outside ASCII are escaped for that.
     #[tactic(auto, unfolding(crate::specs::Paths::ascii_path))]
+    fn kind_by_table(&self, alloc: Global, path: &[u8]) -> Result<Option<Kind>, AllocError>
+        ensures kind { IfOk result (λ kind. kind ≡ kind_at (ascii_path path.now)) }
+        ensures memory { OnErr result (HasOtherBytes path.now) }
+    {
+        let text = percent_encode(path, AsciiSet::EMPTY).into_cow(alloc)?;
+        Ok(self.kind_at(text.as_str()))
+    }
+
+    // What a path names, which has this part for an id. That is read only where it may be a local document's.
     fn named<'p>(
         &self,
         alloc: Global,
@@ -102,8 +124,7 @@ impl Routes {
             (λ n. IfSome n (λ n. IfSome n.id (λ id. cow_slice_items id ≡ id_of path.now))) }
         ensures memory { OnErr result (NeedsRoomForKind path.now) }
     {
-        let text = percent_encode(path, AsciiSet::EMPTY).into_cow(alloc)?;
-        match self.kind_at(text.as_str()) {
+        match self.kind_by_table(alloc, path)? {
             Some(Kind::Document) => {
                 let id = decoded(alloc, part)?;
                 Ok(Some(Named {
@@ -132,9 +153,7 @@ impl Routes {
         let Some(call) = asked_of(kind, method_of(request.method.as_slice())) else {
             return Err(RouteFault::MethodNotAllowed);
         };
-        let Some(db) = text_of(decoded(alloc, name)?) else {
-            return Err(RouteFault::BadName);
-        };
+        let db = database_name(alloc, name)?;
         if takes_body(kind) && !request.has_length {
             return Err(RouteFault::LengthMissing);
         }

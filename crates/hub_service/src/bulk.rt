@@ -49,7 +49,7 @@ fn batch_of(request: &Value) -> Result<(&Vec<Value>, bool), Refusal>
 }
 
 /// What the elements of a batch are.
-#[derive(Debug, Drop)]
+#[derive(Drop)]
 struct Readings {
     /// Those that are documents, in order.
     docs: Vec<Doc>,

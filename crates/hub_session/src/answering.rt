@@ -18,7 +18,7 @@ use hub_model::Mode;
 use std::alloc::Global;
 
 /// How an answer was begun.
-#[derive(Clone, Copy, Debug)]
+#[derive(Clone, Copy)]
 pub(crate) enum Begun {
     /// All of it was written, and then the session closes so, or goes on.
     Answered(Option<Closing>),

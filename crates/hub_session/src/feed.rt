@@ -74,7 +74,7 @@ fn give_back<S: Service>(service: &mut S, item: LentItem<'_>)
 }
 
 /// A stream that is being sent.
-#[derive(Clone, Copy, Debug)]
+#[derive(Clone, Copy)]
 pub(crate) struct Sending {
     pub(crate) mode: Mode,
     /// The number of the life that its sequences are of.

@@ -34,7 +34,7 @@ pub enum Step {
 }
 
 /// Where a session is.
-#[derive(Clone, Copy, Debug)]
+#[derive(Clone, Copy)]
 pub(crate) enum Place {
     /// Between two requests.
     Between,

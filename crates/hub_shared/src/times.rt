@@ -16,7 +16,7 @@ pub struct Times {
 }
 
 /// What is to be done for a feed that had nothing to hand.
-#[derive(Clone, Copy, Debug, PartialEq, Eq)]
+#[derive(Clone, Copy, PartialEq, Eq)]
 pub(crate) enum ClockDue {
     /// A heartbeat.
     Beat,

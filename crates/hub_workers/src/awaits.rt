@@ -3,7 +3,7 @@
 use crate::readiness::Readiness;
 
 /// What a connection waits for behind a turn.
-#[derive(Clone, Copy, Debug, PartialEq, Eq)]
+#[derive(Clone, Copy, PartialEq, Eq)]
 pub(crate) enum Awaits {
     /// Its next turn: this one is used up.
     Turn,

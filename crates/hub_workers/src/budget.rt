@@ -9,7 +9,7 @@ const CALLS: u32 = 128;
 const BYTES: usize = 1_048_576;
 
 /// What is left of a turn.
-#[derive(Clone, Copy, Debug)]
+#[derive(Clone, Copy)]
 pub(crate) struct Budget {
     calls: u32,
     bytes: usize,

@@ -5,7 +5,7 @@ ghost use Rattle.std.specs.Prelude.{◌≡◌, ◌||◌, false};
 use mio::event::Event;
 
 /// What the poll told of a socket, and no call has refuted since.
-#[derive(Clone, Copy, Debug, PartialEq, Eq)]
+#[derive(Clone, Copy, PartialEq, Eq)]
 pub(crate) struct Readiness {
     /// There may be bytes, or their end.
     pub(crate) read: bool,

@@ -29,7 +29,7 @@ pub(crate) struct Monitor {
 }
 
 /// The looks for runners that are held.
-#[derive(Clone, Copy, Debug)]
+#[derive(Clone, Copy)]
 struct Looks {
     /// How many are left before a sleep.
     left: u32,

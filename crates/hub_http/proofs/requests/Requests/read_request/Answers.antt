@@ -1,7 +1,7 @@
 use Rattle.std.proofs.Common.{arith, refl, is_some, rules, ◌∙◌}
 use Rattle.hub_http.specs.declared.request.Request.{Request}
 use Rattle.hub_http.proofs.CountLemmas.{counts_after, counts_for}
-use Rattle.hub_http.proofs.RequestLemmas.{told_request, told_memory, head_fits}
+use Rattle.hub_http.proofs.RequestLemmas.{told_fault, told_request, told_memory, head_fits}
 use Rattle.std.proofs.lemmas.Result.{err_from_is_err_and}
 use Rattle.hub_http.proofs.requests.Requests.read_request.Goals as goal
 
@@ -46,4 +46,15 @@ returns-in_err-fill g c =
           c.in_err-fill.ensures.grown c.in_err-fill.ensures.err;
       ended = c.in_err-fill.ensures.ended ∙ c.in_ok-head.ensures.ended;
       counts = counts_after c.in_ok-head.ensures.counts (counts_for (λ e. cc) c.in_err-fill.ensures.counts);
+    })
+
+pub returns-in_err-head : goal.returns-in_err-head
+returns-in_err-head g c =
+    let p = err_from_is_err_and c.from_residual.result c.from_residual.ensures.1 in
+    rw (p.1, p.2)
+    (record {
+      told = told_fault _ _ c.find_head.new.self.held c.in_err-head.field-0.0 c.in_err-head.ensures.kept
+          c.in_err-head.ensures.found;
+      ended = c.in_err-head.ensures.ended;
+      counts = counts_for (λ e. cc) c.in_err-head.ensures.counts;
     })
