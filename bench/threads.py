@@ -35,7 +35,7 @@ def main():
     for feeds, count in ((0, 20_000), (100, 2_000), (1_000, 200)):
         (passed,) = figures("writes", feeds, count)
         print("writes a second beside %d feeds: %d" % (feeds, count * 1_000_000 // max(1, passed)))
-    news = figures("news", 1_000, 100)
+    news = sorted(figures("news", 1_000, 100))
     print("a write until the last of 1,000 feeds has its row: median %.2f ms, 99 in 100 within %.2f ms"
           % (at_share(news, 50) / 1000, at_share(news, 99) / 1000))
 
