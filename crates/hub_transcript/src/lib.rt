@@ -65,30 +65,50 @@ impl Answer {
 /// differs names its case and its command. A text that does not begin with a case fails, and so does a case
 /// with no command, since it would say nothing.
 pub fn replay<S: Subject<R>, R>(rt: &R, alloc: Global, transcript: &str) -> Result<(), Fail> {
-    let mut answer = Answer::new(alloc)?;
-    if !transcript.starts_with("\n# ") {
+    let Some(cases) = transcript.strip_prefix("\n# ") else {
         return Err(Fail::new("no case is first"));
-    }
-    for case in transcript.split("\n# ").skip(1) {
-        let (name, _) = case.split_once('\n').unwrap_or((case, ""));
-        if !case.contains("\n> ") {
-            return Err(Fail::new(format_args!("{name}: no command")));
-        }
-        let mut subject: S = begun(rt, alloc, name)?;
-        replay_case(rt, &mut subject, name, case, &mut answer)?;
+    };
+    let mut answer = Answer::new(alloc)?;
+    replay_cases::<S, R>(rt, alloc, cases, &mut answer)
+}
+
+// Replays the cases of a transcript, behind the mark of the first.
+fn replay_cases<S: Subject<R>, R>(
+    rt: &R,
+    alloc: Global,
+    cases: &str,
+    answer: &mut Answer,
+) -> Result<(), Fail> {
+    for case in cases.split("\n# ") {
+        replay_case::<S, R>(rt, alloc, case, answer)?;
     }
     Ok(())
 }
 
-// Replays the commands of a case.
+// Replays a case, which begins with its name.
 fn replay_case<S: Subject<R>, R>(
     rt: &R,
-    subject: &mut S,
-    name: &str,
+    alloc: Global,
     case: &str,
     answer: &mut Answer,
 ) -> Result<(), Fail> {
-    for step in case.split("\n> ").skip(1) {
+    let (name, _) = case.split_once('\n').unwrap_or((case, ""));
+    let Some((_, commands)) = case.split_once("\n> ") else {
+        return Err(Fail::new(format_args!("{name}: no command")));
+    };
+    let mut subject: S = begun(rt, alloc, name)?;
+    replay_commands(rt, &mut subject, name, commands, answer)
+}
+
+// Replays the commands of a case.
+fn replay_commands<S: Subject<R>, R>(
+    rt: &R,
+    subject: &mut S,
+    name: &str,
+    commands: &str,
+    answer: &mut Answer,
+) -> Result<(), Fail> {
+    for step in commands.split("\n> ") {
         let (command, wanted) = step.split_once('\n').unwrap_or((step, ""));
         put_to(subject, rt, command, answer)?;
         compare(name, command, answer.text.as_str(), wanted)?;
@@ -183,6 +203,12 @@ mod tests {
 
     /// How many commands there were, to which the case's first has the number of its name's bytes. It finds
     /// no memory for every command the first time.
+    ///
+    /// - `nothing`: has no answer.
+    /// - `lines`: has the answer of two lines, `a` and `b`.
+    /// - `number WORD`, `word WORD`, `rest WORD ..`: shows a number, a word, and the words that are left.
+    /// - `verb WORD`: shows the place of a word among `x z y`.
+    /// - any other: shows how many commands there were.
     #[derive(Drop)]
     struct Echo {
         commands: u64,
@@ -200,36 +226,78 @@ mod tests {
         fn answer(&mut self, _: &R, command: &str, answer: &mut Answer) -> Result<(), AllocError> {
             self.refused = !self.refused;
             if self.refused {
-                answer.text("a part")?;
+                let _part = answer.text("a part");
                 return Err(AllocError);
             }
             self.commands = self.commands.saturating_add(1);
-            if command != "nothing" {
-                answer.line(self.commands)?;
-                answer.line(command)?;
-            }
-            Ok(())
+            show(self.commands, Words::of(command), answer)
         }
     }
 
-    #[test]
-    fn each_case_has_a_subject(rt: HostRuntime) -> Result<(), Fail> {
-        let transcript = "
+    // Answers as `Echo` says.
+    fn show(commands: u64, mut words: Words, answer: &mut Answer) -> Result<(), AllocError> {
+        match words.verb("nothing lines number word rest verb") {
+            0 => Ok(()),
+            1 => answer.text("a\nb\n"),
+            2 => answer.line(words.number()),
+            3 => answer.line(words.word()),
+            4 => answer.line(words.rest()),
+            5 => answer.line(words.verb("x z y")),
+            _ => answer.line(commands),
+        }
+    }
+
+    /// A transcript that is replayed to its end.
+    const RIGHT: &str = "
 # one
-> a b
+> b
 4
-a b
+> lines
+a
+b
 
 > nothing
 > c
-6
-c
+7
 # three
 > d
 6
-d";
-        replay::<Echo, _>(&rt, rt.alloc(), transcript)
-    }
+# words, numbers, what is left and places of verbs
+> word 17 b
+17
+> word
+> number 17 b
+17
+> number b
+0
+> rest a b  c
+a b  c
+> rest
+> verb z y
+1
+> verb zz
+18446744073709551615
+> verb
+18446744073709551615";
+
+    /// Transcripts, and whether each is replayed to its end.
+    const TEXTS: &[(&str, bool)] = &[
+        (RIGHT, true),
+        ("\n# one\n> b\n4", true),
+        ("\n# one\n> lines\na\nb\n\n", true),
+        // Another answer.
+        ("\n# one\n> b\n5", false),
+        ("\n# one\n> lines\na\nc", false),
+        ("\n# one\n> lines\na", false),
+        ("\n# one\n> b\n4\n> c", false),
+        ("\n# one\n> nothing\n5", false),
+        ("\n# one\n> nothing\n# one\n> b", false),
+        // No case first, and cases with no command.
+        ("", false),
+        ("# one\n> b\n4", false),
+        ("\n# one\n4", false),
+        ("\n# one\n> b\n4\n# two\n", false),
+    ];
 
     // Whether a transcript is replayed to its end.
     fn is_replayed<R: Eprint>(rt: &R, alloc: Global, transcript: &str) -> bool {
@@ -237,40 +305,9 @@ d";
     }
 
     #[test]
-    fn another_answer_fails(rt: HostRuntime) {
-        let alloc = rt.alloc();
-        assert!(rt; is_replayed(&rt, alloc, "\n# one\n> b\n4\nb"));
-        assert!(rt; !is_replayed(&rt, alloc, "\n# one\n> b\n5\nb"));
-        assert!(rt; !is_replayed(&rt, alloc, "\n# one\n> b\n4\nb\n> c"));
-        assert!(rt; !is_replayed(&rt, alloc, "\n# one\n> nothing\n# one\n> b"));
-    }
-
-    #[test]
-    fn a_transcript_that_says_nothing_fails(rt: HostRuntime) {
-        let alloc = rt.alloc();
-        assert!(rt; !is_replayed(&rt, alloc, ""));
-        assert!(rt; !is_replayed(&rt, alloc, "# one\n> b\n4\nb"));
-        assert!(rt; !is_replayed(&rt, alloc, "\n# one\n4\nb"));
-        assert!(rt; !is_replayed(&rt, alloc, "\n# one\n> b\n4\nb\n# two\n"));
-    }
-
-    #[test]
-    fn an_answer_may_end_in_line_feeds(rt: HostRuntime) {
-        assert!(rt; is_answer("5\nc\n", "5\nc\n\n"));
-        assert!(rt; !is_answer("5\nc", "5\nd"));
-        assert!(rt; !is_answer("5\nc", "5"));
-        assert!(rt; !is_answer("", "5"));
-    }
-
-    #[test]
-    fn words_and_numbers(rt: HostRuntime) {
-        let mut words = Words::of("put 17 x y z");
-        assert_eq!(rt; words.word(), "put");
-        assert_eq!(rt; words.number(), 17);
-        assert_eq!(rt; words.number(), 0);
-        assert_eq!(rt; words.rest(), "y z");
-        assert_eq!(rt; words.verb("x z y"), 2);
-        assert_eq!(rt; words.verb("x zz y"), usize::MAX);
-        assert_eq!(rt; Words::of("").word(), "");
+    fn transcripts(rt: HostRuntime) {
+        for (text, is_right) in TEXTS {
+            assert!(rt; is_replayed(&rt, rt.alloc(), text) == *is_right, "{text}");
+        }
     }
 }

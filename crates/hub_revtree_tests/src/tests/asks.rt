@@ -36,35 +36,49 @@ impl Session {
 
     // The winner, as a tree shows it, and the best of its leaves.
     fn winner(&mut self) -> Result<(), AllocError> {
-        let alone = self.tree.winner_alone(self.alloc)?;
-        let leaves = self.tree.leaves(self.alloc)?;
-        if let Some(rev) = self.tree.winner() {
-            self.put("winner", &[rev]);
-        }
         if self.tree.is_empty() {
             return self.say("empty", &[]);
+        }
+        if let Some(rev) = self.tree.winner() {
+            self.put("winner", &[rev]);
         }
         if self.tree.is_deleted() {
             self.put(" deleted", &[]);
         }
+        self.put_alone()?;
+        let leaves = self.tree.leaves(self.alloc)?;
+        self.say(" best", leaves.as_slice().get(..1).unwrap_or(&[]))
+    }
+
+    // The members of the winner, and the revision of a row that lists it alone.
+    fn put_alone(&mut self) -> Result<(), AllocError> {
         if let Some(body) = self.tree.winner_body() {
             let _ = self.out.push(b' ');
             let _ = self.out.extend_from_slice(body.as_bytes());
         }
+        let alone = self.tree.winner_alone(self.alloc)?;
         if let Some(rev) = alone.get(0) {
             self.put(" alone", &[rev]);
         }
         if alone.len() > 1 {
             self.put(" and more", &[]);
         }
-        self.say(" best", leaves.as_slice().get(..1).unwrap_or(&[]))
+        Ok(())
     }
 
     // All that a tree tells of a revision.
     fn rev(&mut self, rev: &RevId) -> Result<(), AllocError> {
-        let path = self.tree.path(self.alloc, rev)?;
         let is_known = self.tree.knows(rev);
         self.put(known(is_known), &[]);
+        self.put_edit(rev);
+        match self.tree.path(self.alloc, rev)? {
+            Some(path) => self.say(" path", path.revisions()),
+            None => self.say("", &[]),
+        }
+    }
+
+    // Whether the edit of a revision deletes the document, and its members, where there is one.
+    fn put_edit(&mut self, rev: &RevId) {
         match self.tree.deleted(rev) {
             Some(true) => self.put(" deleted", &[]),
             Some(false) => self.put(" live", &[]),
@@ -73,10 +87,6 @@ impl Session {
         if let Some(body) = self.tree.body(rev) {
             let _ = self.out.push(b' ');
             let _ = self.out.extend_from_slice(body.as_bytes());
-        }
-        match &path {
-            Some(path) => self.say(" path", path.revisions()),
-            None => self.say("", &[]),
         }
     }
 
@@ -128,24 +138,36 @@ impl Session {
     /// - `path REV`: how many revisions its path has, a sum of these in their order, and for how many there is
     ///   room;
     /// - `knows REV`: whether it is known.
-    pub(super) fn ask(&mut self, words: &mut Words<'_>) -> Result<(), AllocError> {
-        let verb = words.verb("sizes winner leaves missing edit rev path knows");
-        match (verb, RevId::read(words.rest())) {
-            (0, _) => self.sizes(),
-            (1, _) => self.winner(),
-            (2, _) => {
-                let leaves = self.tree.leaves(self.alloc)?;
-                self.say("leaves", leaves.as_slice())
-            }
-            (3, _) => self.missing(words.rest()),
-            (4, _) => self.edit_at(words.number() as usize),
-            (5, Some(rev)) => self.rev(&rev),
-            (6, Some(rev)) => self.path(&rev),
-            (7, Some(rev)) => {
+    pub(super) fn ask(&mut self, mut words: Words) -> Result<(), AllocError> {
+        match words.verb("sizes winner leaves missing edit rev path knows") {
+            0 => self.sizes(),
+            1 => self.winner(),
+            2 => self.leaves(),
+            3 => self.missing(words.rest()),
+            4 => self.edit_at(words.number() as usize),
+            verb => self.ask_of(verb, words.rest()),
+        }
+    }
+
+    // Asks the tree of a revision.
+    fn ask_of(&mut self, verb: usize, rev: &str) -> Result<(), AllocError> {
+        let Some(rev) = RevId::read(rev) else {
+            return self.say("?", &[]);
+        };
+        match verb {
+            5 => self.rev(&rev),
+            6 => self.path(&rev),
+            7 => {
                 let is_known = self.tree.knows(&rev);
                 self.say(known(is_known), &[])
             }
             _ => self.say("?", &[]),
         }
+    }
+
+    // The leaves.
+    fn leaves(&mut self) -> Result<(), AllocError> {
+        let leaves = self.tree.leaves(self.alloc)?;
+        self.say("leaves", leaves.as_slice())
     }
 }

@@ -1,7 +1,7 @@
 //! The interpreter of transcripts: what is done to a tree.
 
-use hub_document::{Body, Doc, DocId, RevId};
-use hub_revtree::{EditFault, MergeFault, Merged, RevTree};
+use hub_document::{Body, Doc, DocId, Path, RevId};
+use hub_revtree::{EditFault, MergeFault, Merged, Ready, RevTree};
 use hub_transcript::{Answer, Subject, Words};
 use std::alloc::{AllocError, Global};
 use std::fmt::Write;
@@ -171,29 +171,48 @@ impl Session {
             deleted,
             body,
         } = doc;
-        let Some(path) = path else {
-            return Err(AllocError);
-        };
-        let looked = if verb == 0 {
-            match self.tree.merge(path, deleted, body) {
-                Ok(Merged::Added) => return self.say("added", &[]),
-                Ok(Merged::Known) => Ok(None),
-                Err(fault) => Err(fault),
-            }
-        } else {
-            self.tree.look_merge(path, deleted, body)
-        };
-        match looked {
+        match path {
+            None => Err(AllocError),
+            Some(path) if verb == 0 => self.merge(path, deleted, body),
+            Some(path) => self.look(path, deleted, body, verb == 2),
+        }
+    }
+
+    // Merges an edit.
+    fn merge(&mut self, path: Path, deleted: bool, body: Body) -> Result<(), AllocError> {
+        match self.tree.merge(path, deleted, body) {
+            Ok(Merged::Added) => self.say("added", &[]),
+            Ok(Merged::Known) => self.say("known", &[]),
+            Err(fault) => self.say_fault(fault),
+        }
+    }
+
+    // Looks at an edit, and takes it then where that is asked.
+    fn look(
+        &mut self,
+        path: Path,
+        deleted: bool,
+        body: Body,
+        takes: bool,
+    ) -> Result<(), AllocError> {
+        match self.tree.look_merge(path, deleted, body) {
             Ok(Some(ready)) => {
                 let rev = ready.rev();
-                if verb == 2 {
+                if takes {
                     self.tree.adopt(ready);
                 }
                 self.say("new", &[rev])
             }
             Ok(None) => self.say("known", &[]),
-            Err(MergeFault::Contradicts) => self.say("contradicts", &[]),
-            Err(MergeFault::NoMemory) => Err(AllocError),
+            Err(fault) => self.say_fault(fault),
+        }
+    }
+
+    // Says why an edit is not merged.
+    fn say_fault(&mut self, fault: MergeFault) -> Result<(), AllocError> {
+        match fault {
+            MergeFault::Contradicts => self.say("contradicts", &[]),
+            MergeFault::NoMemory => Err(AllocError),
         }
     }
 
@@ -223,25 +242,36 @@ impl Session {
         Ok(made.ok())
     }
 
-    // Makes an edit on the best leaf, where it is the winner, or on the worst that is not deleted. The leaves
-    // stand best first.
-    fn turn(&mut self, best: bool, deleted: bool) -> Result<(), AllocError> {
+    // Makes an edit without members.
+    fn make(&mut self, on: Option<RevId>, deleted: bool) -> Result<(), AllocError> {
+        self.edit(on, deleted)?;
+        Ok(())
+    }
+
+    // The best leaf, where it is the winner.
+    fn best_leaf(&self) -> Result<Option<RevId>, AllocError> {
         let leaves = self.tree.leaves(self.alloc)?;
-        let mut leaf = None;
-        for each in leaves.as_slice().iter().rev() {
-            if best || matches!(self.tree.deleted(each), Some(false)) {
-                leaf = Some(*each);
-                break;
+        let (winner, best) = (self.tree.winner(), leaves.as_slice().first().copied());
+        Ok(if winner == best { winner } else { None })
+    }
+
+    // The worst leaf that is not deleted. The leaves stand best first.
+    fn worst_leaf(&self) -> Result<Option<RevId>, AllocError> {
+        let leaves = self.tree.leaves(self.alloc)?;
+        for leaf in leaves.as_slice().iter().rev() {
+            if let Some(false) = self.tree.deleted(leaf) {
+                return Ok(Some(*leaf));
             }
         }
-        if best {
-            let winner = self.tree.winner();
-            leaf = winner.filter(|winner| leaves.as_slice().first() == Some(winner));
-        }
+        Ok(None)
+    }
+
+    // Makes an edit on a leaf, where there is one.
+    fn turn(&mut self, leaf: Option<RevId>, deleted: bool) -> Result<(), AllocError> {
         if leaf.is_none() {
             return self.say("no leaf", &[]);
         }
-        self.edit(leaf, deleted).map(drop)
+        self.make(leaf, deleted)
     }
 
     // The path of a revision; of none it is empty.
@@ -254,67 +284,109 @@ impl Session {
         Ok(Vec::new(self.alloc))
     }
 
+    // The best leaf, or the worst of all.
+    fn end_leaf(&self, worst: bool) -> Result<Option<RevId>, AllocError> {
+        let leaves = self.tree.leaves(self.alloc)?;
+        let leaf = if worst {
+            leaves.as_slice().last()
+        } else {
+            leaves.as_slice().first()
+        };
+        Ok(leaf.copied())
+    }
+
     // Makes an edit on the best leaf, or one that deletes on the worst of all, and looks at its path.
     fn extend(&mut self, dead: bool) -> Result<(), AllocError> {
-        let leaves = self.tree.leaves(self.alloc)?;
-        let leaf = if dead {
-            leaves.as_slice().last().copied()
-        } else {
-            leaves.as_slice().first().copied()
-        };
+        let leaf = self.end_leaf(dead)?;
         let behind = self.path_of(&leaf)?;
         let made = self.edit(leaf, dead)?;
-        let path = match self.path_of(&made) {
-            Err(AllocError) => self.path_of(&made)?,
+        self.look_behind(&made, behind.as_slice())
+    }
+
+    // Looks whether the path of an edit is the edit and what is behind it. It is asked for again where it
+    // finds no memory.
+    fn look_behind(&mut self, made: &Option<RevId>, behind: &[RevId]) -> Result<(), AllocError> {
+        let path = match self.path_of(made) {
+            Err(AllocError) => self.path_of(made)?,
             Ok(path) => path,
         };
-        if path.first() == made.as_ref() && path.get(1..) == Some(behind.as_slice()) {
+        if path.first() == made.as_ref() && path.get(1..) == Some(behind) {
             return Ok(());
         }
         self.say("another path", &[])
     }
 
+    // Makes an edit that deletes ready on the winner.
+    fn ready_deletion(&mut self) -> Result<Ready, AllocError> {
+        let winner = self.tree.winner();
+        let body = Body::empty(self.alloc)?;
+        match self.tree.look_extend(&self.id, winner, true, body) {
+            Ok(ready) => Ok(ready),
+            Err(_) => Err(AllocError),
+        }
+    }
+
+    // Takes an edit on the winner that is none of deletion, and gives its revision.
+    fn take_extended(&mut self) -> Result<RevId, AllocError> {
+        let winner = self.tree.winner();
+        let body = Body::empty(self.alloc)?;
+        match self.tree.look_extend(&self.id, winner, false, body) {
+            Ok(ready) => {
+                let rev = ready.rev();
+                self.tree.adopt(ready);
+                Ok(rev)
+            }
+            Err(_) => Err(AllocError),
+        }
+    }
+
     // Makes two edits ready on the winner, and takes the second.
     fn second(&mut self) -> Result<(), AllocError> {
-        let winner = self.tree.winner();
-        let (body, other) = (Body::empty(self.alloc)?, Body::empty(self.alloc)?);
-        let Ok(first) = self.tree.look_extend(&self.id, winner, true, body) else {
-            return Err(AllocError);
-        };
-        let Ok(ready) = self.tree.look_extend(&self.id, winner, false, other) else {
-            return Err(AllocError);
-        };
-        let rev = ready.rev();
-        self.tree.adopt(ready);
-        self.say(
-            if rev.is_same(&first.rev()) {
-                "the same"
-            } else {
-                "made"
-            },
-            &[],
-        )
+        let first = self.ready_deletion()?;
+        let rev = self.take_extended()?;
+        let is_same = rev.is_same(&first.rev());
+        self.say(if is_same { "the same" } else { "made" }, &[])
     }
 
     // Carries out a command at the number of the time.
     fn made(&mut self, command: &str) -> Result<(), AllocError> {
         let command = self.filled(command)?;
-        let mut words = Words::of(command.as_str());
-        let verb = words.verb("merge look take long make delete best worst extend second same");
+        self.carry_out(command.as_str())
+    }
+
+    // Carries out a command that merges.
+    fn carry_out(&mut self, command: &str) -> Result<(), AllocError> {
+        let mut words = Words::of(command);
+        let verb = words.verb("merge look take long");
         match verb {
             0..=2 => self.bring(verb, words.rest().as_bytes()),
             3 => self.long(words.rest()),
-            4 => self.edit(RevId::read(words.rest()), false).map(drop),
-            5 => self.edit(RevId::read(words.rest()), true).map(drop),
-            6 => self.turn(true, words.rest() == "delete"),
-            7 => self.turn(false, words.rest() == "delete"),
-            8 => self.extend(words.rest() == "dead"),
-            9 => self.second(),
-            10 => {
+            _ => self.carry_on(command),
+        }
+    }
+
+    // Carries out a command that makes edits, or asks.
+    fn carry_on(&mut self, command: &str) -> Result<(), AllocError> {
+        let mut words = Words::of(command);
+        let verb = words.verb("make delete best worst extend second same");
+        let rest = words.rest();
+        match verb {
+            0..=1 => self.make(RevId::read(rest), verb == 1),
+            2 => {
+                let leaf = self.best_leaf()?;
+                self.turn(leaf, rest == "delete")
+            }
+            3 => {
+                let leaf = self.worst_leaf()?;
+                self.turn(leaf, rest == "delete")
+            }
+            4 => self.extend(rest == "dead"),
+            5 => self.second(),
+            6 => {
                 self.same = words.number();
                 Ok(())
             }
-            _ => self.ask(&mut Words::of(command.as_str())),
+            _ => self.ask(Words::of(command)),
         }
     }
 }
