@@ -23,7 +23,7 @@ struct Session<L: Ledger> {
 }
 
 // What both threads did.
-#[derive(Clone, Copy)]
+#[derive(Drop)]
 struct Report {
     /// How many receipts they got.
     receipts: u64,
@@ -61,7 +61,8 @@ fn write_all<L: Ledger + Send + Sync, R: Wait>(
     requires part { handle.parts ≡ 1 }
     requires none { handle.count ≡ 0 }
 {
-    let accepted = handle.write(rt, hundred(alloc, front)?, true)?;
+    let docs = hundred(alloc, front)?;
+    let accepted = handle.write(rt, docs, true)?;
     Ok(Session {
         handle,
         receipts: accepted.receipts,

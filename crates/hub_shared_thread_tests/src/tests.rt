@@ -7,11 +7,12 @@ mod workers;
 use hub_document::{ChangeRow, Doc, Limits};
 use hub_model::Item;
 use hub_params::FeedParams;
-use hub_shared::{Clock, Count, Db, Feed, Gate, Handle, Plain, Point, Receipt};
+use hub_shared::{Clock, Count, Db, Feed, Gate, Handle, Plain, Point, Receipt, pump};
 use std::alloc::Global;
 use std::sync::Wait;
 use std::sync::atomic::{AtomicU64, Ordering};
-use std::thread;
+use std::thread::{self, Threads};
+use std::time;
 
 /// A gate that counts how often the lock was held, and holds nobody; and a clock that goes on by so many
 /// milliseconds with each reading.
@@ -48,7 +49,7 @@ impl Clock for Pace {
 }
 
 /// How many items of each kind came.
-#[derive(Clone, Copy, PartialEq)]
+#[derive(Drop)]
 struct Counts {
     rows: u64,
     beats: u64,
@@ -143,4 +144,26 @@ pub(crate) fn open<C: Count, R: Wait>(
 ) -> Option<Feed<C>> {
     let params = FeedParams::read(alloc, query.as_bytes(), body.as_bytes()).ok()?;
     handle.open_feed(rt, params).ok()
+}
+
+/// Who reads a feed beside its pump, which has `K` as its gate and its clock.
+trait Reader<R, K> {
+    /// Takes items of the feed, and finishes it.
+    fn read(&mut self, rt: &R, pace: &K, feed: Feed<Plain>);
+}
+
+/// Whether the pump of a feed ends well, beside the feed's reader.
+fn is_pumped<R, K, T>(rt: &R, db: &Db<Plain>, pace: &K, feed: Feed<Plain>, reader: &mut T) -> bool
+where
+    R: Threads + Wait + time::Clock + Sync,
+    K: Gate + Clock + Sync,
+    T: Reader<R, K> + Send,
+{
+    let id = feed.id();
+    let (is_pumped, ()) = thread::join(
+        rt,
+        || pump(rt, db, id, pace, pace).is_ok(),
+        || reader.read(rt, pace, feed),
+    );
+    is_pumped
 }

@@ -7,7 +7,7 @@ use hub_document::{Asked, Doc, DocId, Limits, LocalDoc, OpenRevs, RevId, Revisio
 use hub_feed::OpenFault;
 use hub_model::Item;
 use hub_params::FeedParams;
-use hub_shared::{Bell, Db, Feed, Handle, Plain, Watch};
+use hub_shared::{Accepted, Bell, Db, Feed, Handle, Plain, Watch};
 use hub_transcript::{Answer, Subject, Words};
 use std::alloc::{AllocError, Global};
 use std::sync::{Arc, Wait};
@@ -319,18 +319,28 @@ impl Database {
         answer: &mut Answer,
     ) -> Result<(), AllocError> {
         let docs = docs(self.alloc, texts, false)?;
-        let Ok(accepted) = self.handle.write(rt, docs, false) else {
-            return Err(AllocError);
+        match self.handle.write(rt, docs, false) {
+            Ok(accepted) if !accepted.stopped => self.keep(accepted, has_replies, answer),
+            _ => Err(AllocError),
+        }
+    }
+
+    // Writes what became of documents, where that is asked for, and their receipts, which are kept.
+    fn keep(
+        &mut self,
+        accepted: Accepted,
+        has_replies: bool,
+        answer: &mut Answer,
+    ) -> Result<(), AllocError> {
+        let put = if has_replies {
+            put_replies(accepted.replies.as_slice(), answer)
+        } else {
+            Ok(())
         };
-        if accepted.stopped {
-            return Err(AllocError);
-        }
-        if has_replies {
-            put_replies(accepted.replies.as_slice(), answer)?;
-        }
         let mut receipts = accepted.receipts;
-        put_receipts(receipts.as_slice(), answer)?;
-        self.receipts.append(&mut receipts)
+        let told = put_receipts(receipts.as_slice(), answer);
+        let kept = self.receipts.append(&mut receipts);
+        put.and(told).and(kept)
     }
 
     fn store<R: Wait>(

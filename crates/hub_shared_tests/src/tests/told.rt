@@ -1,7 +1,7 @@
 //! How rows, items, revisions and the outcomes of writes are written.
 
 use hub_database::{Answer as DbAnswer, DbFault, Descending, Diff, Lookup, OpenRev, Receipt};
-use hub_document::{Body, ChangeRow, RevId};
+use hub_document::{Body, ChangeRow, Doc, RevId};
 use hub_model::{Item, Outcome};
 use hub_transcript::Answer;
 use std::alloc::{AllocError, Global};
@@ -47,6 +47,13 @@ fn put_text(text: &[u8], answer: &mut Answer) -> Result<(), AllocError> {
     answer.line(str::from_utf8(text).unwrap_or("?"))
 }
 
+// Writes a document.
+fn put_doc(alloc: Global, doc: &Doc, answer: &mut Answer) -> Result<(), AllocError> {
+    let mut text = Vec::new(alloc);
+    doc.write(&mut text)?;
+    put_text(text.as_slice(), answer)
+}
+
 // Writes the document that a row shows.
 fn put_shown(
     alloc: Global,
@@ -79,11 +86,7 @@ pub(crate) fn put_item(
 fn put_opened(alloc: Global, opened: &[OpenRev], answer: &mut Answer) -> Result<(), AllocError> {
     for open in opened {
         match open {
-            OpenRev::Found(doc) => {
-                let mut text = Vec::new(alloc);
-                doc.write(&mut text)?;
-                put_text(text.as_slice(), answer)?;
-            }
+            OpenRev::Found(doc) => put_doc(alloc, doc, answer)?,
             OpenRev::Missing(rev) => answer.line(format_args!("missing {}", Rev(*rev)))?,
         }
     }
@@ -123,11 +126,7 @@ pub(crate) fn put_answer(
     answer: &mut Answer,
 ) -> Result<(), AllocError> {
     match told {
-        Ok(DbAnswer::Get(Lookup::Found(doc))) => {
-            let mut text = Vec::new(alloc);
-            doc.write(&mut text)?;
-            put_text(text.as_slice(), answer)
-        }
+        Ok(DbAnswer::Get(Lookup::Found(doc))) => put_doc(alloc, doc, answer),
         Ok(DbAnswer::Winner(Some(winner))) => {
             let rev = Rev(winner.rev);
             answer.line(format_args!("{rev} deleted {}", winner.deleted))

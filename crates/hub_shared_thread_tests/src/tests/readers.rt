@@ -1,7 +1,7 @@
 //! Readers of feeds whose pumps run in other threads.
 
-use crate::tests::{Counts, Pace, database, open, put_many};
-use hub_shared::{Db, Feed, Handed, Handle, Plain, Turn, pump};
+use crate::tests::{Counts, Pace, Reader, database, is_pumped, open, put_many};
+use hub_shared::{Feed, Handed, Handle, Plain, Turn};
 use std::alloc::Global;
 use std::sync::Wait;
 use std::sync::atomic::Ordering;
@@ -152,55 +152,57 @@ fn count_next<R: Wait>(rt: &R, feed: &mut Feed<Plain>, items: u64, counts: &mut 
     is_well
 }
 
-/// What a reader gets, which writes once its pump has held the lock; None where it does not come in order.
-fn read<R: Wait>(
-    rt: &R,
+/// The reader of a case.
+#[derive(Drop)]
+struct Reading {
     alloc: Global,
-    pace: &Pace,
-    handle: &mut Handle<Plain>,
-    mut feed: Feed<Plain>,
-    case: &Case,
-) -> Option<(u64, u64, u64)> {
-    wait_for_pump(rt, pace);
-    let mut counts = Counts::new();
-    let mut is_well = put_many(rt, alloc, handle, case.later).is_some();
-    if case.items == 0 {
-        is_well &= is_full(rt, &feed) && count_left(rt, feed, &mut counts);
-    } else {
-        is_well &= count_next(rt, &mut feed, case.items, &mut counts);
-        drop(feed.finish(rt));
+    handle: Handle<Plain>,
+    case: &'static Case,
+    counts: Counts,
+    /// Whether all came in order.
+    is_well: bool,
+}
+
+impl<R: Wait> Reader<R, Pace> for Reading {
+    fn read(&mut self, rt: &R, pace: &Pace, mut feed: Feed<Plain>) {
+        wait_for_pump(rt, pace);
+        self.is_well = put_many(rt, self.alloc, &mut self.handle, self.case.later).is_some();
+        if self.case.items == 0 {
+            let is_full = is_full(rt, &feed);
+            self.is_well &= count_left(rt, feed, &mut self.counts) && is_full;
+        } else {
+            self.is_well &= count_next(rt, &mut feed, self.case.items, &mut self.counts);
+            drop(feed.finish(rt));
+        }
     }
-    is_well.then_some((counts.rows, counts.beats, counts.ends))
 }
 
-/// The same beside the feed's pump; None also where that does not end well.
-fn read_pumped<R: Threads + Wait + time::Clock + Sync>(
-    rt: &R,
-    alloc: Global,
-    db: &Db<Plain>,
-    handle: &mut Handle<Plain>,
-    feed: Feed<Plain>,
-    case: &Case,
-) -> Option<(u64, u64, u64)> {
-    let (id, pace) = (feed.id(), Pace::new(case.step));
-    let (is_pumped, read) = thread::join(
-        rt,
-        || pump(rt, db, id, &pace, &pace).is_ok(),
-        || read(rt, alloc, &pace, handle, feed, case),
-    );
-    if is_pumped { read } else { None }
+impl Reading {
+    /// Whether what was wanted came.
+    fn is_wanted(&self) -> bool {
+        let counts = &self.counts;
+        self.is_well && (counts.rows, counts.beats, counts.ends) == self.case.wanted
+    }
 }
 
-/// Whether what was wanted comes in a case.
+/// Whether what is wanted comes in a case.
 fn holds<R: Threads + Wait + time::Clock + Sync>(
     rt: &R,
     alloc: Global,
-    case: &Case,
+    case: &'static Case,
 ) -> Option<bool> {
     let (db, mut handle) = database(alloc, case.lane, 64)?;
     put_many(rt, alloc, &mut handle, case.documents)?;
     let feed = open(rt, alloc, &mut handle, case.query, "")?;
-    Some(read_pumped(rt, alloc, &db, &mut handle, feed, case) == Some(case.wanted))
+    let mut reading = Reading {
+        alloc,
+        handle,
+        case,
+        counts: Counts::new(),
+        is_well: false,
+    };
+    let is_pumped = is_pumped(rt, &db, &Pace::new(case.step), feed, &mut reading);
+    Some(is_pumped && reading.is_wanted())
 }
 
 #[test]

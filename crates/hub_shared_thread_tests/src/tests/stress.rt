@@ -1,14 +1,13 @@
 //! Many writers, and feeds of each mode, at once: what each reader took is compared with what a database of one
 //! thread shows, which makes the edits that the receipts tell, in their order.
 
-use crate::tests::{LIFE, Pace, database, open, put_text};
+use crate::tests::{LIFE, Pace, Reader, database, is_pumped, open, put_text};
 use hub_document::ChangeRow;
 use hub_model::Item;
-use hub_shared::{Clock, Db, Feed, Handle, Plain, Turn, pump};
+use hub_shared::{Clock, Db, Feed, Gate, Handle, Plain, Point, Turn};
 use std::alloc::{AllocError, Global};
 use std::sync::Wait;
 use std::sync::atomic::{AtomicU64, Ordering};
-use std::test::Fail;
 use std::thread::{self, Threads};
 use std::time::{self, Duration};
 
@@ -33,6 +32,10 @@ impl Scene {
     }
 }
 
+impl Gate for Scene {
+    fn pass(&self, _: Point) {}
+}
+
 impl Clock for Scene {
     fn now_ms(&self) -> u64 {
         let step = if self.is_written() { 1000 } else { 0 };
@@ -41,20 +44,21 @@ impl Clock for Scene {
 }
 
 /// An edit: its sequence, and which one of which writer it is.
-#[derive(Clone, Copy)]
+#[derive(Drop)]
 struct Edit {
     seq: u64,
     writer: u64,
     number: u64,
 }
 
-/// What a thread brings back: the edits of a writer, or the rows of a reader and its last end; and whether it
-/// got on.
+/// What a thread brings back: the edits of a writer, or the rows of a reader and its last end; whether the reader
+/// is late, and whether the thread got on.
 #[derive(Drop)]
 struct Brought {
     edits: Vec<Edit>,
     rows: Vec<ChangeRow>,
     end: Option<u64>,
+    is_late: bool,
     is_well: bool,
 }
 
@@ -69,7 +73,7 @@ fn edit_text(alloc: Global, writer: u64, number: u64) -> Result<String, AllocErr
         1 => (2, r#""b","a""#),
         _ => (1, r#""c""#),
     };
-    let start = generation + 10 * writer;
+    let start = (10 * writer).saturating_add(generation);
     format!(in alloc;
         r#"{{"_id":"d{doc}","_deleted":{deleted},"_revisions":{{"start":{start},"ids":[{ids}]}}}}"#
     )
@@ -99,81 +103,42 @@ fn make_edits<R: Wait>(
     Some(())
 }
 
-/// What a feed is asked for, and which documents it shows: all where none is named.
-struct Asked {
-    query: &'static str,
-    body: &'static str,
-    /// How many revisions a row shows at most.
-    most: usize,
-    docs: &'static [&'static str],
+/// What the feed of the thread of this number is asked for. The last one has the stopped reader.
+const FEEDS: &[&str; 9] = &[
+    "feed=normal",
+    "feed=normal&style=all_docs",
+    "feed=normal&filter=_doc_ids",
+    "feed=longpoll&timeout=50",
+    "feed=longpoll&timeout=50&style=all_docs",
+    "feed=continuous&timeout=50",
+    "feed=continuous&timeout=50&style=all_docs",
+    "feed=continuous&timeout=50&filter=_doc_ids",
+    "feed=continuous&timeout=50",
+];
+
+/// The same of any number: the threads behind the last feed have none of their own.
+fn query_of(number: usize) -> &'static str {
+    match FEEDS.get(number) {
+        Some(query) => *query,
+        None => FEEDS[8],
+    }
 }
 
+/// The documents that the filter lets through.
 const SOME: &str = r#"{"doc_ids":["d3","d7","d19"]}"#;
 
-const THREE: &[&str] = &["d3", "d7", "d19"];
-
-const FEEDS: &[Asked; 8] = &[
-    Asked {
-        query: "feed=normal",
-        body: "",
-        most: 1,
-        docs: &[],
-    },
-    Asked {
-        query: "feed=normal&style=all_docs",
-        body: "",
-        most: 99,
-        docs: &[],
-    },
-    Asked {
-        query: "feed=normal&filter=_doc_ids",
-        body: SOME,
-        most: 1,
-        docs: THREE,
-    },
-    Asked {
-        query: "feed=longpoll&timeout=50",
-        body: "",
-        most: 1,
-        docs: &[],
-    },
-    Asked {
-        query: "feed=longpoll&timeout=50&style=all_docs",
-        body: "",
-        most: 99,
-        docs: &[],
-    },
-    Asked {
-        query: "feed=continuous&timeout=50",
-        body: "",
-        most: 1,
-        docs: &[],
-    },
-    Asked {
-        query: "feed=continuous&timeout=50&style=all_docs",
-        body: "",
-        most: 99,
-        docs: &[],
-    },
-    Asked {
-        query: "feed=continuous&timeout=50&filter=_doc_ids",
-        body: SOME,
-        most: 1,
-        docs: THREE,
-    },
-];
+const SOME_IDS: &[&str; 3] = &["d3", "d7", "d19"];
 
 /// A feed that goes on behind a sequence of the database's life; None where its label says another one.
 fn follow<R: Wait>(
     rt: &R,
     alloc: Global,
     handle: &mut Handle<Plain>,
-    asked: &Asked,
+    query: &str,
     since: u64,
 ) -> Option<Feed<Plain>> {
-    let query = asked.query;
     let query = format!(in alloc; "{query}&since={since}-{LIFE}").ok()?;
-    let feed = open(rt, alloc, handle, query.as_str(), asked.body)?;
+    let feed = open(rt, alloc, handle, query.as_str(), SOME)?;
     if feed.end().label().life() != LIFE || feed.end().label().since() != since {
         return None;
     }
@@ -182,11 +147,12 @@ fn follow<R: Wait>(
 
 impl Brought {
     /// Nothing yet.
-    fn new(alloc: Global) -> Brought {
+    fn new(alloc: Global, is_late: bool) -> Brought {
         Brought {
             edits: Vec::new(alloc),
             rows: Vec::new(alloc),
             end: None,
+            is_late,
             is_well: true,
         }
     }
@@ -236,21 +202,17 @@ impl Brought {
     }
 }
 
-/// What a reader takes of a feed: all until its end, slowly; or of a feed that it reads late, nothing until the
-/// writers are done, and then what is left.
-fn read<R: Wait + time::Clock>(
-    rt: &R,
-    scene: &Scene,
-    brought: &mut Brought,
-    mut feed: Feed<Plain>,
-    is_late: bool,
-) {
-    if is_late {
-        wait_for_writers(rt, scene);
-        brought.read_left(rt, feed);
-    } else {
-        brought.read_slowly(rt, &mut feed);
-        drop(feed.finish(rt));
+impl<R: Wait + time::Clock> Reader<R, Scene> for Brought {
+    /// Takes all items until the feed's end, slowly. A late reader takes nothing until the writers are done, and
+    /// then what is left.
+    fn read(&mut self, rt: &R, scene: &Scene, mut feed: Feed<Plain>) {
+        if self.is_late {
+            wait_for_writers(rt, scene);
+            self.read_left(rt, feed);
+        } else {
+            self.read_slowly(rt, &mut feed);
+            drop(feed.finish(rt));
+        }
     }
 }
 
@@ -264,56 +226,37 @@ fn wait_for_writers<R: Wait + time::Clock>(rt: &R, scene: &Scene) {
     }
 }
 
-/// The same beside a pump of the feed.
-fn read_pumped<R: Threads + Wait + time::Clock + Sync>(
-    rt: &R,
-    scene: &Scene,
-    brought: &mut Brought,
-    feed: Feed<Plain>,
-    is_late: bool,
-) {
-    let (id, gate) = (feed.id(), Pace::new(0));
-    let (is_pumped, ()) = thread::join(
-        rt,
-        || pump(rt, &scene.db, id, &gate, scene).is_ok(),
-        || read(rt, scene, brought, feed, is_late),
-    );
-    brought.is_well &= is_pumped;
-}
-
-/// Reads one feed, which goes on where the last one ended.
+/// Reads one feed, which goes on where the last one ended, beside its pump; None where it was not opened.
 fn read_next<R: Threads + Wait + time::Clock + Sync>(
     rt: &R,
     alloc: Global,
     scene: &Scene,
     brought: &mut Brought,
-    asked: &Asked,
-    is_late: bool,
+    query: &str,
 ) -> Option<()> {
     let mut handle = scene.db.handle().ok()?;
-    let feed = follow(rt, alloc, &mut handle, asked, brought.end.unwrap_or(0))?;
-    read_pumped(rt, scene, brought, feed, is_late);
-    Some(())
+    let feed = follow(rt, alloc, &mut handle, query, brought.end.unwrap_or(0))?;
+    let is_pumped = is_pumped(rt, &scene.db, scene, feed, brought);
+    (is_pumped && brought.is_well).then_some(())
 }
 
-/// Reads one feed after the other, until one began that the writers were done before.
+/// Reads one feed after the other, until one began that the writers were done before; None where one fails.
 fn read_all<R: Threads + Wait + time::Clock + Sync>(
     rt: &R,
     alloc: Global,
     scene: &Scene,
     brought: &mut Brought,
-    asked: &Asked,
-) {
+    query: &str,
+) -> Option<()> {
     for _ in rt.forever() {
         let is_last = scene.is_written();
-        if read_next(rt, alloc, scene, brought, asked, false).is_none() {
-            brought.is_well = false;
-        }
-        if is_last || !brought.is_well {
+        read_next(rt, alloc, scene, brought, query)?;
+        if is_last {
             break;
         }
         thread::yield_now();
     }
+    Some(())
 }
 
 /// What the thread of this number does: eight feeds, a stopped reader, and writers.
@@ -323,44 +266,29 @@ fn part<R: Threads + Wait + time::Clock + Sync>(
     scene: &Scene,
     number: usize,
 ) -> Brought {
-    let mut brought = Brought::new(alloc);
-    if number < 8 {
-        read_all(rt, alloc, scene, &mut brought, &FEEDS[number]);
+    let mut brought = Brought::new(alloc, number == 8);
+    let query = query_of(number);
+    let done = if number < 8 {
+        read_all(rt, alloc, scene, &mut brought, query)
     } else if number == 8 {
-        let read = read_next(rt, alloc, scene, &mut brought, &FEEDS[5], true);
-        brought.is_well &= read.is_some();
+        read_next(rt, alloc, scene, &mut brought, query)
     } else {
         let made = make_edits(rt, alloc, scene, number as u64 - 9, &mut brought.edits);
-        brought.is_well &= made.is_some();
         scene.writing.fetch_sub(1, Ordering::SeqCst);
-    }
+        made
+    };
+    brought.is_well &= done.is_some();
     brought
 }
 
-/// The edits of all writers by their sequences; None where one is missing or there twice, or a thread did not
-/// get on.
-fn journal(alloc: Global, parts: &[Brought]) -> Option<Vec<Edit>> {
-    let mut all = Vec::new(alloc);
+/// The writer of the edit of this sequence, and which one of its edits it is; None where none has it.
+fn edit_of(parts: &[Brought], seq: u64) -> Option<(u64, u64)> {
     for part in parts {
-        if !part.is_well {
-            return None;
+        if let Some(edit) = part.edits.iter().find(|edit| edit.seq == seq) {
+            return Some((edit.writer, edit.number));
         }
-        all.extend_from_slice(part.edits.as_slice()).ok()?;
     }
-    all.sort_unstable_by(|one, other| one.seq.cmp(&other.seq));
-    are_in_order(all.as_slice()).then_some(all)
-}
-
-/// Whether these are the edits from the first one on, each once.
-fn are_in_order(all: &[Edit]) -> bool {
-    let mut last = 0u64;
-    for edit in all {
-        if last.checked_add(1) != Some(edit.seq) {
-            return false;
-        }
-        last = edit.seq;
-    }
-    true
+    None
 }
 
 /// The row that a database of one thread shows of an edit with every leaf, and the sequence of the next edit of
@@ -381,7 +309,7 @@ fn row_of<R: Wait>(
     let since = seq.saturating_sub(1);
     let query = format!(in alloc; "style=all_docs&since={since}").ok()?;
     let mut feed = open(rt, alloc, handle, query.as_str(), "")?;
-    let _handed = feed.hold(rt, Turn::Hand, &Pace::new(0));
+    feed.hold(rt, Turn::Hand, &Pace::new(0)).ok()?;
     let item = feed.take(rt);
     drop(feed.finish(rt));
     match item {
@@ -390,11 +318,17 @@ fn row_of<R: Wait>(
     }
 }
 
-/// Makes an edit in the database of one thread; None where it has another sequence than its receipt told.
-fn remake<R: Wait>(rt: &R, alloc: Global, handle: &mut Handle<Plain>, edit: &Edit) -> Option<()> {
-    let text = edit_text(alloc, edit.writer, edit.number).ok()?;
-    let receipt = put_text(rt, alloc, handle, text.as_str())?;
-    (receipt.seq == edit.seq).then_some(())
+/// Makes a writer's edit in the database of one thread: its row; None where it has another sequence.
+fn remake<R: Wait>(
+    rt: &R,
+    alloc: Global,
+    handle: &mut Handle<Plain>,
+    edit: (u64, u64),
+    seq: u64,
+) -> Option<ChangeRow> {
+    let text = edit_text(alloc, edit.0, edit.1).ok()?;
+    put_text(rt, alloc, handle, text.as_str())?;
+    row_of(rt, alloc, handle, seq)
 }
 
 /// Adds a row: it is the next one of its document.
@@ -412,85 +346,79 @@ fn add(shown: &mut Vec<Shown>, row: ChangeRow) -> Option<()> {
         .ok()
 }
 
-/// What a database of one thread shows of these edits.
-fn remade<R: Wait>(rt: &R, alloc: Global, all: &[Edit]) -> Option<Vec<Shown>> {
+/// What a database of one thread shows of so many edits; None where one of these is missing.
+fn remade<R: Wait>(rt: &R, alloc: Global, parts: &[Brought], count: u64) -> Option<Vec<Shown>> {
     let (_db, mut handle) = database(alloc, 4, 8)?;
     let mut shown = Vec::new(alloc);
-    for edit in all {
-        remake(rt, alloc, &mut handle, edit)?;
-        let row = row_of(rt, alloc, &mut handle, edit.seq)?;
+    for number in 0..count {
+        let seq = number.saturating_add(1);
+        let edit = edit_of(parts, seq)?;
+        let row = remake(rt, alloc, &mut handle, edit, seq)?;
         add(&mut shown, row)?;
     }
     Some(shown)
 }
 
-impl Asked {
-    /// Whether the feed shows the document of this id.
-    fn is_of(&self, id: &str) -> bool {
-        self.docs.is_empty() || self.docs.contains(&id)
-    }
-
-    /// Whether a row is the wanted one, with as many of its revisions as the feed shows.
-    fn is_as(&self, row: &ChangeRow, wanted: &Shown) -> bool {
-        let count = wanted.row.changes.len().min(self.most);
-        for at in 0..count {
-            if row.changes.get(at) != wanted.row.changes.get(at) {
-                return false;
-            }
-        }
-        let is_current = row.seq <= row.seen && row.seen < wanted.next;
-        let is_same = row.id.as_str() == wanted.row.id.as_str();
-        is_current && is_same && row.changes.len() == count && row.deleted == wanted.row.deleted
-    }
-
-    /// Whether rows rise, and each is what was there of a document of the feed once there were as many edits as
-    /// it says.
-    fn are_right(&self, shown: &[Shown], rows: &[ChangeRow]) -> bool {
-        let mut last = 0;
-        for row in rows {
-            let Some(wanted) = shown.get(row.seq.saturating_sub(1) as usize) else {
-                return false;
-            };
-            if row.seq <= last || !self.is_of(row.id.as_str()) || !self.is_as(row, wanted) {
-                return false;
-            }
-            last = row.seq;
-        }
-        true
-    }
-
-    /// Whether rows show the last edit of each document of the feed.
-    fn are_all(&self, shown: &[Shown], rows: &[ChangeRow]) -> bool {
-        for wanted in shown {
-            let is_last = wanted.next == u64::MAX && self.is_of(wanted.row.id.as_str());
-            if is_last && !rows.iter().any(|row| row.seq == wanted.row.seq) {
-                return false;
-            }
-        }
-        true
-    }
+/// Whether a feed shows the document of this id.
+fn is_of(query: &str, id: &str) -> bool {
+    !query.contains("_doc_ids") || SOME_IDS.contains(&id)
 }
 
-/// Whether what the thread of this number brought is right: a reader all that its feed shows, and the stopped
-/// reader what fits its lane. Of a writer nothing is asked here.
-fn is_right(shown: &[Shown], number: usize, brought: &Brought) -> bool {
-    let rows = brought.rows.as_slice();
-    if number < 8 {
-        let asked = &FEEDS[number];
-        let is_ended = brought.end == Some(shown.len() as u64);
-        return is_ended && asked.are_right(shown, rows) && asked.are_all(shown, rows);
+/// Whether a row shows a document as the wanted one does, with all its leaves or its winner alone.
+fn is_as(query: &str, row: &ChangeRow, wanted: &Shown) -> bool {
+    let leaves = wanted.row.changes.len();
+    let count = if query.contains("all_docs") {
+        leaves
+    } else {
+        1
+    };
+    for at in 0..count {
+        if row.changes.get(at) != wanted.row.changes.get(at) {
+            return false;
+        }
     }
-    brought.end.is_none() && rows.len() <= 4 && FEEDS[5].are_right(shown, rows)
+    let is_current = row.seq <= row.seen && row.seen < wanted.next;
+    let is_same = row.id.as_str() == wanted.row.id.as_str();
+    is_current && is_same && row.changes.len() == count && row.deleted == wanted.row.deleted
 }
 
-/// Whether what each thread brought is right.
-fn are_right(shown: &[Shown], parts: &[Brought]) -> bool {
-    for number in 0..parts.len() {
-        if !is_right(shown, number, &parts[number]) {
+/// Whether rows rise, and each is what was there of a document of the feed once there were as many edits as it
+/// says.
+fn are_right(query: &str, shown: &[Shown], rows: &[ChangeRow]) -> bool {
+    let mut last = 0;
+    for row in rows {
+        let Some(wanted) = shown.get(row.seq.saturating_sub(1) as usize) else {
+            return false;
+        };
+        if row.seq <= last || !is_of(query, row.id.as_str()) || !is_as(query, row, wanted) {
+            return false;
+        }
+        last = row.seq;
+    }
+    true
+}
+
+/// Whether rows show the last edit of each document of the feed.
+fn are_all(query: &str, shown: &[Shown], rows: &[ChangeRow]) -> bool {
+    for wanted in shown {
+        let is_last = wanted.next == u64::MAX && is_of(query, wanted.row.id.as_str());
+        if is_last && !rows.iter().any(|row| row.seq == wanted.row.seq) {
             return false;
         }
     }
     true
+}
+
+/// Whether what the thread of this number brought is right: a reader all that its feed shows, and the stopped
+/// reader what fits its lane. A writer brought no rows.
+fn is_right(shown: &[Shown], number: usize, brought: &Brought) -> bool {
+    let (query, rows) = (query_of(number), brought.rows.as_slice());
+    let is_whole = if number < 8 {
+        brought.end == Some(shown.len() as u64) && are_all(query, shown, rows)
+    } else {
+        brought.end.is_none() && rows.len() <= 4
+    };
+    brought.is_well && is_whole && are_right(query, shown, rows)
 }
 
 /// What the readers, and so many writers, bring back.
@@ -509,21 +437,30 @@ fn raced<R: Threads + Wait + time::Clock + Sync>(
     thread::map_indices(rt, alloc, count, &|number| part(rt, alloc, &scene, number)).ok()
 }
 
-/// Whether the readers take what so many writers are told, and how many edits these made.
-fn edits_read<R: Threads + Wait + time::Clock + Sync>(
+/// Whether what each thread brought is right.
+fn are_all_right(shown: &[Shown], parts: &[Brought]) -> bool {
+    for number in 0..parts.len() {
+        if !is_right(shown, number, &parts[number]) {
+            return false;
+        }
+    }
+    true
+}
+
+/// Whether the readers take what so many writers are told.
+fn are_told<R: Threads + Wait + time::Clock + Sync>(
     rt: &R,
     alloc: Global,
     writers: u64,
-) -> Option<usize> {
+) -> Option<bool> {
     let parts = raced(rt, alloc, writers)?;
-    let all = journal(alloc, parts.as_slice())?;
-    let shown = remade(rt, alloc, all.as_slice())?;
-    are_right(shown.as_slice(), parts.as_slice()).then_some(all.len())
+    let shown = remade(rt, alloc, parts.as_slice(), writers.saturating_mul(EDITS))?;
+    Some(are_all_right(shown.as_slice(), parts.as_slice()))
 }
 
 #[test]
 fn readers_take_what_writers_are_told(rt: HostRuntime) {
-    assert!(rt; edits_read(&rt, rt.alloc(), 1) == Some(50));
-    assert!(rt; edits_read(&rt, rt.alloc(), 2) == Some(100));
-    assert!(rt; edits_read(&rt, rt.alloc(), 8) == Some(400));
+    assert!(rt; are_told(&rt, rt.alloc(), 1) == Some(true));
+    assert!(rt; are_told(&rt, rt.alloc(), 2) == Some(true));
+    assert!(rt; are_told(&rt, rt.alloc(), 8) == Some(true));
 }
