@@ -1,12 +1,9 @@
 //! A feed that is followed, which carries out the commands of transcripts.
 
-use crate::tests::told::{Row, put_debug, put_item};
-use hub_feed::{FeedHost, FeedId, HostView};
-use hub_lane::Asks;
+use crate::tests::told::{put_debug, put_item};
+use hub_feed::FeedId;
 use hub_model::Item;
-use hub_shared::{
-    Block, Clock, Count, FeedLabel, Gate, Host, HostFeed, Point, Turn, Watch, hold, pump,
-};
+use hub_shared::{Clock, Db, Feed, Gate, Plain, Point, Turn, Watch, hold, pump};
 use hub_transcript::{Answer, Words};
 use std::alloc::{AllocError, Global};
 use std::sync::atomic::{AtomicU64, Ordering};
@@ -47,7 +44,7 @@ impl Clock for Pace {
     }
 }
 
-/// A feed of any host, until it is finished. Its commands:
+/// A feed of a database, until it is finished. Its commands:
 ///
 /// - `hand` answers what the feed's own holding of the lock hands; `hold`, `beat` and `expire` what a turn of
 ///   a holding answers that names the feed by its number.
@@ -56,39 +53,25 @@ impl Clock for Pace {
 /// - `held` answers how often the lock was held for it, `due` the reading of the clock at which it is due,
 ///   and `over` whether it is over.
 #[derive(Drop)]
-pub(crate) struct Followed<S: HostView, C: Count> {
+pub(crate) struct Followed {
     alloc: Global,
-    host: Host<S, C>,
     id: FeedId,
-    feed: Option<HostFeed<S, C>>,
+    feed: Option<Feed<Plain>>,
     pace: Pace,
     // Whether a poll gave its end.
     has_ended: bool,
 }
 
-impl<S: FeedHost + Drop, C: Count> Followed<S, C>
-where
-    S::Row: Row,
-{
-    /// A feed whose clock goes on by so many milliseconds with each reading. Where it begins is written, and
-    /// of which life its sequences are.
-    pub(crate) fn new(
-        alloc: Global,
-        host: Host<S, C>,
-        feed: HostFeed<S, C>,
-        step: u64,
-        answer: &mut Answer,
-    ) -> Result<Followed<S, C>, AllocError> {
-        let (since, life) = (feed.end().label().since(), feed.end().label().life());
-        answer.line(format_args!("since {since} of life {life}"))?;
-        Ok(Followed {
+impl Followed {
+    /// A feed whose clock goes on by so many milliseconds with each reading.
+    pub(crate) fn new(alloc: Global, feed: Feed<Plain>, step: u64) -> Followed {
+        Followed {
             alloc,
-            host,
             id: feed.id(),
             feed: Some(feed),
             pace: Pace::new(step),
             has_ended: false,
-        })
+        }
     }
 
     /// From here on this watch has news of the feed.
@@ -97,106 +80,93 @@ where
         rt: &R,
         watch: &Arc<Watch, Global>,
     ) -> Result<(), AllocError> {
+        let watch = Arc::try_clone(watch)?;
         if let Some(feed) = &self.feed {
-            feed.watch(rt, Arc::try_clone(watch)?);
+            feed.watch(rt, watch);
         }
         Ok(())
     }
 
-    /// Carries out a command.
-    pub(crate) fn run<R>(
+    /// Carries out a command, over the feed's database.
+    pub(crate) fn run<R: Wait + time::Clock>(
+        &mut self,
+        rt: &R,
+        db: &Db<Plain>,
+        verb: &str,
+        answer: &mut Answer,
+    ) -> Result<(), AllocError> {
+        match Words::of(verb).verb("hold beat expire pump finish") {
+            0 => self.turn(rt, db, Turn::Hand, answer),
+            1 => self.turn(rt, db, Turn::Beat, answer),
+            2 => self.turn(rt, db, Turn::Expire, answer),
+            3 => pump(rt, db, self.id, &self.pace, &self.pace),
+            4 => self.finish(rt, answer),
+            _ => self.run_open(rt, verb, answer),
+        }
+    }
+
+    // The same of the commands of a feed that is not finished.
+    fn run_open<R: Wait>(
         &mut self,
         rt: &R,
         verb: &str,
         answer: &mut Answer,
-    ) -> Result<(), AllocError>
-    where
-        R: Asks<FeedLabel<S>, Block<S::Row>> + time::Clock,
-    {
-        match Words::of(verb).verb("hold beat expire pump take poll finish") {
-            0 => self.turn(rt, Turn::Hand, answer),
-            1 => self.turn(rt, Turn::Beat, answer),
-            2 => self.turn(rt, Turn::Expire, answer),
-            3 => pump(rt, &self.host, self.id, &self.pace, &self.pace),
-            4 => self.take(rt, answer),
-            5 => self.poll(rt, answer),
-            6 => self.finish(rt, answer),
-            _ => self.look(rt, verb, answer),
-        }
-    }
-
-    // The same of the commands that change nothing but by a holding.
-    fn look<R>(&self, rt: &R, verb: &str, answer: &mut Answer) -> Result<(), AllocError>
-    where
-        R: Asks<FeedLabel<S>, Block<S::Row>>,
-    {
-        let Some(feed) = &self.feed else {
+    ) -> Result<(), AllocError> {
+        let Some(feed) = &mut self.feed else {
             return answer.line("finished");
         };
-        match Words::of(verb).verb("hand held due over") {
+        match Words::of(verb).verb("hand take poll held due over") {
             0 => {
                 let handed = feed.hold(rt, Turn::Hand, &self.pace)?;
                 put_debug(&handed, answer)
             }
-            1 => answer.line(self.pace.holdings.load(Ordering::SeqCst)),
-            2 => answer.line(feed.due()),
-            3 => answer.line(feed.is_over()),
+            1 => put_item(self.alloc, &feed.take(rt), answer),
+            2 => self.poll(rt, answer),
+            3 => answer.line(self.pace.holdings.load(Ordering::SeqCst)),
+            4 => answer.line(feed.due()),
+            5 => answer.line(feed.is_over()),
             _ => answer.line("?"),
         }
     }
 
-    fn turn<R>(&self, rt: &R, turn: Turn, answer: &mut Answer) -> Result<(), AllocError>
-    where
-        R: Asks<FeedLabel<S>, Block<S::Row>>,
-    {
-        let handed = hold(rt, &self.host, self.id, turn, &self.pace)?;
+    fn turn<R: Wait>(
+        &self,
+        rt: &R,
+        db: &Db<Plain>,
+        turn: Turn,
+        answer: &mut Answer,
+    ) -> Result<(), AllocError> {
+        let handed = hold(rt, db, self.id, turn, &self.pace)?;
         put_debug(&handed, answer)
     }
 
-    fn take<R>(&mut self, rt: &R, answer: &mut Answer) -> Result<(), AllocError>
-    where
-        R: Asks<FeedLabel<S>, Block<S::Row>>,
-    {
-        match &mut self.feed {
-            Some(feed) => put_item(self.alloc, &feed.take(rt), answer),
-            None => answer.line("finished"),
-        }
-    }
-
     // A feed that is over and gave no end found no memory.
-    fn poll<R>(&mut self, rt: &R, answer: &mut Answer) -> Result<(), AllocError>
-    where
-        R: Asks<FeedLabel<S>, Block<S::Row>>,
-    {
+    fn poll<R: Wait>(&mut self, rt: &R, answer: &mut Answer) -> Result<(), AllocError> {
         let Some(feed) = &mut self.feed else {
             return answer.line("finished");
         };
         let mut next = None;
         feed.poll(rt, &self.pace, &self.pace, &mut next);
-        if matches!(&next, Some(Item::End { .. })) {
-            self.has_ended = true;
-        }
+        self.has_ended |= matches!(&next, Some(Item::End { .. }));
         if next.is_none() && feed.is_over() && !self.has_ended {
             return Err(AllocError);
         }
         put_item(self.alloc, &next, answer)
     }
 
-    fn finish<R>(&mut self, rt: &R, answer: &mut Answer) -> Result<(), AllocError>
-    where
-        R: Asks<FeedLabel<S>, Block<S::Row>>,
-    {
+    fn finish<R: Wait>(&mut self, rt: &R, answer: &mut Answer) -> Result<(), AllocError> {
         let Some(feed) = self.feed.take() else {
             return answer.line("finished");
         };
         let mut end = feed.finish(rt);
+        let mut put = Ok(());
         for _ in 0..9 {
             let item = end.take(rt);
-            if item.is_none() {
+            if item.is_none() || put.is_err() {
                 break;
             }
-            put_item(self.alloc, &item, answer)?;
+            put = put_item(self.alloc, &item, answer);
         }
-        Ok(())
+        put
     }
 }

@@ -98,6 +98,18 @@ Ok((1, true, 0))
 > look b
 Ok((1, false, 0))
 
+# local documents are counted, and are no edits
+> ask local
+Ok(Local(None))
+> local {"v":{"w":[1,2]},"x":"y"}
+Ok(1)
+> local {"v":{"w":[1,2]},"x":"y"}
+Ok(2)
+> look p
+Ok((0, false, 2))
+> ask info
+Ok(Info(Info { doc_count: 0, doc_del_count: 0, update_seq: 0, life: 6 }))
+
 # a look passes on what was refused
 > look
 Err(NoMemory)
@@ -226,24 +238,20 @@ since 0 of life 6
 > open since=now
 since 5 of life 6
 
-# no database has the life of the log of updates
-> updates
-since 0 of life 0
-> updates since=now
-since 0 of life 0
-> updates since=3
-since 0 of life 0
-> updates since=3-6
-since 0 of life 0
-> updates feed=longpoll&since=3-7
-since 0 of life 0
-> updates feed=continuous&since=9-6
-since 0 of life 0
-> updates feed=continuous&since=9-5
-since 0 of life 0
+# and where it has no documents
+> open
+since 0 of life 6
+> open since=2
+since 0 of life 6
+> open since=9-6
+since 0 of life 6
+> open since=2-7
+since 0 of life 6
+> open since=now
+since 0 of life 6
 "#;
 
 #[test]
-fn feeds_begin_in_the_life_of_their_host(rt: HostRuntime) -> Result<(), Fail> {
+fn feeds_begin_in_the_life_of_their_database(rt: HostRuntime) -> Result<(), Fail> {
     replay::<Shared, _>(&rt, rt.alloc(), LIVES)
 }

@@ -203,3 +203,97 @@ row 1 a 1-91e3da135d1d0593e6703385cf55957a
 fn a_row_shows_its_document_as_it_was_written(rt: HostRuntime) -> Result<(), Fail> {
     replay::<Shared, _>(&rt, rt.alloc(), WRITTEN)
 }
+
+const FULL: &str = r#"
+# a feed waits for room in its lane: one row lies there, and two wait
+> limits 2 1 1024 4294967295
+> load {"_id":"a","_rev":"1-a"} {"_id":"b","_rev":"1-b"} {"_id":"c","_rev":"1-c"}
+1 a 1-a
+2 b 1-b
+3 c 1-c
+> open feed=continuous
+since 0 of life 6
+> hand 1
+Row
+> hand 1
+Full
+> hand 1
+Full
+> over 1
+false
+> take 1
+row 1 a 1-a
+> take 1
+none
+> hand 1
+Nothing
+> take 1
+row 2 b 1-b
+> take 1
+row 3 c 1-c
+> take 1
+none
+> hand 1
+Nothing
+> load {"_id":"d","_rev":"1-d"}
+4 d 1-d
+> hand 1
+Row
+> take 1
+row 4 d 1-d
+"#;
+
+#[test]
+fn a_feed_waits_for_room_in_its_lane(rt: HostRuntime) -> Result<(), Fail> {
+    replay::<Shared, _>(&rt, rt.alloc(), FULL)
+}
+
+const ENDS: &str = "
+# a feed's time is over, and it comes to its end
+> open feed=continuous
+since 0 of life 6
+> hand 1
+Nothing
+> expire 1
+Nothing
+> hand 1
+End
+> hand 1
+Gone
+> take 1
+end 0 pending 0
+> finish 1
+> finish 1
+finished
+> hold 1
+Gone
+";
+
+#[test]
+fn a_feed_comes_to_its_end(rt: HostRuntime) -> Result<(), Fail> {
+    replay::<Shared, _>(&rt, rt.alloc(), ENDS)
+}
+
+const BEATS: &str = "
+# heartbeats come where they are asked for, until the lane is full: one lies there, and two wait
+> limits 2 1 1024 4294967295
+> open feed=continuous&heartbeat=1000
+since 0 of life 6
+> beat 1
+Nothing
+> beat 1
+Nothing
+> beat 1
+Nothing
+> beat 1
+Full
+> finish 1
+beat
+> beat 1
+Nothing
+";
+
+#[test]
+fn heartbeats_fill_a_lane(rt: HostRuntime) -> Result<(), Fail> {
+    replay::<Shared, _>(&rt, rt.alloc(), BEATS)
+}

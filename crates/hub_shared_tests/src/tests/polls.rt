@@ -256,6 +256,21 @@ none
 > over 2
 true
 
+# a pump of a normal feed hands the row above its since, and ends behind the feed's end
+> load {"_id":"a","_rev":"1-a"} {"_id":"b","_rev":"1-b"}
+1 a 1-a
+2 b 1-b
+> open since=1
+since 1 of life 6
+> pump 1
+> over 1
+true
+> take 1
+row 2 b 1-b
+> take 1
+end 2 pending 0
+> finish 1
+
 # a pump of a feed without news hands its end, once its time has passed
 > open feed=continuous&timeout=1000 1000
 since 0 of life 6
@@ -296,35 +311,10 @@ row 1 a 1-a
 none
 > due 1
 60000
-
-# a note tells the watch of a feed of the log
-> created d
-> updates feed=continuous
-since 0 of life 0
-> watch log 1
-> poll log
-row 1 Created d
-> poll log
-none
-> due log
-60000
-> news 1
-> created d
-> news 1
-rung
-bell
-watch
-> news 1
-> poll log
-row 2 Created d
-> poll log
-none
-> due log
-60000
 "#;
 
 #[test]
-fn feeds_of_any_host_are_told_of_changes(rt: HostRuntime) -> Result<(), Fail> {
+fn a_feed_is_told_of_changes(rt: HostRuntime) -> Result<(), Fail> {
     replay::<Shared, _>(&rt, rt.alloc(), TOLD)
 }
 

@@ -1,27 +1,28 @@
-//! A database and a log of updates that threads share, which carry out the commands of transcripts.
+//! A database that threads share, which carries out the commands of transcripts.
 
 use crate::tests::followed::{Followed, Pace};
-use crate::tests::lent::{LIFE, docs, params};
-use crate::tests::told::{Rev, Row, put_answer, put_debug, put_receipts, put_replies};
+use crate::tests::told::{Rev, put_answer, put_debug, put_receipts, put_replies, put_row};
 use hub_database::{DbFault, DbState, Question, Receipt};
-use hub_document::{Asked, DocId, Limits, LocalDoc, OpenRevs, RevId, Revisions};
+use hub_document::{Asked, Doc, DocId, Limits, LocalDoc, OpenRevs, RevId, Revisions};
 use hub_feed::OpenFault;
-use hub_model::{Item, UpdateKind};
-use hub_shared::{Bell, Db, Handle, Plain, Updates, Watch};
+use hub_model::Item;
+use hub_params::FeedParams;
+use hub_shared::{Accepted, Bell, Db, Feed, Handle, Plain, Watch};
 use hub_transcript::{Answer, Subject, Words};
-use hub_updates::{Notice, UpdatesState};
 use std::alloc::{AllocError, Global};
 use std::sync::{Arc, Wait};
 use std::time;
 
+/// The number of the life of each database.
+const LIFE: u64 = 6;
+
 // The room for the commands of a case.
 const ROOM: usize = 8_192;
 
-/// A database and a log of updates behind their locks, feeds of the database, and one of the log. The
-/// commands:
+/// A database behind its lock, and its feeds. The commands:
 ///
-/// - `limits LANE HOLD FEEDS JOURNAL` begins anew, with both within these limits. Without it they are within
-///   the widest.
+/// - `limits LANE HOLD FEEDS JOURNAL` begins anew, with a database within these limits. Without it the limits
+///   are the widest.
 /// - `write DOC ..` writes documents that another database made: what became of each, and a receipt of each
 ///   that was stored. `load` is the same, and shows the receipts alone. The receipts are kept.
 /// - `store DOC ..` stores documents whose revisions are made here, without receipts: what became of each.
@@ -34,41 +35,39 @@ const ROOM: usize = 8_192;
 ///   is missing. `delete` deletes the database.
 /// - `audit` compares all receipts that are kept with the journal. `audit AT SEQ ID REV` does so with this
 ///   one in the place of the one at this place, from 0 on.
-/// - `created NAME` and `updated NAME` note in the log that this happened to a database.
 /// - `open QUERY STEP` opens a feed of the database, whose clock goes on by so many milliseconds with each
-///   reading: where it begins, and of which life its sequences are; or the fault. `updates QUERY` opens one
-///   of the log.
-/// - `VERB FEED` is a command of a feed (`Followed`). The feeds of the database are numbered from 1 on, and
-///   that of the log is named `log`.
+///   reading: where it begins, and of which life its sequences are; or the fault.
+/// - `VERB FEED` is a command of a feed (`Followed`). The feeds are numbered from 1 on.
 /// - `watch FEED WATCH` has a watch watch a feed, and `news WATCH` says what is told by that watch and its
 ///   bell, and takes it. There are two, 1 and 2.
 /// - `rows` polls a new feed of the database until it waits. A feed that finds no memory for a row is over:
 ///   another one goes on behind the rows that it handed.
 ///
-/// Where a command finds no memory, the earlier commands of the case are put to new hosts.
+/// Where a command finds no memory, the earlier commands of the case are put to a new database.
 #[derive(Drop)]
 pub(crate) struct Shared {
-    hosts: Hosts,
+    database: Database,
     // The commands so far, a line each.
     commands: String,
 }
 
 impl<R: Wait + time::Clock> Subject<R> for Shared {
     fn begin(_: &R, alloc: Global, _: &str) -> Result<Shared, AllocError> {
+        let commands = String::with_capacity(alloc, ROOM)?;
         Ok(Shared {
-            hosts: Hosts::new(alloc, Limits::full())?,
-            commands: String::with_capacity(alloc, ROOM)?,
+            database: Database::new(alloc, Limits::full())?,
+            commands,
         })
     }
 
     fn answer(&mut self, rt: &R, command: &str, answer: &mut Answer) -> Result<(), AllocError> {
-        if self.hosts.run(rt, command, answer).is_ok() {
+        if self.database.run(rt, command, answer).is_ok() {
             self.commands.push_str(command)?;
             return self.commands.push('\n');
         }
-        self.hosts = Hosts::new(self.hosts.alloc, Limits::full())?;
+        self.database = Database::new(self.database.alloc, Limits::full())?;
         for earlier in self.commands.as_str().split('\n') {
-            self.hosts.run(rt, earlier, answer)?;
+            self.database.run(rt, earlier, answer)?;
         }
         Err(AllocError)
     }
@@ -103,6 +102,27 @@ impl Sender {
     }
 }
 
+// The documents that the texts are; an error where they find no memory, and each time where one is none. The
+// revisions of new edits are made here.
+fn docs(alloc: Global, texts: &str, new_edits: bool) -> Result<Vec<Doc>, AllocError> {
+    let mut docs = Vec::new(alloc);
+    for text in texts.split(' ') {
+        let Ok(doc) = Doc::read(alloc, text.as_bytes(), new_edits) else {
+            return Err(AllocError);
+        };
+        docs.push(doc)?;
+    }
+    Ok(docs)
+}
+
+// The parameters of a query; an error where they find no memory, and each time where it is refused.
+fn params(alloc: Global, query: &str) -> Result<FeedParams, AllocError> {
+    match FeedParams::read(alloc, query.as_bytes(), b"") {
+        Ok(params) => Ok(params),
+        Err(_) => Err(AllocError),
+    }
+}
+
 // How many edits there are, whether there is a document of this id, and how often the local document was
 // written. It takes no memory, but says so without an id.
 fn looked(state: &DbState, id: &str) -> Result<(u64, bool, u64), DbFault> {
@@ -119,68 +139,81 @@ fn looked(state: &DbState, id: &str) -> Result<(u64, bool, u64), DbFault> {
 
 // The question whether a revision of a document is missing; an error each time where it is none.
 fn missing(alloc: Global, words: &mut Words<'_>) -> Result<Question, AllocError> {
-    let id = String::from_str(alloc, words.word())?;
+    let id = words.word();
     let Some(rev) = RevId::read(words.rest()) else {
         return Err(AllocError);
     };
-    let mut revs = Vec::new(alloc);
-    revs.push(rev)?;
-    let mut asked = Vec::new(alloc);
-    asked.push(Asked {
-        id,
-        revs: Revisions::new(revs),
-    })?;
+    let revs = Revisions::new(Vec::from_slice(alloc, &[rev])?);
+    let id = String::from_str(alloc, id)?;
+    let mut asked = Vec::with_capacity(alloc, 1)?;
+    asked.push(Asked { id, revs })?;
     Ok(Question::RevsDiff(asked))
+}
+
+// A question of the document of this id.
+fn question_of(verb: usize, id: String) -> Question {
+    match verb {
+        3 => Question::Get { id, revs: false },
+        4 => Question::Get { id, revs: true },
+        5 => Question::Winner { id },
+        6 => Question::OpenRevs {
+            id,
+            which: OpenRevs::All,
+            revs: true,
+        },
+        _ => Question::Local { id },
+    }
 }
 
 // A question.
 fn question(alloc: Global, rest: &str) -> Result<Question, AllocError> {
     let mut words = Words::of(rest);
-    let verb = words.verb("info get history winner leaves local falling missing");
-    if verb == 6 {
-        return Ok(Question::Descending(params(alloc, words.rest())?));
-    }
-    if verb == 7 {
-        return missing(alloc, &mut words);
-    }
-    let id = String::from_str(alloc, words.rest())?;
-    match verb {
+    match words.verb("info falling missing get history winner leaves local") {
         0 => Ok(Question::Info),
-        1 => Ok(Question::Get { id, revs: false }),
-        2 => Ok(Question::Get { id, revs: true }),
-        3 => Ok(Question::Winner { id }),
-        4 => {
-            let (which, revs) = (OpenRevs::All, true);
-            Ok(Question::OpenRevs { id, which, revs })
-        }
-        5 => Ok(Question::Local { id }),
-        _ => Err(AllocError),
+        1 => Ok(Question::Descending(params(alloc, words.rest())?)),
+        2 => missing(alloc, &mut words),
+        verb => Ok(question_of(verb, String::from_str(alloc, words.rest())?)),
     }
+}
+
+// Polls a feed until it gives no row, and writes the rows: whether it then waits. The sequence of the last row
+// is kept.
+fn put_rows<R: Wait>(
+    rt: &R,
+    alloc: Global,
+    feed: &mut Feed<Plain>,
+    last: &mut u64,
+    answer: &mut Answer,
+) -> Result<bool, AllocError> {
+    let (mut next, pace) = (None, Pace::new(0));
+    for _ in 0..9 {
+        feed.poll(rt, &pace, &pace, &mut next);
+        let Some(Item::Row(row)) = &next else {
+            break;
+        };
+        *last = row.seq;
+        put_row(alloc, row, answer)?;
+    }
+    Ok(next.is_none() && !feed.is_over())
 }
 
 #[derive(Drop)]
-struct Hosts {
+struct Database {
     alloc: Global,
     handle: Handle<Plain>,
-    log: Updates,
-    feeds: Vec<Followed<DbState, Plain>>,
-    of_log: Option<Followed<UpdatesState, Plain>>,
-    first: Sender,
-    second: Sender,
+    feeds: Vec<Followed>,
+    senders: Vec<Sender>,
     receipts: Vec<Receipt>,
 }
 
-impl Hosts {
-    fn new(alloc: Global, limits: Limits) -> Result<Hosts, AllocError> {
+impl Database {
+    fn new(alloc: Global, limits: Limits) -> Result<Database, AllocError> {
         let (_db, handle) = Db::new(alloc, limits, LIFE, Plain)?;
-        Ok(Hosts {
+        Ok(Database {
             alloc,
             handle,
-            log: Updates::of_updates(alloc, limits)?,
             feeds: Vec::new(alloc),
-            of_log: None,
-            first: Sender::new(alloc)?,
-            second: Sender::new(alloc)?,
+            senders: Vec::new(alloc),
             receipts: Vec::new(alloc),
         })
     }
@@ -199,7 +232,7 @@ impl Hosts {
             2 => self.store(rt, words.rest(), answer),
             3 => self.edit(rt, words.rest(), answer),
             4 => self.local(rt, words.rest(), answer),
-            5 => self.look(rt, words.rest(), answer),
+            5 => put_debug(&self.look(rt, words.rest()), answer),
             6 => self.ask(rt, words.rest(), answer),
             7 => self.audit(rt, words.rest(), answer),
             _ => self.run_other(rt, command, answer),
@@ -214,18 +247,19 @@ impl Hosts {
         answer: &mut Answer,
     ) -> Result<(), AllocError> {
         let mut words = Words::of(command);
-        match words.verb("open updates created updated limits rows news delete") {
+        match words.verb("open limits rows news watch delete") {
             0 => self.open(rt, words.rest(), answer),
-            1 => self.open_log(rt, words.rest(), answer),
-            2 => self.note(rt, UpdateKind::Created, words.rest()),
-            3 => self.note(rt, UpdateKind::Updated, words.rest()),
-            4 => self.limits(words.rest()),
-            5 => self.rows(rt, answer),
-            6 => self.sender(words.rest()).news(answer),
-            7 => {
-                let deleted = self.handle.delete(rt);
-                put_debug(&deleted, answer)
-            }
+            1 => self.limits(words.rest()),
+            2 => self.rows(rt, answer),
+            3 => match self
+                .senders
+                .get((words.number() as usize).saturating_sub(1))
+            {
+                Some(sender) => sender.news(answer),
+                None => Ok(()),
+            },
+            4 => self.watch(rt, words.number(), words.number() as usize),
+            5 => put_debug(&self.handle.delete(rt), answer),
             _ => self.run_feed(rt, command, answer),
         }
     }
@@ -238,19 +272,10 @@ impl Hosts {
         answer: &mut Answer,
     ) -> Result<(), AllocError> {
         let mut words = Words::of(command);
-        let verb = words.word();
-        let feed = words.number();
-        if verb == "watch" {
-            return self.watch(rt, feed, words.rest());
-        }
-        if feed > 0 {
-            return match self.feeds.get_mut(feed as usize - 1) {
-                Some(feed) => feed.run(rt, verb, answer),
-                None => answer.line("?"),
-            };
-        }
-        match &mut self.of_log {
-            Some(feed) => feed.run(rt, verb, answer),
+        let (verb, number) = (words.word(), words.number());
+        let db = self.handle.db();
+        match self.feeds.get_mut((number as usize).saturating_sub(1)) {
+            Some(feed) => feed.run(rt, db, verb, answer),
             None => answer.line("?"),
         }
     }
@@ -270,30 +295,19 @@ impl Hosts {
         limits.hold = hold;
         limits.feeds = feeds;
         limits.journal = journal;
-        *self = Hosts::new(self.alloc, limits)?;
+        *self = Database::new(self.alloc, limits)?;
         Ok(())
     }
 
-    // The second sender where the word is `2`, and else the first.
-    fn sender(&self, word: &str) -> &Sender {
-        if word == "2" {
-            &self.second
-        } else {
-            &self.first
+    // Has the sender of this number watch a feed. Senders are made as they are named.
+    fn watch<R: Wait>(&mut self, rt: &R, feed: u64, sender: usize) -> Result<(), AllocError> {
+        for _ in self.senders.len()..sender {
+            self.senders.push(Sender::new(self.alloc)?)?;
         }
-    }
-
-    fn watch<R: Wait>(&self, rt: &R, feed: u64, word: &str) -> Result<(), AllocError> {
-        let watch = &self.sender(word).watch;
-        if feed > 0 {
-            return match self.feeds.get(feed as usize - 1) {
-                Some(feed) => feed.watch(rt, watch),
-                None => Err(AllocError),
-            };
-        }
-        match &self.of_log {
-            Some(feed) => feed.watch(rt, watch),
-            None => Err(AllocError),
+        let feed = self.feeds.get((feed as usize).saturating_sub(1));
+        match (feed, self.senders.get(sender.saturating_sub(1))) {
+            (Some(feed), Some(sender)) => feed.watch(rt, &sender.watch),
+            _ => Err(AllocError),
         }
     }
 
@@ -304,19 +318,29 @@ impl Hosts {
         has_replies: bool,
         answer: &mut Answer,
     ) -> Result<(), AllocError> {
-        let docs = docs(self.alloc, texts, 0, false)?;
-        let Ok(accepted) = self.handle.write(rt, docs, false) else {
-            return Err(AllocError);
+        let docs = docs(self.alloc, texts, false)?;
+        match self.handle.write(rt, docs, false) {
+            Ok(accepted) if !accepted.stopped => self.keep(accepted, has_replies, answer),
+            _ => Err(AllocError),
+        }
+    }
+
+    // Writes what became of documents, where that is asked for, and their receipts, which are kept.
+    fn keep(
+        &mut self,
+        accepted: Accepted,
+        has_replies: bool,
+        answer: &mut Answer,
+    ) -> Result<(), AllocError> {
+        let put = if has_replies {
+            put_replies(accepted.replies.as_slice(), answer)
+        } else {
+            Ok(())
         };
-        if accepted.stopped {
-            return Err(AllocError);
-        }
-        if has_replies {
-            put_replies(accepted.replies.as_slice(), answer)?;
-        }
         let mut receipts = accepted.receipts;
-        put_receipts(receipts.as_slice(), answer)?;
-        self.receipts.append(&mut receipts)
+        let told = put_receipts(receipts.as_slice(), answer);
+        let kept = self.receipts.append(&mut receipts);
+        put.and(told).and(kept)
     }
 
     fn store<R: Wait>(
@@ -325,25 +349,22 @@ impl Hosts {
         texts: &str,
         answer: &mut Answer,
     ) -> Result<(), AllocError> {
-        let docs = docs(self.alloc, texts, 0, true)?;
-        let Ok(batch) = self.handle.store(rt, docs, true) else {
-            return Err(AllocError);
-        };
-        if batch.stopped {
-            return Err(AllocError);
+        let docs = docs(self.alloc, texts, true)?;
+        match self.handle.store(rt, docs, true) {
+            Ok(batch) if !batch.stopped => put_replies(batch.replies.as_slice(), answer),
+            _ => Err(AllocError),
         }
-        put_replies(batch.replies.as_slice(), answer)
     }
 
     fn edit<R: Wait>(&mut self, rt: &R, text: &str, answer: &mut Answer) -> Result<(), AllocError> {
-        for doc in docs(self.alloc, text, 0, true)? {
-            match self.handle.write_one(rt, doc) {
-                Ok(rev) => answer.line(Rev(rev))?,
-                Err(DbFault::NoMemory) => return Err(AllocError),
-                Err(fault) => put_debug(&fault, answer)?,
-            }
+        let Ok(doc) = Doc::read(self.alloc, text.as_bytes(), true) else {
+            return Err(AllocError);
+        };
+        match self.handle.write_one(rt, doc) {
+            Ok(rev) => answer.line(Rev(rev)),
+            Err(DbFault::NoMemory) => Err(AllocError),
+            Err(fault) => put_debug(&fault, answer),
         }
-        Ok(())
     }
 
     // Where storing it finds no memory, it changes nothing.
@@ -353,23 +374,22 @@ impl Hosts {
         text: &str,
         answer: &mut Answer,
     ) -> Result<(), AllocError> {
+        let before = self.look(rt, "p");
         let Ok(doc) = LocalDoc::read(self.alloc, "_local/p", text.as_bytes()) else {
             return Err(AllocError);
         };
-        let before = self.handle.look(rt, |state| looked(state, "p"));
         let put = self.handle.local_put(rt, doc);
         if put != Err(DbFault::NoMemory) {
             return put_debug(&put, answer);
         }
-        if self.handle.look(rt, |state| looked(state, "p")) != before {
+        if self.look(rt, "p") != before {
             return answer.line("a write without memory changed something");
         }
         Err(AllocError)
     }
 
-    fn look<R: Wait>(&mut self, rt: &R, id: &str, answer: &mut Answer) -> Result<(), AllocError> {
-        let found = self.handle.look(rt, |state| looked(state, id));
-        put_debug(&found, answer)
+    fn look<R: Wait>(&mut self, rt: &R, id: &str) -> Result<(u64, bool, u64), DbFault> {
+        self.handle.look(rt, |state| looked(state, id))
     }
 
     fn ask<R: Wait>(&mut self, rt: &R, rest: &str, answer: &mut Answer) -> Result<(), AllocError> {
@@ -393,23 +413,15 @@ impl Hosts {
     // Puts a receipt in the place of another one.
     fn tell(&mut self, rest: &str) -> Result<(), AllocError> {
         let mut words = Words::of(rest);
-        let (at, seq) = (words.number(), words.number());
-        let id = DocId::read(self.alloc, words.word())?;
-        let rev = RevId::read(words.word());
-        match (id, rev, self.receipts.get_mut(at as usize)) {
-            (Some(id), Some(rev), Some(receipt)) => {
-                *receipt = Receipt { seq, id, rev };
-                Ok(())
-            }
-            _ => Err(AllocError),
-        }
-    }
-
-    fn note<R: Wait>(&self, rt: &R, kind: UpdateKind, name: &str) -> Result<(), AllocError> {
-        let notice = Notice::new(self.alloc, kind, name)?;
-        if let Err((notice, _fault)) = self.log.note(rt, notice) {
-            notice.lapse();
+        let (at, seq, id) = (words.number(), words.number(), words.word());
+        let Some(rev) = RevId::read(words.word()) else {
             return Err(AllocError);
+        };
+        let Some(id) = DocId::read(self.alloc, id)? else {
+            return Err(AllocError);
+        };
+        if let Some(receipt) = self.receipts.get_mut(at as usize) {
+            *receipt = Receipt { seq, id, rev };
         }
         Ok(())
     }
@@ -417,66 +429,44 @@ impl Hosts {
     fn open<R: Wait>(&mut self, rt: &R, rest: &str, answer: &mut Answer) -> Result<(), AllocError> {
         let mut words = Words::of(rest);
         let params = params(self.alloc, words.word())?;
-        let host = self.handle.db().again()?;
         match self.handle.open_feed(rt, params) {
-            Ok(feed) => {
-                let step = words.number();
-                let feed = Followed::new(self.alloc, host, feed, step, answer)?;
-                self.feeds.push(feed)?;
-                Ok(())
-            }
+            Ok(feed) => self.follow(feed, words.number(), answer),
             Err(OpenFault::NoMemory) => Err(AllocError),
             Err(fault) => put_debug(&fault, answer),
         }
     }
 
-    fn open_log<R: Wait>(
+    // Keeps a feed, and writes where it begins, and of which life its sequences are.
+    fn follow(
         &mut self,
-        rt: &R,
-        query: &str,
+        feed: Feed<Plain>,
+        step: u64,
         answer: &mut Answer,
     ) -> Result<(), AllocError> {
-        let params = params(self.alloc, query)?;
-        let host = self.log.again()?;
-        let Ok(feed) = self.log.open_feed(rt, params) else {
-            return Err(AllocError);
-        };
-        self.of_log = Some(Followed::new(self.alloc, host, feed, 0, answer)?);
-        Ok(())
+        let (since, life) = (feed.end().label().since(), feed.end().label().life());
+        self.feeds.push(Followed::new(self.alloc, feed, step))?;
+        answer.line(format_args!("since {since} of life {life}"))
     }
 
-    // Polls a continuous feed behind this sequence until it gives no row: whether it waits.
-    fn rows_behind<R: Wait>(
-        &mut self,
-        rt: &R,
-        last: &mut u64,
-        answer: &mut Answer,
-    ) -> Result<bool, AllocError> {
-        let query = format!(in self.alloc; "feed=continuous&since={}-{LIFE}", *last)?;
-        let Ok(mut feed) = self
-            .handle
-            .open_feed(rt, params(self.alloc, query.as_str())?)
-        else {
-            return Err(AllocError);
-        };
-        let (mut next, pace) = (None, Pace::new(0));
-        for _ in 0..9 {
-            feed.poll(rt, &pace, &pace, &mut next);
-            let Some(Item::Row(row)) = &next else {
-                break;
-            };
-            *last = row.seq;
-            row.put(self.alloc, answer)?;
+    // A continuous feed behind this sequence.
+    fn feed_behind<R: Wait>(&mut self, rt: &R, last: u64) -> Result<Feed<Plain>, AllocError> {
+        let query = format!(in self.alloc; "feed=continuous&since={last}")?;
+        let params = params(self.alloc, query.as_str())?;
+        match self.handle.open_feed(rt, params) {
+            Ok(feed) => Ok(feed),
+            Err(_) => Err(AllocError),
         }
-        let waits = next.is_none() && !feed.is_over();
-        drop(feed.finish(rt));
-        Ok(waits)
     }
 
     fn rows<R: Wait>(&mut self, rt: &R, answer: &mut Answer) -> Result<(), AllocError> {
         let mut last = 0u64;
         for _ in 0..2 {
-            if let Ok(true) = self.rows_behind(rt, &mut last, answer) {
+            let Ok(mut feed) = self.feed_behind(rt, last) else {
+                continue;
+            };
+            let waits = put_rows(rt, self.alloc, &mut feed, &mut last, answer);
+            drop(feed.finish(rt));
+            if waits == Ok(true) {
                 return answer.line("it waits");
             }
         }

@@ -1,7 +1,7 @@
 //! How rows, items, revisions and the outcomes of writes are written.
 
 use hub_database::{Answer as DbAnswer, DbFault, Descending, Diff, Lookup, OpenRev, Receipt};
-use hub_document::{Body, ChangeRow, RevId, UpdateRow};
+use hub_document::{Body, ChangeRow, Doc, RevId};
 use hub_model::{Item, Outcome};
 use hub_transcript::Answer;
 use std::alloc::{AllocError, Global};
@@ -20,30 +20,20 @@ impl fmt::Display for Rev {
     }
 }
 
-/// A row that is written in a line, and its document in another one.
-pub(crate) trait Row {
-    fn put(&self, alloc: Global, answer: &mut Answer) -> Result<(), AllocError>;
-}
-
-/// Its sequence, its document's id, and its first revision; then its document, if it has one.
-impl Row for ChangeRow {
-    fn put(&self, alloc: Global, answer: &mut Answer) -> Result<(), AllocError> {
-        let Some(rev) = self.changes.get(0) else {
-            return answer.line("no revision");
-        };
-        let rev = Rev(rev);
-        answer.line(format_args!("row {} {} {rev}", self.seq, self.id.as_str()))?;
-        match &self.doc {
-            Some(body) => put_shown(alloc, self, body, answer),
-            None => Ok(()),
-        }
-    }
-}
-
-/// Its sequence, what happened, and to which database.
-impl Row for UpdateRow {
-    fn put(&self, _: Global, answer: &mut Answer) -> Result<(), AllocError> {
-        answer.line(format_args!("row {} {:?} {}", self.seq, self.kind, self.db_name.as_str()))
+/// Writes a row: its sequence, its document's id, and its first revision; then its document, if it has one.
+pub(crate) fn put_row(
+    alloc: Global,
+    row: &ChangeRow,
+    answer: &mut Answer,
+) -> Result<(), AllocError> {
+    let Some(rev) = row.changes.get(0) else {
+        return answer.line("no revision");
+    };
+    let rev = Rev(rev);
+    answer.line(format_args!("row {} {} {rev}", row.seq, row.id.as_str()))?;
+    match &row.doc {
+        Some(body) => put_shown(alloc, row, body, answer),
+        None => Ok(()),
     }
 }
 
@@ -55,6 +45,13 @@ pub(crate) fn put_debug<D: Debug>(value: &D, answer: &mut Answer) -> Result<(), 
 // Writes the text of a document.
 fn put_text(text: &[u8], answer: &mut Answer) -> Result<(), AllocError> {
     answer.line(str::from_utf8(text).unwrap_or("?"))
+}
+
+// Writes a document.
+fn put_doc(alloc: Global, doc: &Doc, answer: &mut Answer) -> Result<(), AllocError> {
+    let mut text = Vec::new(alloc);
+    doc.write(&mut text)?;
+    put_text(text.as_slice(), answer)
 }
 
 // Writes the document that a row shows.
@@ -70,13 +67,13 @@ fn put_shown(
 }
 
 /// Writes an item.
-pub(crate) fn put_item<T: Row>(
+pub(crate) fn put_item(
     alloc: Global,
-    item: &Option<Item<T>>,
+    item: &Option<Item<ChangeRow>>,
     answer: &mut Answer,
 ) -> Result<(), AllocError> {
     match item {
-        Some(Item::Row(row)) => row.put(alloc, answer),
+        Some(Item::Row(row)) => put_row(alloc, row, answer),
         Some(Item::Beat) => answer.line("beat"),
         Some(Item::End { last_seq, pending }) => {
             answer.line(format_args!("end {last_seq} pending {pending}"))
@@ -89,11 +86,7 @@ pub(crate) fn put_item<T: Row>(
 fn put_opened(alloc: Global, opened: &[OpenRev], answer: &mut Answer) -> Result<(), AllocError> {
     for open in opened {
         match open {
-            OpenRev::Found(doc) => {
-                let mut text = Vec::new(alloc);
-                doc.write(&mut text)?;
-                put_text(text.as_slice(), answer)?;
-            }
+            OpenRev::Found(doc) => put_doc(alloc, doc, answer)?,
             OpenRev::Missing(rev) => answer.line(format_args!("missing {}", Rev(*rev)))?,
         }
     }
@@ -117,7 +110,7 @@ fn put_diffs(diffs: &[Diff], answer: &mut Answer) -> Result<(), AllocError> {
 // Writes rows downwards, and where they end.
 fn put_falling(alloc: Global, falling: &Descending, answer: &mut Answer) -> Result<(), AllocError> {
     for row in &falling.rows {
-        row.put(alloc, answer)?;
+        put_row(alloc, row, answer)?;
     }
     answer.line(format_args!(
         "last {} pending {} life {}",
@@ -133,11 +126,7 @@ pub(crate) fn put_answer(
     answer: &mut Answer,
 ) -> Result<(), AllocError> {
     match told {
-        Ok(DbAnswer::Get(Lookup::Found(doc))) => {
-            let mut text = Vec::new(alloc);
-            doc.write(&mut text)?;
-            put_text(text.as_slice(), answer)
-        }
+        Ok(DbAnswer::Get(Lookup::Found(doc))) => put_doc(alloc, doc, answer),
         Ok(DbAnswer::Winner(Some(winner))) => {
             let rev = Rev(winner.rev);
             answer.line(format_args!("{rev} deleted {}", winner.deleted))

@@ -1,245 +1,216 @@
 //! Readers of feeds whose pumps run in other threads.
 
-use crate::tests::Told::{self, Beat, End, Row};
-use crate::tests::{Asked, Counting, Stepping, begin, finished, next, pumps, put_many, same};
-use hub_shared::{Db, Feed, Handed, Handle, Plain, Question, Turn};
+use crate::tests::{Counts, Pace, Reader, database, is_pumped, open, put_many};
+use hub_shared::{Feed, Handed, Handle, Plain, Turn};
 use std::alloc::Global;
 use std::sync::Wait;
+use std::sync::atomic::Ordering;
 use std::test::Fail;
 use std::thread::{self, Threads};
 use std::time;
 
-// Waits until the pump has handed what it can. The database is asked once the pump has held the lock.
-fn wait_for_pump<R: Wait>(rt: &R, gate: &Counting, handle: &mut Handle<Plain>) -> bool {
-    gate.wait_for_pump(rt);
-    handle.read(rt, Question::Info).is_ok()
-}
-
-const STOPPED: Asked = Asked {
-    lane: 2,
-    documents: 5,
-    query: "",
-};
-
-// A reader that took nothing gets two rows once its feed is finished.
-#[test]
-fn a_stopped_reader_lets_its_pump_end(rt: HostRuntime) -> Result<(), Fail> {
-    let (db, mut handle, feed) = begin(&rt, rt.alloc(), &STOPPED)?;
-    let (id, gate, clock) = (feed.id(), Counting::new(), Stepping::new(0));
-    let (is_ok, (is_read, items)) = thread::join(
-        &rt,
-        || pumps(&rt, &db, id, &gate, &clock),
-        || {
-            let is_read = wait_for_pump(&rt, &gate, &mut handle);
-            (is_read, finished(&rt, feed))
-        },
-    );
-    assert!(rt; is_ok && is_read);
-    same(&rt, &items, &(Some(Row(1)), Some(Row(2)), None));
-    Ok(())
-}
-
-const GOING_ON: Asked = Asked {
-    lane: 2,
-    documents: 5,
-    query: "feed=continuous",
-};
-
-// Whether the lane is full, and its pump still there, once that has handed what it can.
-fn is_full<R: Wait>(
-    rt: &R,
-    gate: &Counting,
-    handle: &mut Handle<Plain>,
-    feed: &Feed<Plain>,
-) -> bool {
-    let is_read = wait_for_pump(rt, gate, handle);
-    let handed = feed.hold(rt, Turn::Hand, &Counting::new());
-    is_read && matches!(handed, Ok(Handed::Full)) && !feed.is_over()
-}
-
-#[test]
-fn a_stopped_reader_leaves_what_fits_its_lane(rt: HostRuntime) -> Result<(), Fail> {
-    let (db, mut handle, feed) = begin(&rt, rt.alloc(), &GOING_ON)?;
-    let (id, gate, clock) = (feed.id(), Counting::new(), Stepping::new(0));
-    let (is_ok, (is_full, items)) = thread::join(
-        &rt,
-        || pumps(&rt, &db, id, &gate, &clock),
-        || {
-            let is_full = is_full(&rt, &gate, &mut handle, &feed);
-            (is_full, finished(&rt, feed))
-        },
-    );
-    assert!(rt; is_ok && is_full);
-    same(&rt, &items, &(Some(Row(1)), Some(Row(2)), None));
-    Ok(())
-}
-
-const SLOW: Asked = Asked {
-    lane: 2,
-    documents: 50,
-    query: "",
-};
-
-// How many rows came in order, from 1 on, before the end that shows them all; None where another
-// item came.
-fn rows_to_end<R: Wait>(rt: &R, mut feed: Feed<Plain>) -> Option<u64> {
-    let mut rows = 0u64;
-    for _ in rt.forever() {
-        match next(rt, &mut feed)? {
-            Row(seq) if rows.checked_add(1) == Some(seq) => rows = seq,
-            End(seq) if seq == rows => break,
-            _ => return None,
-        }
-    }
-    drop(feed.finish(rt));
-    Some(rows)
-}
-
-#[test]
-fn a_slow_reader_gets_every_row(rt: HostRuntime) -> Result<(), Fail> {
-    let (db, _handle, feed) = begin(&rt, rt.alloc(), &SLOW)?;
-    let (id, gate, clock) = (feed.id(), Counting::new(), Stepping::new(0));
-    let (is_ok, rows) = thread::join(
-        &rt,
-        || pumps(&rt, &db, id, &gate, &clock),
-        move || rows_to_end(&rt, feed),
-    );
-    assert!(rt; is_ok);
-    same(&rt, &rows, &Some(50));
-    Ok(())
-}
-
-// The first two items; the feed is finished behind them.
-fn first_two<R: Wait>(rt: &R, mut feed: Feed<Plain>) -> (Option<Told>, Option<Told>) {
-    let first = next(rt, &mut feed);
-    let second = next(rt, &mut feed);
-    drop(feed.finish(rt));
-    (first, second)
-}
-
-// Writes so many documents once a pump has found nothing to hand; whether they are stored.
-fn write_later<R: Wait>(
-    rt: &R,
-    alloc: Global,
-    gate: &Counting,
-    handle: &mut Handle<Plain>,
-    count: u64,
-) -> bool {
-    gate.wait_for_pump(rt);
-    put_many(rt, alloc, handle, count).is_some()
-}
-
-// What a feed's reader gets that waits before so many documents are written, and whether they are stored; None
-// where its pump does not end well.
-fn got_later<R: Threads + Wait + time::Clock + Sync>(
-    rt: &R,
-    alloc: Global,
-    db: &Db<Plain>,
-    handle: &mut Handle<Plain>,
-    feed: Feed<Plain>,
-    count: u64,
-) -> Option<((Option<Told>, Option<Told>), bool)> {
-    let (id, gate, clock) = (feed.id(), Counting::new(), Stepping::new(0));
-    let (is_ok, read) = thread::join(
-        rt,
-        || pumps(rt, db, id, &gate, &clock),
-        || {
-            thread::join(
-                rt,
-                move || first_two(rt, feed),
-                || write_later(rt, alloc, &gate, handle, count),
-            )
-        },
-    );
-    is_ok.then_some(read)
-}
-
-// The same of a feed of a new database.
-fn answered_later<R: Threads + Wait + time::Clock + Sync>(
-    rt: &R,
-    alloc: Global,
+/// A feed of a new database, its pump, and its reader, which finishes it in the end.
+#[derive(Drop)]
+struct Case {
+    name: &'static str,
+    /// How many items the lane holds.
+    lane: u64,
+    /// How many documents there are before the feed is opened.
+    documents: u64,
     query: &'static str,
-    count: u64,
-) -> Result<Option<((Option<Told>, Option<Told>), bool)>, Fail> {
-    let asked = Asked {
+    /// How many milliseconds pass with each reading of the pump's clock.
+    step: u64,
+    /// How many documents the reader writes, once the pump has held the lock.
+    later: u64,
+    /// How many items it then waits for. Where these are none it takes what the finished feed still has.
+    items: u64,
+    /// What comes: rows, beats and ends.
+    wanted: (u64, u64, u64),
+}
+
+const CASES: &[Case] = &[
+    Case {
+        name: "a stopped reader lets the pump of a normal feed end, and leaves what fits its lane",
+        lane: 2,
+        documents: 5,
+        query: "",
+        step: 0,
+        later: 0,
+        items: 0,
+        wanted: (2, 0, 0),
+    },
+    Case {
+        name: "a stopped reader lets the pump of a continuous feed end, and leaves what fits its lane",
+        lane: 2,
+        documents: 5,
+        query: "feed=continuous",
+        step: 0,
+        later: 0,
+        items: 0,
+        wanted: (2, 0, 0),
+    },
+    Case {
+        name: "a slow reader gets every row",
+        lane: 2,
+        documents: 50,
+        query: "",
+        step: 0,
+        later: 0,
+        items: 51,
+        wanted: (50, 0, 1),
+    },
+    Case {
+        name: "a longpoll that waits is told of a write",
         lane: 64,
         documents: 0,
-        query,
-    };
-    let (db, mut handle, feed) = begin(rt, alloc, &asked)?;
-    Ok(got_later(rt, alloc, &db, &mut handle, feed, count))
+        query: "feed=longpoll",
+        step: 0,
+        later: 1,
+        items: 2,
+        wanted: (1, 0, 1),
+    },
+    Case {
+        name: "a continuous feed that waits is told of writes",
+        lane: 64,
+        documents: 0,
+        query: "feed=continuous",
+        step: 0,
+        later: 2,
+        items: 2,
+        wanted: (2, 0, 0),
+    },
+    Case {
+        name: "a feed without news beats",
+        lane: 64,
+        documents: 0,
+        query: "feed=continuous&heartbeat=1",
+        step: 1000,
+        later: 0,
+        items: 1,
+        wanted: (0, 1, 0),
+    },
+    // A millisecond passes with each reading, and the heartbeat is due after a minute.
+    Case {
+        name: "no heartbeat comes before its time",
+        lane: 64,
+        documents: 0,
+        query: "feed=continuous&heartbeat=60000",
+        step: 1,
+        later: 1,
+        items: 1,
+        wanted: (1, 0, 0),
+    },
+];
+
+/// Waits until a pump has held the lock.
+fn wait_for_pump<R: Wait>(rt: &R, pace: &Pace) {
+    for _ in rt.forever() {
+        if pace.holdings.load(Ordering::SeqCst) > 0 {
+            break;
+        }
+        thread::yield_now();
+    }
 }
 
-#[test]
-fn a_waiting_feed_is_told_of_a_write(rt: HostRuntime) -> Result<(), Fail> {
-    let longpoll = answered_later(&rt, rt.alloc(), "feed=longpoll", 1)?;
-    same(&rt, &longpoll, &Some(((Some(Row(1)), Some(End(1))), true)));
-    let continuous = answered_later(&rt, rt.alloc(), "feed=continuous", 2)?;
-    same(
-        &rt,
-        &continuous,
-        &Some(((Some(Row(1)), Some(Row(2))), true)),
-    );
-    Ok(())
+/// Whether the lane of a feed is full, and its pump still there.
+fn is_full<R: Wait>(rt: &R, feed: &Feed<Plain>) -> bool {
+    let handed = feed.hold(rt, Turn::Hand, &Pace::new(0));
+    matches!(handed, Ok(Handed::Full)) && !feed.is_over()
 }
 
-const BEATING: Asked = Asked {
-    lane: 64,
-    documents: 0,
-    query: "feed=continuous&heartbeat=1",
-};
-
-// The first item; the feed is finished behind it.
-fn first<R: Wait>(rt: &R, mut feed: Feed<Plain>) -> Option<Told> {
-    let first = next(rt, &mut feed);
-    drop(feed.finish(rt));
-    first
+/// Counts what a finished feed still has; whether it came in order.
+fn count_left<R: Wait>(rt: &R, feed: Feed<Plain>, counts: &mut Counts) -> bool {
+    let mut end = feed.finish(rt);
+    let mut is_well = true;
+    for _ in 0..9 {
+        match end.take(rt) {
+            Some(item) => is_well &= counts.count(&item),
+            None => break,
+        }
+    }
+    is_well
 }
 
-#[test]
-fn a_feed_without_news_beats(rt: HostRuntime) -> Result<(), Fail> {
-    let (db, _handle, feed) = begin(&rt, rt.alloc(), &BEATING)?;
-    let (id, gate, clock) = (feed.id(), Counting::new(), Stepping::new(1000));
-    let (is_ok, read) = thread::join(
-        &rt,
-        || pumps(&rt, &db, id, &gate, &clock),
-        move || first(&rt, feed),
-    );
-    assert!(rt; is_ok);
-    same(&rt, &read, &Some(Beat));
-    Ok(())
+/// Counts the next items, which are waited for; whether so many came, in order.
+fn count_next<R: Wait>(rt: &R, feed: &mut Feed<Plain>, items: u64, counts: &mut Counts) -> bool {
+    let mut left = items;
+    let mut is_well = true;
+    for _ in rt.forever() {
+        if left == 0 || !is_well {
+            break;
+        }
+        let is_over = feed.is_over();
+        match feed.take(rt) {
+            Some(item) => {
+                is_well = counts.count(&item);
+                left = left.saturating_sub(1);
+            }
+            None if is_over => is_well = false,
+            None => feed.wait(rt),
+        }
+    }
+    is_well
 }
 
-const NOT_BEATING: Asked = Asked {
-    lane: 64,
-    documents: 0,
-    query: "feed=continuous&heartbeat=60000",
-};
+/// The reader of a case.
+#[derive(Drop)]
+struct Reading {
+    alloc: Global,
+    handle: Handle<Plain>,
+    case: &'static Case,
+    counts: Counts,
+    /// Whether all came in order.
+    is_well: bool,
+}
 
-// The first item of a feed for which a document is written once its pump has found nothing to hand, and
-// whether that is stored.
-fn first_behind_write<R: Wait>(
+impl<R: Wait> Reader<R, Pace> for Reading {
+    fn read(&mut self, rt: &R, pace: &Pace, mut feed: Feed<Plain>) {
+        wait_for_pump(rt, pace);
+        self.is_well = put_many(rt, self.alloc, &mut self.handle, self.case.later).is_some();
+        if self.case.items == 0 {
+            let is_full = is_full(rt, &feed);
+            self.is_well &= count_left(rt, feed, &mut self.counts) && is_full;
+        } else {
+            self.is_well &= count_next(rt, &mut feed, self.case.items, &mut self.counts);
+            drop(feed.finish(rt));
+        }
+    }
+}
+
+impl Reading {
+    /// Whether what was wanted came.
+    fn is_wanted(&self) -> bool {
+        let counts = &self.counts;
+        self.is_well && (counts.rows, counts.beats, counts.ends) == self.case.wanted
+    }
+}
+
+/// Whether what is wanted comes in a case.
+fn holds<R: Threads + Wait + time::Clock + Sync>(
     rt: &R,
     alloc: Global,
-    gate: &Counting,
-    handle: &mut Handle<Plain>,
-    feed: Feed<Plain>,
-) -> (bool, Option<Told>) {
-    let is_written = write_later(rt, alloc, gate, handle, 1);
-    (is_written, first(rt, feed))
+    case: &'static Case,
+) -> Option<bool> {
+    let (db, mut handle) = database(alloc, case.lane, 64)?;
+    put_many(rt, alloc, &mut handle, case.documents)?;
+    let feed = open(rt, alloc, &mut handle, case.query, "")?;
+    let mut reading = Reading {
+        alloc,
+        handle,
+        case,
+        counts: Counts::new(),
+        is_well: false,
+    };
+    let is_pumped = is_pumped(rt, &db, &Pace::new(case.step), feed, &mut reading);
+    Some(is_pumped && reading.is_wanted())
 }
 
-// A millisecond passes with each reading, and the heartbeat is due after a minute.
 #[test]
-fn no_heartbeat_comes_before_its_time(rt: HostRuntime) -> Result<(), Fail> {
-    let (db, mut handle, feed) = begin(&rt, rt.alloc(), &NOT_BEATING)?;
-    let (id, gate, clock) = (feed.id(), Counting::new(), Stepping::new(1));
-    let (is_ok, read) = thread::join(
-        &rt,
-        || pumps(&rt, &db, id, &gate, &clock),
-        || first_behind_write(&rt, rt.alloc(), &gate, &mut handle, feed),
-    );
-    assert!(rt; is_ok);
-    same(&rt, &read, &(true, Some(Row(1))));
+fn readers_get_what_pumps_hand(rt: HostRuntime) -> Result<(), Fail> {
+    for case in CASES {
+        if holds(&rt, rt.alloc(), case) != Some(true) {
+            return Err(Fail::new(case.name));
+        }
+    }
     Ok(())
 }
