@@ -1,10 +1,7 @@
 //! A database that is deleted: its feeds come to their ends, and it takes nothing.
 
-use crate::session::Session;
-use hub_transcript::replay;
-use std::test::Fail;
-
-const DELETED: &str = r#"
+/// A deleted database takes nothing, and its feeds come to their ends.
+pub(crate) const DELETED: &str = r#"
 # a database is deleted once, and takes nothing then
 > merge {"_id":"a","_rev":"1-a","v":1}
 seq 1
@@ -88,9 +85,3 @@ End 1, 0 pending
 Gone
 Gone
 "#;
-
-/// A deleted database takes nothing, and its feeds come to their ends.
-#[test]
-fn a_deleted_database_ends_its_feeds(rt: HostRuntime) -> Result<(), Fail> {
-    replay::<Session, _>(&rt, rt.alloc(), DELETED)
-}

@@ -1,11 +1,9 @@
 //! Edits by their sequences, as they came, and winners.
 
-use crate::session::Session;
-use hub_transcript::replay;
-use std::test::Fail;
-
-// The digest is that of `[false,"3-c","a",{}]`.
-const ENTRIES: &str = r#"
+/// Edits are shown as they came.
+///
+/// The digest is that of `[false,"3-c","a",{}]`.
+pub(crate) const ENTRIES: &str = r#"
 # winners: of two leaves and a deleted one above them, of a deleted document, and of none
 > merge {"_id":"a","_rev":"1-a","v":1}
 seq 1
@@ -97,9 +95,3 @@ seq 3
 a 4-e4e0d18c32e6aa308b581d5741ad8080
 {"_id":"a","_rev":"4-e4e0d18c32e6aa308b581d5741ad8080","_revisions":{"start":4,"ids":["e4e0d18c32e6aa308b581d5741ad8080","c"]}}
 "#;
-
-/// Edits are shown as they came.
-#[test]
-fn edits_are_shown_as_they_came(rt: HostRuntime) -> Result<(), Fail> {
-    replay::<Session, _>(&rt, rt.alloc(), ENTRIES)
-}

@@ -1,10 +1,7 @@
 //! Feeds of a database, step by step.
 
-use crate::session::Session;
-use hub_transcript::replay;
-use std::test::Fail;
-
-const FEEDS: &str = r#"
+/// Feeds hand rows and ends, also where edits come between.
+pub(crate) const FEEDS: &str = r#"
 # one feed: feeds are limited
 > open
 feed 0
@@ -73,9 +70,3 @@ seq 9
 End 8, 1 pending
 Gone
 "#;
-
-/// Feeds hand rows and ends, also where edits come between.
-#[test]
-fn feeds_hand_rows_and_ends(rt: HostRuntime) -> Result<(), Fail> {
-    replay::<Session, _>(&rt, rt.alloc(), FEEDS)
-}

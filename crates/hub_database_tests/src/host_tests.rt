@@ -1,10 +1,7 @@
 //! A database whose feeds are driven as those of any host.
 
-use crate::session::Session;
-use hub_transcript::replay;
-use std::test::Fail;
-
-const HOSTED: &str = r#"
+/// A host hands items into lists, of which some are full.
+pub(crate) const HOSTED: &str = r#"
 # a host drives the feeds of a database
 > merge {"_id":"a","_rev":"1-a"}
 seq 1
@@ -109,9 +106,3 @@ Gone
 > hand 0
 Row 1/2 a 1-a
 "#;
-
-/// A host hands items into lists, of which some are full.
-#[test]
-fn a_host_drives_the_feeds_of_a_database(rt: HostRuntime) -> Result<(), Fail> {
-    replay::<Session, _>(&rt, rt.alloc(), HOSTED)
-}

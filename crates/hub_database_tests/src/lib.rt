@@ -18,6 +18,8 @@ mod listed_tests;
 #[cfg(test)]
 mod random_tests;
 #[cfg(test)]
+mod replays;
+#[cfg(test)]
 mod session;
 #[cfg(test)]
 mod waiting_tests;

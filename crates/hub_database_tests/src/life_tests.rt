@@ -1,11 +1,9 @@
 //! The life of a database: where feeds begin that ask for a sequence of it or of another one, and its number.
 
-use crate::session::Session;
-use hub_transcript::replay;
-use std::test::Fail;
-
-// Each database is of life 6. Its three documents came in four edits: their rows are 2, 3 and 4.
-const LIVES: &str = r#"
+/// Feeds that wait begin in their life, and a database tells it.
+///
+/// Each database is of life 6. Its three documents came in four edits: their rows are 2, 3 and 4.
+pub(crate) const LIVES: &str = r#"
 # feeds that wait, as those of any host, begin in their life, and a write comes while they do
 > merge {"_id":"a","_rev":"1-a"}
 seq 1
@@ -69,9 +67,3 @@ seq 4, length 4, life 6, stands
 > state
 seq 4, length 4, life 6, deleted
 "#;
-
-/// Feeds that wait begin in their life, and a database tells it.
-#[test]
-fn feeds_begin_in_their_life(rt: HostRuntime) -> Result<(), Fail> {
-    replay::<Session, _>(&rt, rt.alloc(), LIVES)
-}

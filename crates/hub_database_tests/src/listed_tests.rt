@@ -1,12 +1,10 @@
 //! Feeds of listed documents over many others: their rows are found once and kept until a write.
 
-use crate::session::Session;
-use hub_transcript::replay;
-use std::test::Fail;
-
-// Of documents 1 to 300, each at the sequence of its number, the feeds list every fifteenth and one that is
-// not there, or every hundredth, the last first.
-const LISTED: &str = r#"
+/// Feeds of listed documents hand their rows.
+///
+/// Of documents 1 to 300, each at the sequence of its number, the feeds list every fifteenth and one that is
+/// not there, or every hundredth, the last first.
+pub(crate) const LISTED: &str = r#"
 # a listed document that is edited goes behind the others, and one that comes goes behind that
 > next times 300
 > state
@@ -91,9 +89,3 @@ Row 200/300 200 1-a
 End 200, 100 pending
 Gone
 "#;
-
-/// Feeds of listed documents hand their rows.
-#[test]
-fn feeds_of_listed_documents_hand_their_rows(rt: HostRuntime) -> Result<(), Fail> {
-    replay::<Session, _>(&rt, rt.alloc(), LISTED)
-}

@@ -75,7 +75,7 @@ fn store(
 }
 
 impl Document {
-    // Takes one edit more: the database and the tree answer as the plain program does.
+    // Takes one edit more.
     fn step(
         &mut self,
         alloc: Global,
@@ -85,16 +85,29 @@ impl Document {
     ) -> Result<(), Fail> {
         let mut text = String::new(alloc);
         let is_made = next(alloc, random, &self.model, &mut text)?;
+        self.take(alloc, state, counts, text.as_str(), is_made)
+    }
+
+    // Takes a document: the database and the tree answer as the plain program does.
+    fn take(
+        &mut self,
+        alloc: Global,
+        state: &mut DbState,
+        counts: &mut Counts,
+        text: &str,
+        is_made: bool,
+    ) -> Result<(), Fail> {
         let doc = Doc::read(alloc, text.as_bytes(), is_made)?;
-        let seq = counts.stored.saturating_add(1);
-        let wanted = self.model.take(alloc, &doc, seq)?;
+        let wanted = self
+            .model
+            .take(alloc, &doc, counts.stored.saturating_add(1))?;
         let grown = grow(&mut self.tree, doc.copy(alloc)?)?;
         let told = store(alloc, state, doc, is_made)?;
         counts.count(&wanted);
         if grown == wanted && told == Some(wanted) && state.update_seq() == counts.stored {
             return Ok(());
         }
-        Err(Fail::new(format_args!("{text}: {told:?} and {grown:?}, and not {wanted:?}")))
+        Err(Fail::new(format_args!("{text} is not {wanted:?}")))
     }
 
     // Up to eight edits: then the database and the tree show what the plain program has.
@@ -140,6 +153,15 @@ impl Counts {
             None => {}
         }
         Ok(())
+    }
+}
+
+impl Counts {
+    // How often the rarest of all came.
+    fn least(&self) -> u64 {
+        let edits = self.stored.min(self.known).min(self.contradicting);
+        let shown = self.grown.min(self.live).min(self.deleted);
+        edits.min(shown).min(self.conflicts)
     }
 }
 
@@ -198,7 +220,6 @@ fn parts_of_histories_in_any_order(rt: HostRuntime) -> Result<(), Fail> {
         life: 6,
     };
     assert!(rt; state.info() == Ok(info));
-    assert!(rt; counts.live > 0 && counts.deleted > 0 && counts.stored > 0 && counts.grown > 0);
-    assert!(rt; counts.known > 0 && counts.contradicting > 0 && counts.conflicts > 0);
+    assert!(rt; counts.least() > 0);
     Ok(())
 }

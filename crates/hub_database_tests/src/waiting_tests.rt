@@ -1,11 +1,9 @@
 //! Feeds that wait: their heartbeats, and their ends once their time is over.
 
-use crate::session::Session;
-use hub_transcript::replay;
-use std::test::Fail;
-
-// No feed 99 is ever opened.
-const WAITING: &str = r#"
+/// Feeds that wait beat where it was asked for, and end once their time is over.
+///
+/// No feed 99 is ever opened.
+pub(crate) const WAITING: &str = r#"
 # beats are due where they were asked for
 > merge {"_id":"a","_rev":"1-a"}
 seq 1
@@ -143,9 +141,3 @@ Row 1/2 a 1-a
 Row 2/2 b 1-b
 Nothing
 "#;
-
-/// Feeds that wait beat where it was asked for, and end once their time is over.
-#[test]
-fn feeds_that_wait_beat_and_end_by_their_time(rt: HostRuntime) -> Result<(), Fail> {
-    replay::<Session, _>(&rt, rt.alloc(), WAITING)
-}

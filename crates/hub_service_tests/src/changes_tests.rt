@@ -1,10 +1,7 @@
 //! Feeds of changes over bytes, and where those begin that ask for a sequence of this life or of another one.
 
-use crate::client::Client;
-use hub_transcript::replay;
-use std::test::Fail;
-
-const ROWS: &str = r#"
+/// What feeds show of edits that came one after another.
+pub(crate) const ROWS: &str = r#"
 # a feed shows the rows with their documents, and an end
 > PUT /d
 HTTP/1.1 201 Created, JSON of 12:
@@ -107,13 +104,8 @@ d
 last chunk
 "#;
 
-/// What feeds show of edits that came one after another.
-#[test]
-fn rows_and_ends(rt: HostRuntime) -> Result<(), Fail> {
-    replay::<Client, _>(&rt, rt.alloc(), ROWS)
-}
-
-const LIVES: &str = r#"
+/// Feeds begin in the life of their database.
+pub(crate) const LIVES: &str = r#"
 # a sequence of another life is none, and a number alone is of whichever life
 > PUT /d
 HTTP/1.1 201 Created, JSON of 12:
@@ -399,9 +391,3 @@ d
 \n],\n"last_seq":"1-3","pending":0}\n
 last chunk
 "#;
-
-/// Feeds begin in the life of their database.
-#[test]
-fn lives(rt: HostRuntime) -> Result<(), Fail> {
-    replay::<Client, _>(&rt, rt.alloc(), LIVES)
-}

@@ -58,6 +58,9 @@ const SHOWN: &str = concat!(
     "GET /_db_updates HTTP/1.1\r\n\r\n"
 );
 
+/// The commands that ask with a request otherwise than both hubs.
+const VERBS: &str = "send cut fail break tear own remove";
+
 /// What removes the database `d`.
 const REMOVAL: &str = "DELETE /d HTTP/1.1\r\n\r\n";
 
@@ -88,20 +91,19 @@ impl Client {
     }
 
     /// Begins with a new hub within one more limit.
-    fn allow(&mut self, what: &str, answer: &mut Answer) -> Result<(), AllocError> {
+    fn allow(&mut self, mut words: Words, answer: &mut Answer) -> Result<(), AllocError> {
         let mut limits = self.limits;
-        if what == "one feed" {
-            limits.feeds = 1;
-        } else if what == "one database" {
-            limits.databases = 1;
-        } else if what == "two databases" {
-            limits.databases = 2;
-        } else if what == "one edit" {
-            limits.journal = 1;
-        } else if what == "two edits" {
-            limits.journal = 2;
-        } else {
-            return answer.line("?");
+        let (count, what) = (
+            words.verb("one two"),
+            words.verb("feed database databases edit edits"),
+        );
+        match (count, what) {
+            (0, 0) => limits.feeds = 1,
+            (0, 1) => limits.databases = 1,
+            (1, 2) => limits.databases = 2,
+            (0, 3) => limits.journal = 1,
+            (1, 4) => limits.journal = 2,
+            _ => return answer.line("?"),
         }
         *self = Client::new(self.alloc, limits)?;
         Ok(())
@@ -186,6 +188,11 @@ impl Client {
         if behind.output == before.output {
             return Err(AllocError);
         }
+        self.is_standing(rt, bytes)
+    }
+
+    /// Whether an edit of documents that stands already is told so.
+    fn is_standing<N: Wait>(&self, rt: &N, bytes: &str) -> Result<bool, AllocError> {
         let standing = if bytes.starts_with("POST ") {
             STORED
         } else {
@@ -244,6 +251,28 @@ impl Client {
         Ok(())
     }
 
+    /// What a new hub writes whose input ends, or fails, behind so many bytes.
+    fn ended<N: Wait>(
+        &self,
+        rt: &N,
+        text: &[u8],
+        left: usize,
+        fails: bool,
+    ) -> Result<Told, AllocError> {
+        if !fails {
+            return self.ample(rt, text.get(..left).unwrap_or(text));
+        }
+        let is_interrupted = false;
+        self.ample(
+            rt,
+            Failing {
+                text,
+                left,
+                is_interrupted,
+            },
+        )
+    }
+
     /// Shows why sessions close whose input ends, or fails, behind each byte of a request but the last.
     fn end<N: Wait>(
         &self,
@@ -253,28 +282,15 @@ impl Client {
         answer: &mut Answer,
     ) -> Result<(), AllocError> {
         let all = self.behind(bytes)?;
-        let text = all.as_bytes();
         let mut last = None;
-        for left in self.asked.len()..text.len() {
-            let told = if fails {
-                let is_interrupted = false;
-                self.ample(
-                    rt,
-                    Failing {
-                        text,
-                        left,
-                        is_interrupted,
-                    },
-                )?
-            } else {
-                self.ample(rt, &text[..left])?
-            };
+        for count in 0..bytes.len() {
+            let left = self.asked.len().saturating_add(count);
+            let told = self.ended(rt, all.as_bytes(), left, fails)?;
             if told.output != self.answered {
                 return answer.line("another answer");
             }
             if last != Some(told.closing) {
-                let count = left.saturating_sub(self.asked.len());
-                answer.line(format!(in self.alloc; "{count}: {}", told.closing)?)?;
+                answer.line(format_args!("{count}: {}", told.closing))?;
                 last = Some(told.closing);
             }
         }
@@ -308,36 +324,39 @@ impl Client {
         self.look(rt, bytes, self.given(&ample), answer)
     }
 
-    /// Carries out a command that asks with these bytes.
+    /// Carries out the command of a place in `VERBS` that asks with these bytes.
     fn carry_out<N: Wait>(
         &self,
         rt: &N,
-        verb: &str,
+        verb: usize,
         bytes: &str,
         answer: &mut Answer,
     ) -> Result<(), AllocError> {
-        if verb == "send" {
-            return self.send(rt, bytes, answer);
+        match verb {
+            0 => self.send(rt, bytes, answer),
+            1 | 2 => self.end(rt, bytes, verb == 2, answer),
+            3 => self.break_behind(rt, bytes, answer),
+            4 => self.tear(rt, bytes, answer),
+            5 => self.look(rt, bytes, "", answer),
+            _ => self.remove(rt, bytes, answer),
         }
-        if verb == "cut" {
-            return self.end(rt, bytes, false, answer);
+    }
+
+    /// Carries out a command that asks with a request.
+    fn request<N: Wait>(
+        &mut self,
+        rt: &N,
+        command: &str,
+        answer: &mut Answer,
+    ) -> Result<(), AllocError> {
+        let mut words = Words::of(command);
+        let verb = words.verb(VERBS);
+        if verb == usize::MAX {
+            let bytes = asked(self.alloc, command)?;
+            return self.ask(rt, bytes.as_str(), answer);
         }
-        if verb == "fail" {
-            return self.end(rt, bytes, true, answer);
-        }
-        if verb == "break" {
-            return self.break_behind(rt, bytes, answer);
-        }
-        if verb == "tear" {
-            return self.tear(rt, bytes, answer);
-        }
-        if verb == "own" {
-            return self.look(rt, bytes, "", answer);
-        }
-        if verb == "remove" {
-            return self.remove(rt, bytes, answer);
-        }
-        answer.line("?")
+        let bytes = asked(self.alloc, words.rest())?;
+        self.carry_out(rt, verb, bytes.as_str(), answer)
     }
 }
 
@@ -348,18 +367,10 @@ impl<N: Wait> Subject<N> for Client {
 
     fn answer(&mut self, rt: &N, command: &str, answer: &mut Answer) -> Result<(), AllocError> {
         let mut words = Words::of(command);
-        let verb = words.word();
-        if verb == "allow" {
-            return self.allow(words.rest(), answer);
+        match words.verb("allow delete") {
+            0 => self.allow(words, answer),
+            1 => delete(&self.hub, rt, words.rest(), answer),
+            _ => self.request(rt, command, answer),
         }
-        if verb == "delete" {
-            return delete(&self.hub, rt, words.rest(), answer);
-        }
-        if verb == "history" || matches!(verb.as_bytes().first(), Some(b'A'..=b'Z')) {
-            let bytes = asked(self.alloc, command)?;
-            return self.ask(rt, bytes.as_str(), answer);
-        }
-        let bytes = asked(self.alloc, words.rest())?;
-        self.carry_out(rt, verb, bytes.as_str(), answer)
     }
 }

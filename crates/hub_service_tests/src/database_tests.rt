@@ -1,10 +1,7 @@
 //! Calls on a database that was deleted, and whose name still stands.
 
-use crate::client::Client;
-use hub_transcript::replay;
-use std::test::Fail;
-
-const DELETED: &str = r#"
+/// A deleted database refuses each call, and a batch document by document; one that stands refuses none so.
+pub(crate) const DELETED: &str = r#"
 # a deleted database refuses each call, and a batch document by document, while its name stands; before it refuses none so
 > PUT /d
 HTTP/1.1 201 Created, JSON of 12:
@@ -72,9 +69,3 @@ HTTP/1.1 200 OK, JSON of 6:
 > delete d
 deleted before
 "#;
-
-/// A deleted database refuses each call, and a batch document by document; one that stands refuses none so.
-#[test]
-fn a_deleted_database(rt: HostRuntime) -> Result<(), Fail> {
-    replay::<Client, _>(&rt, rt.alloc(), DELETED)
-}

@@ -1,10 +1,7 @@
 //! A database with documents that is deleted, and whose name still stands.
 
-use crate::client::Client;
-use hub_transcript::replay;
-use std::test::Fail;
-
-const DELETED: &str = r#"
+/// A deleted database takes nothing and shows nothing of its documents.
+pub(crate) const DELETED: &str = r#"
 # a deleted database takes nothing: each document of a batch is refused, and a batch of none has nothing to refuse
 > PUT /d
 HTTP/1.1 201 Created, JSON of 12:
@@ -92,9 +89,3 @@ HTTP/1.1 404 Not Found, JSON of 58:
 HTTP/1.1 404 Not Found, JSON of 58:
 {"error":"not_found","reason":"Database does not exist."}\n
 "#;
-
-/// A deleted database takes nothing and shows nothing of its documents.
-#[test]
-fn deleted_documents(rt: HostRuntime) -> Result<(), Fail> {
-    replay::<Client, _>(&rt, rt.alloc(), DELETED)
-}

@@ -1,10 +1,7 @@
 //! What documents miss of revisions, over bytes.
 
-use crate::client::Client;
-use hub_transcript::replay;
-use std::test::Fail;
-
-const DIFFS: &str = r#"
+/// Of several documents, of which some miss nothing, and of none.
+pub(crate) const DIFFS: &str = r#"
 # what documents miss of revisions, and the leaves that may stand behind these
 > PUT /d
 HTTP/1.1 201 Created, JSON of 12:
@@ -19,9 +16,3 @@ HTTP/1.1 200 OK, JSON of 85:
 HTTP/1.1 200 OK, JSON of 3:
 {}\n
 "#;
-
-/// Of several documents, of which some miss nothing, and of none.
-#[test]
-fn differences(rt: HostRuntime) -> Result<(), Fail> {
-    replay::<Client, _>(&rt, rt.alloc(), DIFFS)
-}

@@ -2,11 +2,8 @@
 //!
 //! The hash of a revision that is made here is the MD5 of `[deleted,parent,id,body]`.
 
-use crate::client::Client;
-use hub_transcript::replay;
-use std::test::Fail;
-
-const REFUSED: &str = r#"
+/// The first fault of each document, and members that are ignored.
+pub(crate) const REFUSED: &str = r#"
 # edits that are made here: bodies that are no JSON, and the first fault of each document
 > PUT /d
 HTTP/1.1 201 Created, JSON of 12:
@@ -94,13 +91,8 @@ HTTP/1.1 400 Bad Request, JSON of 57:
 {"error":"bad_request","reason":"number out of profile"}\n
 "#;
 
-/// The first fault of each document, and members that are ignored.
-#[test]
-fn refused_documents(rt: HostRuntime) -> Result<(), Fail> {
-    replay::<Client, _>(&rt, rt.alloc(), REFUSED)
-}
-
-const PUTS: &str = r#"
+/// Documents that are put under an id, and the first fault of each.
+pub(crate) const PUTS: &str = r#"
 # a document that is put: its id, its revision and its members
 > PUT /d
 HTTP/1.1 201 Created, JSON of 12:
@@ -226,13 +218,8 @@ HTTP/1.1 201 Created, JSON of 64:
 {"ok":true,"id":"z","rev":"1-76761c3c3bcfe46d83fcc5006a8ab15b"}\n
 "#;
 
-/// Documents that are put under an id, and the first fault of each.
-#[test]
-fn put_documents(rt: HostRuntime) -> Result<(), Fail> {
-    replay::<Client, _>(&rt, rt.alloc(), PUTS)
-}
-
-const SHOWN: &str = r#"
+/// What is shown of documents that came, and of values of each kind.
+pub(crate) const SHOWN: &str = r#"
 # what is shown of edits that came
 > PUT /d
 HTTP/1.1 201 Created, JSON of 12:
@@ -407,9 +394,3 @@ last chunk
 HTTP/1.1 201 Created, JSON of 66:
 [{"ok":true,"id":"z","rev":"1-dcba29529287bc6bb61f8e8049947193"}]\n
 "#;
-
-/// What is shown of documents that came, and of values of each kind.
-#[test]
-fn shown_documents(rt: HostRuntime) -> Result<(), Fail> {
-    replay::<Client, _>(&rt, rt.alloc(), SHOWN)
-}

@@ -1,11 +1,8 @@
 //! Edits over bytes: those that come with their revisions, those whose revisions are made here, and local
 //! documents. The digests are those of `md5sum`.
 
-use crate::client::Client;
-use hub_transcript::replay;
-use std::test::Fail;
-
-const COME: &str = r#"
+/// Documents that another database made: known ones, refused ones, and a full journal.
+pub(crate) const COME: &str = r#"
 # the rows follow the latest edits, and known edits get no new sequence
 > PUT /d
 HTTP/1.1 201 Created, JSON of 12:
@@ -104,13 +101,8 @@ HTTP/1.1 200 OK, JSON of 93:
 {"db_name":"d","doc_count":2,"doc_del_count":0,"update_seq":"2-1","instance_start_time":"0"}\n
 "#;
 
-/// Documents that another database made: known ones, refused ones, and a full journal.
-#[test]
-fn edits_that_come(rt: HostRuntime) -> Result<(), Fail> {
-    replay::<Client, _>(&rt, rt.alloc(), COME)
-}
-
-const MADE: &str = r#"
+/// Edits whose revisions are made here, and the counts after them.
+pub(crate) const MADE: &str = r#"
 # a document is made, deleted and made again
 > PUT /d
 HTTP/1.1 201 Created, JSON of 12:
@@ -292,13 +284,8 @@ HTTP/1.1 200 OK, JSON of 93:
 {"db_name":"d","doc_count":1,"doc_del_count":1,"update_seq":"6-1","instance_start_time":"0"}\n
 "#;
 
-/// Edits whose revisions are made here, and the counts after them.
-#[test]
-fn edits_that_are_made(rt: HostRuntime) -> Result<(), Fail> {
-    replay::<Client, _>(&rt, rt.alloc(), MADE)
-}
-
-const LOCAL: &str = r#"
+/// Local documents, and how often they were written.
+pub(crate) const LOCAL: &str = r#"
 # local documents are counted one by one, and are no edits
 > PUT /d
 HTTP/1.1 201 Created, JSON of 12:
@@ -338,9 +325,3 @@ d
 \n],\n"last_seq":"0-1","pending":0}\n
 last chunk
 "#;
-
-/// Local documents, and how often they were written.
-#[test]
-fn local_documents(rt: HostRuntime) -> Result<(), Fail> {
-    replay::<Client, _>(&rt, rt.alloc(), LOCAL)
-}

@@ -1,10 +1,7 @@
 //! The hub over bytes: feeds of changes, one at a time.
 
-use crate::client::Client;
-use hub_transcript::replay;
-use std::test::Fail;
-
-const FEEDS: &str = r#"
+/// What feeds show: since when, of which documents, in which order, and what of each.
+pub(crate) const FEEDS: &str = r#"
 # a feed begins above `since`, which counts as 0 where it is of another life, and never above the update sequence
 > allow one feed
 > PUT /d
@@ -379,13 +376,8 @@ d
 last chunk
 "#;
 
-/// What feeds show: since when, of which documents, in which order, and what of each.
-#[test]
-fn feeds(rt: HostRuntime) -> Result<(), Fail> {
-    replay::<Client, _>(&rt, rt.alloc(), FEEDS)
-}
-
-const BROKEN: &str = r#"
+/// Wherever the writing of a feed breaks, it is not held open: with one feed at a time the next is shown.
+pub(crate) const BROKEN: &str = r#"
 # wherever the writing of a feed breaks, it is not held open: with one feed at a time the next is shown
 > allow one feed
 > PUT /d
@@ -399,9 +391,3 @@ d
 \n],\n"last_seq":"0-1","pending":0}\n
 last chunk
 "#;
-
-/// Wherever the writing of a feed breaks, it is not held open: with one feed at a time the next is shown.
-#[test]
-fn broken_feeds(rt: HostRuntime) -> Result<(), Fail> {
-    replay::<Client, _>(&rt, rt.alloc(), BROKEN)
-}

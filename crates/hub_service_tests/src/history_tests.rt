@@ -1,10 +1,7 @@
 //! Histories that end above the first generation, over bytes.
 
-use crate::client::Client;
-use hub_transcript::replay;
-use std::test::Fail;
-
-const HISTORIES: &str = r#"
+/// A revision alone, its parent that comes later, and the last generation alone.
+pub(crate) const HISTORIES: &str = r#"
 # a revision alone, the same with a parent, an edit on both, one that contradicts it, and bad histories
 > PUT /d
 HTTP/1.1 201 Created, JSON of 12:
@@ -93,9 +90,3 @@ last chunk
 HTTP/1.1 200 OK, JSON of 144:
 [{"ok":{"_id":"x","_rev":"3-c","_revisions":{"start":3,"ids":["c","b"]}}},{"ok":{"_id":"x","_rev":"2-b","_revisions":{"start":2,"ids":["b"]}}}]\n
 "#;
-
-/// A revision alone, its parent that comes later, and the last generation alone.
-#[test]
-fn a_history_that_ends_above_the_first_generation(rt: HostRuntime) -> Result<(), Fail> {
-    replay::<Client, _>(&rt, rt.alloc(), HISTORIES)
-}

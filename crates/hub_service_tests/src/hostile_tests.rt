@@ -1,10 +1,7 @@
 //! The hub over hostile bytes: input that is cut, deep texts, bad histories, and histories that part.
 
-use crate::client::Client;
-use hub_transcript::replay;
-use std::test::Fail;
-
-const REFUSED: &str = r#"
+/// Bodies that are refused, and a revision that is known already, whatever parent its history has.
+pub(crate) const REFUSED: &str = r#"
 # a body that nests too deep is refused as a whole, and each bad history by itself; nothing is stored
 > PUT /d
 HTTP/1.1 201 Created, JSON of 12:
@@ -29,13 +26,8 @@ HTTP/1.1 200 OK, JSON of 93:
 {"db_name":"d","doc_count":1,"doc_del_count":0,"update_seq":"1-1","instance_start_time":"0"}\n
 "#;
 
-/// Bodies that are refused, and a revision that is known already, whatever parent its history has.
-#[test]
-fn refused_bodies(rt: HostRuntime) -> Result<(), Fail> {
-    replay::<Client, _>(&rt, rt.alloc(), REFUSED)
-}
-
-const CUT: &str = r#"
+/// Wherever the input ends, the requests before are answered and nothing else.
+pub(crate) const CUT_INPUT: &str = r#"
 # wherever the input ends, the requests before are answered and nothing else
 > cut PUT /d
 0: the input ended behind a request
@@ -64,9 +56,3 @@ d
 \n],\n"last_seq":"2-1","pending":0}\n
 last chunk
 "#;
-
-/// Wherever the input ends, the requests before are answered and nothing else.
-#[test]
-fn cut_input(rt: HostRuntime) -> Result<(), Fail> {
-    replay::<Client, _>(&rt, rt.alloc(), CUT)
-}

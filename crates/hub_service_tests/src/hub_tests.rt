@@ -1,10 +1,7 @@
 //! A hub before anything happened to it, and one with two connections.
 
-use crate::client::Client;
-use hub_transcript::replay;
-use std::test::Fail;
-
-const HUBS: &str = r#"
+/// An empty log of updates, and a feed whose database another connection removes.
+pub(crate) const HUBS: &str = r#"
 # the log of updates of a hub to which nothing happened
 > GET /_db_updates
 HTTP/1.1 200 OK, JSON in chunks:
@@ -26,9 +23,3 @@ HTTP/1.1 200 OK, JSON of 12:
 {"ok":true}\n
 end 1
 "#;
-
-/// An empty log of updates, and a feed whose database another connection removes.
-#[test]
-fn hubs(rt: HostRuntime) -> Result<(), Fail> {
-    replay::<Client, _>(&rt, rt.alloc(), HUBS)
-}

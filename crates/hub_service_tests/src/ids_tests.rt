@@ -1,10 +1,7 @@
 //! Names over bytes: ids, and the revisions that are asked for.
 
-use crate::client::Client;
-use hub_transcript::replay;
-use std::test::Fail;
-
-const IDS: &str = concat!(
+/// Ids of many forms, in quotes and in the hash of a revision.
+pub(crate) const IDS: &str = concat!(
     r#"
 # ids of each length round those that take another form, and in quotes as in the log of a feed
 > PUT /d
@@ -96,13 +93,8 @@ HTTP/1.1 200 OK, JSON of 25:
 "#
 );
 
-/// Ids of many forms, in quotes and in the hash of a revision.
-#[test]
-fn ids(rt: HostRuntime) -> Result<(), Fail> {
-    replay::<Client, _>(&rt, rt.alloc(), IDS)
-}
-
-const ASKED: &str = r#"
+/// Texts of revisions, and which revisions are asked for.
+pub(crate) const ASKED: &str = r#"
 # texts of revisions, and texts that are none
 > PUT /d
 HTTP/1.1 201 Created, JSON of 12:
@@ -266,9 +258,3 @@ HTTP/1.1 400 Bad Request, JSON of 43:
 HTTP/1.1 400 Bad Request, JSON of 43:
 {"error":"bad_request","reason":"bad rev"}\n
 "#;
-
-/// Texts of revisions, and which revisions are asked for.
-#[test]
-fn asked_revisions(rt: HostRuntime) -> Result<(), Fail> {
-    replay::<Client, _>(&rt, rt.alloc(), ASKED)
-}

@@ -2,11 +2,8 @@
 //!
 //! The hash of a revision that is made here is the MD5 of `[deleted,parent,id,body]`.
 
-use crate::client::Client;
-use hub_transcript::replay;
-use std::test::Fail;
-
-const EDITS: &str = r#"
+/// Edits on leaves, and on what is none.
+pub(crate) const EDITS: &str = r#"
 # edits on what is above the highest generation, on no leaf, and on the leaf
 > PUT /d
 HTTP/1.1 201 Created, JSON of 12:
@@ -195,13 +192,8 @@ d
 last chunk
 "#;
 
-/// Edits on leaves, and on what is none.
-#[test]
-fn edits_on_leaves(rt: HostRuntime) -> Result<(), Fail> {
-    replay::<Client, _>(&rt, rt.alloc(), EDITS)
-}
-
-const DIGESTS: &str = r#"
+/// Revisions whose hashes are texts of digests, and others beside them.
+pub(crate) const DIGESTS: &str = r#"
 # a revision whose hash is a digest, and others that are nearly the same
 > PUT /d
 HTTP/1.1 201 Created, JSON of 12:
@@ -350,9 +342,3 @@ e7
 \n],\n"last_seq":"3-1","pending":0}\n
 last chunk
 "#;
-
-/// Revisions whose hashes are texts of digests, and others beside them.
-#[test]
-fn digests(rt: HostRuntime) -> Result<(), Fail> {
-    replay::<Client, _>(&rt, rt.alloc(), DIGESTS)
-}

@@ -42,6 +42,8 @@ mod paths_tests;
 #[cfg(test)]
 mod questions_tests;
 #[cfg(test)]
+mod replays;
+#[cfg(test)]
 mod replies_tests;
 #[cfg(test)]
 mod routes_tests;

@@ -1,10 +1,7 @@
 //! Local documents over bytes: what is shown of them, and which are refused.
 
-use crate::client::Client;
-use hub_transcript::replay;
-use std::test::Fail;
-
-const LOCALS: &str = r#"
+/// Local documents: what is shown of each, and the first fault.
+pub(crate) const LOCALS: &str = r#"
 # what is shown of local documents
 > PUT /d
 HTTP/1.1 201 Created, JSON of 12:
@@ -131,9 +128,3 @@ HTTP/1.1 400 Bad Request, JSON of 42:
 HTTP/1.1 400 Bad Request, JSON of 42:
 {"error":"bad_request","reason":"bad id"}\n
 "#;
-
-/// Local documents: what is shown of each, and the first fault.
-#[test]
-fn local_documents(rt: HostRuntime) -> Result<(), Fail> {
-    replay::<Client, _>(&rt, rt.alloc(), LOCALS)
-}

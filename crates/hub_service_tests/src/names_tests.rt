@@ -1,10 +1,7 @@
 //! Which names have databases, and what the calls on them refuse.
 
-use crate::client::Client;
-use hub_transcript::replay;
-use std::test::Fail;
-
-const TWO: &str = r#"
+/// Of several refusals the first is told: of the name, of what it names, and of the room.
+pub(crate) const REFUSED_IN_ORDER: &str = r#"
 # there is room for two databases
 > allow two databases
 > GET /_all_dbs
@@ -66,13 +63,8 @@ HTTP/1.1 200 OK, JSON of 18:
 ["a/$(1)+_-","c"]\n
 "#;
 
-/// Of several refusals the first is told: of the name, of what it names, and of the room.
-#[test]
-fn names_are_refused_in_order(rt: HostRuntime) -> Result<(), Fail> {
-    replay::<Client, _>(&rt, rt.alloc(), TWO)
-}
-
-const ONE: &str = r#"
+/// Where the log is full, what it has no note of is not done; but an edit stands.
+pub(crate) const FULL_LOG: &str = r#"
 # there is room for one note
 > allow one edit
 > PUT /a
@@ -104,13 +96,8 @@ HTTP/1.1 200 OK, JSON of 93:
 {"db_name":"a","doc_count":1,"doc_del_count":0,"update_seq":"1-1","instance_start_time":"0"}\n
 "#;
 
-/// Where the log is full, what it has no note of is not done; but an edit stands.
-#[test]
-fn a_full_log_refuses_what_it_would_note(rt: HostRuntime) -> Result<(), Fail> {
-    replay::<Client, _>(&rt, rt.alloc(), ONE)
-}
-
-const FULL: &str = r#"
+/// That a log is full is told behind every other refusal.
+pub(crate) const BEFORE_A_FULL_LOG: &str = r#"
 # there is room for one name, and for one note
 > allow one database
 > allow one edit
@@ -137,13 +124,8 @@ HTTP/1.1 200 OK, JSON of 6:
 ["a"]\n
 "#;
 
-/// That a log is full is told behind every other refusal.
-#[test]
-fn too_many_names_are_told_before_a_full_log(rt: HostRuntime) -> Result<(), Fail> {
-    replay::<Client, _>(&rt, rt.alloc(), FULL)
-}
-
-const LIVES: &str = r#"
+/// A creation that is refused is not counted among the lives.
+pub(crate) const LIVES: &str = r#"
 # a life is the number of a creation among those that succeeded, from 1
 > allow one database
 > PUT /d
@@ -217,13 +199,8 @@ HTTP/1.1 200 OK, JSON of 93:
 {"db_name":"d","doc_count":0,"doc_del_count":0,"update_seq":"0-4","instance_start_time":"0"}\n
 "#;
 
-/// A creation that is refused is not counted among the lives.
-#[test]
-fn lives_are_numbered_as_databases_are_made(rt: HostRuntime) -> Result<(), Fail> {
-    replay::<Client, _>(&rt, rt.alloc(), LIVES)
-}
-
-const NAMES: &str = r#"
+/// Which texts are names, their order, and a name that is given again.
+pub(crate) const NAMES: &str = r#"
 # names are listed in the order of their bytes
 > PUT /b
 HTTP/1.1 201 Created, JSON of 12:
@@ -310,9 +287,3 @@ HTTP/1.1 400 Bad Request, JSON of 54:
 HTTP/1.1 200 OK, JSON of 3:
 []\n
 "#;
-
-/// Which texts are names, their order, and a name that is given again.
-#[test]
-fn names_and_their_databases(rt: HostRuntime) -> Result<(), Fail> {
-    replay::<Client, _>(&rt, rt.alloc(), NAMES)
-}

@@ -1,10 +1,7 @@
 //! Documents and their revisions over bytes.
 
-use crate::client::Client;
-use hub_transcript::replay;
-use std::test::Fail;
-
-const SHOWN: &str = r#"
+/// What is shown of documents: the winner, all leaves, and listed revisions.
+pub(crate) const SHOWN: &str = r#"
 # the winner of two leaves and a deleted one above them, a document whose winner is deleted, and one that is unknown
 > PUT /d
 HTTP/1.1 201 Created, JSON of 12:
@@ -86,13 +83,8 @@ HTTP/1.1 200 OK, JSON of 78:
 [{"ok":{"_id":"a","_rev":"1-a","v":1}},{"ok":{"_id":"a","_rev":"2-c","v":3}}]\n
 "#;
 
-/// What is shown of documents: the winner, all leaves, and listed revisions.
-#[test]
-fn documents_and_their_revisions(rt: HostRuntime) -> Result<(), Fail> {
-    replay::<Client, _>(&rt, rt.alloc(), SHOWN)
-}
-
-const PARTS: &str = r#"
+/// What is shown where histories come in parts and in any order.
+pub(crate) const PARTS: &str = r#"
 # a revision is shown with all that stands behind it by now, and a history that contradicts stores nothing
 > PUT /d
 HTTP/1.1 201 Created, JSON of 12:
@@ -175,9 +167,3 @@ HTTP/1.1 200 OK, JSON of 56:
 HTTP/1.1 200 OK, JSON of 234:
 [{"ok":{"_id":"a","_rev":"4-e4e0d18c32e6aa308b581d5741ad8080","_revisions":{"start":4,"ids":["e4e0d18c32e6aa308b581d5741ad8080","c","b"]}}},{"ok":{"_id":"a","_rev":"4-d","_deleted":true,"_revisions":{"start":4,"ids":["d","c","b"]}}}]\n
 "#;
-
-/// What is shown where histories come in parts and in any order.
-#[test]
-fn histories_in_parts(rt: HostRuntime) -> Result<(), Fail> {
-    replay::<Client, _>(&rt, rt.alloc(), PARTS)
-}

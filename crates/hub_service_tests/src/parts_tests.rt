@@ -3,11 +3,8 @@
 //! Four revisions alone and three edits beside them, each of which tells what stands behind one of them, make
 //! a line with three joins, which are told in three orders.
 
-use crate::client::Client;
-use hub_transcript::replay;
-use std::test::Fail;
-
-const PARTS: &str = r#"
+/// Revisions that come before their parents, which a later edit tells.
+pub(crate) const PARTS: &str = r#"
 # a revision alone, its parent that comes with a later edit, and the last generation beside them
 > PUT /d
 HTTP/1.1 201 Created, JSON of 12:
@@ -428,9 +425,3 @@ d
 \n],\n"last_seq":"9-1","pending":0}\n
 last chunk
 "#;
-
-/// Revisions that come before their parents, which a later edit tells.
-#[test]
-fn parts_of_histories(rt: HostRuntime) -> Result<(), Fail> {
-    replay::<Client, _>(&rt, rt.alloc(), PARTS)
-}

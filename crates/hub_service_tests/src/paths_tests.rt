@@ -1,10 +1,7 @@
 //! Where requests for documents go: ids with escapes, design documents, local ones, and ids that none has.
 
-use crate::client::Client;
-use hub_transcript::replay;
-use std::test::Fail;
-
-const DOCUMENTS: &str = r#"
+/// Documents and design documents, of which each path names one that is there, or none.
+pub(crate) const DOCUMENTS: &str = r#"
 # of documents, which are there
 > PUT /d
 HTTP/1.1 201 Created, JSON of 12:
@@ -115,13 +112,8 @@ HTTP/1.1 404 Not Found, JSON of 41:
 {"error":"not_found","reason":"missing"}\n
 "#;
 
-/// Documents and design documents, of which each path names one that is there, or none.
-#[test]
-fn requests_to_documents(rt: HostRuntime) -> Result<(), Fail> {
-    replay::<Client, _>(&rt, rt.alloc(), DOCUMENTS)
-}
-
-const LOCALS: &str = r#"
+/// Local documents.
+pub(crate) const LOCALS: &str = r#"
 # of local documents, which are there
 > PUT /d
 HTTP/1.1 201 Created, JSON of 12:
@@ -166,13 +158,8 @@ HTTP/1.1 404 Not Found, JSON of 41:
 {"error":"not_found","reason":"missing"}\n
 "#;
 
-/// Local documents.
-#[test]
-fn requests_to_local_documents(rt: HostRuntime) -> Result<(), Fail> {
-    replay::<Client, _>(&rt, rt.alloc(), LOCALS)
-}
-
-const IDS: &str = r#"
+/// Ids and names that are refused, and what is refused before them.
+pub(crate) const IDS: &str = r#"
 # of ids
 > PUT /d
 HTTP/1.1 201 Created, JSON of 12:
@@ -244,9 +231,3 @@ HTTP/1.1 405 Method Not Allowed, JSON of 61:
 HTTP/1.1 404 Not Found, JSON of 41:
 {"error":"not_found","reason":"missing"}\n
 "#;
-
-/// Ids and names that are refused, and what is refused before them.
-#[test]
-fn ids_that_no_document_has(rt: HostRuntime) -> Result<(), Fail> {
-    replay::<Client, _>(&rt, rt.alloc(), IDS)
-}

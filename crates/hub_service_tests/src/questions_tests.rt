@@ -1,11 +1,8 @@
 //! Questions to a database over bytes: its documents, their leaves and missing revisions, rows downwards, and
 //! local documents.
 
-use crate::client::Client;
-use hub_transcript::replay;
-use std::test::Fail;
-
-const QUESTIONS: &str = r#"
+/// What a database answers about documents with several leaves, and about local documents.
+pub(crate) const QUESTIONS: &str = r#"
 # questions about a document with two leaves and a deleted one above them, and about a deleted document
 > PUT /d
 HTTP/1.1 201 Created, JSON of 12:
@@ -122,9 +119,3 @@ HTTP/1.1 200 OK, JSON of 56:
 HTTP/1.1 200 OK, JSON of 93:
 {"db_name":"d","doc_count":0,"doc_del_count":0,"update_seq":"0-1","instance_start_time":"0"}\n
 "#;
-
-/// What a database answers about documents with several leaves, and about local documents.
-#[test]
-fn questions(rt: HostRuntime) -> Result<(), Fail> {
-    replay::<Client, _>(&rt, rt.alloc(), QUESTIONS)
-}

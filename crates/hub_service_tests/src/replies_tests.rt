@@ -1,10 +1,7 @@
 //! Bodies of answers, byte for byte.
 
-use crate::client::Client;
-use hub_transcript::replay;
-use std::test::Fail;
-
-const BODIES: &str = r#"
+/// Each body that a call answers.
+pub(crate) const BODIES: &str = r#"
 # bodies that are always the same
 > GET /
 HTTP/1.1 200 OK, JSON of 40:
@@ -182,9 +179,3 @@ HTTP/1.1 201 Created, JSON of 325:
 HTTP/1.1 201 Created, JSON of 3:
 []\n
 "#;
-
-/// Each body that a call answers.
-#[test]
-fn bodies(rt: HostRuntime) -> Result<(), Fail> {
-    replay::<Client, _>(&rt, rt.alloc(), BODIES)
-}

@@ -2,7 +2,6 @@
 //!
 //! A request shows its route by its answer. What no answer shows is asked of the table of routes itself.
 
-use crate::client::Client;
 use hub_http::{MethodName, Request};
 use hub_routes::{Route, RouteFault, Routes};
 use hub_transcript::{Answer, Subject, Words, replay};
@@ -11,7 +10,8 @@ use std::borrow::CowStr;
 use std::str;
 use std::test::Fail;
 
-const SERVER: &str = r#"
+/// What is asked of the hub itself.
+pub(crate) const SERVER: &str = r#"
 # of the server: the hub, its list of databases, and its log of updates
 > PUT /d
 HTTP/1.1 201 Created, JSON of 12:
@@ -122,13 +122,8 @@ HTTP/1.1 404 Not Found, JSON of 41:
 {"error":"not_found","reason":"missing"}\n
 "#;
 
-/// What is asked of the hub itself.
-#[test]
-fn requests_to_the_hub(rt: HostRuntime) -> Result<(), Fail> {
-    replay::<Client, _>(&rt, rt.alloc(), SERVER)
-}
-
-const DATABASES: &str = r#"
+/// What is asked of databases, whose names may have escapes.
+pub(crate) const DATABASES: &str = r#"
 # of databases
 > PUT /d
 HTTP/1.1 201 Created, JSON of 12:
@@ -226,13 +221,8 @@ HTTP/1.1 404 Not Found, JSON of 41:
 {"error":"not_found","reason":"missing"}\n
 "#;
 
-/// What is asked of databases, whose names may have escapes.
-#[test]
-fn requests_to_databases(rt: HostRuntime) -> Result<(), Fail> {
-    replay::<Client, _>(&rt, rt.alloc(), DATABASES)
-}
-
-const CALLS: &str = r#"
+/// What is asked behind the name of a database.
+pub(crate) const CALLS: &str = r#"
 # of the calls on a database
 > PUT /d
 HTTP/1.1 201 Created, JSON of 12:
@@ -377,12 +367,6 @@ HTTP/1.1 400 Bad Request, JSON of 54:
 HTTP/1.1 405 Method Not Allowed, JSON of 61:
 {"error":"method_not_allowed","reason":"method not allowed"}\n
 "#;
-
-/// What is asked behind the name of a database.
-#[test]
-fn requests_to_parts_of_a_database(rt: HostRuntime) -> Result<(), Fail> {
-    replay::<Client, _>(&rt, rt.alloc(), CALLS)
-}
 
 /// The table of routes. A command is a method and a target, in which `\` is the byte 255. The answer is the
 /// call, the name of the database, the id of the document and the query, or the fault. Behind `db` and `id`

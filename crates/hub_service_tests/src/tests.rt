@@ -1,10 +1,7 @@
 //! The hub over bytes: what limits refuse, the last generation, and what closes a connection.
 
-use crate::client::Client;
-use hub_transcript::replay;
-use std::test::Fail;
-
-const LIMITS: &str = r#"
+/// What limits refuse: databases, edits, and notes of them.
+pub(crate) const LIMITS: &str = r#"
 # with one database allowed a second is refused, and with two edits a third document
 > allow one database
 > allow two edits
@@ -83,13 +80,8 @@ HTTP/1.1 200 OK, JSON of 93:
 {"db_name":"d","doc_count":0,"doc_del_count":1,"update_seq":"2-1","instance_start_time":"0"}\n
 "#;
 
-/// What limits refuse: databases, edits, and notes of them.
-#[test]
-fn limits(rt: HostRuntime) -> Result<(), Fail> {
-    replay::<Client, _>(&rt, rt.alloc(), LIMITS)
-}
-
-const LAST_GENERATION: &str = r#"
+/// A leaf of the last generation is not extended.
+pub(crate) const LAST_GENERATION: &str = r#"
 # a leaf of the last generation is not extended
 > PUT /d
 HTTP/1.1 201 Created, JSON of 12:
@@ -102,13 +94,8 @@ HTTP/1.1 400 Bad Request, JSON of 52:
 {"error":"bad_request","reason":"generation limit"}\n
 "#;
 
-/// A leaf of the last generation is not extended.
-#[test]
-fn the_last_generation(rt: HostRuntime) -> Result<(), Fail> {
-    replay::<Client, _>(&rt, rt.alloc(), LAST_GENERATION)
-}
-
-const CLOSING: &str = r#"
+/// After `Connection: close` nothing more is answered.
+pub(crate) const CLOSING: &str = r#"
 # after `Connection: close` nothing more is answered
 > send bytes PUT /d HTTP/1.1\r\nConnection: keep-alive, Close\r\n\r\nPUT /e HTTP/1.1\r\n\r\n
 HTTP/1.1 201 Created, JSON of 12
@@ -117,13 +104,8 @@ Connection: close:
 closed: the last request asked to close
 "#;
 
-/// After `Connection: close` nothing more is answered.
-#[test]
-fn closing(rt: HostRuntime) -> Result<(), Fail> {
-    replay::<Client, _>(&rt, rt.alloc(), CLOSING)
-}
-
-const FAULTS: &str = r#"
+/// A head's fault is answered, and closes.
+pub(crate) const HEAD_FAULTS: &str = r#"
 # a fault of a head is answered, and closes: nothing is answered behind it
 > send bytes GET / HTTP/1.0\r\n\r\nPUT /d HTTP/1.1\r\n\r\n
 HTTP/1.1 505 HTTP Version Not Supported, JSON of 50
@@ -152,21 +134,10 @@ Connection: close:
 closed: bad head
 "#;
 
-/// A head's fault is answered, and closes.
-#[test]
-fn head_faults(rt: HostRuntime) -> Result<(), Fail> {
-    replay::<Client, _>(&rt, rt.alloc(), FAULTS)
-}
-
-const CUT: &str = r#"
+/// An end in the middle of a request has no reply.
+pub(crate) const CUT_REQUESTS: &str = r#"
 # an end in the middle of a request has no reply
 > send bytes PUT /d HTTP/1.1\r\n
 
 closed: the input ended in the middle of a request
 "#;
-
-/// An end in the middle of a request has no reply.
-#[test]
-fn cut_requests(rt: HostRuntime) -> Result<(), Fail> {
-    replay::<Client, _>(&rt, rt.alloc(), CUT)
-}

@@ -1,10 +1,7 @@
 //! Trees of revisions over bytes: what stands in them, and which leaf wins.
 
-use crate::client::Client;
-use hub_transcript::replay;
-use std::test::Fail;
-
-const TREES: &str = r#"
+/// Winners, leaves, missing revisions and paths of small trees.
+pub(crate) const TREES: &str = r#"
 # what is known already changes nothing
 > PUT /d
 HTTP/1.1 201 Created, JSON of 12:
@@ -411,9 +408,3 @@ last chunk
 HTTP/1.1 200 OK, JSON of 550:
 [{"ok":{"_id":"a","_rev":"1-a","_revisions":{"start":1,"ids":["a"]},"v":1}},{"ok":{"_id":"a","_rev":"2-d41d8cd98f00b204e9800998ecf8427e","_revisions":{"start":2,"ids":["d41d8cd98f00b204e9800998ecf8427e","a"]},"v":2}},{"ok":{"_id":"a","_rev":"3-c","_deleted":true,"_revisions":{"start":3,"ids":["c","d41d8cd98f00b204e9800998ecf8427e","a"]}}},{"ok":{"_id":"a","_rev":"2-y","_revisions":{"start":2,"ids":["y","x"]},"v":3}},{"ok":{"_id":"a","_rev":"3-z","_deleted":true,"_revisions":{"start":3,"ids":["z","y","x"]}}},{"missing":"1-x"},{"missing":"9-z"}]\n
 "#;
-
-/// Winners, leaves, missing revisions and paths of small trees.
-#[test]
-fn trees(rt: HostRuntime) -> Result<(), Fail> {
-    replay::<Client, _>(&rt, rt.alloc(), TREES)
-}

@@ -1,10 +1,7 @@
 //! What feeds of the log of updates show, and what a feed of a database shows that is made again.
 
-use crate::client::Client;
-use hub_transcript::replay;
-use std::test::Fail;
-
-const ROWS: &str = r#"
+/// A row for each database and kind, whatever a feed is asked of documents.
+pub(crate) const ROWS: &str = r#"
 # the log has a row for each kind
 > PUT /d
 HTTP/1.1 201 Created, JSON of 12:
@@ -176,13 +173,8 @@ d
 last chunk
 "#;
 
-/// A row for each database and kind, whatever a feed is asked of documents.
-#[test]
-fn the_log_shows_what_happened(rt: HostRuntime) -> Result<(), Fail> {
-    replay::<Client, _>(&rt, rt.alloc(), ROWS)
-}
-
-const AGAIN: &str = r#"
+/// A sequence of an earlier life is none of the database that has the name now.
+pub(crate) const AGAIN: &str = r#"
 # a sequence of an earlier life of a name is the beginning in the database that has the name now
 > PUT /d
 HTTP/1.1 201 Created, JSON of 12:
@@ -231,13 +223,8 @@ d
 last chunk
 "#;
 
-/// A sequence of an earlier life is none of the database that has the name now.
-#[test]
-fn a_database_that_is_made_again_begins_anew(rt: HostRuntime) -> Result<(), Fail> {
-    replay::<Client, _>(&rt, rt.alloc(), AGAIN)
-}
-
-const EDITS: &str = r#"
+/// Edits whose revisions are made in the hub, one at a time.
+pub(crate) const EDITS: &str = r#"
 # an edit is noted where it is stored, and not where it is refused
 > PUT /d
 HTTP/1.1 201 Created, JSON of 12:
@@ -301,9 +288,3 @@ HTTP/1.1 404 Not Found, JSON of 58:
 HTTP/1.1 404 Not Found, JSON of 58:
 {"error":"not_found","reason":"Database does not exist."}\n
 "#;
-
-/// Edits whose revisions are made in the hub, one at a time.
-#[test]
-fn single_edits_are_noted(rt: HostRuntime) -> Result<(), Fail> {
-    replay::<Client, _>(&rt, rt.alloc(), EDITS)
-}

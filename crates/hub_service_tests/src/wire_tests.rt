@@ -1,10 +1,7 @@
 //! The hub over readers and writers as networks have them: of one byte a call, cut, broken, interrupted.
 
-use crate::client::Client;
-use hub_transcript::replay;
-use std::test::Fail;
-
-const WRITERS: &str = r#"
+/// Wherever a writer breaks, what it took is the front of what is written else.
+pub(crate) const WRITERS: &str = r#"
 # wherever a writer breaks, what it took is a front
 > break PUT /d
 a front of it, wherever the writer breaks
@@ -31,13 +28,8 @@ d
 last chunk
 "#;
 
-/// Wherever a writer breaks, what it took is the front of what is written else.
-#[test]
-fn broken_writers(rt: HostRuntime) -> Result<(), Fail> {
-    replay::<Client, _>(&rt, rt.alloc(), WRITERS)
-}
-
-const READERS: &str = r#"
+/// Wherever a reader fails or a head ends, the requests before are answered and nothing else.
+pub(crate) const READERS: &str = r#"
 # wherever a reader fails, the requests before are answered and nothing else; interruptions change nothing
 > fail PUT /d
 0: the input can't be read
@@ -68,13 +60,8 @@ last chunk
 1: the input ended in the middle of a request
 "#;
 
-/// Wherever a reader fails or a head ends, the requests before are answered and nothing else.
-#[test]
-fn failing_readers(rt: HostRuntime) -> Result<(), Fail> {
-    replay::<Client, _>(&rt, rt.alloc(), READERS)
-}
-
-const CLOSING_FEED: &str = r#"
+/// A feed whose client asks to close is sent to its end.
+pub(crate) const CLOSING_FEED: &str = r#"
 # a feed whose client asks to close is sent to its end, and nothing is answered behind it
 > PUT /d
 HTTP/1.1 201 Created, JSON of 12:
@@ -87,9 +74,3 @@ Connection: close:
 last chunk
 closed: the last request asked to close
 "#;
-
-/// A feed whose client asks to close is sent to its end.
-#[test]
-fn a_feed_that_closes(rt: HostRuntime) -> Result<(), Fail> {
-    replay::<Client, _>(&rt, rt.alloc(), CLOSING_FEED)
-}

@@ -121,6 +121,36 @@ fn put_made(line: &mut Vec<RevId>, alloc: Global, model: &Model, draft: &str) ->
     Ok(())
 }
 
+// Some leaf, if there is one.
+fn some_leaf(
+    alloc: Global,
+    random: &mut Random,
+    model: &Model,
+) -> Result<Option<RevId>, AllocError> {
+    let leaves = model.leaves(alloc)?;
+    let place = random.below((leaves.len() as u64).max(1)) as usize;
+    Ok(leaves.get(place).copied())
+}
+
+// Puts the history of a document of a kind behind nothing; none where its revision is to be made.
+fn put_line(
+    line: &mut Vec<RevId>,
+    alloc: Global,
+    random: &mut Random,
+    model: &Model,
+    kind: u64,
+    leaf: &Option<RevId>,
+    draft: &str,
+) -> Result<(), Fail> {
+    if kind == 4 {
+        return put_made(line, alloc, model, draft);
+    }
+    if kind > 4 {
+        put_history(line, alloc, random, model, leaf)?;
+    }
+    Ok(())
+}
+
 /// Writes the document that comes next, and tells whether its revision is to be made. A revision as it would
 /// be made here is told by another database too, and alone.
 pub(super) fn next(
@@ -129,9 +159,7 @@ pub(super) fn next(
     model: &Model,
     out: &mut String,
 ) -> Result<bool, Fail> {
-    let leaves = model.leaves(alloc)?;
-    let place = random.below((leaves.len() as u64).max(1)) as usize;
-    let leaf = leaves.get(place).copied();
+    let leaf = some_leaf(alloc, random, model)?;
     let members = if random.below(2) == 0 {
         "\"v\":0}"
     } else {
@@ -147,11 +175,7 @@ pub(super) fn next(
     let id = model.id.as_str();
     let draft = draft(alloc, id, &named, deleted, members)?;
     let mut line = Vec::new(alloc);
-    if kind == 4 {
-        put_made(&mut line, alloc, model, draft.as_str())?;
-    } else if kind > 4 {
-        put_history(&mut line, alloc, random, model, &leaf)?;
-    }
+    put_line(&mut line, alloc, random, model, kind, &leaf, draft.as_str())?;
     if line.is_empty() {
         out.push_str(draft.as_str())?;
         return Ok(true);

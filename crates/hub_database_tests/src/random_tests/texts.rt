@@ -20,6 +20,13 @@ fn put_hashes(out: &mut String, line: &[RevId]) -> Result<(), AllocError> {
     Ok(())
 }
 
+// Writes a document's id, its revision and whether it is deleted.
+fn put_head(out: &mut String, id: &str, head: &RevId, deleted: bool) -> Result<(), AllocError> {
+    let (generation, hash) = (head.generation(), hash_of(head));
+    write!(out, r#"{{"_id":"{id}","_rev":"{generation}-{hash}","#)?;
+    out.push_str(if deleted { r#""_deleted":true,"# } else { "" })
+}
+
 /// Writes a document with this history, as databases show it.
 pub(super) fn put_doc(
     out: &mut String,
@@ -31,10 +38,13 @@ pub(super) fn put_doc(
     let Some(head) = line.first() else {
         return Ok(());
     };
-    let (generation, hash) = (head.generation(), hash_of(head));
-    let mark = if deleted { r#""_deleted":true,"# } else { "" };
-    write!(out, r#"{{"_id":"{id}","_rev":"{generation}-{hash}",{mark}"#)?;
-    write!(out, r#""_revisions":{{"start":{generation},"ids":["#)?;
+    put_head(out, id, head, deleted)?;
+    write!(
+        out,
+        r#""_revisions":{{"start":{},"ids":["#,
+        head.generation()
+    )?;
     put_hashes(out, line)?;
-    write!(out, "]}},{members}")
+    out.push_str("]},")?;
+    out.push_str(members)
 }

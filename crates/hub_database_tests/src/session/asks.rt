@@ -2,10 +2,22 @@
 
 use crate::session::Session;
 use crate::session::items::put_rev;
+use hub_document::Doc;
 use hub_feed::FeedHost;
-use std::alloc::AllocError;
+use std::alloc::{AllocError, Global};
 use std::fmt::Write;
 use std::str;
+
+// Writes a document on a line of its own.
+fn put_doc(alloc: Global, doc: &Doc, out: &mut String) -> Result<(), AllocError> {
+    let mut bytes = Vec::new(alloc);
+    doc.write(&mut bytes)?;
+    writeln!(
+        out,
+        "\n{}",
+        str::from_utf8(bytes.as_slice()).unwrap_or("no text")
+    )
+}
 
 impl Session {
     // Counts its edits, and tells its life.
@@ -22,24 +34,20 @@ impl Session {
 
     // Names an edit, and shows it.
     pub(super) fn entry(&self, seq: u64, out: &mut String) -> Result<(), AllocError> {
-        let found = self.state.entry_doc(seq)?;
-        match self.state.entry(seq) {
-            Some((id, rev)) => {
-                out.push_str(id)?;
-                put_rev(out, &rev)?;
-            }
-            None => out.push_str("none")?,
+        self.put_name(seq, out)?;
+        match &self.state.entry_doc(seq)? {
+            Some(doc) => put_doc(self.alloc, doc, out),
+            None => out.push_str("\nnone\n"),
         }
-        let mut bytes = Vec::new(self.alloc);
-        match &found {
-            Some(doc) => doc.write(&mut bytes)?,
-            None => bytes.extend_from_slice(b"none")?,
-        }
-        writeln!(
-            out,
-            "\n{}",
-            str::from_utf8(bytes.as_slice()).unwrap_or("no text")
-        )
+    }
+
+    // Names an edit.
+    fn put_name(&self, seq: u64, out: &mut String) -> Result<(), AllocError> {
+        let Some((id, rev)) = self.state.entry(seq) else {
+            return out.push_str("none");
+        };
+        out.push_str(id)?;
+        put_rev(out, &rev)
     }
 
     // Tells the best leaf.

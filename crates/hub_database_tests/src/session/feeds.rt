@@ -6,10 +6,11 @@ use crate::session::items::{put_item, put_refusal};
 use hub_database::DbState;
 use hub_document::ChangeRow;
 use hub_feed::{FeedHost, FeedId, Next, OpenFault};
+use hub_model::Item;
 use hub_params::FeedParams;
 use hub_transcript::Words;
 use std::alloc::AllocError;
-use std::fmt::Write;
+use std::fmt::{Debug, Write};
 
 // What a feed has to hand, which is then accepted.
 fn take(state: &mut DbState, feed: FeedId) -> Result<Next<ChangeRow>, AllocError> {
@@ -35,6 +36,19 @@ fn put_next(out: &mut String, next: &Next<ChangeRow>) -> Result<(), AllocError> 
     }
 }
 
+// Writes what a hand did, and the item that it handed.
+fn put_handed(
+    out: &mut String,
+    did: &impl Debug,
+    items: &[Item<ChangeRow>],
+) -> Result<(), AllocError> {
+    write!(out, "{did:?}")?;
+    match items.first() {
+        Some(item) => put_item(out, item),
+        None => out.push('\n'),
+    }
+}
+
 impl Session {
     // Opens a feed; an error where it found no memory, and each time where the query is refused.
     pub(super) fn open(&mut self, query: &str, out: &mut String) -> Result<(), AllocError> {
@@ -52,11 +66,7 @@ impl Session {
     fn hand(&mut self, feed: FeedId, room: usize, out: &mut String) -> Result<(), AllocError> {
         let mut list = Listed::new(self.alloc, room)?;
         let did = self.state.hand(feed, &NoHandle, &mut list)?;
-        write!(out, "{did:?}")?;
-        match list.items().first() {
-            Some(item) => put_item(out, item),
-            None => out.push('\n'),
-        }
+        put_handed(out, &did, list.items())
     }
 
     // Carries out a command on a feed.

@@ -1,6 +1,6 @@
 //! What commands are answered, as texts.
 
-use hub_document::{ChangeRow, RevId};
+use hub_document::{Body, ChangeRow, Changes, RevId};
 use hub_model::Item;
 use std::alloc::AllocError;
 use std::fmt::{Debug, Write};
@@ -17,23 +17,29 @@ pub(super) fn put_rev(out: &mut String, rev: &RevId) -> Result<(), AllocError> {
     write!(out, " {}-{hash}", rev.generation())
 }
 
-// Writes a row.
-fn put_row(out: &mut String, row: &ChangeRow) -> Result<(), AllocError> {
-    write!(out, " {}/{} {}", row.seq, row.seen, row.id.as_str())?;
-    for at in 0..row.changes.len() {
-        if let Some(rev) = row.changes.get(at) {
+// Writes the revisions that a row lists.
+fn put_changes(out: &mut String, changes: &Changes) -> Result<(), AllocError> {
+    for at in 0..changes.len() {
+        if let Some(rev) = changes.get(at) {
             put_rev(out, &rev)?;
         }
     }
-    if row.deleted {
-        out.push_str(" deleted")?;
-    }
+    Ok(())
+}
+
+// Writes members behind a blank.
+fn put_members(out: &mut String, body: &Body) -> Result<(), AllocError> {
+    out.push_str(" ")?;
+    out.push_str(str::from_utf8(body.as_bytes()).unwrap_or("no text"))
+}
+
+// Writes a row.
+fn put_row(out: &mut String, row: &ChangeRow) -> Result<(), AllocError> {
+    write!(out, " {}/{} {}", row.seq, row.seen, row.id.as_str())?;
+    put_changes(out, &row.changes)?;
+    out.push_str(if row.deleted { " deleted" } else { "" })?;
     if let Some(body) = &row.doc {
-        write!(
-            out,
-            " {}",
-            str::from_utf8(body.as_bytes()).unwrap_or("no text")
-        )?;
+        put_members(out, body)?;
     }
     out.push('\n')
 }

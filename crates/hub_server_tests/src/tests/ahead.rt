@@ -60,11 +60,6 @@ the end
 ["d","e"]\n
 "#;
 
-#[test]
-fn requests_behind_feeds(rt: HostRuntime) -> Result<(), Fail> {
-    plays(&rt, rt.alloc(), BEHIND_FEEDS)
-}
-
 const ENDED: &str = r#"
 # a client that ended what it sends in a feed gets the feed to its end, the removal of its database
 > server 2
@@ -92,6 +87,9 @@ the end
 "#;
 
 #[test]
-fn a_client_that_ends_what_it_sends_in_a_feed(rt: HostRuntime) -> Result<(), Fail> {
-    plays(&rt, rt.alloc(), ENDED)
+fn transcripts(rt: HostRuntime) -> Result<(), Fail> {
+    for transcript in [BEHIND_FEEDS, ENDED] {
+        plays(&rt, rt.alloc(), transcript)?;
+    }
+    Ok(())
 }

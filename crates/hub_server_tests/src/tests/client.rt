@@ -56,20 +56,25 @@ fn bad(why: &str) -> io::Error {
 
 /// Whether a word is a method.
 fn is_method(word: &str) -> bool {
-    word == "GET" || word == "PUT" || word == "POST" || word == "DELETE"
+    Words::of(word).verb("GET PUT POST DELETE") < 4
+}
+
+/// Has a connection wait so long for its server, and send at once.
+fn prepare(stream: &TcpStream) -> io::Result<()> {
+    stream.set_read_timeout(Some(Duration::from_secs(PATIENCE)))?;
+    stream.set_write_timeout(Some(Duration::from_secs(PATIENCE)))?;
+    stream.set_nodelay(true)
 }
 
 impl Client {
     /// A client of this name.
     pub(crate) fn new(alloc: Global, name: &str, stream: TcpStream) -> io::Result<Client> {
-        stream.set_read_timeout(Some(Duration::from_secs(PATIENCE)))?;
-        stream.set_write_timeout(Some(Duration::from_secs(PATIENCE)))?;
-        stream.set_nodelay(true)?;
-        let reader = BufReader::new(alloc, stream)?;
+        prepare(&stream)?;
+        let name = String::from_str(alloc, name)?;
         Ok(Client {
             alloc,
-            name: String::from_str(alloc, name)?,
-            reader,
+            name,
+            reader: BufReader::new(alloc, stream)?,
             bytes: String::new(alloc),
         })
     }

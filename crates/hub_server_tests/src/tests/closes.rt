@@ -33,11 +33,6 @@ chunks
 200 times
 "#;
 
-#[test]
-fn two_hundred_clients_that_close(rt: HostRuntime) -> Result<(), Fail> {
-    plays(&rt, rt.alloc(), THAT_CLOSE)
-}
-
 const IN_THE_MIDDLE: &str = r##"
 # clients that go in the middle of a head, of a body and of a chunk leave the others as they are, and nothing of what they began
 > server 5 feeds 1
@@ -78,11 +73,6 @@ chunks
 ["d"]\n
 "##;
 
-#[test]
-fn clients_that_go_in_the_middle(rt: HostRuntime) -> Result<(), Fail> {
-    plays(&rt, rt.alloc(), IN_THE_MIDDLE)
-}
-
 const SAYS_NOTHING: &str = "
 # a client that says nothing and goes is served too: the server ends behind it
 > server 1
@@ -90,17 +80,15 @@ const SAYS_NOTHING: &str = "
 > client closes
 ";
 
-#[test]
-fn a_client_that_says_nothing(rt: HostRuntime) -> Result<(), Fail> {
-    plays(&rt, rt.alloc(), SAYS_NOTHING)
-}
-
 const WITHOUT_CLIENTS: &str = "
 # a server of no connections ends
 > server 0
 ";
 
 #[test]
-fn a_server_without_clients(rt: HostRuntime) -> Result<(), Fail> {
-    plays(&rt, rt.alloc(), WITHOUT_CLIENTS)
+fn transcripts(rt: HostRuntime) -> Result<(), Fail> {
+    for transcript in [THAT_CLOSE, IN_THE_MIDDLE, SAYS_NOTHING, WITHOUT_CLIENTS] {
+        plays(&rt, rt.alloc(), transcript)?;
+    }
+    Ok(())
 }

@@ -31,11 +31,6 @@ the same 1000 rows
 the same 1000 rows
 "#;
 
-#[test]
-fn fifty_writers_beside_two_feeds(rt: HostRuntime) -> Result<(), Fail> {
-    plays(&rt, rt.alloc(), WRITERS)
-}
-
 /// The documents are more than sockets hold, the lane, and the items that wait for it. No heartbeat is due in
 /// the feed of the slow client, so that nothing but its rows makes it go on. The feeds end with their
 /// database: a client that goes in a feed is seen only when the next bytes are sent to it.
@@ -67,6 +62,9 @@ yes
 "##;
 
 #[test]
-fn a_client_that_does_not_read(rt: HostRuntime) -> Result<(), Fail> {
-    plays(&rt, rt.alloc(), SLOW)
+fn transcripts(rt: HostRuntime) -> Result<(), Fail> {
+    for transcript in [WRITERS, SLOW] {
+        plays(&rt, rt.alloc(), transcript)?;
+    }
+    Ok(())
 }

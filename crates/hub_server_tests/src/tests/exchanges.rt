@@ -43,11 +43,6 @@ d\r\n
 the end
 "#;
 
-#[test]
-fn the_beginning_of_the_stored_run(rt: HostRuntime) -> Result<(), Fail> {
-    plays(&rt, rt.alloc(), STORED_RUN)
-}
-
 const PUT: &str = r#"
 # a document that is put is shown by the feed, and found
 > server 1
@@ -69,11 +64,6 @@ const PUT: &str = r#"
 {"_id":"a","_rev":"1-91e3da135d1d0593e6703385cf55957a","v":7}\n
 "#;
 
-#[test]
-fn a_document_that_is_put(rt: HostRuntime) -> Result<(), Fail> {
-    plays(&rt, rt.alloc(), PUT)
-}
-
 const BEHIND: &str = r#"
 # requests may come before earlier ones are answered
 > server 1
@@ -87,11 +77,6 @@ const BEHIND: &str = r#"
 200 OK
 {"db_name":"d","doc_count":50,"doc_del_count":0,"update_seq":"50-1","instance_start_time":"0"}\n
 "#;
-
-#[test]
-fn requests_behind_one_another(rt: HostRuntime) -> Result<(), Fail> {
-    plays(&rt, rt.alloc(), BEHIND)
-}
 
 const CLOSED: &str = r#"
 # a connection that asks to be closed is, and the others go on
@@ -109,11 +94,6 @@ the end
 ["d"]\n
 "#;
 
-#[test]
-fn a_connection_that_asks_to_be_closed(rt: HostRuntime) -> Result<(), Fail> {
-    plays(&rt, rt.alloc(), CLOSED)
-}
-
 const TOO_LONG: &str = r#"
 # a body that is too long is refused before it was read, and the client that sends it reads the refusal
 > server 1
@@ -128,11 +108,6 @@ const TOO_LONG: &str = r#"
 the end
 "#;
 
-#[test]
-fn a_body_that_is_too_long(rt: HostRuntime) -> Result<(), Fail> {
-    plays(&rt, rt.alloc(), TOO_LONG)
-}
-
 const TOO_LONG_SLOWLY: &str = r#"
 # a client that goes on sending a body which was refused reads the refusal behind it
 > server 1
@@ -146,6 +121,9 @@ const TOO_LONG_SLOWLY: &str = r#"
 "#;
 
 #[test]
-fn a_body_that_is_refused_while_it_is_sent(rt: HostRuntime) -> Result<(), Fail> {
-    plays(&rt, rt.alloc(), TOO_LONG_SLOWLY)
+fn transcripts(rt: HostRuntime) -> Result<(), Fail> {
+    for transcript in [STORED_RUN, PUT, BEHIND, CLOSED, TOO_LONG, TOO_LONG_SLOWLY] {
+        plays(&rt, rt.alloc(), transcript)?;
+    }
+    Ok(())
 }

@@ -24,11 +24,6 @@ yes
 {"ok":true,"id":"a","rev":"1-dfddbf319adb018d1e5ac3465b83542c"}\n
 "#;
 
-#[test]
-fn a_writer_that_is_held_holds_no_other(rt: HostRuntime) -> Result<(), Fail> {
-    plays(&rt, rt.alloc(), WRITER)
-}
-
 /// A pump is held inside the lock of `x`, and a write to `x` waits for that lock, to which it comes in the
 /// pause: `y` is read meanwhile, and `z` is made, which needs the names alone.
 const DATABASE: &str = r#"
@@ -62,6 +57,9 @@ yes
 "#;
 
 #[test]
-fn a_database_that_is_held_holds_no_other(rt: HostRuntime) -> Result<(), Fail> {
-    plays(&rt, rt.alloc(), DATABASE)
+fn transcripts(rt: HostRuntime) -> Result<(), Fail> {
+    for transcript in [WRITER, DATABASE] {
+        plays(&rt, rt.alloc(), transcript)?;
+    }
+    Ok(())
 }

@@ -68,11 +68,6 @@ chunks
 {"error":"too_many_feeds","reason":"too many feeds"}\n
 "#;
 
-#[test]
-fn a_thousand_clients_that_go(rt: HostRuntime) -> Result<(), Fail> {
-    plays(&rt, rt.alloc(), THOUSAND)
-}
-
 /// The feed of a client that goes without reading what was sent is gone, though nothing is written and no
 /// heartbeat is due: its system says so.
 const BEFORE_IT_READ: &str = r#"
@@ -90,6 +85,9 @@ const BEFORE_IT_READ: &str = r#"
 "#;
 
 #[test]
-fn a_client_that_goes_before_it_read(rt: HostRuntime) -> Result<(), Fail> {
-    plays(&rt, rt.alloc(), BEFORE_IT_READ)
+fn transcripts(rt: HostRuntime) -> Result<(), Fail> {
+    for transcript in [THOUSAND, BEFORE_IT_READ] {
+        plays(&rt, rt.alloc(), transcript)?;
+    }
+    Ok(())
 }

@@ -58,12 +58,6 @@ yes
 yes
 "#;
 
-#[test]
-fn a_request_that_is_held_beside_many(rt: HostRuntime) -> Result<(), Fail> {
-    plays(&rt, rt.alloc(), REQUEST)?;
-    plays(&rt, rt.alloc(), GOES)
-}
-
 /// A lock that is held holds up no call on another database, though more calls wait for it than there are
 /// workers. The writes come to the lock in the pause.
 const LOCK: &str = r#"
@@ -100,6 +94,9 @@ yes
 "#;
 
 #[test]
-fn a_lock_that_is_held_beside_many(rt: HostRuntime) -> Result<(), Fail> {
-    plays(&rt, rt.alloc(), LOCK)
+fn transcripts(rt: HostRuntime) -> Result<(), Fail> {
+    for transcript in [REQUEST, GOES, LOCK] {
+        plays(&rt, rt.alloc(), transcript)?;
+    }
+    Ok(())
 }

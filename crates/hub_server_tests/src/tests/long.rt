@@ -23,11 +23,6 @@ const FILLED: &str = r#"
 {"_id":"a","_rev":"1-595b577f00833f3286f24543198997bb","text":"<4000>"}\n
 "#;
 
-#[test]
-fn answers_that_fill_the_socket(rt: HostRuntime) -> Result<(), Fail> {
-    plays(&rt, rt.alloc(), FILLED)
-}
-
 /// Clients that go while a long answer is sent to them leave nothing of it: as many feeds as there may be can
 /// be had behind them.
 const THAT_GO: &str = r##"
@@ -57,6 +52,9 @@ const THAT_GO: &str = r##"
 "##;
 
 #[test]
-fn clients_that_go_in_long_answers(rt: HostRuntime) -> Result<(), Fail> {
-    plays(&rt, rt.alloc(), THAT_GO)
+fn transcripts(rt: HostRuntime) -> Result<(), Fail> {
+    for transcript in [FILLED, THAT_GO] {
+        plays(&rt, rt.alloc(), transcript)?;
+    }
+    Ok(())
 }

@@ -51,12 +51,10 @@ impl<R: Host> Subject<R> for Room {
 
     fn answer(&mut self, rt: &R, command: &str, answer: &mut Answer) -> Result<(), AllocError> {
         let mut said = String::new(self.alloc);
-        let done = self.done(rt, command, &mut said);
-        answer.text(said.as_str())?;
-        match done {
-            Ok(()) => Ok(()),
-            Err(error) => answer.line(error),
+        if let Err(error) = self.done(rt, command, &mut said) {
+            writeln!(said, "{error}")?;
         }
+        answer.text(said.as_str())
     }
 }
 
@@ -95,32 +93,34 @@ impl Room {
     /// Does what one command says.
     fn once(&mut self, rt: &impl Host, command: &str, answer: &mut String) -> io::Result<()> {
         let mut words = Words::of(command);
+        match words.verb("server gate pause") {
+            0 => Ok(()),
+            1 => gate(rt, words.word(), answer),
+            2 => pause(rt, words.word(), answer),
+            _ => self.have(rt, command, answer),
+        }
+    }
+
+    /// Has a client do what one command says, which begins with its name.
+    fn have(&mut self, rt: &impl Host, command: &str, answer: &mut String) -> io::Result<()> {
+        let mut words = Words::of(command);
         let name = words.word();
-        if name == "server" {
-            return Ok(());
-        }
-        if name == "gate" {
-            return gate(rt, words.word(), answer);
-        }
-        if name == "pause" {
-            return pause(rt, words.word(), answer);
-        }
         let rest = words.rest();
-        let verb = words.word();
-        if verb == "connects" {
+        let verb = words.verb("connects closes rows lines");
+        if verb == 0 {
             return self.connect(rt, name);
         }
         let Some(place) = self.place(name) else {
             return Ok(say(answer, "no such client")?);
         };
-        if verb == "closes" {
-            self.close(place);
-            return Ok(());
+        match verb {
+            1 => {
+                self.close(place);
+                Ok(())
+            }
+            2 | 3 => self.rows(place, verb == 2, words.rest(), answer),
+            _ => self.act(rt, place, rest, answer),
         }
-        if verb == "rows" || verb == "lines" {
-            return self.rows(place, verb, words.rest(), answer);
-        }
-        self.act(rt, place, rest, answer)
     }
 
     /// A new client.
@@ -168,14 +168,14 @@ impl Room {
     fn rows(
         &mut self,
         place: usize,
-        verb: &str,
+        are_counted: bool,
         text: &str,
         answer: &mut String,
     ) -> io::Result<()> {
         let Some(client) = self.clients.get_mut(place) else {
             return Ok(());
         };
-        let rows = if verb == "rows" {
+        let rows = if are_counted {
             client.rows(text.parse().unwrap_or(0))?
         } else {
             client.lines(text)?
@@ -198,31 +198,48 @@ impl Room {
         let outer = words.number().max(1);
         let mut runs = Runs::new(self.alloc);
         for at in 1..=outer {
-            for number in 1..=inner {
-                let said = self.round(rt, commands, number, at)?;
-                runs.add(said, answer)?;
-            }
+            self.rounds(rt, commands, inner, at, &mut runs, answer)?;
         }
         runs.end(answer)
     }
 
-    /// Does commands for one number. Their answers.
-    fn round(
+    /// Does commands for each number, at one of the outer ones.
+    fn rounds(
         &mut self,
         rt: &impl Host,
         commands: &str,
-        number: u64,
+        inner: u64,
         at: u64,
-    ) -> io::Result<String> {
-        let number = format!(in self.alloc; "{number}")?;
-        let at = format!(in self.alloc; "{at}")?;
-        let commands = commands.replace(self.alloc, "#", number.as_str())?;
-        let commands = commands.as_str().replace(self.alloc, "@", at.as_str())?;
-        let mut said = String::new(self.alloc);
-        for command in commands.as_str().split("; ") {
-            self.once(rt, command, &mut said)?;
+        runs: &mut Runs,
+        answer: &mut String,
+    ) -> io::Result<()> {
+        for number in 1..=inner {
+            let commands = self.numbered(commands, number, at)?;
+            let mut said = String::new(self.alloc);
+            self.round(rt, commands.as_str(), &mut said)?;
+            runs.add(said, answer)?;
         }
-        Ok(said)
+        Ok(())
+    }
+
+    /// A text with a number for a sign.
+    fn replaced(&self, text: &str, sign: &str, number: u64) -> io::Result<String> {
+        let number = format!(in self.alloc; "{number}")?;
+        Ok(text.replace(self.alloc, sign, number.as_str())?)
+    }
+
+    /// Commands for one number.
+    fn numbered(&self, commands: &str, number: u64, at: u64) -> io::Result<String> {
+        let commands = self.replaced(commands, "#", number)?;
+        self.replaced(commands.as_str(), "@", at)
+    }
+
+    /// Does commands behind one another.
+    fn round(&mut self, rt: &impl Host, commands: &str, said: &mut String) -> io::Result<()> {
+        for command in commands.split("; ") {
+            self.once(rt, command, said)?;
+        }
+        Ok(())
     }
 }
 

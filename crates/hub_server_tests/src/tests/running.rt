@@ -202,6 +202,20 @@ fn point(name: &str, number: u64) -> Option<Point> {
     None
 }
 
+/// The server that the first command of a transcript says: for how many connections, and the name and the
+/// number of what it has. None where no command says one, or several do.
+fn server_of(transcript: &str) -> Option<(u64, &str, u64)> {
+    let (_, commands) = transcript.split_once("\n> server ")?;
+    if commands.contains("\n> server ") {
+        return None;
+    }
+    let (server, _) = commands.split_once('\n').unwrap_or((commands, ""));
+    let mut words = Words::of(server);
+    let count = words.word().parse().ok()?;
+    let name = words.word();
+    Some((count, name, words.number()))
+}
+
 /// Starts the server that the first command of a transcript says. What its gate tells goes to the scene.
 fn serve<R>(rt: &R, transcript: &str, scene: &Arc<Scene, Global>) -> Result<Running, Fail>
 where
@@ -215,18 +229,12 @@ where
         + Drop
         + 'static,
 {
-    let (_, commands) = transcript.split_once("\n> server ").unwrap_or(("", ""));
-    let (server, _) = commands.split_once('\n').unwrap_or(("", ""));
-    let mut words = Words::of(server);
-    let count = words.word().parse();
-    let name = words.word();
-    let number = words.number();
-    let (Ok(count), Some(limits)) = (count, limits(name, number)) else {
-        return Err(Fail::new("no server"));
+    let Some((count, name, number)) = server_of(transcript) else {
+        return Err(Fail::new("not one server"));
     };
-    if commands.contains("\n> server ") {
-        return Err(Fail::new("more servers"));
-    }
+    let Some(limits) = limits(name, number) else {
+        return Err(Fail::new("no such server"));
+    };
     let gate = Held {
         rt: *rt,
         held: point(name, number),
@@ -259,7 +267,7 @@ where
     replay::<Room, _>(&(*rt, place), alloc, transcript)?;
     assert!(rt;
         server.ends(rt),
-        "the server did not serve all connections to their ends"
+        "the server did not serve all connections to their ends: {transcript}"
     );
     Ok(())
 }

@@ -219,11 +219,6 @@ const TAKEN_BACK: &str = r#"
 "last_seq":"2-0"}\n
 "#;
 
-#[test]
-fn sequences_that_are_taken_back(rt: HostRuntime) -> Result<(), Fail> {
-    plays(&rt, rt.alloc(), TAKEN_BACK)
-}
-
 const REMOVED: &str = r#"
 # a database that is made in place of one that was removed shows everything behind a sequence of that one
 > server 1
@@ -286,11 +281,6 @@ const REMOVED: &str = r#"
 ],\n
 "last_seq":"2-2","pending":0}\n
 "#;
-
-#[test]
-fn a_sequence_of_a_removed_database(rt: HostRuntime) -> Result<(), Fail> {
-    plays(&rt, rt.alloc(), REMOVED)
-}
 
 /// Values that are no sequence: a part is missing, is no number or is past 64 bits, there are three parts, or
 /// quotes stand alone or twice.
@@ -415,6 +405,9 @@ const NO_SEQUENCE: &str = r#"
 "#;
 
 #[test]
-fn values_that_are_no_sequence(rt: HostRuntime) -> Result<(), Fail> {
-    plays(&rt, rt.alloc(), NO_SEQUENCE)
+fn transcripts(rt: HostRuntime) -> Result<(), Fail> {
+    for transcript in [TAKEN_BACK, REMOVED, NO_SEQUENCE] {
+        plays(&rt, rt.alloc(), transcript)?;
+    }
+    Ok(())
 }

@@ -25,11 +25,6 @@ const SENDS: &str = r#"
 {"_id":"slow","_rev":"1-aaa1e3e67340ea5001b4c28c26b9f855","v":7}\n
 "#;
 
-#[test]
-fn a_client_that_sends_slowly(rt: HostRuntime) -> Result<(), Fail> {
-    plays(&rt, rt.alloc(), SENDS)
-}
-
 /// A client that takes a byte now and then of an answer, which is longer than what sockets hold, holds up no
 /// other, and gets its bytes.
 const READS: &str = r##"
@@ -127,6 +122,9 @@ the end
 "##;
 
 #[test]
-fn a_client_that_reads_slowly(rt: HostRuntime) -> Result<(), Fail> {
-    plays(&rt, rt.alloc(), READS)
+fn transcripts(rt: HostRuntime) -> Result<(), Fail> {
+    for transcript in [SENDS, READS] {
+        plays(&rt, rt.alloc(), transcript)?;
+    }
+    Ok(())
 }

@@ -27,11 +27,6 @@ chunks
 the end
 "#;
 
-#[test]
-fn a_longpoll_that_another_answers(rt: HostRuntime) -> Result<(), Fail> {
-    plays(&rt, rt.alloc(), LONGPOLL)
-}
-
 const CONTINUOUS: &str = r#"
 # a continuous feed beats while nothing is written, goes on behind its rows, and ends with its database
 > server 2
@@ -63,11 +58,6 @@ chunks
 the last
 "#;
 
-#[test]
-fn a_continuous_feed_that_beats(rt: HostRuntime) -> Result<(), Fail> {
-    plays(&rt, rt.alloc(), CONTINUOUS)
-}
-
 const UPDATES: &str = r#"
 # a feed of the log of updates tells what another connection does, and ends with its time
 > server 2
@@ -88,6 +78,9 @@ the last
 "#;
 
 #[test]
-fn a_feed_of_updates(rt: HostRuntime) -> Result<(), Fail> {
-    plays(&rt, rt.alloc(), UPDATES)
+fn transcripts(rt: HostRuntime) -> Result<(), Fail> {
+    for transcript in [LONGPOLL, CONTINUOUS, UPDATES] {
+        plays(&rt, rt.alloc(), transcript)?;
+    }
+    Ok(())
 }
