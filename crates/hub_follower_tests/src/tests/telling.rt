@@ -128,7 +128,7 @@ struct Leaves {
 }
 
 // Those of two peers.
-fn leaves<S: Peer, T: Peer>(
+fn leaves_of_both<S: Peer, T: Peer>(
     alloc: Global,
     source: &mut S,
     target: &mut T,
@@ -151,7 +151,7 @@ pub(crate) fn agree<S: Peer, T: Peer>(
     ids: &str,
 ) -> Result<bool, AllocError> {
     for id in ids.split(' ') {
-        let leaves = leaves(alloc, source, target, id)?;
+        let leaves = leaves_of_both(alloc, source, target, id)?;
         if leaves.source != leaves.target {
             return Ok(false);
         }
@@ -167,7 +167,7 @@ pub(crate) fn tell_leaves<P: Peer>(
     id: &str,
     answer: &mut Answer,
 ) -> Result<(), AllocError> {
-    let leaves = leaves(alloc, source, target, id)?;
+    let leaves = leaves_of_both(alloc, source, target, id)?;
     let source = text_of(leaves.source.as_slice())?;
     let target = text_of(leaves.target.as_slice())?;
     answer.line(format_args!("source{source}\ntarget{target}"))
