@@ -7,8 +7,76 @@ use std::fmt::Write;
 /// The ids of the documents.
 pub(crate) const IDS: &str = "a b c _design/x";
 
-// The same in a query.
-const QUOTED: &str = "%22a%22 %22b%22 %22c%22 %22_design/x%22";
+// The parts of a command. Each line has the name of a part, a weight, and a text that the part may be, in which
+// the names of other parts stand between `<` and `>`. The weights of a part are `WEIGHTS` together. Three parts
+// are none of these (`Maker::part`).
+const RULES: &str = r#"
+event 1 delete
+event 6 write <document>
+event 6 write <document> <document>
+event 6 write <document> <document> <document>
+event 6 make <draft>
+event 6 make <draft> <draft>
+event 12 begin <query>
+event 1 empty <query>
+event 42 hand <feed>
+event 8 beat <feed>
+event 4 expire <feed>
+event 18 take <feed>
+event 4 finish <feed>
+document 108 {"_id":"<id>","_revisions":{<history>},<members>}
+document 12 <draft>
+history 40 "start":1,"ids":[<hash>]
+history 20 "start":2,"ids":[<hash>]
+history 20 "start":2,"ids":[<hash>,<hash>]
+history 14 "start":3,"ids":[<hash>]
+history 13 "start":3,"ids":[<hash>,<hash>]
+history 13 "start":3,"ids":[<hash>,<hash>,<hash>]
+hash 40 "a"
+hash 40 "b"
+hash 40 "c"
+draft 40 ~{"_id":"<id>",<members>}
+draft 80 ~{"_id":"<id>","_rev":"<rev>",<members>}
+rev 90 <known>
+rev 8 1-a
+rev 8 1-b
+rev 7 2-a
+rev 7 2-b
+members 40 "v":<bit>,"_deleted":true
+members 80 "v":<bit>,"_deleted":false
+bit 60 0
+bit 60 1
+id 30 a
+id 30 b
+id 30 c
+id 30 _design/x
+query 60 <mode><since><limit><filter>&style=main_only
+query 60 <mode><since><limit><filter>&style=all_docs
+mode 40 feed=normal<more>
+mode 40 feed=longpoll<more>
+mode 40 feed=continuous<more>
+more 30
+more 30 &heartbeat=1000
+more 30 &include_docs=true
+more 30 &heartbeat=1000&include_docs=true
+since 48
+since 24 &since=now
+since 24 &since=<number>
+since 8 &since=<number>-0
+since 8 &since=<number>-1
+since 8 &since=<number>-2
+limit 87
+limit 11 &limit=1
+limit 11 &limit=2
+limit 11 &limit=3
+filter 60
+filter 30 &filter=_design
+filter 10 &filter=_doc_ids&doc_ids=%5B%5D
+filter 10 &filter=_doc_ids&doc_ids=%5B%22<id>%22%5D
+filter 10 &filter=_doc_ids&doc_ids=%5B%22<id>%22,%22<id>%22%5D
+"#;
+
+const WEIGHTS: u64 = 120;
 
 /// A linear congruential generator.
 #[derive(Clone, Copy)]
@@ -39,17 +107,40 @@ pub(crate) fn word_at<'a>(words: &'a str, place: u64) -> &'a str {
     words.word()
 }
 
+// The text of a part that a number below `WEIGHTS` stands for.
+fn text_of(part: &str, number: u64) -> &'static str {
+    let mut left = number;
+    for line in RULES.split('\n') {
+        let mut words = Words::of(line);
+        if words.word() == part {
+            let weight = words.number();
+            if left < weight {
+                return words.rest();
+            }
+            left -= weight;
+        }
+    }
+    ""
+}
+
+// The place among `IDS` of the id of the document at this place of a command; `usize::MAX` where there is none.
+fn place_of(command: &str, at: usize) -> usize {
+    let doc = command.split(r#""_id":""#).skip(1).nth(at).unwrap_or("");
+    let (id, _) = doc.split_once('"').unwrap_or(("", ""));
+    Words::of(id).verb(IDS)
+}
+
 /// A maker of commands, and what it knows of the replies.
 #[derive(Drop)]
 pub(crate) struct Maker {
     pub(crate) random: Random,
     /// The command that was made last.
     pub(crate) command: String,
-    /// The places among `IDS` of the documents that it brings, in order.
-    pub(crate) places: Vec<u64>,
-    /// The revisions that the replies told, a blank behind each, and how many they are.
-    pub(crate) revs: String,
-    pub(crate) rev_count: u64,
+    /// What is still to be made of it, the next text last.
+    texts: Vec<&'static str>,
+    /// The revision 1-a and those that the replies told, a blank behind each, and how many they are.
+    revs: String,
+    rev_count: u64,
     /// How many feeds were opened.
     pub(crate) feeds: u64,
     /// How many documents were stored.
@@ -63,7 +154,7 @@ impl Maker {
         Maker {
             random,
             command: String::new(alloc),
-            places: Vec::new(alloc),
+            texts: Vec::new(alloc),
             revs: String::new(alloc),
             rev_count: 0,
             feeds: 0,
@@ -72,11 +163,21 @@ impl Maker {
         }
     }
 
+    /// Forgets all replies.
+    pub(crate) fn forget(&mut self) -> Result<(), AllocError> {
+        self.feeds = 0;
+        self.length = 0;
+        self.last = [0; 4];
+        self.rev_count = 1;
+        self.revs.clear();
+        self.revs.push_str("1-a ")
+    }
+
     // Notes a document of the id at this place that was told to be stored under a revision.
-    fn store(&mut self, place: u64, rev: &str) -> Result<(), AllocError> {
+    fn store(&mut self, place: usize, rev: &str) -> Result<(), AllocError> {
         self.length = self.length.saturating_add(1);
         if place < 4 {
-            self.last[place as usize] = self.length;
+            self.last[place] = self.length;
         }
         self.rev_count = self.rev_count.saturating_add(1);
         write!(self.revs, "{rev} ")
@@ -87,132 +188,14 @@ impl Maker {
         if reply.starts_with("opened") {
             self.feeds = self.feeds.saturating_add(1);
         }
-        for at in 0..self.places.len() {
+        for at in 0..3usize {
+            let place = place_of(self.command.as_str(), at);
             let word = word_at(reply, (at as u64).saturating_add(1));
-            let place = self.places.get(at).copied().unwrap_or(0);
-            if word.contains('-') {
+            if place < 4 && word.contains('-') {
                 self.store(place, word)?;
             }
         }
         Ok(())
-    }
-
-    // Writes one of so many words.
-    fn put_one(&mut self, count: u64, words: &str) -> Result<(), AllocError> {
-        let place = self.random.below(count);
-        self.command.push_str(word_at(words, place))
-    }
-
-    // Writes the beginning of a document: a blank, and its id.
-    fn put_id(&mut self, mark: &str) -> Result<(), AllocError> {
-        let place = self.random.below(4);
-        self.places.push(place)?;
-        write!(self.command, r#" {mark}{{"_id":"{}","#, word_at(IDS, place))
-    }
-
-    // Writes the end of a document: its members.
-    fn put_members(&mut self) -> Result<(), AllocError> {
-        self.put_one(2, r#""v":0, "v":1,"#)?;
-        self.put_one(3, r#""_deleted":true} "_deleted":false} "_deleted":false}"#)
-    }
-
-    // Writes a document with a history of one to three revisions, which may end above the first generation.
-    fn put_historical(&mut self) -> Result<(), AllocError> {
-        self.put_id("")?;
-        let start = self.random.below(3).saturating_add(1);
-        write!(self.command, r#""_revisions":{{"start":{start},"ids":["#)?;
-        self.put_one(3, r#""a" "b" "c""#)?;
-        for _ in 0..self.random.below(start) {
-            self.put_one(3, r#","a" ,"b" ,"c""#)?;
-        }
-        self.command.push_str("]},")?;
-        self.put_members()
-    }
-
-    // Writes the revision of a document: one that was told, or one of a few.
-    fn put_rev(&mut self) -> Result<(), AllocError> {
-        self.command.push_str(r#""_rev":""#)?;
-        if self.rev_count == 0 || self.random.below(4) == 0 {
-            self.put_one(4, "1-a 1-b 2-a 2-b")?;
-        } else {
-            let place = self.random.below(self.rev_count);
-            self.command.push_str(word_at(self.revs.as_str(), place))?;
-        }
-        self.command.push_str(r#"","#)
-    }
-
-    // Writes a document whose revision is to be made.
-    fn put_drafted(&mut self) -> Result<(), AllocError> {
-        self.put_id("~")?;
-        if self.random.below(3) > 0 {
-            self.put_rev()?;
-        }
-        self.put_members()
-    }
-
-    // Documents with histories; now and then one without.
-    fn put_write(&mut self) -> Result<(), AllocError> {
-        self.command.push_str("write")?;
-        for _ in 0..=self.random.below(3) {
-            if self.random.below(10) == 0 {
-                self.put_drafted()?;
-            } else {
-                self.put_historical()?;
-            }
-        }
-        Ok(())
-    }
-
-    // Documents whose revisions are to be made.
-    fn put_make(&mut self) -> Result<(), AllocError> {
-        self.command.push_str("make")?;
-        for _ in 0..=self.random.below(2) {
-            self.put_drafted()?;
-        }
-        Ok(())
-    }
-
-    // Where a feed begins.
-    fn put_since(&mut self) -> Result<(), AllocError> {
-        let (seq, life) = (self.random.below(16), self.random.below(3));
-        match self.random.below(5) {
-            0 => self.command.push_str("&since=now"),
-            1 => write!(self.command, "&since={seq}"),
-            2 => write!(self.command, "&since={seq}-{life}"),
-            _ => Ok(()),
-        }
-    }
-
-    // A filter by at most two ids.
-    fn put_doc_ids(&mut self) -> Result<(), AllocError> {
-        self.command.push_str("&filter=_doc_ids&doc_ids=%5B")?;
-        let count = self.random.below(3);
-        if count > 0 {
-            self.put_one(4, QUOTED)?;
-        }
-        if count > 1 {
-            self.command.push_str(",")?;
-            self.put_one(4, QUOTED)?;
-        }
-        self.command.push_str("%5D")
-    }
-
-    // A feed, which may show no row at all.
-    fn put_begin(&mut self) -> Result<(), AllocError> {
-        let is_empty = self.random.below(12) == 0;
-        self.command
-            .push_str(if is_empty { "empty " } else { "begin " })?;
-        self.put_one(3, "feed=normal feed=longpoll feed=continuous")?;
-        self.put_since()?;
-        self.put_one(11, "&limit=1 &limit=2 &limit=3 ")?;
-        self.put_one(2, "&style=main_only &style=all_docs")?;
-        self.put_one(2, "&heartbeat=1000 ")?;
-        self.put_one(2, "&include_docs=true ")?;
-        match self.random.below(4) {
-            0 => self.command.push_str("&filter=_design"),
-            1 => self.put_doc_ids(),
-            _ => Ok(()),
-        }
     }
 
     // The number of a feed: mostly one of the last two, now and then any, or one that there is not.
@@ -224,41 +207,51 @@ impl Maker {
         self.feeds.saturating_sub(back)
     }
 
+    // Makes a part. A feed is told by its number, `number` is one below 16, and `known` a revision that a reply
+    // told.
+    fn part(&mut self, part: &str) -> Result<(), AllocError> {
+        match Words::of(part).verb("feed number known") {
+            0 => {
+                let feed = self.feed();
+                write!(self.command, "{feed}")
+            }
+            1 => {
+                let number = self.random.below(16);
+                write!(self.command, "{number}")
+            }
+            2 => {
+                let place = self.random.below(self.rev_count);
+                self.command.push_str(word_at(self.revs.as_str(), place))
+            }
+            _ => {
+                let number = self.random.below(WEIGHTS);
+                self.texts.push(text_of(part, number))?;
+                Ok(())
+            }
+        }
+    }
+
+    // Goes on with a text: up to its first part, and with that.
+    fn go_on(&mut self, text: &'static str) -> Result<(), AllocError> {
+        let (front, rest) = text.split_once('<').unwrap_or((text, ""));
+        self.command.push_str(front)?;
+        let Some((part, rest)) = rest.split_once('>') else {
+            return Ok(());
+        };
+        self.texts.push(rest)?;
+        self.part(part)
+    }
+
     /// Makes the next command.
     pub(crate) fn make(&mut self) -> Result<(), AllocError> {
         self.command.clear();
-        self.places.clear();
-        let number = self.random.below(200);
-        if number == 0 {
-            return self.command.push_str("delete");
+        self.texts.push("<event>")?;
+        for _ in 0..1000 {
+            match self.texts.pop() {
+                Some(text) => self.go_on(text)?,
+                None => break,
+            }
         }
-        if number <= 30 {
-            return self.put_write();
-        }
-        if number <= 50 {
-            return self.put_make();
-        }
-        if number <= 72 {
-            return self.put_begin();
-        }
-        let feed = self.feed();
-        write!(self.command, "{} {feed}", step_of(number))
+        Ok(())
     }
-}
-
-// The step of a feed that a number stands for.
-fn step_of(number: u64) -> &'static str {
-    if number <= 142 {
-        return "hand";
-    }
-    if number <= 156 {
-        return "beat";
-    }
-    if number <= 162 {
-        return "expire";
-    }
-    if number <= 192 {
-        return "take";
-    }
-    "finish"
 }

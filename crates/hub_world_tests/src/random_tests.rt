@@ -7,31 +7,31 @@ use std::alloc::{AllocError, Global};
 use std::fmt::Write;
 use std::test::Fail;
 
-// A database to which random events happen.
+// A database to which random events happen, and all that their replies tell, a line each.
 #[derive(Drop)]
 struct Run {
     alloc: Global,
     shell: Shell,
     maker: Maker,
+    replies: String,
 }
 
 impl Run {
-    // Small limits.
-    fn new(alloc: Global, random: Random) -> Result<Run, AllocError> {
-        let mut shell = Shell::new(alloc)?;
-        shell.room("2 2 12")?;
+    fn new(alloc: Global) -> Result<Run, AllocError> {
+        let shell = Shell::new(alloc)?;
         Ok(Run {
             alloc,
             shell,
-            maker: Maker::new(alloc, random),
+            maker: Maker::new(alloc, Random { state: 20_260_101 }),
+            replies: String::new(alloc),
         })
     }
 
-    // One more event, whose reply goes to the end of `all`.
-    fn step(&mut self, all: &mut String) -> Result<(), AllocError> {
+    // One more event.
+    fn step(&mut self) -> Result<(), AllocError> {
         self.maker.make()?;
         self.shell.apply(self.maker.command.as_str())?;
-        writeln!(all, "{}", self.shell.last())?;
+        writeln!(self.replies, "{}", self.shell.last())?;
         self.maker.note(self.shell.last())
     }
 
@@ -78,6 +78,27 @@ impl Run {
         }
         self.shows("took end ")
     }
+
+    // Whether random events to a new database with small limits leave the rows that were told.
+    fn is_right(&mut self) -> Result<bool, AllocError> {
+        self.shell.room("2 2 12")?;
+        self.maker.forget()?;
+        for _ in 0..100 {
+            self.step()?;
+        }
+        let (seq, life) = (self.maker.random.below(16), self.maker.random.below(3));
+        self.rows_are_told(seq, life)
+    }
+
+    // How many of 20 databases are right, before the first that is not.
+    fn count_right(&mut self) -> Result<u64, AllocError> {
+        for number in 0..20 {
+            if !self.is_right()? {
+                return Ok(number);
+            }
+        }
+        Ok(20)
+    }
 }
 
 // What the replies tell, one of each kind.
@@ -102,28 +123,6 @@ gone
 left 0
 left 1";
 
-// Whether random events to a new database leave the rows that were told. Their replies go to the end of `all`.
-fn is_right(alloc: Global, random: &mut Random, all: &mut String) -> Result<bool, AllocError> {
-    let mut run = Run::new(alloc, *random)?;
-    for _ in 0..100 {
-        run.step(all)?;
-    }
-    *random = run.maker.random;
-    let (seq, life) = (random.below(16), random.below(3));
-    run.rows_are_told(seq, life)
-}
-
-// How many of 20 runs are right, before the first that is not.
-fn count_right(alloc: Global, all: &mut String) -> Result<u64, AllocError> {
-    let mut random = Random { state: 20_260_101 };
-    for number in 0..20 {
-        if !is_right(alloc, &mut random, all)? {
-            return Ok(number);
-        }
-    }
-    Ok(20)
-}
-
 // The first kind of reply that did not come.
 fn missing(all: &str) -> &'static str {
     for kind in KINDS.split('\n') {
@@ -136,8 +135,8 @@ fn missing(all: &str) -> &'static str {
 
 #[test]
 fn each_reply_comes_and_the_rows_are_those_that_were_told(rt: HostRuntime) -> Result<(), Fail> {
-    let mut all = String::new(rt.alloc());
-    assert_eq!(rt; count_right(rt.alloc(), &mut all)?, 20);
-    assert_eq!(rt; missing(all.as_str()), "");
+    let mut run = Run::new(rt.alloc())?;
+    assert_eq!(rt; run.count_right()?, 20);
+    assert_eq!(rt; missing(run.replies.as_str()), "");
     Ok(())
 }

@@ -30,7 +30,7 @@ pub(crate) struct Shell {
     world: World,
     // The events so far, a line each.
     commands: String,
-    // What the last reply tells.
+    // What the last reply tells, or all those of a run.
     last: String,
 }
 
@@ -60,27 +60,25 @@ fn number(text: &str) -> Result<u64, AllocError> {
     }
 }
 
-// The event that these documents come, but so many of the first; an error where they find no memory, and each
-// time where a text is none.
-fn write(alloc: Global, texts: &str, skipped: usize, new_edits: bool) -> Result<Event, AllocError> {
+// The document of a text; an error where it finds no memory, and each time where the text is none. Behind `~`,
+// and where all revisions are to be made, it has no history.
+fn doc(alloc: Global, text: &str, new_edits: bool) -> Result<Doc, AllocError> {
+    let bare = text.strip_prefix('~').unwrap_or(text);
+    match Doc::read(alloc, bare.as_bytes(), new_edits || bare.len() < text.len()) {
+        Ok(doc) => Ok(doc),
+        Err(_) => Err(AllocError),
+    }
+}
+
+// The documents of these texts, but so many of the first.
+fn docs(alloc: Global, texts: &str, skipped: usize, new_edits: bool) -> Result<Docs, AllocError> {
     let mut list = Vec::new(alloc);
     for text in texts.split(' ').skip(skipped) {
-        if text == "" {
-            break;
+        if !text.is_empty() {
+            list.push(doc(alloc, text, new_edits)?)?;
         }
-        let bare = text.strip_prefix('~').unwrap_or(text);
-        let is_made = new_edits || bare.len() < text.len();
-        let Ok(doc) = Doc::read(alloc, bare.as_bytes(), is_made) else {
-            return Err(AllocError);
-        };
-        list.push(doc)?;
     }
-    let docs = Docs { list };
-    Ok(if new_edits {
-        Event::Interactive(docs)
-    } else {
-        Event::Write(docs)
-    })
+    Ok(Docs { list })
 }
 
 // The event that opens a feed, which may show no row where that is said.
@@ -98,8 +96,8 @@ fn begin(alloc: Global, query: &str, is_empty: bool) -> Result<Event, AllocError
 fn event(alloc: Global, command: &str, skipped: usize) -> Result<Event, AllocError> {
     let (verb, rest) = command.split_once(' ').unwrap_or((command, ""));
     match Words::of(verb).verb("write make begin empty delete") {
-        0 => write(alloc, rest, skipped, false),
-        1 => write(alloc, rest, skipped, true),
+        0 => Ok(Event::Write(docs(alloc, rest, skipped, false)?)),
+        1 => Ok(Event::Interactive(docs(alloc, rest, skipped, true)?)),
         2 => begin(alloc, rest, false),
         3 => begin(alloc, rest, true),
         4 => Ok(Event::Delete),
@@ -162,16 +160,22 @@ impl Shell {
     /// and it comes again with those behind it.
     pub(crate) fn apply(&mut self, command: &str) -> Result<(), AllocError> {
         let event = event(self.alloc, command, 0)?;
-        let reply = self.world.apply(event)?;
-        self.last.clear();
-        put_reply(&mut self.last, &reply)?;
-        let Reply::Outcomes(batch) = &reply else {
-            return Ok(());
-        };
-        if batch.stopped {
-            return self.apply_rest(command, batch.replies.as_slice().len());
+        match self.world.apply(event) {
+            Ok(reply) => self.tell(command, &reply),
+            Err(AllocError) => Err(AllocError),
         }
-        Ok(())
+    }
+
+    // Keeps what the reply to a command tells.
+    fn tell(&mut self, command: &str, reply: &Reply) -> Result<(), AllocError> {
+        self.last.clear();
+        put_reply(&mut self.last, reply)?;
+        match reply {
+            Reply::Outcomes(batch) if batch.stopped => {
+                self.apply_rest(command, batch.replies.as_slice().len())
+            }
+            _ => Ok(()),
+        }
     }
 
     // The same of the documents behind so many.
@@ -193,10 +197,10 @@ impl Shell {
     }
 
     // Runs the events so far.
-    fn run(&self, answer: &mut Answer) -> Result<(), AllocError> {
-        let mut told = String::with_capacity(self.alloc, ROOM)?;
+    fn run(&mut self, answer: &mut Answer) -> Result<(), AllocError> {
         let (_world, replies) = World::run(self.alloc, self.limits, self.events()?)?;
-        put_replies(&mut told, replies.as_slice())?;
-        answer.text(told.as_str())
+        self.last.clear();
+        put_replies(&mut self.last, replies.as_slice())?;
+        answer.text(self.last.as_str())
     }
 }

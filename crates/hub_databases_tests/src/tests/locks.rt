@@ -5,11 +5,11 @@ use hub_document::{Doc, Limits};
 use hub_model::Outcome;
 use hub_params::FeedParams;
 use hub_shared::{Clock, Feed, Gate, Plain, Point, pump};
-use std::alloc::Global;
+use std::alloc::{AllocError, Global};
 use std::sync::Wait;
 use std::sync::atomic::{AtomicBool, Ordering};
 use std::test::Fail;
-use std::thread;
+use std::thread::{self, Threads};
 use std::time::{self, Duration};
 
 // A gate that holds a pump inside the lock until it is opened, and gives up after 1,000 looks, of a
@@ -61,36 +61,22 @@ impl Clock for Still {
     }
 }
 
-// A new database.
-fn created<R: Wait>(rt: &R, hub: &Hub, name: &str) -> Result<HubDb, Fail> {
-    let _made = hub.create(rt, name);
-    match hub.find(rt, name) {
-        Ok(db) => Ok(db),
-        Err(_) => Err(Fail::new("no database")),
-    }
-}
-
-// A feed of a database.
-fn feed<R: Wait>(rt: &R, alloc: Global, db: &HubDb) -> Result<Feed<Plain>, Fail> {
-    let Ok(params) = FeedParams::read(alloc, b"", b"") else {
-        return Err(Fail::new("no parameters"));
-    };
-    match db.handle()?.open_feed(rt, params) {
-        Ok(feed) => Ok(feed),
-        Err(_) => Err(Fail::new("no feed")),
-    }
-}
-
 // One document.
-fn docs(alloc: Global) -> Result<Vec<Doc>, Fail> {
-    let mut docs = Vec::new(alloc);
-    docs.push(Doc::read(alloc, br#"{"_id":"a","_rev":"1-a"}"#, false)?)?;
+fn docs(alloc: Global) -> Result<Vec<Doc>, AllocError> {
+    let mut docs = Vec::with_capacity(alloc, 1)?;
+    match Doc::read(alloc, br#"{"_id":"a","_rev":"1-a"}"#, false) {
+        Ok(doc) => docs.push(doc)?,
+        Err(_) => return Err(AllocError),
+    }
     Ok(docs)
 }
 
-// Whether a hub stores and notes the document in a database.
-fn writes<R: Wait>(rt: &R, hub: &Hub, db: &HubDb, docs: Vec<Doc>) -> bool {
-    match hub.write(rt, db, docs, false) {
+// Whether a hub stores and notes a document in the database of a name.
+fn writes<R: Wait>(rt: &R, alloc: Global, hub: &Hub, name: &str) -> bool {
+    let (Ok(db), Ok(docs)) = (hub.find(rt, name), docs(alloc)) else {
+        return false;
+    };
+    match hub.write(rt, &db, docs, false) {
         Ok(written) => {
             written.lapsed.is_none()
                 && matches!(written.batch.replies.as_slice(), [Outcome::Stored(_)])
@@ -99,13 +85,9 @@ fn writes<R: Wait>(rt: &R, hub: &Hub, db: &HubDb, docs: Vec<Doc>) -> bool {
     }
 }
 
-// Whether a hub answers: a write to a database, and calls on its names.
-fn answers<R: Wait>(rt: &R, hub: &Hub, docs: Vec<Doc>) -> bool {
-    let Ok(db) = hub.find(rt, "b") else {
-        return false;
-    };
-    writes(rt, hub, &db, docs)
-        && hub.create(rt, "c").is_ok()
+// Whether a hub answers calls on its names.
+fn answers<R: Wait>(rt: &R, hub: &Hub) -> bool {
+    hub.create(rt, "c").is_ok()
         && hub.remove(rt, "c").is_ok()
         && hub.find(rt, "a").is_ok()
         && hub.list(rt).is_ok()
@@ -121,55 +103,77 @@ fn wait_for<R: Wait>(rt: &R, flag: &AtomicBool) {
     }
 }
 
+// A new feed of a database.
+fn opened<R: Wait>(rt: &R, alloc: Global, db: &HubDb) -> Result<Feed<Plain>, AllocError> {
+    let Ok(params) = FeedParams::read(alloc, b"", b"") else {
+        return Err(AllocError);
+    };
+    match db.handle()?.open_feed(rt, params) {
+        Ok(feed) => Ok(feed),
+        Err(_) => Err(AllocError),
+    }
+}
+
 // Writes to the database that a pump holds, once it stands at the gate. The write waits for the pump.
-fn write_held<R: Wait, K: time::Clock>(
-    rt: &R,
-    gate: &Held<K>,
-    hub: &Hub,
-    db: &HubDb,
-    docs: Vec<Doc>,
-) -> bool {
+fn write_held<R: Wait + time::Clock>(rt: &R, alloc: Global, gate: &Held<R>, hub: &Hub) -> bool {
     wait_for(rt, &gate.is_reached);
     gate.is_writing.store(true, Ordering::SeqCst);
-    writes(rt, hub, db, docs)
+    writes(rt, alloc, hub, "a")
 }
 
 // Asks a hub once a write waits for the held database, which it is given 20 milliseconds for, and opens the
 // gate once all is answered.
-fn ask_and_open<R: Wait, K: time::Clock>(
-    rt: &R,
-    gate: &Held<K>,
-    hub: &Hub,
-    docs: Vec<Doc>,
-) -> bool {
+fn ask_and_open<R: Wait + time::Clock>(rt: &R, alloc: Global, gate: &Held<R>, hub: &Hub) -> bool {
     wait_for(rt, &gate.is_writing);
-    thread::sleep(&gate.rt, Duration::from_millis(20));
-    let is_answered = answers(rt, hub, docs);
+    thread::sleep(rt, Duration::from_millis(20));
+    let is_answered = writes(rt, alloc, hub, "b") && answers(rt, hub);
     gate.is_open.store(true, Ordering::SeqCst);
     is_answered
 }
 
+// A write that waits, beside calls that do not.
+fn ask<R: Threads + Wait + time::Clock + Sync>(
+    rt: &R,
+    alloc: Global,
+    gate: &Held<R>,
+    hub: &Hub,
+) -> bool {
+    let (is_written, is_answered) = thread::join(
+        rt,
+        || write_held(rt, alloc, gate, hub),
+        || ask_and_open(rt, alloc, gate, hub),
+    );
+    is_written && is_answered
+}
+
+// The same beside a pump of the database `a`.
+fn run<R: Threads + Wait + time::Clock + Sync>(
+    rt: &R,
+    alloc: Global,
+    gate: &Held<R>,
+    hub: &Hub,
+) -> bool {
+    let Ok(db) = hub.find(rt, "a") else {
+        return false;
+    };
+    let feed = match opened(rt, alloc, &db) {
+        Ok(feed) => feed.id(),
+        Err(_) => return false,
+    };
+    let (is_pumped, is_answered) = thread::join(
+        rt,
+        || pump(rt, db.db(), feed, gate, &Still).is_ok(),
+        || ask(rt, alloc, gate, hub),
+    );
+    is_pumped && is_answered
+}
+
 #[test]
 fn a_held_database_holds_no_other_call(rt: HostRuntime) -> Result<(), Fail> {
-    let alloc = rt.alloc();
-    let hub = Hub::new(alloc, Limits::full())?;
-    let held = created(&rt, &hub, "a")?;
-    let _other = created(&rt, &hub, "b")?;
-    let id = feed(&rt, alloc, &held)?.id();
+    let hub = Hub::new(rt.alloc(), Limits::full())?;
+    assert!(rt; hub.create(&rt, "a").is_ok() && hub.create(&rt, "b").is_ok());
     let gate = Held::new(rt);
-    let (waiting, other) = (docs(alloc)?, docs(alloc)?);
-    let (is_ok, (is_written, is_answered)) = thread::join(
-        &rt,
-        || pump(&rt, held.db(), id, &gate, &Still).is_ok(),
-        || {
-            thread::join(
-                &rt,
-                || write_held(&rt, &gate, &hub, &held, waiting),
-                || ask_and_open(&rt, &gate, &hub, other),
-            )
-        },
-    );
-    assert!(rt; is_ok && is_written && is_answered);
+    assert!(rt; run(&rt, rt.alloc(), &gate, &hub));
     assert!(rt; !gate.gave_up.load(Ordering::SeqCst));
     Ok(())
 }

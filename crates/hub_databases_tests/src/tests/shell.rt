@@ -1,6 +1,6 @@
 //! A hub's shell, which carries out the commands of transcripts.
 
-use hub_databases::{Hub, HubDb, HubFault};
+use hub_databases::{Hub, HubDb, HubFault, Written};
 use hub_document::{Doc, Limits};
 use hub_model::{Item, Outcome};
 use hub_params::FeedParams;
@@ -36,45 +36,75 @@ pub(crate) struct Shell {
     db: Option<HubDb>,
     feed: Option<Feed<Plain>>,
     log: Option<UpdatesFeed>,
-    bell: Arc<Bell, Global>,
-    of_database: Arc<Watch, Global>,
-    of_log: Arc<Watch, Global>,
+    watches: Watches,
     // How many documents were stored.
     stored: u64,
 }
 
+// The watches of both feeds, and the bell that they ring.
+#[derive(Drop)]
+struct Watches {
+    bell: Arc<Bell, Global>,
+    of_database: Arc<Watch, Global>,
+    of_log: Arc<Watch, Global>,
+}
+
+// A new watch that rings a bell.
+fn watch(alloc: Global, bell: &Arc<Bell, Global>) -> Result<Arc<Watch, Global>, AllocError> {
+    let bell = Arc::try_clone(bell)?;
+    Ok(Arc::new(alloc, Watch::new(bell))?)
+}
+
+impl Watches {
+    fn new(alloc: Global) -> Result<Watches, AllocError> {
+        let bell = Arc::new(alloc, Bell::new())?;
+        let of_database = watch(alloc, &bell)?;
+        let of_log = watch(alloc, &bell)?;
+        Ok(Watches {
+            bell,
+            of_database,
+            of_log,
+        })
+    }
+
+    // Tells what was told since the last time.
+    fn news(&self, answer: &mut Answer) -> Result<(), AllocError> {
+        if self.bell.take() {
+            answer.text("bell\n")?;
+        }
+        if self.of_database.take() {
+            answer.text("database\n")?;
+        }
+        if self.of_log.take() {
+            answer.text("log\n")?;
+        }
+        Ok(())
+    }
+}
+
 impl<R: Wait> Subject<R> for Shell {
     fn begin(_: &R, alloc: Global, _: &str) -> Result<Shell, AllocError> {
-        let bell = Arc::new(alloc, Bell::new())?;
-        let of_database = Arc::new(alloc, Watch::new(Arc::try_clone(&bell)?))?;
-        let of_log = Arc::new(alloc, Watch::new(Arc::try_clone(&bell)?))?;
+        let watches = Watches::new(alloc)?;
         Ok(Shell {
             alloc,
             hub: Hub::new(alloc, Limits::full())?,
             db: None,
             feed: None,
             log: None,
-            bell,
-            of_database,
-            of_log,
+            watches,
             stored: 0,
         })
     }
 
     fn answer(&mut self, rt: &R, command: &str, answer: &mut Answer) -> Result<(), AllocError> {
         let mut words = Words::of(command);
-        match words.verb("create remove find write follow follow-log hand take news finish") {
+        match words.verb("create remove find write news") {
             0 => told(answer, self.hub.create(rt, words.rest())),
             1 => told(answer, self.hub.remove(rt, words.rest())),
             2 => self.find(rt, words.rest(), answer),
             3 => self.write(rt, answer),
-            4 => self.follow(rt),
-            5 => self.follow_log(rt),
-            6 => self.hand(rt, answer),
-            7 => self.take(rt, answer),
-            8 => self.news(answer),
-            9 => self.finish(rt),
-            _ => answer.line("?"),
+            4 => self.watches.news(answer),
+            _ => self.answer_of_feeds(rt, command, answer),
         }
     }
 }
@@ -128,9 +158,14 @@ impl Shell {
 
     fn write<R: Wait>(&mut self, rt: &R, answer: &mut Answer) -> Result<(), AllocError> {
         let docs = docs(self.alloc, self.stored)?;
-        let Ok(written) = self.hub.write(rt, self.db()?, docs, false) else {
-            return Err(AllocError);
-        };
+        match self.hub.write(rt, self.db()?, docs, false) {
+            Ok(written) => self.note(&written, answer),
+            Err(_) => Err(AllocError),
+        }
+    }
+
+    // Notes and tells what became of a document.
+    fn note(&mut self, written: &Written, answer: &mut Answer) -> Result<(), AllocError> {
         match written.batch.replies.as_slice() {
             [Outcome::Stored(_)] => self.stored = self.stored.saturating_add(1),
             [] => return Err(AllocError),
@@ -142,24 +177,45 @@ impl Shell {
         }
     }
 
+    fn answer_of_feeds<R: Wait>(
+        &mut self,
+        rt: &R,
+        command: &str,
+        answer: &mut Answer,
+    ) -> Result<(), AllocError> {
+        match Words::of(command).verb("follow follow-log hand take finish") {
+            0 => self.follow(rt),
+            1 => self.follow_log(rt),
+            2 => self.hand(rt, answer),
+            3 => self.take(rt, answer),
+            4 => self.finish(rt),
+            _ => answer.line("?"),
+        }
+    }
+
     fn follow<R: Wait>(&mut self, rt: &R) -> Result<(), AllocError> {
+        let watch = Arc::try_clone(&self.watches.of_database)?;
         let params = waiting(self.alloc)?;
-        let Ok(feed) = self.db()?.handle()?.open_feed(rt, params) else {
-            return Err(AllocError);
-        };
-        feed.watch(rt, Arc::try_clone(&self.of_database)?);
-        self.feed = Some(feed);
-        Ok(())
+        match self.db()?.handle()?.open_feed(rt, params) {
+            Ok(feed) => {
+                feed.watch(rt, watch);
+                self.feed = Some(feed);
+                Ok(())
+            }
+            Err(_) => Err(AllocError),
+        }
     }
 
     fn follow_log<R: Wait>(&mut self, rt: &R) -> Result<(), AllocError> {
-        let params = waiting(self.alloc)?;
-        let Ok(log) = self.hub.updates(rt, params) else {
-            return Err(AllocError);
-        };
-        log.watch(rt, Arc::try_clone(&self.of_log)?);
-        self.log = Some(log);
-        Ok(())
+        let watch = Arc::try_clone(&self.watches.of_log)?;
+        match self.hub.updates(rt, waiting(self.alloc)?) {
+            Ok(log) => {
+                log.watch(rt, watch);
+                self.log = Some(log);
+                Ok(())
+            }
+            Err(_) => Err(AllocError),
+        }
     }
 
     fn hand<R: Wait>(&self, rt: &R, answer: &mut Answer) -> Result<(), AllocError> {
@@ -180,19 +236,6 @@ impl Shell {
             }
             other => answer.line(format_args!("{other:?}")),
         }
-    }
-
-    fn news(&self, answer: &mut Answer) -> Result<(), AllocError> {
-        if self.bell.take() {
-            answer.line("bell")?;
-        }
-        if self.of_database.take() {
-            answer.line("database")?;
-        }
-        if self.of_log.take() {
-            answer.line("log")?;
-        }
-        Ok(())
     }
 
     fn finish<R: Wait>(&mut self, rt: &R) -> Result<(), AllocError> {

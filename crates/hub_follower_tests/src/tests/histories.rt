@@ -1,7 +1,6 @@
 //! Documents with several leaves.
 
-use crate::tests::copier::Copier;
-use hub_transcript::replay;
+use crate::tests::copier::play;
 use std::test::Fail;
 
 // A known revision with another parent changes nothing, and takes no sequence; a later one takes its parent's
@@ -106,6 +105,5 @@ target {"_id":"x","_rev":"2-b","_deleted":true,"_revisions":{"start":2,"ids":["b
 
 #[test]
 fn documents_with_several_leaves_are_copied(rt: HostRuntime) -> Result<(), Fail> {
-    let handle = &rt;
-    replay::<Copier<'_, HostRuntime>, _>(&handle, rt.alloc(), HISTORIES)
+    play(&rt, rt.alloc(), HISTORIES)
 }

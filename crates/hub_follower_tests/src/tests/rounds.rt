@@ -1,7 +1,6 @@
 //! Rounds, and why they fail.
 
-use crate::tests::copier::Copier;
-use hub_transcript::replay;
+use crate::tests::copier::play;
 use std::test::Fail;
 
 // A round asks for a hundred rows, and finishes its feed. A session that does not begin tells how many faults
@@ -97,6 +96,5 @@ no local document may have the id of the replication logs, faults 0 0, of databa
 
 #[test]
 fn rounds_and_why_they_fail(rt: HostRuntime) -> Result<(), Fail> {
-    let handle = &rt;
-    replay::<Copier<'_, HostRuntime>, _>(&handle, rt.alloc(), ROUNDS)
+    play(&rt, rt.alloc(), ROUNDS)
 }
