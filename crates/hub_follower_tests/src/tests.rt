@@ -35,20 +35,17 @@ use std::{fmt, str};
 const LOG: &str = "_local/follower";
 
 /// A place as it is told: its number, with its life where that is known; or that there is none.
-#[derive(Clone, Copy)]
+#[derive(Drop)]
 pub(crate) struct Told(pub(crate) Option<Seq>);
 
 impl fmt::Display for Told {
     fn fmt<W: fmt::Write>(&self, f: &mut fmt::Formatter<W>) -> fmt::Result {
-        match self.0 {
-            None => f.write_str("none"),
-            Some(Seq { n, life: None }) => write!(f, "{n}"),
-            Some(
-                Seq {
-                    n,
-                    life: Some(life),
-                },
-            ) => write!(f, "{n}-{life}"),
+        let Some(seq) = self.0 else {
+            return write!(f, "none");
+        };
+        match seq.life {
+            Some(life) => write!(f, "{}-{life}", seq.n),
+            None => write!(f, "{}", seq.n),
         }
     }
 }
@@ -89,19 +86,14 @@ fn database(alloc: Global, limits: Limits, life: u64) -> Result<Db<Plain>, Alloc
     }
 }
 
-// The document of a text; an error where it finds no memory, and each time where the text is none.
-fn doc(alloc: Global, text: &str) -> Result<Doc, AllocError> {
-    match Doc::read(alloc, text.as_bytes(), false) {
-        Ok(doc) => Ok(doc),
-        Err(_) => Err(AllocError),
-    }
-}
-
-// The documents that the words are.
+// The documents that the words are; an error where they find no memory, and each time where one is none.
 fn docs(alloc: Global, words: &str) -> Result<Vec<Doc>, AllocError> {
     let mut docs = Vec::new(alloc);
     for text in words.split(' ') {
-        docs.push(doc(alloc, text)?)?;
+        let Ok(doc) = Doc::read(alloc, text.as_bytes(), false) else {
+            return Err(AllocError);
+        };
+        docs.push(doc)?;
     }
     Ok(docs)
 }
@@ -111,20 +103,25 @@ fn numbered(alloc: Global, count: u64) -> Result<Vec<Doc>, AllocError> {
     let mut docs = Vec::new(alloc);
     for number in 0..count {
         let text = format!(in alloc; r#"{{"_id":"d{number}","_rev":"1-a"}}"#)?;
-        docs.push(doc(alloc, text.as_str())?)?;
+        let Ok(doc) = Doc::read(alloc, text.as_bytes(), false) else {
+            return Err(AllocError);
+        };
+        docs.push(doc)?;
     }
     Ok(docs)
 }
 
 // Tells why a call fails, as a part of a line. That it found no memory is an error.
-fn tell_fault(alloc: Global, fault: &FollowFault, answer: &mut Answer) -> Result<(), AllocError> {
-    let text = match fault {
-        FollowFault::NoMemory => return Err(AllocError),
+fn tell_fault(alloc: Global, fault: FollowFault, answer: &mut Answer) -> Result<(), AllocError> {
+    match fault {
+        FollowFault::NoMemory => Err(AllocError),
         FollowFault::Refused { id, rev, fault } => {
-            let hash = text_of(rev.hash())?;
-            format!(in alloc; "{fault:?} of {} {}-{hash}", id.as_str(), rev.generation())?
+            let mut text = Vec::new(alloc);
+            rev.print(&mut text)?;
+            let rev = text_of(text.as_slice())?;
+            let text = format!(in alloc; "{fault:?} of {} {rev}", id.as_str())?;
+            answer.text(text.as_str())
         }
-        fault => format!(in alloc; "{fault}")?,
-    };
-    answer.text(text.as_str())
+        fault => answer.text(format!(in alloc; "{fault}")?.as_str()),
+    }
 }

@@ -1,15 +1,13 @@
 //! Transcripts of two databases and a follower between them.
 
 use crate::tests::desk::{Desk, Lost};
-use crate::tests::held::Held;
 use crate::tests::{LOG, database, number, text_of};
 use hub_document::Limits;
 use hub_follower::DbPeer;
 use hub_shared::{Db, Plain};
-use hub_transcript::{Answer, Subject, Words, replay};
+use hub_transcript::{Answer, Subject, Words};
 use std::alloc::{AllocError, Global};
 use std::sync::Wait;
-use std::test::Fail;
 
 /// A source and a target, at first empty and of the life 1, and a follower of one into the other. A place is
 /// told as a log has it: its number, with its life where that is known.
@@ -50,11 +48,10 @@ use std::test::Fail;
 /// itself, it has no effect.
 #[derive(Drop)]
 pub(crate) struct Copier<'a, R: Wait> {
-    source: Place<'a, R>,
-    target: Place<'a, R>,
+    rt: &'a R,
+    source: Db<Plain>,
+    target: Db<Plain>,
     desk: Desk<DbPeer<'a, R>>,
-    /// What the last session that lost a call told.
-    told: String,
 }
 
 // The limits of a database with room for one feed or one edit alone, or of a hub that serves.
@@ -69,46 +66,41 @@ fn limits_of(limit: &str) -> Limits {
     limits
 }
 
-// A database, and the peer of it that a follower has.
-#[derive(Drop)]
-struct Place<'a, R: Wait> {
-    rt: &'a R,
-    alloc: Global,
-    db: Db<Plain>,
-    peer: Held<DbPeer<'a, R>>,
-}
-
-impl<'a, R: Wait> Place<'a, R> {
-    // An empty database of the life 1.
-    fn new(rt: &'a R, alloc: Global) -> Result<Place<'a, R>, AllocError> {
-        let db = database(alloc, Limits::full(), 1)?;
-        let peer = Held::new(alloc, DbPeer::new(rt, alloc, db.handle()?))?;
-        Ok(Place {
-            rt,
-            alloc,
-            db,
-            peer,
-        })
+impl<'a, R: Wait> Copier<'a, R> {
+    // The database of the end of this name.
+    fn db(&self, name: &str) -> &Db<Plain> {
+        if name == "source" {
+            &self.source
+        } else {
+            &self.target
+        }
     }
 
-    // Puts a new database in the place.
-    fn make(&mut self, life: u64, limits: Limits) -> Result<(), AllocError> {
-        self.db = database(self.alloc, limits, life)?;
-        let handle = self.db.handle()?;
-        self.peer.put(DbPeer::new(self.rt, self.alloc, handle))
+    // Puts a new database in the place of one.
+    fn make(&mut self, is_source: bool, life: u64, limits: Limits) -> Result<(), AllocError> {
+        let alloc = self.desk.alloc;
+        let db = database(alloc, limits, life)?;
+        let peer = DbPeer::new(self.rt, alloc, db.handle()?);
+        if is_source {
+            self.source = db;
+            self.desk.source.put(peer)
+        } else {
+            self.target = db;
+            self.desk.target.put(peer)
+        }
     }
 
-    // Deletes the database.
-    fn delete(&self, answer: &mut Answer) -> Result<(), AllocError> {
-        match self.db.handle()?.delete(self.rt) {
+    // Deletes a database.
+    fn delete(&mut self, name: &str, answer: &mut Answer) -> Result<(), AllocError> {
+        match self.db(name).handle()?.delete(self.rt) {
             Ok(()) => Ok(()),
             Err(fault) => answer.line(format_args!("{fault:?}")),
         }
     }
 
-    // Tells the text of the log that the database keeps.
-    fn log(&self, answer: &mut Answer) -> Result<(), AllocError> {
-        let mut handle = self.db.handle()?;
+    // Tells the text of the log that a database keeps.
+    fn log(&self, name: &str, answer: &mut Answer) -> Result<(), AllocError> {
+        let mut handle = self.db(name).handle()?;
         match handle.look(self.rt, |state| state.local_copy(LOG)) {
             Ok(Some(local)) => answer.line(text_of(local.body.as_bytes())?),
             Ok(None) => answer.line("none"),
@@ -116,40 +108,17 @@ impl<'a, R: Wait> Place<'a, R> {
         }
     }
 
-    // Carries out a command.
-    fn answer(
-        &mut self,
-        verb: usize,
-        words: &mut Words<'_>,
-        answer: &mut Answer,
-    ) -> Result<(), AllocError> {
-        match verb {
-            0 => self.make(number(words.word())?, limits_of(words.word())),
-            1 => self.delete(answer),
-            _ => self.log(answer),
-        }
-    }
-}
-
-impl<'a, R: Wait> Copier<'a, R> {
-    // Runs sessions of which one loses a call between two new databases: whether they tell the same as the
-    // last time.
-    fn run(&mut self, lost: Lost) -> Result<bool, AllocError> {
-        self.source.make(1, Limits::full())?;
-        self.target.make(1, Limits::full())?;
-        let told = self.desk.run(lost)?;
-        let is_same = told.as_str() == self.told.as_str();
-        self.told = told;
-        Ok(is_same)
-    }
-
-    // Runs such sessions until two runs are alike.
+    // Runs sessions that lose a call until two runs are alike.
     fn lose(&mut self, lost: Lost, answer: &mut Answer) -> Result<(), AllocError> {
-        self.told.clear();
+        let mut last = String::new(self.desk.alloc);
         for _ in 0..3 {
-            if self.run(lost)? {
-                return answer.line(self.told.as_str());
+            self.make(true, 1, Limits::full())?;
+            self.make(false, 1, Limits::full())?;
+            let told = self.desk.run(lost)?;
+            if told.as_str() == last.as_str() {
+                return answer.line(told.as_str());
             }
+            last = told;
         }
         answer.line("each time something else")
     }
@@ -157,34 +126,31 @@ impl<'a, R: Wait> Copier<'a, R> {
 
 impl<'a, R: Wait> Subject<&'a R> for Copier<'a, R> {
     fn begin(rt: &&'a R, alloc: Global, _: &str) -> Result<Copier<'a, R>, AllocError> {
-        let source = Place::new(*rt, alloc)?;
-        let target = Place::new(*rt, alloc)?;
-        let desk = Desk::new(alloc, &source.peer, &target.peer)?;
+        let source = database(alloc, Limits::full(), 1)?;
+        let target = database(alloc, Limits::full(), 1)?;
+        let source_peer = DbPeer::new(*rt, alloc, source.handle()?);
+        let target_peer = DbPeer::new(*rt, alloc, target.handle()?);
+        let desk = Desk::new(alloc, source_peer, target_peer)?;
         Ok(Copier {
+            rt: *rt,
             source,
             target,
             desk,
-            told: String::new(alloc),
         })
     }
 
     fn answer(&mut self, _: &&'a R, command: &str, answer: &mut Answer) -> Result<(), AllocError> {
         let mut words = Words::of(command);
-        let verb = words.verb("make delete log lose");
-        if verb == 3 {
-            return self.lose(Lost::read(words.rest())?, answer);
-        }
-        if verb > 3 {
-            return self.desk.answer(command, answer);
-        }
-        match words.word() == "source" {
-            true => self.source.answer(verb, &mut words, answer),
-            false => self.target.answer(verb, &mut words, answer),
+        match words.verb("make delete log lose") {
+            0 => {
+                let is_source = words.word() == "source";
+                let life = number(words.word())?;
+                self.make(is_source, life, limits_of(words.word()))
+            }
+            1 => self.delete(words.rest(), answer),
+            2 => self.log(words.rest(), answer),
+            3 => self.lose(Lost::read(&mut words)?, answer),
+            _ => self.desk.answer(command, answer),
         }
     }
-}
-
-/// Replays a transcript.
-pub(crate) fn play<R: Wait>(rt: &R, alloc: Global, transcript: &str) -> Result<(), Fail> {
-    replay::<Copier<'_, R>, _>(&rt, alloc, transcript)
 }

@@ -1,24 +1,26 @@
 //! Two peers, and a follower between them.
 
-use crate::tests::following::{Failed, Kept, start_losing};
+use crate::tests::following::{tell_checkpoint, tell_copy, tell_place, tell_round};
 use crate::tests::held::Held;
 use crate::tests::library::copies;
 use crate::tests::logs::log_of;
 use crate::tests::telling::{
-    fill_and_count, keep, put_and_count, tell_changes, tell_count, tell_leaves, tell_logs,
-    tell_missing,
+    count, keep, put, store, tell_changes, tell_leaves, tell_logs, tell_missing,
 };
-use crate::tests::{LOG, number, seq_of, tell_fault};
-use hub_follower::{FaultPeer, Loss, Peer};
+use crate::tests::{LOG, number, numbered, seq_of, tell_fault};
+use hub_follower::{FailedStart, FaultPeer, Follower, Loss, Peer};
 use hub_transcript::{Answer, Words};
 use std::alloc::{AllocError, Global};
+
+/// A peer of a follower, some of whose calls may be lost.
+pub(crate) type End<P> = FaultPeer<Held<P>>;
 
 /// Which call of each end is lost, and how; 0: none.
 #[derive(Clone, Copy)]
 pub(crate) struct Lost {
-    pub(crate) source: u64,
-    pub(crate) target: u64,
-    pub(crate) loss: Loss,
+    source: u64,
+    target: u64,
+    loss: Loss,
 }
 
 impl Lost {
@@ -31,9 +33,8 @@ impl Lost {
         }
     }
 
-    /// What a text says of the call that is lost: its end, its number, and how.
-    pub(crate) fn read(text: &str) -> Result<Lost, AllocError> {
-        let mut words = Words::of(text);
+    /// What a command says of the call that is lost.
+    pub(crate) fn read(words: &mut Words<'_>) -> Result<Lost, AllocError> {
         let is_source = words.word() == "source";
         let call = number(words.word())?;
         let loss = if words.rest() == "after" {
@@ -56,9 +57,8 @@ pub(crate) struct Desk<P> {
     pub(crate) alloc: Global,
     pub(crate) source: Held<P>,
     pub(crate) target: Held<P>,
-    pub(crate) kept: Kept<FaultPeer<Held<P>>, FaultPeer<Held<P>>>,
-    /// The id of the logs, where it is not `LOG`.
-    log_id: Option<String>,
+    pub(crate) follower: Option<Follower<End<P>, End<P>>>,
+    log_id: String,
     /// What the sessions of a user lose.
     lost: Lost,
     /// What `lose` gives the source before a first session and behind it, and the documents.
@@ -67,21 +67,32 @@ pub(crate) struct Desk<P> {
     pub(crate) ids: String,
 }
 
+// Tells how many faults the source and the target counted, and of these their databases.
+fn tell_faults<P: Peer + Drop>(
+    source: End<P>,
+    target: End<P>,
+    answer: &mut Answer,
+) -> Result<(), AllocError> {
+    let all = (source.faults(), target.faults());
+    let own = (
+        source.into_peer().own_faults(),
+        target.into_peer().own_faults(),
+    );
+    answer.line(format_args!(
+        "faults {} {}, of databases {} {}",
+        all.0, all.1, own.0, own.1
+    ))
+}
+
 impl<P: Peer + Drop> Desk<P> {
     /// Two peers without a follower.
-    pub(crate) fn new(
-        alloc: Global,
-        source: &Held<P>,
-        target: &Held<P>,
-    ) -> Result<Desk<P>, AllocError> {
-        let source = source.again(true)?;
-        let target = target.again(true)?;
+    pub(crate) fn new(alloc: Global, source: P, target: P) -> Result<Desk<P>, AllocError> {
         Ok(Desk {
             alloc,
-            source,
-            target,
-            kept: Kept::nothing(alloc),
-            log_id: None,
+            source: Held::new(alloc, source)?,
+            target: Held::new(alloc, target)?,
+            follower: None,
+            log_id: String::from_str(alloc, LOG)?,
             lost: Lost::nothing(),
             first: String::new(alloc),
             then: String::new(alloc),
@@ -95,52 +106,51 @@ impl<P: Peer + Drop> Desk<P> {
         session_id: &str,
         tells_lives: bool,
         lost: Lost,
-    ) -> Result<(), Failed> {
+    ) -> Result<Option<FailedStart<End<P>, End<P>>>, AllocError> {
         let source = self.source.again(tells_lives)?;
         let target = self.target.again(tells_lives)?;
-        let log_id = match &self.log_id {
-            Some(log_id) => log_id.as_str(),
-            None => LOG,
-        };
-        let ids = (log_id, session_id);
-        start_losing(&mut self.kept, source, target, ids, lost)
-    }
-
-    // Tells how many faults the source and the target of a session counted, and of these their databases.
-    fn tell_faults(&self, faults: (u64, u64), answer: &mut Answer) -> Result<(), AllocError> {
-        let own = (self.source.own_faults(), self.target.own_faults());
-        answer.line(format_args!(
-            "faults {} {}, of databases {} {}",
-            faults.0, faults.1, own.0, own.1
-        ))
+        let source = FaultPeer::new(source, lost.source, lost.loss);
+        let target = FaultPeer::new(target, lost.target, lost.loss);
+        match Follower::start(self.alloc, source, target, self.log_id.as_str(), session_id) {
+            Ok(follower) => {
+                self.follower = Some(follower);
+                Ok(None)
+            }
+            Err(failed) => Ok(Some(failed)),
+        }
     }
 
     // A session begins, and tells its place, or why none begins.
     fn session(&mut self, words: &mut Words<'_>, answer: &mut Answer) -> Result<(), AllocError> {
         let session_id = words.word();
         let tells_lives = words.rest() != "numbers";
-        match self.begin(session_id, tells_lives, self.lost) {
-            Ok(()) => self.kept.answer(0, answer),
-            Err(failed) => {
-                tell_fault(self.alloc, &failed.fault, answer)?;
-                answer.text(", ")?;
-                self.tell_faults(failed.faults, answer)
-            }
+        if let Some(failed) = self.begin(session_id, tells_lives, self.lost)? {
+            tell_fault(self.alloc, failed.fault, answer)?;
+            answer.text(", ")?;
+            return tell_faults(failed.source, failed.target, answer);
         }
+        tell_place("", &self.follower, answer)
     }
 
     // Records the place, and tells what both logs record.
     fn checkpoint(&mut self, answer: &mut Answer) -> Result<(), AllocError> {
-        self.kept.answer(3, answer)?;
+        tell_checkpoint(self.alloc, &mut self.follower, answer)?;
         tell_logs(&mut self.source, &mut self.target, answer)
     }
 
     // Ends the session.
     fn end(&mut self, answer: &mut Answer) -> Result<(), AllocError> {
-        match self.kept.end() {
-            Some(faults) => self.tell_faults(faults, answer),
-            None => answer.line("no session"),
-        }
+        let Some(follower) = self.follower.take() else {
+            return answer.line("no session");
+        };
+        let (source, target) = follower.into_peers();
+        tell_faults(source, target, answer)
+    }
+
+    // Tells how many edits the source has.
+    fn tell_source(&mut self, answer: &mut Answer) -> Result<(), AllocError> {
+        let stored = count(&mut self.source)?;
+        answer.line(format_args!("source {stored}"))
     }
 
     // Keeps a log.
@@ -166,12 +176,21 @@ impl<P: Peer + Drop> Desk<P> {
     /// Carries out a command on the follower.
     pub(crate) fn answer(&mut self, command: &str, answer: &mut Answer) -> Result<(), AllocError> {
         let mut words = Words::of(command);
-        match words.verb("session round copy checkpoint end library") {
+        match words.verb("session round copy checkpoint end loses logs library") {
             0 => self.session(&mut words, answer),
+            1 => tell_round(self.alloc, &mut self.follower, answer),
+            2 => tell_copy(self.alloc, &mut self.follower, answer),
             3 => self.checkpoint(answer),
             4 => self.end(answer),
-            5 => self.copied(&mut words, answer),
-            place if place < 3 => self.kept.answer(place, answer),
+            5 => {
+                self.lost = Lost::read(&mut words)?;
+                Ok(())
+            }
+            6 => {
+                self.log_id = String::from_str(self.alloc, words.rest())?;
+                Ok(())
+            }
+            7 => self.copied(&mut words, answer),
             _ => self.answer_of_peers(command, answer),
         }
     }
@@ -179,30 +198,45 @@ impl<P: Peer + Drop> Desk<P> {
     // Carries out a command on the peers.
     fn answer_of_peers(&mut self, command: &str, answer: &mut Answer) -> Result<(), AllocError> {
         let mut words = Words::of(command);
-        let (source, target) = (&mut self.source, &mut self.target);
         match words.verb("put fill count leaves keep changes missing") {
-            0 => put_and_count(self.alloc, source, words.rest(), answer),
-            1 => fill_and_count(self.alloc, source, number(words.rest())?, answer),
-            2 => tell_count("target", target, answer),
-            3 => tell_leaves(self.alloc, source, target, words.rest(), answer),
+            0 => {
+                put(self.alloc, &mut self.source, words.rest())?;
+                self.tell_source(answer)
+            }
+            1 => {
+                store(
+                    &mut self.source,
+                    numbered(self.alloc, number(words.rest())?)?,
+                )?;
+                self.tell_source(answer)
+            }
+            2 => {
+                let stored = count(&mut self.target)?;
+                answer.line(format_args!("target {stored}"))
+            }
+            3 => {
+                let (source, target) = (&mut self.source, &mut self.target);
+                tell_leaves(self.alloc, source, target, words.rest(), answer)
+            }
             4 => self.keep(&mut words),
-            5 => tell_changes(source, seq_of(words.rest())?, answer),
-            6 => tell_missing(self.alloc, source, target, seq_of(words.rest())?, answer),
+            5 => tell_changes(&mut self.source, seq_of(words.rest())?, answer),
+            6 => {
+                let (source, target) = (&mut self.source, &mut self.target);
+                tell_missing(self.alloc, source, target, seq_of(words.rest())?, answer)
+            }
             _ => self.give(command, answer),
         }
     }
 
-    // Takes what the sessions to come are given.
+    // Takes what `lose` gives the source.
     fn give(&mut self, command: &str, answer: &mut Answer) -> Result<(), AllocError> {
         let mut words = Words::of(command);
-        let place = words.verb("first then ids logs loses");
+        let place = words.verb("first then ids");
         let text = String::from_str(self.alloc, words.rest())?;
         match place {
             0 => self.first = text,
             1 => self.then = text,
             2 => self.ids = text,
-            3 => self.log_id = Some(text),
-            4 => self.lost = Lost::read(text.as_str())?,
             _ => return answer.line("?"),
         }
         Ok(())

@@ -1,6 +1,6 @@
 //! Which items are an answer to a follower that asks for changes.
 
-use crate::tests::values::play;
+use crate::tests::values::Values;
 use crate::tests::{docs, number, numbered, text_of};
 use hub_database::DbState;
 use hub_document::{ChangeRow, Changes, Doc, DocId, Limits, RevId, Revisions};
@@ -9,9 +9,8 @@ use hub_filter::Filter;
 use hub_follower::rightly_handed;
 use hub_model::{Item, Mode, Since, Style};
 use hub_params::FeedParams;
-use hub_transcript::{Answer, Words};
+use hub_transcript::{Answer, Words, replay};
 use std::alloc::{AllocError, Global};
-use std::fmt::Write;
 use std::test::Fail;
 
 /// A database of one thread, the same behind its deletion, and the items that a feed of it handed.
@@ -46,20 +45,18 @@ fn cut(word: &str) -> (&str, &str) {
 fn row_of(alloc: Global, word: &str) -> Result<ChangeRow, AllocError> {
     let (seq, rest) = cut(word);
     let (id, rest) = cut(rest);
-    let (leaves, seen) = cut(rest);
-    let (seq, seen) = (number(seq)?, number(seen)?);
-    let revs = revisions(alloc, leaves)?;
-    match DocId::read(alloc, id)? {
-        Some(id) => Ok(ChangeRow {
-            seq,
-            id,
-            changes: Changes::new(revs),
-            deleted: leaves == "2-b",
-            doc: None,
-            seen,
-        }),
-        None => Err(AllocError),
-    }
+    let (revs, seen) = cut(rest);
+    let Some(id) = DocId::read(alloc, id)? else {
+        return Err(AllocError);
+    };
+    Ok(ChangeRow {
+        seq: number(seq)?,
+        id,
+        changes: Changes::new(revisions(alloc, revs)?),
+        deleted: revs == "2-b",
+        doc: None,
+        seen: number(seen)?,
+    })
 }
 
 // The item that a word is.
@@ -92,14 +89,14 @@ pub(crate) fn items_of(
 }
 
 // The leaves that a row shows, as they are told.
-fn leaves_of(alloc: Global, row: &ChangeRow) -> Result<String, AllocError> {
-    let mut text = String::new(alloc);
+fn leaves_of(alloc: Global, row: &ChangeRow) -> Result<Vec<u8>, AllocError> {
+    let mut text = Vec::new(alloc);
     for at in 0..row.changes.len() {
         if at > 0 {
-            text.push(',')?;
+            text.push(b',')?;
         }
         if let Some(rev) = row.changes.get(at) {
-            write!(text, "{}-{}", rev.generation(), text_of(rev.hash())?)?;
+            rev.print(&mut text)?;
         }
     }
     Ok(text)
@@ -110,7 +107,7 @@ fn tell_item(alloc: Global, item: &Item<ChangeRow>, answer: &mut Answer) -> Resu
     match item {
         Item::Row(row) => {
             let leaves = leaves_of(alloc, row)?;
-            let leaves = leaves.as_str();
+            let leaves = text_of(leaves.as_slice())?;
             answer.line(format_args!("{}:{}:{leaves}:{}", row.seq, row.id.as_str(), row.seen))
         }
         Item::Beat => answer.line("beat"),
@@ -217,13 +214,16 @@ impl Handed {
     fn rows(&mut self, count: u64, answer: &mut Answer) -> Result<(), AllocError> {
         write(&mut self.db, numbered(self.alloc, count)?)?;
         write(&mut self.deleted, numbered(self.alloc, count)?)?;
-        let mut words = String::new(self.alloc);
+        let mut items = Vec::new(self.alloc);
         for number in 0..count {
             let seq = number.saturating_add(1);
-            write!(words, "{seq}:d{number}:1-a:{seq} ")?;
+            let row = format!(in self.alloc; "{seq}:d{number}:1-a:{seq}")?;
+            items.push(item_of(self.alloc, row.as_str())?)?;
         }
-        write!(words, "end:{count}")?;
-        let items = items_of(self.alloc, words.as_str(), ' ')?;
+        items.push(Item::End {
+            last_seq: count,
+            pending: 0,
+        })?;
         self.decide(0, items.as_slice(), answer)
     }
 
@@ -307,6 +307,11 @@ end:5
 > handed
 right
 "#;
+
+#[test]
+fn what_feeds_hand_is_right(rt: HostRuntime) -> Result<(), Fail> {
+    replay::<Values, _>(&rt, rt.alloc(), FEEDS)
+}
 
 // Behind edits of three documents, of which x has three leaves; and behind a parent that came late. A hundred
 // rows are an answer, and one more are none.
@@ -412,7 +417,6 @@ wrong
 "#;
 
 #[test]
-fn items_that_feeds_hand_are_right(rt: HostRuntime) -> Result<(), Fail> {
-    play(rt.alloc(), FEEDS)?;
-    play(rt.alloc(), DECIDED)
+fn items_are_decided(rt: HostRuntime) -> Result<(), Fail> {
+    replay::<Values, _>(&rt, rt.alloc(), DECIDED)
 }

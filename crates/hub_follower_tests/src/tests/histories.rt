@@ -1,6 +1,7 @@
 //! Documents with several leaves.
 
-use crate::tests::copier::play;
+use crate::tests::copier::Copier;
+use hub_transcript::replay;
 use std::test::Fail;
 
 // A known revision with another parent changes nothing, and takes no sequence; a later one takes its parent's
@@ -105,5 +106,6 @@ target {"_id":"x","_rev":"2-b","_deleted":true,"_revisions":{"start":2,"ids":["b
 
 #[test]
 fn documents_with_several_leaves_are_copied(rt: HostRuntime) -> Result<(), Fail> {
-    play(&rt, rt.alloc(), HISTORIES)
+    let handle = &rt;
+    replay::<Copier<'_, HostRuntime>, _>(&handle, rt.alloc(), HISTORIES)
 }

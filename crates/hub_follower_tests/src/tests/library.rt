@@ -1,8 +1,9 @@
 //! How a user of the libraries copies one database into another.
 
-use crate::tests::copier::play;
+use crate::tests::copier::Copier;
 use crate::tests::held::Held;
 use hub_follower::{FollowFault, Follower, Peer, Round};
+use hub_transcript::replay;
 use std::alloc::Global;
 use std::test::Fail;
 
@@ -67,5 +68,6 @@ target 2
 
 #[test]
 fn a_database_is_copied(rt: HostRuntime) -> Result<(), Fail> {
-    play(&rt, rt.alloc(), COPIED)
+    let handle = &rt;
+    replay::<Copier<'_, HostRuntime>, _>(&handle, rt.alloc(), COPIED)
 }

@@ -1,6 +1,7 @@
 //! Sources that are deleted and made again, and logs of an earlier life.
 
-use crate::tests::copier::play;
+use crate::tests::copier::Copier;
+use hub_transcript::replay;
 use std::test::Fail;
 
 // The second round begins at 0 of the new life. With numbers alone it goes on behind 2, and leaves out the
@@ -102,8 +103,9 @@ logs 3-3 3-3
 
 #[test]
 fn a_source_that_is_made_again_is_copied_anew(rt: HostRuntime) -> Result<(), Fail> {
-    play(&rt, rt.alloc(), MADE_AGAIN)?;
-    play(&rt, rt.alloc(), EMPTY_AT_FIRST)
+    let handle = &rt;
+    replay::<Copier<'_, HostRuntime>, _>(&handle, rt.alloc(), MADE_AGAIN)?;
+    replay::<Copier<'_, HostRuntime>, _>(&handle, rt.alloc(), EMPTY_AT_FIRST)
 }
 
 // Sequences that a source of life 1 with two documents is asked for changes above, a number alone or with a
@@ -132,7 +134,8 @@ source 2
 
 #[test]
 fn changes_begin_in_the_life_of_the_source(rt: HostRuntime) -> Result<(), Fail> {
-    play(&rt, rt.alloc(), CHANGES)
+    let handle = &rt;
+    replay::<Copier<'_, HostRuntime>, _>(&handle, rt.alloc(), CHANGES)
 }
 
 // A source of life 2 with three documents, an empty target, and their logs of one session. Where a session
@@ -297,5 +300,6 @@ logs 3-2 3-2
 
 #[test]
 fn a_session_goes_on_from_logs_of_its_life(rt: HostRuntime) -> Result<(), Fail> {
-    play(&rt, rt.alloc(), RECORDED)
+    let handle = &rt;
+    replay::<Copier<'_, HostRuntime>, _>(&handle, rt.alloc(), RECORDED)
 }

@@ -1,9 +1,9 @@
 //! Replication logs.
 
-use crate::tests::values::play;
+use crate::tests::values::Values;
 use crate::tests::{Told, number, seq_of, text_of};
 use hub_follower::{HistoryEntry, Log, Seq, common_sequence};
-use hub_transcript::{Answer, Words};
+use hub_transcript::{Answer, Words, replay};
 use std::alloc::{AllocError, Global};
 use std::test::Fail;
 
@@ -178,6 +178,11 @@ up to 7-2
 up to 3-2
 ";
 
+#[test]
+fn sequences_up_to_which_logs_agree(rt: HostRuntime) -> Result<(), Fail> {
+    replay::<Values, _>(&rt, rt.alloc(), AGREED)
+}
+
 // Each place may have a whole number or a text, whatever the others have.
 const TEXTS: &str = r#"
 # a log is read as it was written
@@ -237,7 +242,6 @@ none
 "#;
 
 #[test]
-fn logs_agree_and_are_read(rt: HostRuntime) -> Result<(), Fail> {
-    play(rt.alloc(), AGREED)?;
-    play(rt.alloc(), TEXTS)
+fn texts_of_logs(rt: HostRuntime) -> Result<(), Fail> {
+    replay::<Values, _>(&rt, rt.alloc(), TEXTS)
 }

@@ -2,8 +2,9 @@
 
 use crate::tests::Told;
 use crate::tests::desk::{Desk, Lost};
-use crate::tests::telling::{agree, count, is_recorded, put};
-use hub_follower::{FollowFault, Peer, Seq};
+use crate::tests::following::copy_all;
+use crate::tests::telling::{agree, count, put, recorded};
+use hub_follower::{FollowFault, Follower, Peer, Seq};
 use std::alloc::AllocError;
 
 // How a session ended, in words.
@@ -16,12 +17,25 @@ fn end_of(done: &Result<Option<Seq>, FollowFault>) -> &'static str {
     }
 }
 
+// Copies all and records the place, up to the first call that fails: where that began.
+fn copy_and_record<S: Peer + Drop, T: Peer + Drop>(
+    follower: &mut Follower<S, T>,
+) -> Result<Option<Seq>, FollowFault> {
+    let place = follower.core().place();
+    copy_all(follower)?;
+    follower.checkpoint()?;
+    Ok(place)
+}
+
 impl<P: Peer + Drop> Desk<P> {
     // A session up to its checkpoint, or up to the call that fails: where it began.
     fn whole_session(&mut self, session_id: &str, lost: Lost) -> Result<Option<Seq>, FollowFault> {
-        match self.begin(session_id, true, lost) {
-            Ok(()) => self.kept.copy_and_record(),
-            Err(failed) => Err(failed.fault),
+        if let Some(failed) = self.begin(session_id, true, lost)? {
+            return Err(failed.fault);
+        }
+        match &mut self.follower {
+            Some(follower) => copy_and_record(follower),
+            None => Err(FollowFault::Peer),
         }
     }
 
@@ -45,11 +59,16 @@ impl<P: Peer + Drop> Desk<P> {
     // How many edits the target has, where these are all that the source has, and both logs record that.
     fn whole_count(&mut self) -> Result<Option<u64>, AllocError> {
         let stored = count(&mut self.source)?;
-        if !is_recorded(&mut self.source, stored)? || !is_recorded(&mut self.target, stored)? {
-            return Ok(None);
-        }
-        let (source, target) = (&mut self.source, &mut self.target);
-        let is_whole = agree(self.alloc, source, target, self.ids.as_str())?;
+        let place = Some(Seq::of_life(stored, 1));
+        let is_whole = count(&mut self.target)? == stored
+            && recorded(&mut self.source)? == place
+            && recorded(&mut self.target)? == place
+            && agree(
+                self.alloc,
+                &mut self.source,
+                &mut self.target,
+                self.ids.as_str(),
+            )?;
         Ok(if is_whole { Some(stored) } else { None })
     }
 

@@ -1,6 +1,7 @@
 //! Calls and answers that are lost, at every call of a session.
 
-use crate::tests::copier::play;
+use crate::tests::copier::Copier;
+use hub_transcript::replay;
 use std::test::Fail;
 
 // The source is asked for its log, the changes, three documents, the changes again, and to keep its log;
@@ -131,11 +132,13 @@ copied, target 11; then from 11-1 to 11
 
 #[test]
 fn whatever_is_lost_all_is_copied(rt: HostRuntime) -> Result<(), Fail> {
-    play(&rt, rt.alloc(), ALL)
+    let handle = &rt;
+    replay::<Copier<'_, HostRuntime>, _>(&handle, rt.alloc(), ALL)
 }
 
 // Histories end above the first generation: leaves, winners and what stands behind each are copied.
 #[test]
 fn whatever_is_lost_parents_are_copied(rt: HostRuntime) -> Result<(), Fail> {
-    play(&rt, rt.alloc(), PARENTS)
+    let handle = &rt;
+    replay::<Copier<'_, HostRuntime>, _>(&handle, rt.alloc(), PARENTS)
 }

@@ -1,6 +1,7 @@
 //! Rounds, and why they fail.
 
-use crate::tests::copier::play;
+use crate::tests::copier::Copier;
+use hub_transcript::replay;
 use std::test::Fail;
 
 // A round asks for a hundred rows, and finishes its feed. A session that does not begin tells how many faults
@@ -96,5 +97,6 @@ no local document may have the id of the replication logs, faults 0 0, of databa
 
 #[test]
 fn rounds_and_why_they_fail(rt: HostRuntime) -> Result<(), Fail> {
-    play(&rt, rt.alloc(), ROUNDS)
+    let handle = &rt;
+    replay::<Copier<'_, HostRuntime>, _>(&handle, rt.alloc(), ROUNDS)
 }

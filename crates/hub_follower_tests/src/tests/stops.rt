@@ -1,6 +1,7 @@
 //! Followers that stop behind an earlier checkpoint.
 
-use crate::tests::copier::play;
+use crate::tests::copier::Copier;
+use hub_transcript::replay;
 use std::test::Fail;
 
 // The target is a copy of the source up to 2, which both logs record; the source has one document more. The
@@ -100,8 +101,19 @@ target 3
 "#;
 
 #[test]
-fn followers_that_stopped(rt: HostRuntime) -> Result<(), Fail> {
-    play(&rt, rt.alloc(), SOURCE_CALLS)?;
-    play(&rt, rt.alloc(), TARGET_CALLS)?;
-    play(&rt, rt.alloc(), BEFORE_CHECKPOINT)
+fn a_follower_that_stopped_at_a_call_of_its_source(rt: HostRuntime) -> Result<(), Fail> {
+    let handle = &rt;
+    replay::<Copier<'_, HostRuntime>, _>(&handle, rt.alloc(), SOURCE_CALLS)
+}
+
+#[test]
+fn a_follower_that_stopped_at_a_call_of_its_target(rt: HostRuntime) -> Result<(), Fail> {
+    let handle = &rt;
+    replay::<Copier<'_, HostRuntime>, _>(&handle, rt.alloc(), TARGET_CALLS)
+}
+
+#[test]
+fn a_follower_that_stopped_before_its_checkpoint(rt: HostRuntime) -> Result<(), Fail> {
+    let handle = &rt;
+    replay::<Copier<'_, HostRuntime>, _>(&handle, rt.alloc(), BEFORE_CHECKPOINT)
 }

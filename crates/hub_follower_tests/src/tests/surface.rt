@@ -1,10 +1,10 @@
 //! A follower's machine, driven by hand.
 
 use crate::tests::logs::tell_log;
-use crate::tests::values::play;
+use crate::tests::values::Values;
 use crate::tests::{Told, tell_fault};
 use hub_follower::{Answer as Answered, Call, FollowCore, FollowFault, Seq, Session};
-use hub_transcript::{Answer, Words};
+use hub_transcript::{Answer, Words, replay};
 use std::alloc::{AllocError, Global};
 use std::test::Fail;
 
@@ -52,7 +52,7 @@ fn absent(alloc: Global, core: &mut FollowCore, answer: &mut Answer) -> Result<(
     };
     match done {
         Ok(()) => Ok(()),
-        Err(fault) => tell_fault(alloc, &fault, answer),
+        Err(fault) => tell_fault(alloc, fault, answer),
     }
 }
 
@@ -135,5 +135,5 @@ free, owes nothing, at 0
 
 #[test]
 fn a_machine_owes_its_calls(rt: HostRuntime) -> Result<(), Fail> {
-    play(rt.alloc(), CALLS)
+    replay::<Values, _>(&rt, rt.alloc(), CALLS)
 }

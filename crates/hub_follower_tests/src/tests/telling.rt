@@ -2,15 +2,15 @@
 //!
 //! Each call is an error where it finds no memory, and each time where the peer fails.
 
-use crate::tests::{LOG, Told, docs, numbered, text_of};
+use crate::tests::{LOG, Told, docs, text_of};
 use hub_database::OpenRev;
-use hub_document::{Asked, ChangeRow, Doc};
+use hub_document::{Asked, Doc};
 use hub_follower::{Changes, Log, Peer, Seq};
 use hub_transcript::Answer;
 use std::alloc::{AllocError, Global};
 
-// What a peer lists above a sequence.
-fn rows_above<P: Peer>(peer: &mut P, since: Seq) -> Result<Changes, AllocError> {
+/// What a peer lists above a sequence.
+pub(crate) fn rows_above<P: Peer>(peer: &mut P, since: Seq) -> Result<Changes, AllocError> {
     match peer.changes(since) {
         Ok(changes) => Ok(changes),
         Err(_) => Err(AllocError),
@@ -30,8 +30,8 @@ pub(crate) fn count<P: Peer>(peer: &mut P) -> Result<u64, AllocError> {
     Err(AllocError)
 }
 
-// Stores documents with their histories.
-fn store<P: Peer>(peer: &mut P, docs: Vec<Doc>) -> Result<(), AllocError> {
+/// Stores documents with their histories.
+pub(crate) fn store<P: Peer>(peer: &mut P, docs: Vec<Doc>) -> Result<(), AllocError> {
     match peer.merge(docs.as_slice()) {
         Ok(_replies) => Ok(()),
         Err(_) => Err(AllocError),
@@ -44,103 +44,42 @@ pub(crate) fn put<P: Peer>(alloc: Global, peer: &mut P, words: &str) -> Result<(
     store(peer, docs(alloc, words)?)
 }
 
-/// Tells how many edits a peer of this name has.
-pub(crate) fn tell_count<P: Peer>(
-    name: &str,
-    peer: &mut P,
-    answer: &mut Answer,
-) -> Result<(), AllocError> {
-    let stored = count(peer)?;
-    answer.line(format_args!("{name} {stored}"))
-}
-
-/// Stores the documents that the words are at a source, and tells how many edits it has.
-pub(crate) fn put_and_count<P: Peer>(
-    alloc: Global,
-    source: &mut P,
-    words: &str,
-    answer: &mut Answer,
-) -> Result<(), AllocError> {
-    put(alloc, source, words)?;
-    tell_count("source", source, answer)
-}
-
-/// The same of so many documents d0, d1 and so on.
-pub(crate) fn fill_and_count<P: Peer>(
-    alloc: Global,
-    source: &mut P,
-    number: u64,
-    answer: &mut Answer,
-) -> Result<(), AllocError> {
-    store(source, numbered(alloc, number)?)?;
-    tell_count("source", source, answer)
-}
-
-// The document of a row, with the leaves that it lists.
-fn asked_of(alloc: Global, row: ChangeRow) -> Result<Asked, AllocError> {
-    let id = row.id.to_text(alloc)?;
-    let revs = row.changes.into_revisions(alloc)?;
-    Ok(Asked { id, revs })
-}
-
 // The documents of rows, with the leaves that they list.
 fn listed(alloc: Global, changes: Changes) -> Result<Vec<Asked>, AllocError> {
     let mut asked = Vec::new(alloc);
     for row in changes.rows {
-        asked.push(asked_of(alloc, row)?)?;
+        asked.push(Asked {
+            id: row.id.to_text(alloc)?,
+            revs: row.changes.into_revisions(alloc)?,
+        })?;
     }
     Ok(asked)
 }
 
-// Writes the texts of revisions with their histories, each behind a blank.
-fn write_found(found: &[OpenRev], texts: &mut Vec<u8>) -> Result<(), AllocError> {
-    for leaf in found {
+// The texts of revisions with their histories, each behind a blank.
+fn texts_of<P: Peer>(alloc: Global, peer: &mut P, asked: &Asked) -> Result<Vec<u8>, AllocError> {
+    let Ok(found) = peer.open_revs(asked) else {
+        return Err(AllocError);
+    };
+    let mut texts = Vec::new(alloc);
+    for leaf in found.into_vec() {
         if let OpenRev::Found(doc) = leaf {
             texts.push(b' ')?;
-            doc.write(texts)?;
+            doc.write(&mut texts)?;
         }
     }
-    Ok(())
+    Ok(texts)
 }
 
-// Writes the texts of the leaves of a document, best first.
-fn write_leaves<P: Peer>(
-    alloc: Global,
-    peer: &mut P,
-    id: &str,
-    texts: &mut Vec<u8>,
-) -> Result<(), AllocError> {
+// The texts of the leaves of a document, best first.
+fn leaves<P: Peer>(alloc: Global, peer: &mut P, id: &str) -> Result<Vec<u8>, AllocError> {
     let rows = listed(alloc, rows_above(peer, Seq::beginning())?)?;
-    let Some(asked) = rows.iter().find(|asked| asked.id.as_str() == id) else {
-        return Ok(());
-    };
-    match peer.open_revs(asked) {
-        Ok(found) => write_found(found.into_vec().as_slice(), texts),
-        Err(_) => Err(AllocError),
+    for asked in &rows {
+        if asked.id.as_str() == id {
+            return texts_of(alloc, peer, asked);
+        }
     }
-}
-
-// The texts of the leaves of a document at both ends.
-#[derive(Drop)]
-struct Leaves {
-    source: Vec<u8>,
-    target: Vec<u8>,
-}
-
-// Those of two peers.
-fn leaves_of_both<S: Peer, T: Peer>(
-    alloc: Global,
-    source: &mut S,
-    target: &mut T,
-    id: &str,
-) -> Result<Leaves, AllocError> {
-    let mut leaves = Leaves {
-        source: Vec::new(alloc),
-        target: Vec::new(alloc),
-    };
-    write_leaves(alloc, source, id, &mut leaves.source)?;
-    write_leaves(alloc, target, id, &mut leaves.target)?;
-    Ok(leaves)
+    Ok(Vec::new(alloc))
 }
 
 /// Whether two peers have the same leaves of each of these documents, in the same order.
@@ -151,8 +90,7 @@ pub(crate) fn agree<S: Peer, T: Peer>(
     ids: &str,
 ) -> Result<bool, AllocError> {
     for id in ids.split(' ') {
-        let leaves = leaves_of_both(alloc, source, target, id)?;
-        if leaves.source != leaves.target {
+        if leaves(alloc, source, id)? != leaves(alloc, target, id)? {
             return Ok(false);
         }
     }
@@ -167,24 +105,20 @@ pub(crate) fn tell_leaves<P: Peer>(
     id: &str,
     answer: &mut Answer,
 ) -> Result<(), AllocError> {
-    let leaves = leaves_of_both(alloc, source, target, id)?;
-    let source = text_of(leaves.source.as_slice())?;
-    let target = text_of(leaves.target.as_slice())?;
+    let source = leaves(alloc, source, id)?;
+    let target = leaves(alloc, target, id)?;
+    let source = text_of(source.as_slice())?;
+    let target = text_of(target.as_slice())?;
     answer.line(format_args!("source{source}\ntarget{target}"))
 }
 
-// The sequence that a peer's replication log records.
-fn recorded<P: Peer>(peer: &mut P) -> Result<Option<Seq>, AllocError> {
+/// The sequence that a peer's replication log records.
+pub(crate) fn recorded<P: Peer>(peer: &mut P) -> Result<Option<Seq>, AllocError> {
     match peer.local_get(LOG) {
         Ok(Some(log)) => Ok(Some(log.source_last_seq)),
         Ok(None) => Ok(None),
         Err(_) => Err(AllocError),
     }
-}
-
-/// Whether a peer has so many edits, and its replication log records them all.
-pub(crate) fn is_recorded<P: Peer>(peer: &mut P, stored: u64) -> Result<bool, AllocError> {
-    Ok(count(peer)? == stored && recorded(peer)? == Some(Seq::of_life(stored, 1)))
 }
 
 /// Tells the sequences that two replication logs record.

@@ -1,13 +1,13 @@
 //! A follower beside a writer.
 
 use crate::tests::telling::{agree, count};
-use crate::tests::{LOG, database, docs};
-use hub_document::Limits;
+use crate::tests::{LOG, database};
+use hub_document::{Doc, Limits};
 use hub_follower::{DbPeer, FaultPeer, FollowFault, Follower, Loss, Peer, Round};
-use hub_shared::{Db, Handle, Plain};
+use hub_shared::{Db, Plain};
 use std::alloc::{AllocError, Global};
 use std::sync::Wait;
-use std::sync::atomic::{AtomicBool, Ordering};
+use std::sync::atomic::{AtomicU64, Ordering};
 use std::test::Fail;
 use std::thread::{self, Threads};
 
@@ -16,60 +16,33 @@ const EDITS: u64 = 2000;
 
 const DOCUMENTS: u64 = 50;
 
-// A source, to which a writer writes, and a target.
-#[derive(Drop)]
-struct Ends {
-    alloc: Global,
-    source: Db<Plain>,
-    target: Db<Plain>,
-    is_written: AtomicBool,
-}
-
 // The text of an edit: a new revision of its document, a child of it, or a conflict. Each seventh deletes.
 fn edit_text(alloc: Global, number: u64) -> Result<String, AllocError> {
     let doc = number % DOCUMENTS;
     let round = number / DOCUMENTS;
     let deleted = number % 7 == 3;
-    let (mark, parent) = match round % 3 {
-        0 => ("", round),
-        1 => ("r", round - 1),
-        _ => ("s", round),
-    };
-    let line = if mark == "" {
-        format!(in alloc; r#"1,"ids":["r{round}"]"#)?
-    } else {
-        format!(in alloc; r#"2,"ids":["r{round}","{mark}{parent}"]"#)?
-    };
-    let line = line.as_str();
-    format!(in alloc; r#"{{"_id":"d{doc}","_deleted":{deleted},"_revisions":{{"start":{line}}}}}"#)
-}
-
-// Makes an edit: whether it was stored.
-fn write<R: Wait>(rt: &R, alloc: Global, handle: &mut Handle<Plain>, number: u64) -> bool {
-    let Ok(text) = edit_text(alloc, number) else {
-        return false;
-    };
-    let Ok(docs) = docs(alloc, text.as_str()) else {
-        return false;
-    };
-    match handle.write(rt, docs, false) {
-        Ok(accepted) => accepted.receipts.first().is_some(),
-        Err(_) => false,
-    }
-}
-
-// Makes all edits: whether each was stored.
-fn write_all<R: Wait>(rt: &R, ends: &Ends) -> bool {
-    let Ok(mut handle) = ends.source.handle() else {
-        return false;
-    };
-    for number in 0..EDITS {
-        if !write(rt, ends.alloc, &mut handle, number) {
-            return false;
+    let revisions = match round % 3 {
+        0 => format!(in alloc; r#"{{"start":1,"ids":["r{round}"]}}"#)?,
+        1 => {
+            let parent = round - 1;
+            format!(in alloc; r#"{{"start":2,"ids":["r{round}","r{parent}"]}}"#)?
         }
+        _ => format!(in alloc; r#"{{"start":2,"ids":["r{round}","s{round}"]}}"#)?,
+    };
+    format!(in alloc; r#"{{"_id":"d{doc}","_deleted":{deleted},"_revisions":{revisions}}}"#)
+}
+
+// Makes all edits; None where one was not stored.
+fn write_all<R: Wait>(rt: &R, alloc: Global, source: &Db<Plain>, done: &AtomicU64) -> Option<()> {
+    let mut handle = source.handle().ok()?;
+    for number in 0..EDITS {
+        let text = edit_text(alloc, number).ok()?;
+        let doc = Doc::read(alloc, text.as_bytes(), false).ok()?;
+        let accepted = handle.write(rt, vec![in alloc; doc].ok()?, false).ok()?;
+        accepted.receipts.first()?;
     }
-    ends.is_written.store(true, Ordering::SeqCst);
-    true
+    done.store(1, Ordering::SeqCst);
+    Some(())
 }
 
 // Three rounds: whether the last one found nothing new. A checkpoint may fail.
@@ -108,36 +81,53 @@ fn three_rounds<S: Peer + Drop, T: Peer + Drop>(
 }
 
 // Such a session between two databases.
-fn session<R: Wait>(rt: &R, ends: &Ends, number: u64) -> Result<bool, FollowFault> {
-    let (source, target) = (ends.source.handle()?, ends.target.handle()?);
-    let session_id = format!(in ends.alloc; "S{number}")?;
-    let source = DbPeer::new(rt, ends.alloc, source);
-    let target = DbPeer::new(rt, ends.alloc, target);
-    three_rounds(ends.alloc, source, target, session_id.as_str())
+fn session<R: Wait>(
+    rt: &R,
+    alloc: Global,
+    source: &Db<Plain>,
+    target: &Db<Plain>,
+    number: u64,
+) -> Result<bool, FollowFault> {
+    let session_id = format!(in alloc; "S{number}")?;
+    let source = DbPeer::new(rt, alloc, source.handle()?);
+    let target = DbPeer::new(rt, alloc, target.handle()?);
+    three_rounds(alloc, source, target, session_id.as_str())
 }
 
-// Sessions, one after the other, until one that began behind the last edit found nothing new: false where one
-// failed.
-fn follow_all<R: Wait>(rt: &R, ends: &Ends) -> bool {
+// Sessions, one after the other, until one that began behind the last edit found nothing new.
+fn follow_all<R: Wait>(
+    rt: &R,
+    alloc: Global,
+    source: &Db<Plain>,
+    target: &Db<Plain>,
+    done: &AtomicU64,
+) -> Option<()> {
     for number in 0..u64::MAX {
-        let is_written = ends.is_written.load(Ordering::SeqCst);
-        match session(rt, ends, number) {
-            Ok(true) if is_written => return true,
-            Ok(_) => thread::yield_now(),
-            Err(_) => return false,
+        let is_written = done.load(Ordering::SeqCst) == 1;
+        let is_idle = session(rt, alloc, source, target, number).ok()?;
+        if is_idle && is_written {
+            return Some(());
         }
+        thread::yield_now();
     }
-    false
+    None
 }
 
-// The follower beside the writer: whether neither failed.
-fn run<R: Threads + Wait + Sync>(rt: &R, ends: &Ends) -> bool {
-    let (is_written, is_followed) = thread::join(
+// The follower beside the writer; None where one of them failed.
+fn run<R: Threads + Wait + Sync>(
+    rt: &R,
+    alloc: Global,
+    source: &Db<Plain>,
+    target: &Db<Plain>,
+) -> Option<()> {
+    let done = AtomicU64::new(0);
+    let (written, followed) = thread::join(
         rt,
-        || write_all(rt, ends),
-        || follow_all(rt, ends),
+        || write_all(rt, alloc, source, &done),
+        || follow_all(rt, alloc, source, target, &done),
     );
-    is_written && is_followed
+    written?;
+    followed
 }
 
 // How many edits a source has, and how many documents have the same leaves at both ends, before the first
@@ -157,31 +147,16 @@ fn agreed_count<S: Peer, T: Peer>(
     Ok((edits, DOCUMENTS))
 }
 
-impl Ends {
-    fn new(alloc: Global) -> Result<Ends, AllocError> {
-        let source = database(alloc, Limits::full(), 1)?;
-        let target = database(alloc, Limits::full(), 1)?;
-        Ok(Ends {
-            alloc,
-            source,
-            target,
-            is_written: AtomicBool::new(false),
-        })
-    }
-
-    // The same of the two databases.
-    fn agreed_count<R: Wait>(&self, rt: &R) -> Result<(u64, u64), AllocError> {
-        let (source, target) = (self.source.handle()?, self.target.handle()?);
-        let mut source = DbPeer::new(rt, self.alloc, source);
-        let mut target = DbPeer::new(rt, self.alloc, target);
-        agreed_count(self.alloc, &mut source, &mut target)
-    }
-}
-
 #[test]
 fn a_follower_beside_a_writer(rt: HostRuntime) -> Result<(), Fail> {
-    let ends = Ends::new(rt.alloc())?;
-    assert!(rt; run(&rt, &ends));
-    assert_eq!(rt; ends.agreed_count(&rt)?, (EDITS, DOCUMENTS));
+    let source = database(rt.alloc(), Limits::full(), 1)?;
+    let target = database(rt.alloc(), Limits::full(), 1)?;
+    assert!(rt; run(&rt, rt.alloc(), &source, &target).is_some());
+    let mut source = DbPeer::new(&rt, rt.alloc(), source.handle()?);
+    let mut target = DbPeer::new(&rt, rt.alloc(), target.handle()?);
+    assert_eq!(rt;
+        agreed_count(rt.alloc(), &mut source, &mut target)?,
+        (EDITS, DOCUMENTS)
+    );
     Ok(())
 }

@@ -5,9 +5,8 @@ use crate::tests::logs::answer_of_logs;
 use crate::tests::surface::answer_of_machine;
 use crate::tests::worlds::run;
 use hub_follower::FollowCore;
-use hub_transcript::{Answer, Subject, Words, replay};
+use hub_transcript::{Answer, Subject, Words};
 use std::alloc::{AllocError, Global};
-use std::test::Fail;
 
 /// What a follower is made of.
 ///
@@ -74,9 +73,4 @@ impl<R> Subject<R> for Values {
             _ => self.handed.answer(command, answer),
         }
     }
-}
-
-/// Replays a transcript.
-pub(crate) fn play(alloc: Global, transcript: &str) -> Result<(), Fail> {
-    replay::<Values, _>(&(), alloc, transcript)
 }

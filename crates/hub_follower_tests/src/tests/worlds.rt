@@ -1,10 +1,10 @@
 //! Runs of a follower's world.
 
 use crate::tests::handed::items_of;
-use crate::tests::values::play;
+use crate::tests::values::Values;
 use crate::tests::{Told, docs};
 use hub_follower::{FollowEvent, FollowWorld};
-use hub_transcript::{Answer, Words};
+use hub_transcript::{Answer, Words, replay};
 use std::alloc::{AllocError, Global};
 use std::test::Fail;
 
@@ -93,5 +93,5 @@ at 2-1, owes no call
 
 #[test]
 fn runs_of_a_world(rt: HostRuntime) -> Result<(), Fail> {
-    play(rt.alloc(), RUNS)
+    replay::<Values, _>(&rt, rt.alloc(), RUNS)
 }
