@@ -1,5 +1,5 @@
--- A document's own members: the names of these do not begin with `_` (CouchDB API reference, documents,
--- special fields). Their text is own.
+-- A document's own members: their names do not begin with `_` (CouchDB API reference, documents, special
+-- fields). Their text is own.
 use Rattle.std.specs.Prelude.{ℕ, List, [], ◌∷◌, Bool, false, ◌==◌, if◌then◌else◌}
 use Rattle.serde_json.specs.Data.{object, Members, no_members, member}
 use Rattle.serde_json.specs.Written.{compact_text}

@@ -31,7 +31,7 @@ abbrev pub hashed_at : ℕ → Data → Option Revision
 hashed_at n content = if n == 0 then None else option_and_then (with_hash n) (as_str content)
 
 -- The revisions of hashes, with the generations n, n - 1 and so on; there is no generation 0. From 3 on, "c"
--- and "b" are 3-c 2-b. From 1 on they are None, since b would be of generation 0.
+-- and "b" are 3-c 2-b. From 1 on the answer is None, since b would be of generation 0.
 abbrev pub falling : ℕ → Items → Option (List Revision)
 falling n no_items = Some []
 falling n (item d ds) =

@@ -1,4 +1,4 @@
-//! The members of a document that are its own: no `_` stands in front of their names.
+//! The members of a document that are its own: their names do not begin with `_`.
 
 ghost use Rattle.std.specs.Prelude.{◌≡◌, codes, false, IfOk};
 ghost use Rattle.serde_json.specs.View.{members_view};
@@ -14,7 +14,7 @@ use serde_json::{Map, Value};
 use std::alloc::{AllocError, Global};
 use std::marker::Model;
 
-// The bytes of the vector that a body is first written into: most bodies fit.
+// The bytes of room that a body is first written into: most bodies fit.
 const FIRST_ROOM: usize = 256;
 
 /// A document's members whose names do not begin with `_`, seen as their compact JSON text: an object whose

@@ -112,7 +112,7 @@ impl ChangeRow {
     }
 
     /// As `write_doc`, for an id that needs no escape, and with the JSON string of the row's first revision.
-    /// The text is appended in fewer parts, and its digits are not written again.
+    /// The text is appended in fewer parts, and the digest's digits are not written again.
     pub fn write_plain_doc(
         &self,
         out: &mut Vec<u8>,

@@ -19,7 +19,7 @@ use std::sync::Arc;
 enum Form {
     // An id of at most 16 bytes, in the value itself.
     Inline(ArrayString<16>),
-    // An id of 17 to 32 bytes, as most ids have, in a piece of memory that its copies share.
+    // An id of 17 to 32 bytes, which is most ids, in a piece of memory that its copies share.
     Shared(Arc<ArrayString<32>, Global>),
     // A longer id: the piece that its copies share holds a string, whose text has memory of its own.
     Long(Arc<String, Global>),

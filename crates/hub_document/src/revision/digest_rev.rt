@@ -12,7 +12,7 @@ use std::alloc::AllocError;
 use std::marker::Model;
 
 /// A revision whose hash is a digest's text: 16 bytes in lower-case hexadecimal digits. Each revision that is
-/// made here is such a one. The value takes 18 bytes.
+/// made here has this form. The value takes 18 bytes.
 #[derive(Debug, Drop)]
 pub struct DigestRev {
     generation: u16,
