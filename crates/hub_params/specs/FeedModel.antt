@@ -18,6 +18,6 @@ params_in asked =
       heartbeat = is_some asked.heartbeat;
     }
 
--- the parameters of a feed in `hub_model` for these parameters
+-- the parameters of a feed in `hub_model` that the code's parameters stand for
 abbrev pub params_of : FeedParams → Params
 params_of params = params_in (params_asked params)

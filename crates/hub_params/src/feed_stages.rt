@@ -49,7 +49,7 @@ pub(crate) struct Flags {
     pub(crate) include_docs: bool,
 }
 
-// The text as it is lent, where there is one.
+// The text, borrowed, where there is one.
 fn lent<'t>(text: &'t Option<CowStr<'_>>) -> Option<&'t str>
     ensures { option_map (λ s. s.now) result ≡ option_map cow_str_bytes text.now }
 {

@@ -41,9 +41,9 @@ pub(crate) fn decoded<'q>(
     }
 }
 
-/// Decoding the values of a query one by one gives the same as the standard's parser. The value of a name is
-/// the value of the last pair with this name (URL Standard, section 5, the application/x-www-form-urlencoded
-/// parser).
+/// Decoding the names and values of a query one by one gives the values of the standard's parser. The value
+/// of a name is the value of the last pair with this name (URL Standard, section 5, the
+/// application/x-www-form-urlencoded parser).
 pub fn values_are_parsed()
     ensures { ValuesAreParsed }
 {}
