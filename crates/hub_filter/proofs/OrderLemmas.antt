@@ -1,4 +1,4 @@
--- Texts in byte order: the same texts have one such list.
+-- Texts in byte order: any texts have one list in this order.
 use Rattle.std.proofs.Common.{◌≡◌, ℕ, suc, ◌+◌, ◌<◌, ◌≤◌, List, [], ◌∷◌, map, length}
 use Rattle.std.proofs.Common.{get_or, string_bytes, String, Global, true, false, cond}
 use Rattle.std.proofs.Common.{inl, inr, sym, ◌∙◌, ap, refl, Ordering, arith}
