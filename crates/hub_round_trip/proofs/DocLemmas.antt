@@ -56,7 +56,7 @@ string_is (string t) s e w = let is : t ≡ s = cc in subst IsUtf8 is w
 string_is (array ds) s e w = absurd (cc)
 string_is (object ms) s e w = absurd (cc)
 
--- the text of an id of any length is UTF-8
+-- `_id` gives an id of any length, in UTF-8
 id_is : (ms : Members) (id : List ℕ) → AreWritableMembers ms → id_of (object ms) ≡ Some id
     → (is_id id ≡ true) × IsUtf8 id
 id_is ms id w e =
