@@ -25,7 +25,7 @@ rev_of new_edits content =
     read_or (if new_edits || is_some (get (codes "_revisions") content)
     then Some None else None) (λ r. option_map Some (rev_in r)) (get (codes "_rev") content)
 
--- the revision of generation n whose hash is an item's text; None in generation 0, or where the item is no
+-- the revision of generation n whose hash is an item's text; None for generation 0, or where the item is no
 -- hash
 abbrev pub hashed_at : ℕ → Data → Option Revision
 hashed_at n content = if n == 0 then None else option_and_then (with_hash n) (as_str content)

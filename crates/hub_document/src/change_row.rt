@@ -27,7 +27,7 @@ pub struct ChangeRow {
     /// The members of the winner's document, where documents are asked for. The document's id, revision and
     /// mark are the row's.
     pub doc: Option<Body>,
-    /// The update sequence of the database when the row was made.
+    /// How many edits the database had when the row was made: its update sequence.
     pub seen: u64,
 }
 
