@@ -18,7 +18,7 @@ pub at_any_error : {A E : Type 0} (r : Result A E) (P : E → Type 0) → ((e : 
 at_any_error (Ok x) P p = tt
 at_any_error (Err e) P p = p e
 
--- no bytes are decoded to the empty text
+-- the empty value is decoded to the empty text
 decoded_nil : decoded_text [] ≡ []
 unfolding percent_decode utf8_lossy
 decoded_nil = refl

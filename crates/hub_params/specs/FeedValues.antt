@@ -110,8 +110,8 @@ abbrev pub timeout_in : Option (List ℕ) → Option ℕ
 timeout_in None = Some 60000
 timeout_in (Some text) = option_map (λ n. min n 60000) (number_in text)
 
--- whether a flag is set: true sets it, false does not, and an absent one is not set. Another text, as 1, is a
--- fault.
+-- whether a flag is set: true sets it, false does not, and an absent one is not set. Another text, such as 1,
+-- is a fault.
 abbrev pub flag_in : Option (List ℕ) → Option Bool
 flag_in None = Some false
 flag_in (Some text) =

@@ -26,7 +26,7 @@ pub enum ParamFault {
     /// `filter` is neither `_doc_ids` nor `_design`.
     #[error("bad filter")]
     BadFilter,
-    /// Of `filter=_doc_ids`: `doc_ids` is absent or no list of texts, or a body is there and is no object.
+    /// With `filter=_doc_ids`: `doc_ids` is absent or no list of texts, or a body is there and is no object.
     #[error("bad doc_ids")]
     BadDocIds,
     /// `heartbeat` or `timeout` is no number in its range, nor a word that stands for one.
