@@ -11,21 +11,21 @@ on_ok : {E : Type 0} {P : Type 0} (result : Result (Unit {0}) E) → P → OnOk 
 on_ok (Ok u) p = p
 on_ok (Err e) p = tt
 
--- what any text stands behind stands in front
+-- old bytes that a text follows are the front of the new bytes
 pub front_of : (text old new : List ℕ) → new ≡ old ++ text → take (length old) new ≡ old
 front_of text old new e = ap (take (length old)) e ∙ take-append_seam old text
 
--- a text that stands behind what was held leaves that in front
+-- a text that follows the old bytes is an append
 pub appended : {E : Type 0} {result : Result (Unit {0}) E} (text old new : List ℕ) → new ≡ old ++ text
     → Appends text result old new
 appended {result = result} text old new e = record { ok = on_ok result e; front = front_of text old new e }
 
--- what stands at the front of a front stands at the front
+-- the front of a front is a front, where more bytes follow the old ones
 pub front-front : (old mid new more : List ℕ) → mid ≡ old ++ more → take (length mid) new ≡ mid
     → take (length old) new ≡ old
 front-front old mid new more e h = grind (arith, common_steps, e, h, ap length e, ap (take (length old)) h)
 
--- a text of two parts, of which the first stands there and the last is appended, or not for want of memory
+-- an append in two parts: the first part is there, and the last one is appended, or is out of memory
 pub appended_behind : {E : Type 0} (r : Result (Unit {0}) E) (text first last old mid new : List ℕ)
     → text ≡ first ++ last → mid ≡ old ++ first → new ≡ (if is_ok r then mid ++ last else mid)
     → Appends text r old new
@@ -38,18 +38,18 @@ appended_behind (Ok u) text first last old mid new whole there now =
 appended_behind (Err e) text first last old mid new whole there now =
     record { ok = tt; front = front_of first old new (now ∙ there) }
 
--- what stands at the front of a front stands at the front
+-- the front of a front is a front
 pub front_by : (old mid new : List ℕ) → take (length old) mid ≡ old → take (length mid) new ≡ mid
     → take (length old) new ≡ old
 front_by old mid new first last =
     front-front old mid new (drop (length old) mid)
     (sym (take-append-drop (length old) mid) ∙ ap (λ l. l ++ drop (length old) mid) first) last
 
--- what did not change stands in front
+-- bytes that did not change are their own front
 pub front_same : (old new : List ℕ) → new ≡ old → take (length old) new ≡ old
 front_same old new e = ap (take (length old)) e ∙ take_all (length old) old (omega arith)
 
--- where there was no memory for a text, what was held stands in front
+-- an append that is out of memory keeps the old bytes in front
 pub refused : {E : Type 0} (result : Result (Unit {0}) E) (text old new : List ℕ) → IsErr result
     → take (length old) new ≡ old → Appends text result old new
 refused (Ok u) text old new e h = absurd (cc)

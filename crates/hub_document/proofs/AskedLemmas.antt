@@ -1,4 +1,4 @@
--- What is asked of members.
+-- The documents that members ask for.
 use Rattle.std.proofs.Common.{◌≡◌, ℕ, ◌<◌, List, [], ◌∷◌, length, Option, Some, None, option_and_then}
 use Rattle.std.proofs.Common.{is_some, true, Ok, String, string_bytes, arith, sym, true≢false}
 use Rattle.std.specs.Prelude.{IsOkAnd}
@@ -11,7 +11,7 @@ use Rattle.hub_document.specs.Asking.{in_front, revs_in, asked_of}
 use Rattle.hub_document.specs.Read.{or_fault}
 use Rattle.hub_document.specs.declared.doc.DocFault.TheVariants.{BadRev}
 
--- one or more are asked for
+-- at least one document is asked for
 abbrev AsksSome : Option (List RevisionsOfDoc) → Type 0
 AsksSome asked = IsOkAnd (or_fault asked BadRev Ok) (λ v. 0 < length v)
 
@@ -26,7 +26,7 @@ one_more : (id : List ℕ) (revs : Option (List Revision)) (rest : Option (List 
 one_more id None rest h = absurd (true≢false (sym h))
 one_more id (Some revs) rest h = one_in_front (record { id = id; revs = revs }) rest h
 
--- one member asks for one
+-- an object with a member asks for at least one document
 pub asks_some : (entries : List (String Global × Value)) → 0 < length entries
     → is_some (asked_of (members_view entries)) ≡ true
     → IsOkAnd (or_fault (asked_of (members_view entries)) BadRev Ok) (λ v. 0 < length v)

@@ -1,4 +1,4 @@
--- The text of a body is an object's.
+-- The text of a body is the text of an object.
 use Rattle.std.proofs.Common.{◌≡◌, ℕ, suc, ◌-◌, Bool, true, false, List, [], ◌∷◌, ◌++◌, length}
 use Rattle.std.proofs.Common.{refl, sym, ap, ◌∙◌, subst, arith, append_assoc}
 use Rattle.std.proofs.lemmas.List.{length-append}
@@ -19,7 +19,7 @@ braced m =
       closed = rw size (ap (λ l. 123 ∷ (l ++ 125 ∷ [])) (take-append_seam m (125 ∷ [])));
     }
 
--- the text of members, and the brace
+-- the text of members ends with a brace
 members_closed : (later : Bool) (ms : Members) → (m : List ℕ) × (members_text later ms ≡ m ++ 125 ∷ [])
 members_closed later no_members = ([], refl)
 members_closed later (member k d ms) =

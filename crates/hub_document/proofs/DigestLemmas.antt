@@ -1,4 +1,4 @@
--- A digest and the text of it.
+-- A digest and its text.
 use Rattle.std.proofs.Common.{◌≡◌, ℕ, ◌-◌, ◌*◌, ◌<◌, ◌≤◌, ◌^◌, Bool, false, List, [], ◌∷◌, ◌++◌, length}
 use Rattle.std.proofs.Common.{take, replicate, sym, ap, ◌∙◌, subst, append_assoc, decimal}
 use Rattle.std.specs.Prelude.{Option, Some, None, Result}
@@ -22,7 +22,7 @@ use Rattle.hub_document.proofs.WriteLemmas.{quoted_text}
 pub text_length : (d : List ℕ) → length d ≡ 16 → length (encode_lower d) ≡ 32
 text_length d sized = length-encode_with lower_digits d ∙ ap (λ n. 2 * n) sized
 
--- with zeros after it, it is laid out well
+-- a digest's text with zeros after it is laid out well
 pub text_laid_out : (n : ℕ) (d out : List ℕ) → 1 ≤ n → n < 2 ^ 16 → IsBytes d → length d ≡ 16
     → out ≡ encode_lower d → IsLaidOut n 32 (out ++ replicate 32 0)
 text_laid_out n d out low high fits sized written =
@@ -30,7 +30,7 @@ text_laid_out n d out low high fits sized written =
     (subst (λ k. IsLaidOut n k (encode_lower d ++ replicate (64 - k) 0)) (text_length d sized)
     (laid_out n (encode_lower d) low high (is_hash_of d fits sized)))
 
--- and is the hash of a revision, whose text in quotes is made of these parts
+-- the JSON string of a revision whose hash is a digest's text is made of these parts
 pub quoted_parts : (d : List ℕ) (n : ℕ) → 1 ≤ n → n < 2 ^ 16 → IsBytes d → length d ≡ 16
     → quoted (text_of (record { generation = n; hash = encode_lower d }))
     ≡ 34 ∷ (decimal n ++ 45 ∷ (encode_lower d ++ 34 ∷ []))
@@ -39,7 +39,7 @@ quoted_parts d n low high fits sized =
     (hash_revision n (encode_lower d) low high (is_hash_of d fits sized))
     ∙ ap (λ l. 34 ∷ l) (append_assoc (decimal n) (45 ∷ encode_lower d) (34 ∷ []))
 
--- and is the hash there
+-- the first 32 bytes are a digest's text, whatever follows
 pub text_kept : (d out zeros : List ℕ) → length d ≡ 16 → out ≡ encode_lower d
     → take 32 (out ++ zeros) ≡ encode_lower d
 text_kept d out zeros sized written =
@@ -47,7 +47,7 @@ text_kept d out zeros sized written =
     (subst (λ k. take k (encode_lower d ++ zeros) ≡ encode_lower d) (text_length d sized)
     (take-append_seam (encode_lower d) zeros))
 
--- what reads a text of hexadecimal digits reads a digest's text as the digest
+-- a reading of hexadecimal digits reads a digest's text as the digest
 module _ (hash : List ℕ) (read : Result (List ℕ) FromHexError) (is : read ≡ decode_sized hash 16) (d : List ℕ)
     (sized : length d ≡ 16) (fits : IsBytes d) (same : hash ≡ encode_lower d) where
   text_read : result_ok read ≡ Some d

@@ -9,7 +9,7 @@ use Rattle.hex.proofs.HexLemmas.{length-encode_with}
 use Rattle.hub_model.specs.Revision.{is_hash_byte}
 use Rattle.hub_document.specs.RevisionText.{is_hash}
 
--- whether the first n of the sixteen digits are letters of a hash, which computes
+-- whether the first n of the sixteen digits are letters of a hash: a test that computes
 abbrev are_letters_below : ℕ → Bool
 are_letters_below zero = true
 are_letters_below (suc n) = is_hash_byte (slice_index lower_digits n) && are_letters_below n
@@ -24,7 +24,7 @@ letter_below (suc n) k h lt =
       | inr top ↦ let e : k ≡ n = omega arith in rw e parts.0
     ]
 
--- the text of bytes has letters alone
+-- the hexadecimal text of bytes has letters of a hash alone
 letters_of : (bs : List ℕ) → ((i : ℕ) → slice_index bs i < 256)
     → list_all is_hash_byte (encode_lower bs) ≡ true
 unfolding encode_with
@@ -37,7 +37,7 @@ letters_of (b ∷ bs) fits =
     letter_below 16 (b % 16) refl (omega arith) in
     rw (high, low) (letters_of bs (λ i. fits (suc i)))
 
--- so a digest is a hash
+-- so a digest's text is a hash
 pub is_hash_of : (bs : List ℕ) → ((i : ℕ) → slice_index bs i < 256) → length bs ≡ 16
     → is_hash (encode_lower bs) ≡ true
 is_hash_of bs fits sized =

@@ -50,7 +50,7 @@ rev_is revision =
     one_after (member_text (codes "_rev") (quoted (text_of revision)))
     ∙ ap (λ l. 44 ∷ l) (rev_name (quoted (text_of revision)))
 
--- the revision whose JSON string this is
+-- the member `_rev` of a revision whose JSON string this is
 pub rev_of_text : (o : Option Revision) (text : List ℕ) → option_map (λ r. quoted (text_of r)) o ≡ Some text
     → after_commas (rev_member o) ≡ codes ",\"_rev\":" ++ text
 rev_of_text None text is = absurd (cc)
@@ -58,7 +58,7 @@ rev_of_text (Some r) text is =
     let same : quoted (text_of r) ≡ text = cc in
     rev_is r ∙ ap (λ l. codes ",\"_rev\":" ++ l) same
 
--- the brace, an id that needs no escape, and what stands behind it
+-- the brace, an id that needs no escape, and the bytes after it
 pub plain_head : (held id more : List ℕ) → escape id ≡ id
     → ((held ++ codes "{\"_id\":\"") ++ id) ++ (codes "\"," ++ more) ≡ held
     ++ (head_text id ++ (44 ∷ more))
@@ -92,7 +92,7 @@ drop_first : (t : List ℕ) → 1 ≤ length t → drop 1 (t ++ 125 ∷ []) ≡ 
 drop_first [] some = absurd (omega (arith, some))
 drop_first (x ∷ xs) some = refl
 
--- behind its first brace an object's text is what stands inside, and the brace
+-- after its first brace an object's text is the text inside, and the last brace
 inside_closed : (body : List ℕ) → IsBraced body → drop 1 body ≡ inside body ++ 125 ∷ []
 inside_closed body braced =
     let some : 1 ≤ length (take (length body - 1) body) =
@@ -104,20 +104,20 @@ inside_size body braced =
     let size = ap length (inside_closed body braced) in
     omega (arith, size, length-drop 1 body, length-append (inside body) (125 ∷ []), braced.some)
 
--- so an object without members of its own is its second brace
+-- so for an object without members of its own the rest is the last brace
 pub rest_none : (body : List ℕ) → IsBraced body → length body ≤ 2 → rest_text body ≡ drop 1 body
 unfolding rest_text
 rest_none body braced short =
     rest_short (inside body) (omega (arith, inside_size body braced)) ∙ sym (inside_closed body braced)
 
--- and one with some all of it, behind a comma
+-- and for an object with members the rest is all after the first brace, with a comma in front
 pub rest_some : (body : List ℕ) → IsBraced body → 2 < length body → rest_text body ≡ 44 ∷ drop 1 body
 unfolding rest_text
 rest_some body braced long =
     ap (λ l. l ++ codes "}") (rest_if (inside body) (omega (arith, inside_size body braced)))
     ∙ ap (λ l. 44 ∷ l) (sym (inside_closed body braced))
 
--- ---- what stands between commas
+-- ---- texts between commas
 
 joined : (p : List ℕ) (ms : List (List ℕ)) → join_with_byte 44 (p ∷ ms) ≡ p ++ after_commas ms
 joined p [] = sym (append-nil p)
@@ -141,7 +141,7 @@ unfolding ids_text
 no_hashes held [] e = sym (append-nil held)
 no_hashes held (r ∷ rs) e = absurd (omega (arith, e))
 
--- the first one, and then all the others
+-- all hashes are written: the first one, and then the others
 pub hashes_written : (held mid new : List ℕ) (revision : Revision) (revisions all : List Revision) (i : ℕ)
     → all ≡ revision ∷ revisions → mid ≡ held ++ quoted revision.hash
     → new ≡ mid ++ flat_map (λ s. 44 ∷ quoted s.hash) (take i revisions) → length revisions ≤ i → new ≡ held
@@ -153,7 +153,7 @@ hashes_written held mid new revision revisions all i e first later end =
     ∙ append_assoc held (quoted revision.hash) (flat_map (λ s. 44 ∷ quoted s.hash) revisions)
     ∙ ap (λ l. held ++ l) (sym (ap ids_text e ∙ all_hashes revision revisions))
 
--- one more of the others
+-- one more of the other hashes is written
 pub one_more_hash : (first held mid new : List ℕ) (revision : Revision) (revisions : List Revision) (i : ℕ)
     → i < length revisions → revision ≡ get_or revisions i revision
     → held ≡ first ++ flat_map (λ s. 44 ∷ quoted s.hash) (take i revisions) → mid ≡ held ++ 44 ∷ []
@@ -222,7 +222,7 @@ doc_parts d =
     (four_commas (rev_member d.rev) (deleted_member d.deleted) (history_member d.path)
     (if_some (inside d.body)) (codes "}"))
 
--- the front of it, and then the rest
+-- a document's text is its front, and then the rest
 pub doc_written : (held mid new : List ℕ) (doc : Doc) → mid ≡ held ++ special_text doc
     → new ≡ mid ++ rest_text doc.body → new ≡ held ++ doc_text doc
 doc_written held mid new doc front rest =

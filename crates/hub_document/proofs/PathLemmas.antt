@@ -14,12 +14,12 @@ use Rattle.serde_json.specs.declared.value.Value.{Value}
 use Rattle.hub_document.specs.RevisionText.{is_hash, with_hash}
 use Rattle.hub_document.specs.Histories.{falling, limited_history, history_in}
 
--- the generations are n, n - 1 and so on
+-- the generations of the list are n, n - 1 and so on, none of them 0
 abbrev pub FallsFrom : ℕ → List Revision → Type 0
 FallsFrom n [] = Unit {0}
 FallsFrom n (revision ∷ rest) = (revision.generation ≡ n) × (0 < n) × FallsFrom (n - 1) rest
 
--- what a mapped option was made of
+-- the value that a mapped value was made of
 pub map_some : {A B P : Type 0} (f : A → B) (o : Option A) (y : B) → option_map f o ≡ Some y
     → ((x : A) → o ≡ Some x → f x ≡ y → P) → P
 map_some f None y h next = absurd (cc)
@@ -30,7 +30,7 @@ generation_is : (n : ℕ) (h : List ℕ) (revision : Revision) → with_hash n h
     → revision.generation ≡ n
 generation_is n h revision e = sym (ap (λ x. x.generation) (cond_some (is_hash h) _ revision e).1)
 
--- one more hash
+-- one more hash is read
 falls_item : (n : ℕ) (content : Data) (items : Items) (revisions : List Revision) (t : Bool) → eqb n 0 ≡ t
     → falling n (item content items) ≡ Some revisions
     → ((rest : List Revision) → falling (n - 1) items ≡ Some rest → FallsFrom (n - 1) rest)
@@ -46,24 +46,24 @@ falls_item n content items revisions false z h later =
     option_and_then_some {P = FallsFrom n revisions} (with_hash n) (as_str content) r read
     (λ s text hash. subst (λ x. FallsFrom n x) is (generation_is n s r hash, some, later rest ends))))
 
--- what `falling` reads falls from its generation
+-- the revisions that `falling` reads fall from its generation
 falls_from : (n : ℕ) (items : Items) (revisions : List Revision) → falling n items ≡ Some revisions
     → FallsFrom n revisions
 falls_from n no_items revisions h = let is : [] ≡ revisions = cc in subst (FallsFrom n) is tt
 falls_from n (item d items) revisions h = falls_item n d items revisions _ refl h (falls_from (n - 1) items)
 
--- so that it falls
+-- so their generations fall
 falls : (n : ℕ) (revision : Revision) (rest : List Revision) → FallsFrom n (revision ∷ rest)
     → Falls revision rest
 falls n revision [] h = omega (arith, h.0, h.1)
 falls n revision (other ∷ rest) h = (omega (arith, h.0, h.1, h.2.0, h.2.1), falls (n - 1) other rest h.2)
 
--- so it is a history, where there is one revision at least
+-- so they are a history, where there is at least one revision
 history_from : (n : ℕ) (revision : Revision) (rest : List Revision) → FallsFrom n (revision ∷ rest)
     → IsHistory (revision ∷ rest)
 history_from n revision rest h = record { falls = falls n revision rest h }
 
--- one more hash gives one revision at least
+-- the revisions of at least one hash are a history
 one_read : (n : ℕ) (content : Data) (items : Items) (revisions : List Revision)
     → falling n (item content items) ≡ Some revisions → IsHistory revisions
 one_read n content items revisions h = some_read revisions (falls_from n (item content items) revisions h) h
@@ -80,7 +80,7 @@ one_read n content items revisions h = some_read revisions (falls_from n (item c
             map_some {P = ⊥} (λ rest. r ∷ rest) (falling (n - 1) items) [] more (λ rest ends is. absurd (cc)))
     some_read (r ∷ rest) f e = history_from n r rest f
 
--- and so is what a good `start` reads
+-- the revisions of a good `start` are a history
 starting_from : (start : ℕ) (ids : Items) (revisions : List Revision) → limited_history start ids ≡ Some revisions
     → IsHistory revisions
 starting_from start no_items revisions h = absurd (cc)
@@ -92,14 +92,14 @@ starting_from start (item d ds) revisions h = from (ltb 0 start && ltb start (2 
     from false fits h =
         let e : ◌≡◌ {A = Option (List Revision)} None (Some revisions) = rw fits at h in absurd (cc)
 
--- a good start of one hash at least
+-- for a good start and at least one hash, the limits change nothing
 pub starting_is : (start : ℕ) (ids : List Value) → length ids ≢ 0 → 0 < start → start < 2 ^ 16
     → falling start (items_view ids) ≡ limited_history start (items_view ids)
 starting_is start [] some above below = absurd (some refl)
 starting_is start (value ∷ values) some above below =
     rw (lt-ltb 0 start above, lt-ltb start (2 ^ 16) below) refl
 
--- what `_revisions` writes is a history
+-- the revisions of `_revisions` are a history
 pub history_is_path : (content : Data) (revisions : List Revision) → history_in content ≡ Some revisions
     → IsHistory revisions
 history_is_path content revisions h =
@@ -115,7 +115,7 @@ history_is_path content revisions h =
 pub one_is_history : (revision : Revision) → 1 ≤ revision.generation → IsHistory (revision ∷ [])
 one_is_history revision some = record { falls = some }
 
--- and so is the front of a history
+-- the front of a history is a history
 pub front_history : (revisions : List Revision) (n : ℕ) → 1 ≤ n → IsHistory revisions
     → IsHistory (take n revisions)
 front_history revisions zero some h = absurd (omega arith)

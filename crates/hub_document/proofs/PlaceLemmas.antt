@@ -25,7 +25,7 @@ lower revision [] (suc k) other f h = absurd (cc)
 lower revision (y ∷ revisions) (suc k) other f h =
     let g = lower y revisions k other f.1 h in omega (arith, f.0, g)
 
--- the first of a path stands at place 0
+-- the first revision of a path stands at place 0
 named_first : (revision : Revision) (revisions : List Revision) (other : Revision)
     → is_same other revision ≡ true
     → (other.generation ≤ revision.generation)
@@ -36,7 +36,7 @@ named_first revision revisions other t =
     in
     (omega (arith, same_generation other revision same), rw none (ap Some (sym same)))
 
--- a revision that the path names stands where its generation tells
+-- a revision that the path names stands at the place that its generation tells
 named_at : (revision : Revision) (revisions : List Revision) (other : Revision) → Falls revision revisions
     → names (revision ∷ revisions) other ≡ true
     → (other.generation ≤ revision.generation)
@@ -57,7 +57,7 @@ named_at revision (y ∷ revisions) other f h =
           (omega (arith, f.0, i.0), rw more i.1)
     ]
 
--- one of a greater generation than the head's is not named
+-- a revision of a greater generation than the head's is not named
 pub above_head : (revisions : List Revision) (revision other : Revision) → IsPath revisions
     → slice_get revisions 0 ≡ Some revision
     → revision.generation < other.generation → names revisions other ≡ false
@@ -73,7 +73,7 @@ above_head (y ∷ revisions) revision other f h low =
       | inr t ↦ t
     ]
 
--- and neither is one that does not stand at its place
+-- a revision that does not stand at its place is not named
 pub not_named : (revisions : List Revision) (revision other : Revision) (k : ℕ) → IsPath revisions
     → slice_get revisions 0 ≡ Some revision
     → k ≡ revision.generation - other.generation → slice_get revisions k ≢ Some other
@@ -89,7 +89,7 @@ not_named (y ∷ revisions) revision other k f h is n =
       | inr t ↦ t
     ]
 
--- so neither is one where the path ends before its place
+-- so a revision whose place is past the path's end is not named
 pub past_end : (revisions : List Revision) (revision other : Revision) (k : ℕ) → IsPath revisions
     → slice_get revisions 0 ≡ Some revision
     → k ≡ revision.generation - other.generation → length revisions ≤ k → names revisions other ≡ false
@@ -97,7 +97,7 @@ past_end revisions revision other k f h is past =
     not_named revisions revision other k f h is
     (λ e. let none : slice_get revisions k ≡ None = slice_get_past revisions k past in cc)
 
--- and one that stands somewhere is
+-- a revision that stands at some place is named
 pub named : (revisions : List Revision) (k : ℕ) (revision : Revision) → slice_get revisions k ≡ Some revision
     → names revisions revision ≡ true
 named [] k revision h = absurd (cc)
@@ -107,7 +107,7 @@ named (other ∷ revisions) zero revision h =
 named (other ∷ revisions) (suc k) revision h =
     or_right (is_same revision other) (names revisions revision) (named revisions k revision h)
 
--- a copy of what `get` gives
+-- a copy of the element that `get` lends
 pub copied_at : {X : Type 0} (xs : List X) (k : ℕ) (o : Option (Bor X))
     → MatchOption o (length xs ≤ k) (λ x. (k < length xs) × HoldsAt {X = X} (λ y. x.now ≡ y) xs k)
     → option_copied o ≡ slice_get xs k

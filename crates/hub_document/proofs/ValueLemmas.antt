@@ -18,7 +18,7 @@ use Rattle.serde_json.specs.View.{view, items_view}
 use Rattle.serde_json.specs.declared.value.Value.{Value}
 use Rattle.hub_document.specs.Read.{json_of}
 
--- the items of a list of values, and behind them the rest
+-- the items of a list of values, and the rest after them
 abbrev pub items_before : List Value → Items → Items
 items_before [] rest = rest
 items_before (v ∷ vs) rest = item (view v) (items_before vs rest)
@@ -39,7 +39,7 @@ one_more_item vs v None = refl
 one_more_item vs v (Some rest) = ap Some (items_push vs v rest)
 
 module _ {A : Type 0} where
-  -- a tree that is a value stands in front of others
+  -- a tree with a value stands in front of other trees
   pub item_read : (tree : Tree A) (trees : List (Tree A)) (d : Data) → of_json (value_view tree) ≡ Some d
       → of_items (trees_view (tree ∷ trees)) ≡ option_map (item d) (of_items (trees_view trees))
   item_read tree trees d is = rw is refl
@@ -59,7 +59,7 @@ no_text_by bytes false e not = rw e refl
 pub no_text : (bytes : List ℕ) → ¬ (IsUtf8 bytes) → json_of bytes ≡ None
 no_text bytes = no_text_by bytes (is_utf8 bytes) refl
 
--- a text whose tokens are one tree is the tree's value
+-- a text whose tokens are one tree reads as the tree's value
 pub whole_value : (bytes text : List ℕ) (tree : json.Json) → text ≡ bytes → IsUtf8 bytes
     → value 127 (tokens text) ≡ Some (tree, []) → json_of bytes ≡ of_json tree
 whole_value bytes text tree same utf8 is = rw (is_utf8-from_IsUtf8 bytes utf8, ← same, is) refl

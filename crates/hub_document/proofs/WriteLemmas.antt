@@ -1,4 +1,4 @@
--- The texts that are written part by part.
+-- Texts that are written part by part.
 use Rattle.std.proofs.Common.{◌≡◌, ℕ, suc, ◌+◌, ◌%◌, ◌<◌, ◌≤◌, ◌^◌, List, [], ◌∷◌, ◌++◌}
 use Rattle.std.proofs.Common.{All, IsTrue, refl, sym, ap, ◌∙◌, arith}
 use Rattle.std.proofs.Common.{append_assoc, append-nil, decimal, Result, Ok, Err, OnOk}
@@ -11,7 +11,7 @@ use Rattle.hub_model.specs.Revision.{Revision, IsRevision, is_hash_byte, text_of
 use Rattle.hub_document.specs.Appends.{Appends}
 use Rattle.hub_document.proofs.AppendLemmas.{appended, front_of}
 
--- what a writer of JSON has written after one string
+-- the text that a writer of JSON has written after one string
 print_string : (s : List ℕ) → print (string s ∷ []) ≡ quoted s
 unfolding print_from
 print_string s = append-nil (quoted s)
@@ -43,7 +43,7 @@ one_plain b l q s = ap (λ bs. bs ++ []) (escape_byte_plain b q s l)
 digit_plain : (d : ℕ) → d < 10 → escape ((48 + d) ∷ []) ≡ (48 + d) ∷ []
 digit_plain d small = one_plain (48 + d) (omega arith) (λ e. omega arith) (λ e. omega arith)
 
--- digits
+-- the digits of a number need no escape
 decimal_plain : (n : ℕ) → n < 2 ^ 64 → escape (decimal n) ≡ decimal n
 decimal_plain n small =
     decimal_by_steps (λ _ ds. escape ds ≡ ds) digit_plain
@@ -59,7 +59,7 @@ record IsPlainByte (b : ℕ) : Type 0 where
 plain_byte : (b : ℕ) → IsTrue (is_hash_byte b) → IsPlainByte b
 plain_byte b h = record { low = grind (arith, nat_tests); other = λ e. grind (arith, nat_tests) }
 
--- the letters of a hash
+-- the letters of a hash need no escape
 letters_plain : (bs : List ℕ) → All (λ b. IsTrue (is_hash_byte b)) bs → escape bs ≡ bs
 letters_plain [] h = refl
 letters_plain (b ∷ bs) h =
@@ -71,7 +71,7 @@ letters_plain (b ∷ bs) h =
 pub quoted_plain : (s : List ℕ) → escape s ≡ s → quoted s ≡ 34 ∷ (s ++ 34 ∷ [])
 quoted_plain s plain = ap (λ l. 34 ∷ (l ++ 34 ∷ [])) plain
 
--- a number after a dash
+-- a dash in front of a text that needs no escape needs no escape
 dashed_plain : (bs : List ℕ) → escape bs ≡ bs → escape (45 ∷ bs) ≡ 45 ∷ bs
 dashed_plain bs plain =
     ap (λ l. l ++ escape bs) (escape_byte_plain 45 (λ e. omega arith) (λ e. omega arith) (omega arith))
@@ -82,7 +82,7 @@ pub quoted_hash : (revision : Revision) → IsRevision revision → quoted revis
     ∷ (revision.hash ++ 34 ∷ [])
 quoted_hash revision good = ap (λ l. 34 ∷ (l ++ 34 ∷ [])) (letters_plain revision.hash good.letters)
 
--- and so does a revision
+-- and so does the text of a revision
 pub quoted_text : (revision : Revision) → IsRevision revision → quoted (text_of revision) ≡ 34
     ∷ (text_of revision ++ 34 ∷ [])
 quoted_text revision good =
@@ -95,7 +95,7 @@ quoted_text revision good =
     ∙ ap (λ l. decimal revision.generation ++ l) dash in
     ap (λ l. 34 ∷ (l ++ 34 ∷ [])) whole
 
--- so that it is made of these parts, a comma behind it
+-- so the JSON string of a revision, with a comma after it, is made of these parts
 pub quoted_revision : (revision : Revision) → IsRevision revision → quoted (text_of revision) ++ 44 ∷ []
     ≡ 34 ∷ (decimal revision.generation ++ 45 ∷ (revision.hash ++ 34 ∷ 44 ∷ []))
 quoted_revision revision good =
@@ -104,7 +104,7 @@ quoted_revision revision good =
     (append_assoc (text_of revision) (34 ∷ []) (44 ∷ [])
     ∙ append_assoc (decimal revision.generation) (45 ∷ revision.hash) (34 ∷ 44 ∷ []))
 
--- and so does the revision of a local document
+-- the revision of a local document stands between its quotes as it is
 pub quoted_count : (n : ℕ) → n < 2 ^ 64 → quoted (48 ∷ 45 ∷ decimal n) ≡ 34 ∷ 48 ∷ 45 ∷ (decimal n ++ 34 ∷ [])
 quoted_count n small =
     let whole : escape (48 ∷ 45 ∷ decimal n) ≡ 48 ∷ 45 ∷ decimal n =

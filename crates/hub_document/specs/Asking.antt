@@ -13,16 +13,16 @@ use Rattle.hub_document.specs.declared.doc.DocFault.TheVariants.{NotObject, BadR
 use Rattle.hub_document.specs.declared.open_revs.OpenRevs.{OpenRevs}
 use Rattle.hub_document.specs.declared.open_revs.OpenRevs.TheVariants.{All, Listed}
 
--- one in front, where there is one
+-- an element in front of a list, where there is a list
 abbrev pub in_front : {A : Type 0} → A → Option (List A) → Option (List A)
 in_front a rest = option_map (λ others. a ∷ others) rest
 
--- the revisions of an array's items, where each writes one
+-- the revisions of an array's items; None where an item is no revision's text
 abbrev pub revs_of : Items → Option (List Revision)
 revs_of no_items = Some []
 revs_of (item d ds) = option_and_then (λ r. in_front r (revs_of ds)) (rev_in d)
 
--- the revisions of a value, where it is an array of them
+-- the revisions of a value that is an array of revisions; None of any other value
 abbrev pub revs_in : Data → Option (List Revision)
 revs_in content = option_and_then revs_of (as_array content)
 
@@ -37,20 +37,21 @@ are_lists no_members = true
 are_lists (member id d ms) =
     is_some (option_and_then (λ ds. if_holds (are_texts ds)) (as_array d)) && are_lists ms
 
--- each member's id with its revisions, where each is an array of them
+-- each member's key as an id, with its revisions; None where a member is no array of revisions
 abbrev pub asked_of : Members → Option (List RevisionsOfDoc)
 asked_of no_members = Some []
 asked_of (member id d ms) =
     option_and_then (λ revs. in_front (record { id = id; revs = revs }) (asked_of ms)) (revs_in d)
 
--- what a value asks: an object of arrays of texts, or else that fault; each text a revision, or else that one
+-- the revisions that a value asks for. A value that is no object of arrays of texts is NotObject, else a text
+-- that is no revision is BadRev.
 abbrev pub asked_in : Data → Result (List RevisionsOfDoc) DocFault
 asked_in content =
     or_fault (as_object content) NotObject (λ ms.
     or_fault (if_holds (are_lists ms)) NotObject (λ _.
     or_fault (asked_of ms) BadRev Ok))
 
--- the revisions of a document that a text asks for: `all`, or a JSON array of revisions
+-- the revisions of a document that a value of open_revs asks for: `all`, or a JSON array of revisions
 abbrev pub open_revs_in : List ℕ → Option OpenRevs
 open_revs_in text =
     if bytes_eq text (codes "all") then Some All

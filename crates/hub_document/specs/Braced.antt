@@ -1,7 +1,8 @@
 -- The text of an object (RFC 8259, section 4).
 use Rattle.std.specs.Prelude.{◌≡◌, ◌≤◌, ◌-◌, ℕ, List, [], ◌∷◌, ◌++◌, length, drop, take}
 
--- It begins with a brace, and ends with one. `{}` and `{"a":1}` are so; `{` and `[]` are not.
+-- The text begins with an opening brace, and ends with a closing one. `{}` and `{"a":1}` do; `{` and `[]` do
+-- not.
 pub record IsBraced (text : List ℕ) : Type 0 where
   pub some : 2 ≤ length text
   pub opened : 123 ∷ drop 1 text ≡ text

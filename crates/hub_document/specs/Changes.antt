@@ -17,6 +17,7 @@ abbrev pub lent_in : LentChanges → List Revision
 lent_in (LentOne rev) = rev.now ∷ []
 lent_in (LentMany revs) = revs.now
 
--- the hash is the hexadecimal text of a digest of 16 bytes in lower-case digits, as each is that is made here
+-- the hash is a digest's text: 16 bytes in lower-case hexadecimal digits, as in each revision that is made
+-- here
 abbrev pub IsDigestText : List ℕ → Type 0
 IsDigestText hash = (digest : List ℕ) × (length digest ≡ 16) × IsBytes digest × (hash ≡ encode_lower digest)

@@ -5,8 +5,8 @@ use Rattle.std.specs.List.{starts_with}
 use Rattle.serde_json.specs.Data.{Data}
 use Rattle.serde_json.specs.Find.{get, as_str}
 
--- 1 byte or more; after `_` only `design/` and a name, since `_local` documents have calls of their own. a,
--- a_b and _design/x are ids; the empty text, _a, _design/ and _local/x are none.
+-- an id has 1 byte or more. A `_` in front is followed by `design/` and a name, since `_local` documents have
+-- calls of their own. a, a_b and _design/x are ids; the empty text, _a, _design/ and _local/x are none.
 abbrev pub is_id : List ℕ → Bool
 is_id [] = false
 is_id (b ∷ rest) =
@@ -21,7 +21,7 @@ pub record IsDocId (s : List ℕ) : Type 0 where
 abbrev pub if_id : List ℕ → Option (List ℕ)
 if_id s = if is_id s then Some s else None
 
--- the id that `_id` gives
+-- the text of `_id`, where it is an id of any length
 abbrev pub id_of : Data → Option (List ℕ)
 id_of content = option_and_then if_id (option_and_then as_str (get (codes "_id") content))
 

@@ -1,7 +1,7 @@
--- The limits of a hub: each is some, and none is above the profile's number (own).
+-- The limits of a hub: each is at least 1, and none is above the profile's number (own).
 use Rattle.std.specs.Prelude.{ℕ, ◌≤◌}
 
--- each in its range
+-- each limit is in its range
 pub record IsLimited (body head headers databases feeds lane hold journal history : ℕ) : Type 0 where
   pub body_some : 1 ≤ body
   pub body_most : body ≤ 8388608

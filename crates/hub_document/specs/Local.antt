@@ -16,25 +16,25 @@ use Rattle.hub_document.specs.declared.doc.DocFault.TheVariants.{NotJson, NotObj
 use Rattle.hub_document.specs.declared.doc.DocFault.TheVariants.{BadMember, TooLong}
 use Rattle.hub_document.specs.declared.local_doc.LocalDoc.{LocalDoc}
 
--- `_local/` and a name
+-- whether a text is a local document's id: `_local/` and a name
 abbrev pub is_local_id : List ℕ → Bool
 is_local_id s = starts_with (λ x y. x == y) s (codes "_local/") && nat_lt 7 (length s)
 
--- such an id of 512 bytes at most
+-- a local document's id of 512 bytes at most
 pub record IsLocalId (s : List ℕ) : Type 0 where
   pub local : is_local_id s ≡ true
   pub short : length s ≤ 512
 
--- the text, where it is such an id
+-- the text, where it is a local document's id of 512 bytes at most
 abbrev pub short_local_id : List ℕ → Option (List ℕ)
 short_local_id s = if is_local_id s && not (nat_lt 512 (length s)) then Some s else None
 
--- an `_id` is absent, or this one
+-- whether `_id` is absent or this id
 abbrev pub is_named_so : List ℕ → Option Data → Bool
 is_named_so id None = true
 is_named_so id (Some content) = unwrap_or (option_map (bytes_eq id) (as_str content)) false
 
--- the local document of this id that an object of these members is, or the first fault
+-- the local document of an object with these members, under this id, or the first fault
 abbrev pub local_of : List ℕ → Data → Members → Result LocalDoc DocFault
 local_of id content members =
     or_fault (if_holds (not (members_have_float members))) BadNumber (λ _.
@@ -43,6 +43,6 @@ local_of id content members =
     or_fault (if_holds (not (nat_lt 512 (length id)))) TooLong (λ _.
     Ok (record { id = id; body = body_text members })))))
 
--- the local document of this id that a text is, or the first fault
+-- the local document of a text, under this id, or the first fault
 abbrev pub local_in : List ℕ → List ℕ → Result LocalDoc DocFault
 local_in id text = or_fault (json_of text) NotJson (λ d. or_fault (as_object d) NotObject (local_of id d))

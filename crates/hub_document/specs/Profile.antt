@@ -2,7 +2,7 @@
 use Rattle.std.specs.Prelude.{◌≡◌}
 use Rattle.hub_document.specs.declared.limits.Limits.{Limits}
 
--- the greatest limits
+-- each limit is the greatest that it may be
 pub record IsProfile (limits : Limits) : Type 0 where
   pub body : limits.body ≡ 8388608
   pub head : limits.head ≡ 16384

@@ -18,21 +18,21 @@ use Rattle.hub_document.specs.declared.doc.DocFault.TheVariants.{NotJson, NotObj
 use Rattle.hub_document.specs.declared.doc.DocFault.TheVariants.{BadMember, TooLong}
 use Rattle.hub_document.specs.declared.doc.Doc.{Doc}
 
--- this revision, unless the document names another one
+-- the revision, unless the document names another one; None is a fault
 abbrev pub unless_other : Revision → Option Revision → Option (Option Revision)
 unless_other revision None = Some (Some revision)
 unless_other revision (Some other) = if is_same revision other then Some (Some revision) else None
 
--- the leaf that is named, by the request, by the document, by neither, or by both alike; None is a fault.
--- Where the request names 2-b and the document has no `_rev` it is 2-b, and with a `_rev` of 1-a it is a
--- fault.
+-- the leaf that the request names, or the document, or neither, or both alike; None is a fault. Where the
+-- request names 2-b and the document has no `_rev`, the leaf is 2-b. A `_rev` of 1-a beside the request's 2-b
+-- is a fault.
 abbrev pub rev_put : Option (List ℕ) → Data → Option (Option Revision)
 rev_put None content = rev_of true content
 rev_put (Some text) content =
     option_and_then (λ r. option_and_then (unless_other r) (rev_of true content)) (revision_of text)
 
--- the document that an object of these members is under the id, or the first fault. Under the id _a a
--- document with a `_rev` of x is BadId, since that fault comes before BadRev.
+-- the document of an object with these members, under the id, or the first fault. Under the id _a a document
+-- with a `_rev` of x is BadId, since BadId comes before BadRev.
 abbrev pub put_of : List ℕ → Option (List ℕ) → Bool → Data → Members → Result Doc DocFault
 put_of id rev new_edits content members =
     or_fault (if_holds (not (members_have_float members))) BadNumber (λ _.
@@ -48,10 +48,10 @@ put_of id rev new_edits content members =
       body = body_text members;
     }))))))
 
--- the document that a value is under the id, or the first fault
+-- the document of a value, under the id, or the first fault
 abbrev pub put_doc : List ℕ → Option (List ℕ) → Bool → Data → Result Doc DocFault
 put_doc id rev new_edits content = or_fault (as_object content) NotObject (put_of id rev new_edits content)
 
--- the document that a text is under the id, or the first fault
+-- the document of a text, under the id, or the first fault
 abbrev pub put_in : List ℕ → Option (List ℕ) → Bool → List ℕ → Result Doc DocFault
 put_in id rev new_edits text = or_fault (json_of text) NotJson (put_doc id rev new_edits)

@@ -7,7 +7,7 @@ use Rattle.hub_document.specs.RevisionText.{revision_of}
 abbrev pub TextsRead : Type 0
 TextsRead = (revision : Revision) → IsRevision revision → revision_of (text_of revision) ≡ Some revision
 
--- what reads as a revision is its text, and the revision is within the limits
+-- a text that reads as a revision is that revision's text, and the revision is within the limits
 abbrev pub ReadsAreTexts : Type 0
 ReadsAreTexts =
     (s : List ℕ) (revision : Revision) → revision_of s ≡ Some revision → (text_of revision ≡ s)

@@ -4,7 +4,7 @@ use Rattle.hub_document.specs.DocText.{rev_member, deleted_member, history_membe
 use Rattle.hub_document.specs.Joined.{after_commas, head_text}
 use Rattle.hub_document.specs.declared.doc.Doc.{Doc}
 
--- the members that are not its own, as they are written one after the other
+-- the brace and the members that begin with `_`, as they are written one after the other
 abbrev pub special_text : Doc → List ℕ
 special_text doc =
     head_text doc.id

@@ -17,9 +17,9 @@ use std::marker::Model;
 /// Some revisions of a document (CouchDB API reference, `_revs_diff`).
 #[derive(Debug, Drop)]
 pub struct Asked {
-    /// The document's id, which need be none that a document can have.
+    /// The document's id. Any text may stand here, even one that no document can have as its id.
     pub id: String,
-    /// The revisions.
+    /// The revisions that are asked for.
     pub revs: Revisions,
 }
 
@@ -33,7 +33,7 @@ impl Model for Asked {
 }
 
 impl Asked {
-    /// A copy. It costs the length of the id and of the revisions.
+    /// A copy. The cost is the length of the id and of the list of revisions.
     pub fn copy(&self, alloc: Global) -> Result<Asked, AllocError>
         ensures { IfOk result (λ copy. copy ≡ self.now) }
     {
@@ -81,7 +81,7 @@ fn list_revs(members: &Map<String, Value>) -> bool
     true
 }
 
-// The members' ids with their revisions, where each is an array of them.
+// Each member's key as an id, with its revisions; None where a member is no array of revisions.
 fn asked_of(alloc: Global, members: &Map<String, Value>) -> Result<Option<Vec<Asked>>, AllocError>
     ensures value { IfOk result (λ o. option_map (λ v. v.items) o
         ≡ asked_of_members (members_view members.now.entries)) }
@@ -98,10 +98,10 @@ fn asked_of(alloc: Global, members: &Map<String, Value>) -> Result<Option<Vec<As
     Ok(Some(asked))
 }
 
-/// What an object of arrays of revisions asks for, in the byte order of its keys. A value of
-/// another shape is `NotObject`, then a text that is no revision is `BadRev`. It costs the
-/// value's size. A fault is found without memory, and nothing that is asked takes none. As `read_doc`
-/// it is no method.
+/// The revisions that a JSON value asks for: an object whose keys are ids, and whose members are arrays of
+/// revisions. The list is in the byte order of the ids. A value of another shape is `NotObject`, else a text
+/// that is no revision is `BadRev`. The cost is the value's size. `NoMemory` comes only for a value that has
+/// no fault and at least one member. Like `read_doc` the function is no method.
 #[tactic(auto, using(crate::proofs::AskedLemmas::asks_some))]
 pub fn read_asked(alloc: Global, value: &Value) -> Result<Vec<Asked>, DocFault>
     ensures ok { IfOk result (λ v. asked_in (view value.now) ≡ Ok v.items) }

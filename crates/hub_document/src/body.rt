@@ -1,4 +1,4 @@
-//! The members of documents that are the document's own.
+//! The members of a document that are its own: their names do not begin with `_`.
 
 ghost use Rattle.std.specs.Prelude.{◌≡◌, codes, false, IfOk};
 ghost use Rattle.serde_json.specs.View.{members_view};
@@ -14,11 +14,11 @@ use serde_json::{Map, Value};
 use std::alloc::{AllocError, Global};
 use std::marker::Model;
 
-// What a body is written into at first: most bodies need no more while they are written.
+// The bytes of room that a body is first written into: most bodies fit.
 const FIRST_ROOM: usize = 256;
 
-/// A document's members that don't begin with `_`, seen as their compact JSON text: an object
-/// whose keys stand in byte order.
+/// A document's members whose names do not begin with `_`, seen as their compact JSON text: an object whose
+/// keys are in byte order.
 #[derive(Debug, Drop)]
 pub struct Body {
     text: Vec<u8>,
@@ -44,8 +44,8 @@ impl Body {
         self.text.as_slice()
     }
 
-    /// Appends the members behind a comma, where there are any, and the brace. The text is copied as it
-    /// stands.
+    /// Appends a comma and the members, where there are any, and then the closing brace. The text is copied
+    /// as it is.
     pub(crate) fn put_rest(&self, out: &mut Vec<u8>) -> Result<(), AllocError>
         ensures { Appends (rest_text self.now) result out.old.items out.new.items }
     {
@@ -65,7 +65,7 @@ impl Body {
         Ok(Body { text })
     }
 
-    /// A copy. It costs the text's length.
+    /// A copy. The cost is the text's length.
     pub fn copy(&self, alloc: Global) -> Result<Body, AllocError>
         ensures { IfOk result (λ b. b ≡ self.now) }
     {
@@ -74,8 +74,8 @@ impl Body {
     }
 }
 
-/// The body that an object's own members make. Each is written into the one text, so that it costs
-/// the text's length. It is kept without room to grow.
+/// The body of an object's own members. Each member is written into the one text, so the cost is the text's
+/// length. The text is kept without room to grow.
 pub(crate) fn body_of(alloc: Global, members: &Map<String, Value>) -> Result<Body, AllocError>
     requires { members_have_float (members_view members.now.entries) ≡ false }
     ensures { IfOk result (λ b. b ≡ body_text (members_view members.now.entries)) }

@@ -20,14 +20,14 @@ pub struct ChangeRow {
     pub seq: u64,
     /// The document's id.
     pub id: DocId,
-    /// The winner, or every leaf, best first.
+    /// The winner's revision, or the revisions of every leaf, best first.
     pub changes: Changes,
     /// Whether the winner is deleted.
     pub deleted: bool,
-    /// The members of the winner's document, where they are asked for: its id, its revision and its
+    /// The members of the winner's document, where documents are asked for. The document's id, revision and
     /// mark are the row's.
     pub doc: Option<Body>,
-    /// The update sequence of the database when the row was made.
+    /// How many edits the database had when the row was made: its update sequence.
     pub seen: u64,
 }
 
@@ -46,7 +46,7 @@ impl Model for ChangeRow {
     } };
 }
 
-// The revision of the document, which is the first that the row lists, if it lists one.
+// Appends the member `_rev` with the first revision that the row lists, if the row lists any.
 fn put_winner(out: &mut Vec<u8>, changes: &Changes) -> Result<(), AllocError>
     ensures { Appends
         (after_commas (rev_member (slice_get changes.now 0))) result out.old.items out.new.items }
@@ -57,7 +57,7 @@ fn put_winner(out: &mut Vec<u8>, changes: &Changes) -> Result<(), AllocError>
     }
 }
 
-// What stands behind an id: its quote, and the revision whose JSON string this is.
+// The bytes after an id: its closing quote, and the member `_rev` with this JSON string of a revision.
 fn rev_part(rev: &[u8; 36]) -> [u8; 45]
     ensures { result ≡ codes "\",\"_rev\":" ++ rev.now }
 {
@@ -66,7 +66,7 @@ fn rev_part(rev: &[u8; 36]) -> [u8; 45]
     part
 }
 
-// The brace, an id that needs no escape, and the revision whose JSON string this is.
+// Appends the brace, an id that needs no escape, and `_rev` with this JSON string of a revision.
 fn put_plain_head(out: &mut Vec<u8>, id: &str, rev: &[u8; 36]) -> Result<(), AllocError>
     requires { escape id.now ≡ id.now }
     ensures { Appends (head_text id.now ++ (codes ",\"_rev\":" ++ rev.now)) result
@@ -79,7 +79,7 @@ fn put_plain_head(out: &mut Vec<u8>, id: &str, rev: &[u8; 36]) -> Result<(), All
 }
 
 impl ChangeRow {
-    /// A copy. It costs the lengths of the list of revisions and of the members.
+    /// A copy. The cost is the length of the list of revisions and of the members.
     pub fn copy(&self, alloc: Global) -> Result<ChangeRow, AllocError>
         ensures { IfOk result (λ row. row ≡ self.now) }
     {
@@ -99,9 +99,8 @@ impl ChangeRow {
         })
     }
 
-    /// Appends the text of the document with these members whose row it is. It costs the text's
-    /// length. After an error what was held still stands in front, and a part of the text may stand
-    /// behind it.
+    /// Appends the text of the row's document, with these members. The cost is the text's length. Out of
+    /// memory, the vector keeps its old bytes, and a part of the text may follow them.
     pub fn write_doc(&self, out: &mut Vec<u8>, body: &Body) -> Result<(), AllocError>
         ensures { Appends (doc_text (row_doc self.now body.now)) result out.old.items out.new.items }
     {
@@ -112,8 +111,8 @@ impl ChangeRow {
         Ok(())
     }
 
-    /// The same for a row whose id needs no escape, and where this is the JSON string of the first revision
-    /// that the row lists: it takes fewer parts, and the digest is not written again.
+    /// As `write_doc`, for an id that needs no escape, and with the JSON string of the row's first revision.
+    /// The text is appended in fewer parts, and the digest's digits are not written again.
     pub fn write_plain_doc(
         &self,
         out: &mut Vec<u8>,

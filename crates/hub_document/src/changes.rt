@@ -8,17 +8,17 @@ use crate::revisions::Revisions;
 use std::alloc::{AllocError, Global};
 use std::marker::Model;
 
-// How they are kept.
+// How the revisions of a row are kept.
 #[derive(Debug, Drop)]
 enum ChangesRepr {
-    // One, which takes no memory.
+    // One revision whose hash is a digest's text. It takes no memory.
     One(DigestRev),
-    // Any.
+    // Any revisions, as a list.
     Many(Revisions),
 }
 
-/// The revisions that a row lists (CouchDB API reference, `_changes`). One alone whose hash is a digest's
-/// text, as most rows have it, takes no memory of its own.
+/// The revisions that a row lists (CouchDB API reference, `_changes`). Most rows list one revision whose hash
+/// is a digest's text, which `of_digest` and `one` keep without memory.
 #[derive(Debug)]
 pub struct Changes {
     kept: ChangesRepr,
@@ -32,9 +32,9 @@ impl Drop for Changes {
 
 /// The revisions that a row lists, lent as they are kept.
 pub enum LentChanges<'a> {
-    /// One whose hash is a digest's text.
+    /// One revision whose hash is a digest's text.
     One(&'a DigestRev),
-    /// Any.
+    /// Any revisions, as a list.
     Many(&'a [RevId]),
 }
 
@@ -56,7 +56,7 @@ fn list_of_one(alloc: Global, rev: RevId) -> Result<Revisions, AllocError>
 }
 
 impl Changes {
-    /// These revisions. It takes no memory.
+    /// The list of these revisions. The call takes no memory.
     pub fn new(revs: Revisions) -> Changes
         ensures { result ≡ revs }
     {
@@ -65,7 +65,7 @@ impl Changes {
         }
     }
 
-    /// One revision whose hash is a digest's text. It takes no memory.
+    /// The list of one revision whose hash is a digest's text. The call takes no memory.
     pub fn of_digest(rev: DigestRev) -> Changes
         ensures { result ≡ rev ∷ [] }
     {
@@ -74,7 +74,7 @@ impl Changes {
         }
     }
 
-    /// One revision. It takes memory only where its hash is no digest's text.
+    /// The list of one revision. The call takes memory only where the hash is no digest's text.
     pub fn one(alloc: Global, rev: RevId) -> Result<Changes, AllocError>
         ensures ok { IfOk result (λ changes. changes ≡ rev ∷ []) }
         ensures memory { OnErr result (¬ IsDigestText rev.hash) }
@@ -85,7 +85,7 @@ impl Changes {
         }
     }
 
-    /// They as they are kept. Constant time.
+    /// The revisions, lent as they are kept. Constant time.
     pub fn lent(&self) -> LentChanges<'_>
         ensures { lent_in result ≡ self.now }
     {
@@ -95,7 +95,7 @@ impl Changes {
         }
     }
 
-    /// How many there are. Constant time.
+    /// How many revisions there are. Constant time.
     pub fn len(&self) -> usize
         ensures { result ≡ length self.now }
     {
@@ -115,7 +115,7 @@ impl Changes {
         }
     }
 
-    /// A copy. One alone that takes no memory is copied without.
+    /// A copy. A list that takes no memory is copied without memory.
     pub fn copy(&self, alloc: Global) -> Result<Changes, AllocError>
         ensures ok { IfOk result (λ changes. changes ≡ self.now) }
         ensures memory { OnErr result (0 < length self.now) }
@@ -126,7 +126,7 @@ impl Changes {
         }
     }
 
-    /// They as a list, which takes memory where one alone took none.
+    /// The revisions as a list of their own. The call takes memory only where one revision was kept without.
     pub fn into_revisions(self, alloc: Global) -> Result<Revisions, AllocError>
         ensures ok { IfOk result (λ revs. revs ≡ self) }
         ensures memory { OnErr result (length self ≡ 1) }

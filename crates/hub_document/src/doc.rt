@@ -15,23 +15,23 @@ use thiserror::Error;
 /// A document as a writer brings it.
 #[derive(Debug, Drop)]
 pub struct Doc {
-    /// Its id.
+    /// The document's id.
     pub id: DocId,
-    /// The revision that the writer names: with a path the first of it, else the leaf that is
-    /// edited, if one is named.
+    /// The revision that the writer names: with a path the first of the path, else the leaf that is edited.
+    /// None where the writer names no leaf.
     pub rev: Option<RevId>,
     /// The revision's history, where the writer made the revision (`new_edits=false`).
     pub path: Option<Path>,
     /// Whether the edit deletes the document.
     pub deleted: bool,
-    /// Its members.
+    /// The document's own members.
     pub body: Body,
 }
 
 impl Doc {
-    /// Writes the document behind what the vector holds: `_rev` where a revision is named,
-    /// `_deleted` where it is deleted, `_revisions` where it has a path. Where that needs more memory
-    /// than there is, the vector stays as it was. It costs the text's length.
+    /// Appends the document's text: `_id`, `_rev` where a revision is named, `_deleted` where the document is
+    /// deleted, `_revisions` where it has a path, and its members. Out of memory, the vector stays as it was.
+    /// The cost is the text's length.
     pub fn write(&self, out: &mut Vec<u8>) -> Result<(), AllocError>
         ensures { AppendsWhole (doc_text self.now) result out.old.items out.new.items }
     {
@@ -43,7 +43,7 @@ impl Doc {
         done
     }
 
-    /// A copy. It costs the lengths of the path and the body.
+    /// A copy. The cost is the length of the path and of the body.
     pub fn copy(&self, alloc: Global) -> Result<Doc, AllocError>
         ensures { IfOk result (λ d. d ≡ self.now) }
     {
@@ -74,14 +74,14 @@ fn put_doc(out: &mut Vec<u8>, doc: &Doc) -> Result<(), AllocError>
     Ok(())
 }
 
-/// Why a text or a JSON value is no document: the first of these, in this order. `NoMemory` may
-/// come in place of any. The texts are the reasons that a hub answers (own).
+/// Why a text or a JSON value is no document: the first of these, in this order. Parsing a text may end in
+/// `NoMemory` instead. The error texts are the reasons that a hub answers (own).
 #[derive(Clone, Copy, Debug, PartialEq, Eq, Error)]
 pub enum DocFault {
     /// A growth was refused.
     #[error("out of memory")]
     NoMemory,
-    /// The text is not JSON, or not UTF-8, or nests deeper than 127.
+    /// The text is not JSON, or not UTF-8, or nests deeper than 127 levels.
     #[error("not JSON")]
     NotJson,
     /// The value is no object.
@@ -90,16 +90,16 @@ pub enum DocFault {
     /// A number is no whole number from -2^63 to 2^64 - 1.
     #[error("number out of profile")]
     BadNumber,
-    /// `_id` is absent or no id.
+    /// `_id` is absent or no id. Where the request names the id, it is no id, or `_id` is another one.
     #[error("bad id")]
     BadId,
-    /// `_rev` is no revision, or absent where it is needed.
+    /// `_rev` or the request's `rev` is no revision, both differ, or `_rev` is absent where it is needed.
     #[error("bad rev")]
     BadRev,
     /// `_revisions` is no history, or `_rev` is not its first revision.
     #[error("bad _revisions")]
     BadRevisions,
-    /// A member that begins with `_` is unknown or has no fitting value.
+    /// A member that begins with `_` is unknown, or its value does not fit; or `new_edits` is false in a put.
     #[error("bad member")]
     BadMember,
     /// The id is longer than 512 bytes.

@@ -17,17 +17,17 @@ use std::sync::Arc;
 // How an id is kept.
 #[derive(Debug, Drop)]
 enum Form {
-    // One of 16 bytes at most, in the value itself.
+    // An id of at most 16 bytes, in the value itself.
     Inline(ArrayString<16>),
-    // A longer one of 32 bytes at most, as most ids are, in a piece that its copies share.
+    // An id of 17 to 32 bytes, which is most ids, in a piece of memory that its copies share.
     Shared(Arc<ArrayString<32>, Global>),
-    // A longer one, in memory of its own behind such a piece.
+    // A longer id: the piece that its copies share holds a string, whose text has memory of its own.
     Long(Arc<String, Global>),
 }
 
-/// A document's id, seen as its bytes: 1 to 512 bytes of UTF-8. One that begins with `_` is
-/// `_design/` and a name. The value takes 32 bytes, and an id of 16 bytes at most no memory of its own.
-/// Copies of a longer one share its text, so no copy takes memory.
+/// A document's id, seen as its bytes: 1 to 512 bytes of UTF-8. An id that begins with `_` is `_design/` and
+/// a name. The value takes 32 bytes, and an id of at most 16 bytes takes no other memory. Copies of a longer
+/// id share its text, so no copy takes memory.
 #[derive(Debug)]
 pub struct DocId {
     form: Form,
@@ -55,8 +55,8 @@ impl Model for DocId {
 }
 
 impl DocId {
-    /// The id that a text is; None where no document can have it. It costs the text's length, and
-    /// takes memory only for an id of more than 16 bytes.
+    /// The text as an id; None where no document can have it. The cost is the text's length. Memory is taken
+    /// only for an id of more than 16 bytes.
     pub fn read(alloc: Global, text: &str) -> Result<Option<DocId>, AllocError>
         ensures value { IfOk result (λ o. o ≡ short_id text.now) }
         ensures memory { IfErr result (λ _. IsSome (short_id text.now)) }
@@ -68,7 +68,7 @@ impl DocId {
         Ok(Some(id))
     }
 
-    /// The id that this text is. It costs the text's length.
+    /// This text, which is an id, as a value. The cost is the text's length.
     pub(crate) fn copied(alloc: Global, text: &str) -> Result<DocId, AllocError>
         requires { IsDocId text.now }
         ensures { IfOk result (λ i. i ≡ text.now) }
@@ -95,14 +95,14 @@ impl DocId {
         }
     }
 
-    /// A copy of its text. It costs the text's length.
+    /// A copy of the id's text. The cost is the text's length.
     pub fn to_text(&self, alloc: Global) -> Result<String, AllocError>
         ensures { IfOk result (λ text. string_bytes text ≡ self.now) }
     {
         String::from_str(alloc, self.as_str())
     }
 
-    /// A copy, which shares a text of more than 16 bytes. Constant time, and no memory: an error would want
+    /// A copy, which shares a text of more than 16 bytes. Constant time, and no memory: an error would take
     /// 2^64 copies at once.
     pub fn copy(&self) -> Result<DocId, AllocError>
         ensures { IfOk result (λ i. i ≡ self.now) }
@@ -129,7 +129,7 @@ pub(crate) fn is_id(text: &str) -> bool
     bytes[1..].starts_with(b"design/") && bytes.len() > 8
 }
 
-/// Whether `_id` is absent or this one.
+/// Whether `_id` is absent or this id.
 pub(crate) fn is_named_so(id: &str, value: &Value) -> bool
     ensures { result ≡ is_named_as id.now (get (codes "_id") (view value.now)) }
 {

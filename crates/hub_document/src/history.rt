@@ -11,8 +11,8 @@ use crate::revision::RevId;
 use serde_json::Value;
 use std::alloc::{AllocError, Global};
 
-/// The revision that `_rev` names, if it names one. None is a fault: a text that is no revision, or
-/// a missing one where the writer made the edit and brings no history.
+/// The revision that `_rev` names; `Some(None)` where none is named. None is a fault: `_rev` is no revision,
+/// or it is absent, `new_edits` is false and there is no `_revisions`.
 pub(crate) fn rev_of(value: &Value, new_edits: bool) -> Option<Option<RevId>>
     ensures { result ≡ rev_in new_edits (view value.now) }
 {
@@ -27,8 +27,8 @@ pub(crate) fn rev_of(value: &Value, new_edits: bool) -> Option<Option<RevId>>
     Some(Some(rev))
 }
 
-// The revision of the generation `left` whose hash an item writes. None is a fault: there is no
-// generation 0.
+// The revision of the generation `left` whose hash is the item's text. None is a fault: the item is no hash,
+// or `left` is 0.
 fn fallen(left: u16, id: &Value) -> Option<RevId>
     ensures { result ≡ hashed_at left (view id.now) }
 {
@@ -39,7 +39,7 @@ fn fallen(left: u16, id: &Value) -> Option<RevId>
     RevId::from_parts(left, hash.as_bytes())
 }
 
-// Whether these are the hashes of the generations from `start` down.
+// Whether the items are hashes of the generations `start`, `start - 1` and so on, none of them 0.
 fn is_falling(start: u16, ids: &Vec<Value>) -> bool
     ensures { result ≡ is_some (falling start (items_view ids.now.items)) }
 {
@@ -53,7 +53,7 @@ fn is_falling(start: u16, ids: &Vec<Value>) -> bool
     true
 }
 
-// The revisions of these hashes, of which the first has the generation `start`.
+// The revisions of these hashes, with the generations `start`, `start - 1` and so on. None is a fault.
 fn falling_from(
     alloc: Global,
     start: u16,
@@ -74,8 +74,8 @@ fn falling_from(
     Ok(Some(revisions))
 }
 
-// The generation that the history which `_revisions` writes starts from, where it is within the limits, and
-// its hashes, of which there is one at least. None is a fault.
+// The first generation (`start`, 1 to 65,535) and the items (`ids`, at least one) of `_revisions`. None is a
+// fault. Whether the items are hashes is not looked at.
 fn start_of(history: &Value) -> Option<(u16, &Vec<Value>)>
     ensures some { IfSome result
         (λ p. falling p.0 (items_view p.1.now.items) ≡ history_in (view history.now)) }
@@ -89,7 +89,7 @@ fn start_of(history: &Value) -> Option<(u16, &Vec<Value>)>
     Some((start as u16, ids))
 }
 
-// Whether a revision that is named is the first of the history.
+// Whether the history begins with this revision; true where no revision is named.
 fn is_head(rev: Option<RevId>, revisions: &[RevId]) -> bool
     ensures { result ≡ is_head_of rev revisions.now }
 {
@@ -102,7 +102,7 @@ fn is_head(rev: Option<RevId>, revisions: &[RevId]) -> bool
     }
 }
 
-// A revision without a history is one of itself alone.
+// The history of a revision that comes without one: the revision alone. None where no revision is named.
 fn alone(alloc: Global, rev: Option<RevId>) -> Result<Option<Path>, AllocError>
     ensures { IfOk result (λ o. o ≡ alone_of rev) }
 {
@@ -112,7 +112,7 @@ fn alone(alloc: Global, rev: Option<RevId>) -> Result<Option<Path>, AllocError>
     Ok(Some(Path::new(Vec::from_slice(alloc, &[r])?)))
 }
 
-// Whether a history of these hashes begins with the revision, where one is named.
+// Whether the history of these hashes begins with the revision; true where no revision is named.
 fn begins_with(rev: Option<RevId>, start: u16, ids: &Vec<Value>) -> bool
     ensures { IfSome (falling start (items_view ids.now.items)) (λ path. result ≡ is_head_of rev path) }
 {
@@ -122,7 +122,7 @@ fn begins_with(rev: Option<RevId>, start: u16, ids: &Vec<Value>) -> bool
     }
 }
 
-/// The path of an edit that another database made. None is a fault. It costs the history's length.
+/// The path of an edit that another database made. None is a fault. The cost is the history's length.
 pub(crate) fn path_of(
     alloc: Global,
     rev: Option<RevId>,
@@ -146,8 +146,7 @@ pub(crate) fn path_of(
     }
 }
 
-/// Whether the members name a path, which `path_of` then gives. It takes no memory, and costs the
-/// history's length.
+/// Whether `path_of` gives a path for this value. The call takes no memory, and costs the history's length.
 pub(crate) fn is_path(rev: Option<RevId>, value: &Value) -> bool
     ensures { result ≡ is_some (path_in rev (view value.now)) }
 {

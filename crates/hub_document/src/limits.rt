@@ -2,31 +2,31 @@
 
 ghost use Rattle.hub_document.specs.Limited.{IsLimited};
 
-/// The limits of a hub. Tests lower them; none may be 0 or above its number in `Limits::full`.
+/// The limits of a hub. Tests lower them. No limit is 0, or above its number in `Limits::full`.
 #[derive(Clone, Copy, Debug, PartialEq, Eq)]
 pub struct Limits {
-    /// The bytes of a request's body: 8,388,608. Reading keeps this number itself (`hub_http`), so no
-    /// code reads the member yet.
+    /// The bytes of a request's body: 8,388,608. `hub_http` has this number of its own, and no code reads the
+    /// member.
     pub body: u64,
-    /// The bytes of a request's head: 16,384. As `body`.
+    /// The bytes of a request's head: 16,384. No code reads the member, as with `body`.
     pub head: u64,
-    /// The header fields of a request: 64. As `body`.
+    /// The header fields of a request: 64. No code reads the member, as with `body`.
     pub headers: u64,
-    /// The databases of a hub: 256. Read where one is made (`hub_databases`).
+    /// The databases of a hub: 256. Read where a database is made (`hub_databases`).
     pub databases: u64,
-    /// The feeds of a database that are not finished: 1,024. Read where one is opened
-    /// (`DbState::open_feed`).
+    /// The feeds of a database or of the log of updates that are not finished: 1,024. Read where a feed is
+    /// opened (`refusal` of `hub_database` and `hub_updates`).
     pub feeds: u64,
-    /// The items of a feed that wait for room in its lane: 64. Read where memory is reserved for them, as the
-    /// feed is opened and as it is handed (`hub_shared`).
+    /// The items of a feed that wait for room in its lane: 64. Read where a feed is opened and where it is
+    /// handed, to reserve memory for these items (`hub_shared`).
     pub lane: u64,
-    /// The items that a feed is handed in one holding of the lock: 64. Read where it is handed
+    /// The items that a feed is handed in one holding of the lock: 64. Read where a feed is handed
     /// (`hub_shared`).
     pub hold: u64,
-    /// The edits of a database: 4,294,967,295. Read where one is stored (`DbState::write_edits` and
-    /// `write_one`).
+    /// The edits of a database, or the notes of the log of updates: 4,294,967,295. Read where an edit or a
+    /// note is stored (`DbState::write_edits`, `write_one`, `UpdatesState::note`).
     pub journal: u64,
-    /// The entries of a replication log's history: 50. A follower keeps this number itself (`hub_follower`).
+    /// The entries of a replication log's history: 50. `hub_follower` has this number of its own.
     pub history: u64,
     ghost limited: { IsLimited body head headers databases feeds lane hold journal history },
 }

@@ -44,8 +44,8 @@ impl Model for LocalId {
 }
 
 impl LocalId {
-    /// The id that a text is; None where no local document can have it. It costs the text's length,
-    /// and takes memory only for an id.
+    /// The text as an id; None where no local document can have it. The cost is the text's length. Memory is
+    /// taken only for an id.
     pub fn read(alloc: Global, text: &str) -> Result<Option<LocalId>, AllocError>
         ensures value { IfOk result (λ o. o ≡ short_local_id text.now) }
         ensures memory { IfErr result (λ _. IsSome (short_local_id text.now)) }
@@ -64,7 +64,7 @@ impl LocalId {
         &self.text
     }
 
-    /// The text itself. It takes no memory.
+    /// The id's own text. The call takes no memory.
     pub fn into_string(self) -> String
         ensures { string_bytes result ≡ self }
     {
@@ -79,19 +79,19 @@ fn is_local_id(text: &str) -> bool
     bytes.starts_with(b"_local/") && bytes.len() > 7
 }
 
-/// A local document as a writer brings it: it has no revisions, and no feed shows it.
+/// A local document as a writer brings it. Local documents have no revisions, and no feed shows them.
 #[derive(Debug, Drop)]
 pub struct LocalDoc {
-    /// Its id.
+    /// The document's id.
     pub id: LocalId,
-    /// Its members.
+    /// The document's own members.
     pub body: Body,
 }
 
 impl LocalDoc {
-    /// The local document that a JSON text is under the id that the request names, or the first
-    /// fault. Its `_rev` is not looked at. It costs the text's length, and takes room before it is known
-    /// what the text is.
+    /// The local document of a JSON text, under the id that the request names, or the first fault. `_rev` is
+    /// not looked at. The cost is the text's length. Parsing takes memory, so `NoMemory` may come in place of
+    /// a fault.
     pub fn read(alloc: Global, id: &str, bytes: &[u8]) -> Result<LocalDoc, DocFault>
         ensures ok { IfOk result (λ d. local_in id.now bytes.now ≡ Ok d) }
         ensures err { IfErr result (λ e. (e ≡ DocFault.NoMemory) ⊎ (local_in id.now bytes.now ≡ Err e)) }
@@ -101,7 +101,7 @@ impl LocalDoc {
     }
 }
 
-// The first fault of a local document of this id that is an object of these members.
+// The first fault of these members as a local document with this id.
 fn fault_of(id: &str, value: &Value, members: &Map<String, Value>) -> Option<DocFault>
     ensures some { IfSome result
         (λ e. local_of id.now (view value.now) (members_view members.now.entries) ≡ Err e) }
@@ -125,7 +125,7 @@ fn fault_of(id: &str, value: &Value, members: &Map<String, Value>) -> Option<Doc
     None
 }
 
-// The local document of this id that a JSON value is, or the first fault.
+// The local document of a JSON value, with this id, or the first fault.
 fn doc_of(alloc: Global, id: &str, value: &Value) -> Result<LocalDoc, DocFault>
     ensures ok { IfOk result
         (λ d. or_fault (as_object (view value.now)) NotObject (local_of id.now (view value.now)) ≡ Ok d) }
@@ -155,8 +155,8 @@ fn put_local(out: &mut Vec<u8>, id: &str, count: u64, body: &Body) -> Result<(),
     Ok(())
 }
 
-/// Writes a local document behind what the vector holds: `count` says how often it was written, and
-/// is its revision `0-count`. Where that needs more memory than there is, the vector stays as it was.
+/// Appends the text of a local document. `count` says how often the document was written, and `0-count` is
+/// its revision. Out of memory, the vector stays as it was.
 pub fn write_local(out: &mut Vec<u8>, id: &str, count: u64, body: &Body) -> Result<(), AllocError>
     ensures { AppendsWhole (local_text id.now count body.now) result out.old.items out.new.items }
 {

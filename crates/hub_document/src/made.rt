@@ -23,7 +23,7 @@ fn generation_of(parent: &Option<RevId>) -> u16
     }
 }
 
-// What stands before the parent.
+// The text in front of the parent: a bracket, whether the edit deletes, and a comma.
 fn opening(deleted: bool) -> &'static [u8]
     ensures { result.now ≡ codes "[" ++ (bool_text deleted ++ codes ",") }
 {
@@ -63,9 +63,9 @@ fn hash_quoted(alloc: Global, hasher: &mut Md5, text: &str) -> Result<(), AllocE
     Ok(())
 }
 
-/// The revision of an edit that is made here: its generation is one above its parent's, and its hash
-/// the MD5 (RFC 1321) of `[deleted,parent,id,body]`, in 32 lower-case digits (own). It costs the
-/// body's length, and takes memory only for an id that needs an escape.
+/// The revision of an edit that is made here. Its generation is one above the parent's, and 1 without a
+/// parent. Its hash is the MD5 (RFC 1321) of `[deleted,parent,id,body]`, in 32 lower-case digits (own). The
+/// cost is the body's length, and memory is taken only for an id that needs an escape.
 pub fn rev_of_edit(
     alloc: Global,
     deleted: bool,

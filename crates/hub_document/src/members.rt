@@ -1,4 +1,4 @@
-//! The members of a document that begin with `_`.
+//! The members of a document whose names begin with `_`.
 
 ghost use Rattle.std.specs.Prelude.{◌≡◌};
 ghost use Rattle.serde_json.specs.View.{view, members_view};
@@ -47,8 +47,8 @@ fn is_good_member(key: &str, value: &Value) -> bool
                 || (key == "_attachments" && is_empty_object(value))))
 }
 
-/// Whether each member that begins with `_` is known and has a fitting value. It costs the number
-/// of members.
+/// Whether each member that begins with `_` is known and has a fitting value. The cost is the number of
+/// members.
 pub(crate) fn are_good_members(members: &Map<String, Value>) -> bool
     ensures { result ≡ are_good (members_view members.now.entries) }
 {
@@ -60,7 +60,7 @@ pub(crate) fn are_good_members(members: &Map<String, Value>) -> bool
     true
 }
 
-/// Whether the document is marked as deleted.
+/// Whether the document is marked as deleted: `_deleted` is `true`.
 pub(crate) fn is_deleted(value: &Value) -> bool
     ensures { result ≡ deleted_of (view value.now) }
 {

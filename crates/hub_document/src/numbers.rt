@@ -32,7 +32,7 @@ fn items_have_float(items: &Vec<Value>) -> bool
     false
 }
 
-/// Whether a member, or what stands inside one, is such a number. It costs the value's size.
+/// Whether a number at any depth in the members is no whole number of 64 bits. The cost is their size.
 #[cycle(floats)]
 pub(crate) fn members_have_float(members: &Map<String, Value>) -> bool
     ensures { result ≡ data_members_have_float (members_view members.now.entries) }

@@ -19,14 +19,14 @@ use std::alloc::{AllocError, Global};
 pub enum OpenRevs {
     /// Every leaf.
     All,
-    /// These, in this order.
+    /// The listed revisions, in this order.
     Listed(Revisions),
 }
 
 impl OpenRevs {
-    /// What a value of `open_revs` asks for: `all`, or a JSON array of revisions. None is a fault.
-    /// It costs the text's length. `all` takes no memory; any other text is parsed, which takes room
-    /// before it is known what it is.
+    /// The revisions that a value of `open_revs` asks for: `all`, or a JSON array of revisions. None is a
+    /// fault. The cost is the text's length. `all` takes no memory. Any other text is parsed, so an error may
+    /// come in place of a fault.
     pub fn read(alloc: Global, text: &str) -> Result<Option<OpenRevs>, AllocError>
         ensures value { IfOk result (λ o. o ≡ open_revs_in text.now) }
         ensures memory { IfErr result (λ _. bytes_eq text.now (codes "all") ≡ false) }
@@ -42,7 +42,7 @@ impl OpenRevs {
     }
 }
 
-// The JSON value that a text is, if it is one.
+// The JSON value of a text; None where the text is no JSON.
 fn json_of(alloc: Global, text: &str) -> Result<Option<Value>, AllocError>
     ensures { IfOk result (λ o. option_map view o ≡ json_in text.now) }
 {
@@ -53,7 +53,7 @@ fn json_of(alloc: Global, text: &str) -> Result<Option<Value>, AllocError>
     }
 }
 
-// The revision that a JSON string writes.
+// The revision whose text a JSON string is; None of any other value.
 fn rev_in(value: &Value) -> Option<RevId>
     ensures { result ≡ rev_in_value (view value.now) }
 {
@@ -61,7 +61,7 @@ fn rev_in(value: &Value) -> Option<RevId>
     RevId::read(text)
 }
 
-// Whether each of an array's items writes a revision.
+// Whether each item of an array is the text of a revision.
 fn write_revs(items: &Vec<Value>) -> bool
     ensures { result ≡ is_some (revs_of_items (items_view items.now.items)) }
 {
@@ -73,7 +73,7 @@ fn write_revs(items: &Vec<Value>) -> bool
     true
 }
 
-// The revisions of an array's items, where each writes one.
+// The revisions of an array's items; None where an item is no revision's text.
 fn revs_of(alloc: Global, items: &Vec<Value>) -> Result<Option<Revisions>, AllocError>
     ensures { IfOk result (λ o. o ≡ revs_of_items (items_view items.now.items)) }
 {
@@ -87,7 +87,7 @@ fn revs_of(alloc: Global, items: &Vec<Value>) -> Result<Option<Revisions>, Alloc
     Ok(Some(Revisions::new(list)))
 }
 
-/// The revisions of a value, where it is an array of them. It costs the value's size.
+/// The revisions of a value; None where it is no array of revisions. The cost is the value's size.
 pub(crate) fn revs_in(alloc: Global, value: &Value) -> Result<Option<Revisions>, AllocError>
     ensures { IfOk result (λ o. o ≡ revs_in_value (view value.now)) }
 {
@@ -97,7 +97,7 @@ pub(crate) fn revs_in(alloc: Global, value: &Value) -> Result<Option<Revisions>,
     }
 }
 
-/// Whether a value is an array of revisions. It takes no memory.
+/// Whether a value is an array of revisions. The call takes no memory.
 pub(crate) fn are_revs(value: &Value) -> bool
     ensures { result ≡ is_some (revs_in_value (view value.now)) }
 {

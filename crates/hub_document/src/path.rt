@@ -6,9 +6,9 @@ use crate::revision::RevId;
 use std::alloc::{AllocError, Global};
 use std::marker::Model;
 
-/// A document's revision and those behind it, newest first: a history, whose generations fall by one.
-/// It may end above the first generation, as where a database gave up its oldest revisions. CouchDB
-/// writes it as `_revisions`.
+/// A revision of a document and its ancestors, newest first: a history, whose generations fall by one. A path
+/// may end above the first generation, as where a database gave up its oldest revisions. CouchDB writes a
+/// path as `_revisions`.
 #[derive(Debug, Drop)]
 pub struct Path {
     revisions: Vec<RevId>,
@@ -29,7 +29,7 @@ impl Model for Path {
 impl Path {
     ghost use Rattle.hub_model.specs.Path.{IsHistory};
 
-    /// The path that the vector holds. It takes no memory.
+    /// The path of the vector's revisions. The call takes no memory.
     pub fn new(revisions: Vec<RevId>) -> Path
         requires { IsHistory revisions.items }
         ensures { result ≡ revisions.items }
@@ -37,7 +37,7 @@ impl Path {
         Path { revisions }
     }
 
-    /// The revision itself, the newest of the path.
+    /// The path's newest revision.
     pub fn head(&self) -> RevId
         ensures value { slice_get self.now 0 ≡ Some result }
         ensures good { IsHistory self.now }
@@ -59,7 +59,7 @@ impl Path {
         self.revisions
     }
 
-    /// The first of its revisions, so many, in the memory that it has.
+    /// The path of the first `count` revisions, in the memory of this path. A shorter path stays as it is.
     #[tactic(auto, using(crate::proofs::PathLemmas::front_history))]
     pub fn front(self, count: u16) -> Path
         requires { 1 ≤ count }
@@ -70,7 +70,7 @@ impl Path {
         Path { revisions }
     }
 
-    /// A copy. It costs the path's length.
+    /// A copy. The cost is the path's length.
     pub fn copy(&self, alloc: Global) -> Result<Path, AllocError>
         ensures { IfOk result (λ p. p ≡ self.now) }
     {

@@ -29,7 +29,7 @@ fn plain_16(text: &[u8], at: usize) -> bool
         == 0
 }
 
-// Two loads that overlap cover a short text, as ids are.
+// Two loads, which may overlap, cover a text of 8 to 16 bytes, such as a short id.
 fn plain_all(text: &[u8]) -> bool
     ensures { OnTrue result (PlainBetween text.now 0 (length text.now)) }
 {
@@ -55,7 +55,7 @@ fn plain_all(text: &[u8]) -> bool
     plain_16(text, len - 16)
 }
 
-/// Whether a text needs no escape. It looks at 8 or 16 bytes at a time.
+/// Whether a text needs no escape in a JSON string. From 8 bytes on, 8 or 16 bytes are looked at together.
 pub fn is_plain(text: &[u8]) -> bool
     ensures { OnTrue result (escape text.now ≡ text.now) }
 {

@@ -16,7 +16,7 @@ use crate::revision::RevId;
 use serde_json::Value;
 use std::alloc::Global;
 
-// The leaf that the request or the document names, or both alike. None is a fault.
+// The leaf that the request, the document or both name; `Some(None)` where neither does. None is a fault.
 fn named_by(rev: Option<&str>, value: &Value) -> Option<Option<RevId>>
     ensures { result ≡ rev_put (option_map (λ s. s.now) rev.entry) (view value.now) }
 {
@@ -30,9 +30,9 @@ fn named_by(rev: Option<&str>, value: &Value) -> Option<Option<RevId>>
     }
 }
 
-/// The document that a JSON value is under the id that a request names, or the first fault. The leaf that it
-/// edits may be named by the request too, by `rev`; an edit that was not made here (`new_edits` is false) is a
-/// bad member. It costs the value's size.
+/// The document of a JSON value, under the id that a request names, or the first fault. The request may name
+/// the edited leaf too, by `rev`. Where `new_edits` is false the edit was not made here, which is a
+/// `BadMember`. The cost is the value's size.
 pub fn put_doc(
     alloc: Global,
     id: &str,

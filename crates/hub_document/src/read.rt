@@ -20,7 +20,7 @@ use crate::revision::RevId;
 use serde_json::{Map, Value};
 use std::alloc::{AllocError, Global};
 
-// The first of the faults that are looked for last.
+// The last two faults, in their order: a bad member, then an id that is too long.
 fn last_fault(members: &Map<String, Value>, id: &str) -> Option<DocFault>
     ensures { result ≡ (if are_good (members_view members.now.entries)
         then (if nat_lt 512 (length id.now) then Some DocFault.TooLong else None)
@@ -35,7 +35,7 @@ fn last_fault(members: &Map<String, Value>, id: &str) -> Option<DocFault>
     None
 }
 
-/// The rest, where the head and the path are known.
+/// The document, where its revision and path are known; else `BadMember`, or `TooLong` for its id.
 pub(crate) fn with_path(
     alloc: Global,
     value: &Value,
@@ -64,8 +64,8 @@ pub(crate) fn with_path(
     })
 }
 
-// The first fault of an edit that came whose path has no room; else it is out of memory. It takes
-// no memory.
+// The fault of an edit from another database whose path found no memory: the first fault of the document,
+// else `NoMemory`. The call takes no memory.
 fn without_path(
     value: &Value,
     members: &Map<String, Value>,
@@ -83,8 +83,8 @@ fn without_path(
     last_fault(members, id).unwrap_or(DocFault::NoMemory)
 }
 
-/// The JSON value that a text is. It costs the text's length. Whatever the text is, it takes room
-/// before that is known; an empty one takes none.
+/// The JSON value of a text. The cost is the text's length. Any text but an empty one is parsed in memory, so
+/// `NoMemory` may come in place of `NotJson`.
 pub fn read_value(alloc: Global, bytes: &[u8]) -> Result<Value, DocFault>
     ensures { ReadsJson bytes.now result }
 {
@@ -95,11 +95,11 @@ pub fn read_value(alloc: Global, bytes: &[u8]) -> Result<Value, DocFault>
     }
 }
 
-/// The document that a JSON value is, or the first fault in it. With `new_edits` the edit is made here:
-/// `_rev` names the leaf that it edits, if one, and `_revisions` is not looked at. Without it `_rev` and
-/// `_revisions` are the edit's own. It costs the value's size. A fault is found without memory. It is no
-/// method of `Doc`: each crate that names a type is proved over the contracts of all its methods, and so over
-/// those of `Value`.
+/// The document of a JSON value, or the first fault in the value. With `new_edits` the edit is made here:
+/// `_rev` may name the edited leaf, and `_revisions` is not looked at. Without `new_edits`, `_rev` and
+/// `_revisions` are the edit's own. The cost is the value's size. A fault is found without memory. The
+/// function is no method of `Doc`: each crate that names a type is proved over the contracts of all its
+/// methods, which would bring those of `Value`.
 pub fn read_doc(alloc: Global, value: &Value, new_edits: bool) -> Result<Doc, DocFault>
     ensures { ReadsEdit new_edits (doc_of new_edits (view value.now)) result }
 {
@@ -129,8 +129,8 @@ pub fn read_doc(alloc: Global, value: &Value, new_edits: bool) -> Result<Doc, Do
 }
 
 impl Doc {
-    /// The document that a JSON text is. It costs the text's length, and takes room before it is
-    /// known what it is.
+    /// The document of a JSON text, or the first fault. The cost is the text's length. Parsing takes memory,
+    /// so `NoMemory` may come in place of a fault.
     pub fn read(alloc: Global, bytes: &[u8], new_edits: bool) -> Result<Doc, DocFault>
         ensures ok { IfOk result (λ d. doc_in new_edits bytes.now ≡ Ok d) }
         ensures err { IfErr result (λ e. (e ≡ DocFault.NoMemory)

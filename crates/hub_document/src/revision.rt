@@ -19,8 +19,8 @@ use itoa::{Buffer, write_digits};
 use std::alloc::AllocError;
 use std::marker::Model;
 
-/// A revision id, `N-H`: the generation, 1 to 65,535, and a hash of 1 to 64 letters and digits
-/// (CouchDB API reference, document revisions). It is a plain value of 68 bytes.
+/// A revision id, `N-H`: the generation, 1 to 65,535, and a hash of 1 to 64 letters and digits (CouchDB API
+/// reference, document revisions). The value is plain, and has 68 bytes.
 #[derive(Clone, Copy, Debug, PartialEq, Eq)]
 pub struct RevId {
     number: u16,
@@ -46,7 +46,7 @@ impl Model for RevId {
 }
 
 impl RevId {
-    /// How many edits lead to it, itself included.
+    /// How many edits lead to the revision, its own included.
     pub fn generation(&self) -> u16
         ensures value { result ≡ self.now.generation }
         ensures good { IsRevision self.now }
@@ -54,14 +54,14 @@ impl RevId {
         self.number
     }
 
-    /// Its hash, as ASCII bytes.
+    /// The hash, as ASCII bytes.
     pub fn hash(&self) -> &[u8]
         ensures { result.now ≡ self.now.hash }
     {
         &self.bytes[..self.len as usize]
     }
 
-    /// Whether both are one. It compares no byte past the hashes.
+    /// Whether both are the same revision. No byte past the hashes is compared.
     pub fn is_same(&self, other: &RevId) -> bool
         ensures { result ≡ is_same_revision self.now other.now }
     {
@@ -69,10 +69,10 @@ impl RevId {
     }
 }
 
-// The room of the longest text in quotes: a number of 5 digits, a dash, a hash and two quotes.
+// The bytes of the longest text in quotes: a number of 5 digits, a dash, a hash and two quotes.
 const ROOM: usize = 72;
 
-// The generation, and what stands past its dash.
+// The generation, and the bytes after its dash; None where no generation stands in front.
 fn read_number(bytes: &[u8]) -> Option<(u16, &[u8])>
     ensures value { option_map (λ p. (p.0, p.1.now)) result ≡ number_of 0 bytes.now }
     ensures from_one { IfSome result (λ p. 1 ≤ p.0) }
@@ -110,7 +110,7 @@ fn is_hash(bytes: &[u8]) -> bool
     1 <= bytes.len() && bytes.len() <= 64 && are_letters(bytes)
 }
 
-// The hash, and zeros after it.
+// The hash, and zeros after the hash.
 fn padded(hash: &[u8]) -> [u8; 64]
     requires { length hash.now ≤ 64 }
     ensures { result ≡ hash.now ++ replicate (64 - length hash.now) 0 }
@@ -123,8 +123,7 @@ fn padded(hash: &[u8]) -> [u8; 64]
 impl RevId {
     ghost use Rattle.hub_model.specs.Revision.{Revision};
 
-    /// The revision whose text this is; None where it is that of no revision. It costs the text's
-    /// length.
+    /// The revision with this text; None where no revision has it. The cost is the text's length.
     pub fn read(text: &str) -> Option<RevId>
         ensures value { result ≡ revision_of text.now }
         ensures text { IfSome result (λ r. text_of r ≡ text.now) }
@@ -135,7 +134,7 @@ impl RevId {
         RevId::from_parts(number, hash)
     }
 
-    /// The revision of this generation and hash; None where the text is no hash.
+    /// The revision of this generation and hash; None where the bytes are no hash.
     pub fn from_parts(generation: u16, hash: &[u8]) -> Option<RevId>
         requires { 1 ≤ generation }
         ensures { result ≡ with_hash generation hash.now }
@@ -150,8 +149,7 @@ impl RevId {
         })
     }
 
-    /// Writes its text behind what the vector holds. Where that needs more memory than there is, the
-    /// vector stays as it was.
+    /// Appends the revision's text. Out of memory, the vector stays as it was.
     pub fn print(&self, out: &mut Vec<u8>) -> Result<(), AllocError>
         ensures appends { AppendsWhole (text_of self.now) result out.old.items out.new.items }
         ensures good { IsRevision self.now }
@@ -165,12 +163,12 @@ impl RevId {
         out.extend_from_slice(hash)
     }
 
-    /// Writes its text as a JSON string behind what the vector holds. After an error what was held
-    /// still stands in front, and a part of the string may stand behind it.
+    /// Appends the revision's text as a JSON string. Out of memory, the vector keeps its old bytes, and a
+    /// part of the string may follow them.
     pub fn print_quoted(&self, out: &mut Vec<u8>) -> Result<(), AllocError>
         ensures { Appends (quoted (text_of self.now)) result out.old.items out.new.items }
     {
-        // The text is made from its end on, and appended once.
+        // The text is made from its end to its front, and appended once.
         let number = u64::from(self.generation());
         let mut text = [b'"'; ROOM];
         let hash_at = put_bytes(&mut text, ROOM - 1, self.hash());
@@ -180,8 +178,7 @@ impl RevId {
         out.extend_from_slice(&text[at..])
     }
 
-    /// Writes its hash as a JSON string behind what the vector holds. After an error it is as with
-    /// `print_quoted`.
+    /// Appends the hash as a JSON string. Out of memory, the vector is as after `print_quoted`.
     pub(crate) fn print_hash(&self, out: &mut Vec<u8>) -> Result<(), AllocError>
         ensures { Appends (quoted self.now.hash) result out.old.items out.new.items }
     {
@@ -193,8 +190,8 @@ impl RevId {
     }
 }
 
-/// Reading and printing undo each other: the text of each revision reads as it, and what reads as a
-/// revision is its text.
+/// Reading and printing undo each other: the text of each revision reads as that revision, and a text that
+/// reads as a revision is that revision's text.
 pub fn revision_texts()
     ensures reads { TextsRead }
     ensures prints { ReadsAreTexts }

@@ -22,7 +22,7 @@ impl Model for Revisions {
 }
 
 impl Revisions {
-    /// The list that the vector holds.
+    /// The list of the vector's revisions.
     pub fn new(list: Vec<RevId>) -> Revisions
         ensures { result ≡ list.items }
     {
@@ -36,7 +36,7 @@ impl Revisions {
         &self.list
     }
 
-    /// A copy. It costs the list's length, and of an empty list takes no memory.
+    /// A copy. The cost is the list's length, and an empty list takes no memory.
     pub fn copy(&self, alloc: Global) -> Result<Revisions, AllocError>
         ensures value { IfOk result (λ list. list ≡ self.now) }
         ensures memory { IfErr result (λ _. 0 < length self.now) }

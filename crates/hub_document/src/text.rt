@@ -1,4 +1,4 @@
-//! The JSON texts of documents, written part by part behind what a vector holds.
+//! The JSON texts of documents, appended to a vector part by part.
 
 ghost use Rattle.std.specs.Prelude.{◌≡◌, Some};
 ghost use Rattle.json.specs.Print.{quoted};
@@ -14,9 +14,9 @@ use json::Writer;
 use std::alloc::AllocError;
 use std::mem;
 
-/// Appends the JSON string of a text. Where that needs more memory than there is, what was held
-/// still stands in front, and a part may stand behind it; so it is with all that is written here. It
-/// costs the text's length, and copies nothing else.
+/// Appends the JSON string of a text. Out of memory, the vector keeps its old bytes, and a part of the string
+/// may follow them; so it is with each function here. The cost is the text's length, and nothing else is
+/// copied.
 pub fn put_quoted(out: &mut Vec<u8>, text: &str) -> Result<(), AllocError>
     ensures { Appends (quoted text.now) result out.old.items out.new.items }
 {
@@ -33,7 +33,7 @@ pub fn put_quoted(out: &mut Vec<u8>, text: &str) -> Result<(), AllocError>
     Ok(())
 }
 
-// The brace and the id.
+// Appends the brace and the member `_id`.
 pub(crate) fn put_head(out: &mut Vec<u8>, id: &str) -> Result<(), AllocError>
     ensures { Appends (head_text id.now) result out.old.items out.new.items }
 {
@@ -53,7 +53,7 @@ pub(crate) fn put_rev(out: &mut Vec<u8>, rev: &Option<RevId>) -> Result<(), Allo
     Ok(())
 }
 
-// The same of a revision whose hash is a digest's text.
+// As `put_rev`, for a revision whose hash is a digest's text.
 pub(crate) fn put_digest_rev(out: &mut Vec<u8>, rev: &DigestRev) -> Result<(), AllocError>
     ensures { Appends (after_commas (rev_member (Some rev.now))) result out.old.items out.new.items }
 {
@@ -71,7 +71,7 @@ pub(crate) fn put_deleted(out: &mut Vec<u8>, deleted: bool) -> Result<(), AllocE
     Ok(())
 }
 
-// The hashes, each a string.
+// Appends the hashes, each as a JSON string, with commas between them.
 fn put_hashes(out: &mut Vec<u8>, revisions: &[RevId]) -> Result<(), AllocError>
     ensures { Appends (ids_text revisions.now) result out.old.items out.new.items }
 {
@@ -101,7 +101,7 @@ pub(crate) fn put_path(out: &mut Vec<u8>, path: &Option<Path>) -> Result<(), All
     Ok(())
 }
 
-// The `_rev` of a local document.
+// Appends the member `_rev` of a local document.
 pub(crate) fn put_count(out: &mut Vec<u8>, count: u64) -> Result<(), AllocError>
     ensures { Appends (count_text count) result out.old.items out.new.items }
 {

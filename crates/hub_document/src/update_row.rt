@@ -11,11 +11,11 @@ use std::marker::Model;
 pub struct UpdateRow {
     /// The database's name.
     pub db_name: String,
-    /// What happened to the database.
+    /// Whether the database was made, updated or removed.
     pub kind: UpdateKind,
-    /// The sequence of the note that says so.
+    /// The sequence of the event's note in the log.
     pub seq: u64,
-    /// How many notes there were when the row was made.
+    /// How many notes the log had when the row was made.
     pub seen: u64,
 }
 
@@ -34,7 +34,7 @@ impl Model for UpdateRow {
 }
 
 impl UpdateRow {
-    /// A copy. It costs the length of the name, and of an empty name takes no memory.
+    /// A copy. The cost is the name's length, and an empty name takes no memory.
     pub fn copy(&self, alloc: Global) -> Result<UpdateRow, AllocError>
         ensures ok { IfOk result (λ row. row ≡ self.now) }
         ensures memory { OnErr result (0 < length self.now.db_name) }

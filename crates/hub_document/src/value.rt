@@ -1,7 +1,7 @@
-//! Values that are read with room that is used again.
+//! JSON values, read with room that is used for one text after the other.
 //!
 //! `serde_json` clears 16 kB for each text that it reads. The kit's `json` reads into a tree that borrows
-//! from its text, with room of its caller's. The tree is then made into a value of `serde_json`.
+//! from its text, with the caller's room. The tree is then made into a value of `serde_json`.
 
 ghost use Rattle.std.specs.Prelude.{◌≡◌, ◌⊎◌, None, Some, IfErr, IfOk, option_map};
 ghost use Rattle.json.specs.Value.{value_view, items_view as trees_view, members_view as tree_members_view};
@@ -17,14 +17,14 @@ use json::{Error, Reader, Scratch, Value as Tree};
 use serde_json::{Map, Number, Value};
 use std::alloc::Global;
 
-/// How deep arrays and objects may nest, as `serde_json` takes them.
+/// How many levels deep arrays and objects may nest, as in `serde_json`.
 const MAX_DEPTH: usize = 127;
 
-/// The longest text that is read with room of its caller's. To clear 16 kB costs little beside a longer
-/// one, and less than its tree.
+/// The bytes of the longest text that is read with the caller's room. For a longer text, the clearing of 16
+/// kB costs little, and less than a tree.
 const SHORT: usize = 4_096;
 
-/// The number that a token of JSON writes; None where it is too large for a float. `-0` is a float.
+/// The number of a JSON token; None where it is too large for a float. `-0` is a float.
 fn number_of(text: &str) -> Option<Number>
     ensures { option_map number_view result ≡ number_of text.now }
 {
@@ -46,7 +46,7 @@ fn number_of(text: &str) -> Option<Number>
     }
 }
 
-/// The value that a tree is.
+/// The value of a tree; `NotJson` where a number of the tree is too large for a float.
 #[cycle(value)]
 fn value_of(alloc: Global, tree: &Tree<'_>) -> Result<Value, DocFault>
     ensures ok { IfOk result (λ v. of_json (value_view tree.now) ≡ Some (view v)) }
@@ -83,7 +83,7 @@ fn items_of(alloc: Global, trees: &Vec<Tree<'_>>) -> Result<Vec<Value>, DocFault
     Ok(items)
 }
 
-/// The members of an object: of those of one name the last.
+/// The members of an object: of several members with one name, the last.
 #[cycle(value)]
 fn members_of(alloc: Global, trees: &Vec<(&str, Tree<'_>)>) -> Result<Map<String, Value>, DocFault>
     ensures ok { IfOk result (λ m. of_members (tree_members_view trees.now.items) no_members
@@ -103,22 +103,22 @@ fn members_of(alloc: Global, trees: &Vec<(&str, Tree<'_>)>) -> Result<Map<String
     Ok(members)
 }
 
-/// Room for reading short JSON texts: some 16 kB, and as much as the longest of them.
+/// Room for reading short JSON texts: some 16 kB, and as many bytes as the longest of these texts.
 #[derive(Drop)]
 pub struct JsonRoom {
     scratch: Scratch,
 }
 
 impl JsonRoom {
-    /// Room that was not used yet. It takes no memory beside its own 16 kB.
+    /// Room that was not used yet. The call takes no memory beside the value's own 16 kB.
     pub fn new(alloc: Global) -> JsonRoom {
         JsonRoom {
             scratch: Scratch::new(alloc),
         }
     }
 
-    /// The JSON value that a text is, as `read_value`. It costs the text's length. A text of 4 KiB at most is
-    /// read with this room, and clears no other.
+    /// The JSON value of a text, as `read_value` gives it. The cost is the text's length. A text of at most 4
+    /// KiB is read with this room, and no other room is cleared.
     pub fn read(&mut self, alloc: Global, bytes: &[u8]) -> Result<Value, DocFault>
         ensures { ReadsJson bytes.now result }
     {

@@ -1,4 +1,4 @@
-//! Writing JSON values behind one another into one text.
+//! Writing JSON values into one text, one after the other.
 
 ghost use Rattle.std.specs.Prelude.{◌≡◌, false};
 ghost use Rattle.json.specs.Tree.{json_tokens, items_tokens, members_tokens};
@@ -26,7 +26,7 @@ fn write_number(value: &Number, out: &mut Writer) -> Result<(), AllocError>
     }
 }
 
-/// Writes the value behind what the writer holds. It costs the value's size.
+/// Writes the value after the tokens that the writer has. The cost is the value's size.
 #[cycle(write)]
 pub(crate) fn write_value(value: &Value, out: &mut Writer) -> Result<(), AllocError>
     requires { has_float (view value.now) ≡ false }

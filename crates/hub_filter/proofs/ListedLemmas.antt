@@ -30,14 +30,14 @@ listed_as xs ys h id =
     sym (list_any-IsPermutation (bytes_eq id) (map string_bytes xs) (map string_bytes ys)
     (IsPermutation-map string_bytes xs ys h))
 
--- texts of the same bytes, at each place
+-- lists of texts with the same bytes have the same bytes at each place
 bytes_at : (xs ys : List (String Global)) → map string_bytes ys ≡ map string_bytes xs
     → (i : ℕ) (d : String Global) → string_bytes (get_or ys i d) ≡ string_bytes (get_or xs i d)
 bytes_at xs ys e i d =
     sym (math.get_or-map string_bytes ys i d)
     ∙ (ap (λ l. get_or l i (string_bytes d)) e ∙ math.get_or-map string_bytes xs i d)
 
--- and as sorted
+-- lists of texts with the same bytes are sorted alike
 pub sorted_as : (xs ys : List (String Global)) → map string_bytes ys ≡ map string_bytes xs
     → IsSorted string_cmp xs → IsSorted string_cmp ys
 sorted_as xs ys e sorted k d low high =
@@ -45,13 +45,13 @@ sorted_as xs ys e sorted k d low high =
     sym (length-map ys string_bytes) ∙ (ap length e ∙ length-map xs string_bytes) in
     rw (bytes_at xs ys e (k + 1) d, bytes_at xs ys e k d) (sorted k d low (subst (λ n. k + 1 < n) same high))
 
--- a test of the texts
+-- a test of the texts is a test of their bytes
 listed_by : (xs : List (String Global)) (id : List ℕ)
     → list_any (λ s. bytes_eq id (string_bytes s)) xs ≡ is_listed id (map string_bytes xs)
 listed_by [] id = refl
 listed_by (x ∷ xs) id = ap (λ b. bytes_eq id (string_bytes x) || b) (listed_by xs id)
 
--- bytes that are below or above an id are not the id's
+-- bytes that are below or above an id differ from the id
 differs : (id bytes : List ℕ) (ordering : Ordering) → slice_cmp nat_cmp bytes id ≡ ordering
     → is_eq ordering ≡ false → bytes_eq id bytes ≡ false
 differs id bytes ordering e other =
@@ -62,7 +62,7 @@ differs id bytes ordering e other =
     clash : true ≡ false → ⊥
     clash e = cc
 
--- what a binary search for an id finds in sorted texts
+-- a binary search for an id in sorted texts says whether the id is listed
 pub searched : (xs : List (String Global)) (id : List ℕ) (r : Result ℕ ℕ) → IsSorted string_cmp xs
     → IsSearchInRange r (length xs)
     → IsBinarySearchResult (λ s. slice_cmp nat_cmp (string_bytes s) id) xs r

@@ -1,4 +1,4 @@
--- Texts in byte order: there is one such list of them.
+-- Texts in byte order: any texts have one list in this order.
 use Rattle.std.proofs.Common.{◌≡◌, ℕ, suc, ◌+◌, ◌<◌, ◌≤◌, List, [], ◌∷◌, map, length}
 use Rattle.std.proofs.Common.{get_or, string_bytes, String, Global, true, false, cond}
 use Rattle.std.proofs.Common.{inl, inr, sym, ◌∙◌, ap, refl, Ordering, arith}
@@ -20,17 +20,17 @@ use Rattle.hub_filter.specs.Listed.{put_in, in_order}
 abbrev order : List ℕ → List ℕ → Ordering
 order = slice_cmp nat_cmp
 
--- a text that is above none of these
+-- the text is above none of these texts
 abbrev UpTo : List ℕ → List (List ℕ) → Type 0
 UpTo x [] = Unit {0}
 UpTo x (y ∷ ys) = (is_gt (order x y) ≡ false) × UpTo x ys
 
--- each text is above none that comes later
+-- each text is above no later text
 abbrev Rises : List (List ℕ) → Type 0
 Rises [] = Unit {0}
 Rises (x ∷ xs) = UpTo x xs × Rises xs
 
--- the other way round
+-- the order of two texts the other way round
 turned : (x y : List ℕ) → order x y ≡ ordering_reverse (order y x)
 turned = nat_list_cmp_total.antisymm
 
@@ -97,7 +97,7 @@ order_sum f (x ∷ xs) = omega (arith, put_sum f x (in_order xs), order_sum f xs
 
 -- ---- two rising lists of the same texts are one
 
--- one for each text below x
+-- 1 for a text y below x, else 0
 abbrev below : List ℕ → List ℕ → ℕ
 below x y = cond (is_gt (order x y)) 1 0
 

@@ -9,7 +9,7 @@ use Rattle.std.specs.Str.{bytes_eq}
 abbrev pub is_listed : List ℕ → List (List ℕ) → Bool
 is_listed id ids = list_any (bytes_eq id) ids
 
--- the ids with one more, before the first of them that it is not above
+-- the ids with one more id, in front of the first id that it is not above
 abbrev pub put_in : List ℕ → List (List ℕ) → List (List ℕ)
 put_in id [] = id ∷ []
 put_in id (other ∷ ids) =

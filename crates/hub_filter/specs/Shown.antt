@@ -4,13 +4,13 @@ use Rattle.hub_model.specs.Filter as model
 use Rattle.hub_filter.specs.declared.filter.Filter.{Filter}
 use Rattle.hub_filter.specs.declared.filter.Filter.TheVariants.{All, DocIds, Design}
 
--- the filter of the definitions that it stands for
+-- the filter of `hub_model` that a filter stands for
 abbrev pub filter_of : Filter → model.Filter
 filter_of All = model.Everything
 filter_of (DocIds ids) = model.DocIds ids
 filter_of Design = model.Design
 
--- it lists ids: a list of none is not meant
+-- the filter lists at least one id
 abbrev pub HasIds : model.Filter → Type 0
 HasIds model.Everything = ⊥
 HasIds (model.DocIds ids) = 0 < length ids

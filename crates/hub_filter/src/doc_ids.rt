@@ -31,8 +31,8 @@ impl Model for DocIds {
 }
 
 impl DocIds {
-    /// The listed ids, sorted in place. It takes no memory, and a count of comparisons that is the
-    /// number of ids times its logarithm.
+    /// The listed ids, sorted in place. The call takes no memory. The number of comparisons is the number of
+    /// ids times its logarithm.
     pub fn new(ids: Vec<String>) -> DocIds
         ensures listed { (id : List ℕ) → is_listed id result ≡ is_listed id (map string_bytes ids.items) }
         ensures order { result ≡ in_order (map string_bytes ids.items) }
@@ -42,8 +42,8 @@ impl DocIds {
         DocIds { sorted }
     }
 
-    /// Whether the id is listed. A binary search: it compares the id with as many ids as the
-    /// logarithm of their number.
+    /// Whether the id is listed, by a binary search. The number of comparisons is the logarithm of the number
+    /// of ids.
     pub fn contains(&self, id: &str) -> bool
         ensures { result ≡ is_listed id.now self.now }
     {
@@ -59,7 +59,7 @@ impl DocIds {
         &self.sorted
     }
 
-    /// A copy. It costs the length of the ids, and takes no memory where none is listed.
+    /// A copy. The cost is the length of the ids, and an empty list takes no memory.
     pub fn copy(&self, alloc: Global) -> Result<DocIds, AllocError>
         ensures ok { IfOk result (λ ids. ids ≡ self.now) }
         ensures err { OnErr result (0 < length self.now) }

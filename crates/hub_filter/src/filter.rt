@@ -12,15 +12,15 @@ use std::alloc::{AllocError, Global};
 pub enum Filter {
     /// Every document.
     All,
-    /// Those that are listed (`filter=_doc_ids`).
+    /// The listed documents (`filter=_doc_ids`).
     DocIds(DocIds),
-    /// Design documents (`filter=_design`): those whose id begins with `_design/`.
+    /// Design documents (`filter=_design`): their ids begin with `_design/`.
     Design,
 }
 
 impl Filter {
-    /// Whether the document with this id is shown. It takes no memory. Constant time, but for
-    /// listed ids, where it costs what `DocIds::contains` does.
+    /// Whether the document with this id is shown. The call takes no memory. Constant time; with listed ids
+    /// the cost is that of `DocIds::contains`.
     pub fn passes(&self, id: &str) -> bool
         ensures { result ≡ is_passing (filter_of self.now) id.now }
     {
@@ -31,7 +31,7 @@ impl Filter {
         }
     }
 
-    /// A copy. It costs the length of the listed ids, and takes no memory where there are none.
+    /// A copy. The cost is the length of the listed ids, and only listed ids take memory.
     pub fn copy(&self, alloc: Global) -> Result<Filter, AllocError>
         ensures ok { IfOk result (λ filter. filter_of filter ≡ filter_of self.now) }
         ensures err { OnErr result (HasIds (filter_of self.now)) }

@@ -1,7 +1,7 @@
 //! Filters on ids, and their copies.
 //!
-//! Any one growth of a list or a copy may be refused. The call that met it says so, and is made again; made
-//! again it has the answer that it has with ample memory.
+//! Any one growth of a list or a copy may be refused. A call whose growth is refused fails, and is made
+//! again. The second call gives the answer that it gives with ample memory.
 
 use crate::{DocIds, Filter};
 use std::alloc::{AllocError, Global};

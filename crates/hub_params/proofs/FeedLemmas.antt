@@ -16,7 +16,7 @@ use Rattle.hub_params.specs.declared.feed_stages.Waits.{Waits}
 use Rattle.hub_params.specs.declared.feed_values.Shown.{Shown}
 use Rattle.hub_params.specs.declared.feed_values.Shown.TheVariants.{Listed}
 
--- what the stages ask together
+-- the parameters of all stages together
 abbrev pub together : Rows → Kind → Filter → Waits → Flags → FeedAsked
 together rows kind filter waits flags = record {
   mode = kind.mode;
@@ -37,7 +37,7 @@ staged a b f w g =
     or_stop a (λ rows. or_stop b (λ kind. or_stop (f kind.shown) (λ filter.
     or_stop w (λ waits. or_stop (g kind.mode) (λ flags. Ok (together rows kind filter waits flags))))))
 
--- where each stage reads its part
+-- the stages, where each one reads its part
 pub staged_ok : (a : Result Rows ParamFault) (b : Result Kind ParamFault)
     (f : Shown → Result Filter ParamFault) (w : Result Waits ParamFault) (g : Mode → Result Flags ParamFault)
     (rows : Rows) (kind : Kind) (filter : Filter) (waits : Waits) (flags : Flags)
@@ -45,7 +45,7 @@ pub staged_ok : (a : Result Rows ParamFault) (b : Result Kind ParamFault)
     → staged a b f w g ≡ Ok (together rows kind filter waits flags)
 staged_ok a b f w g rows kind filter waits flags ea eb ef ew eg = rw (ea, eb, ef, ew, eg) refl
 
--- the texts of values that are written alike
+-- values that are written alike have one text
 pub read : {a b : Option (List ℕ)} → a ≡ b → option_map decoded_text a ≡ option_map decoded_text b
 read e = ap (option_map decoded_text) e
 
@@ -59,7 +59,7 @@ pub at_three : {R : Type 0} (f : Option (List ℕ) → Option (List ℕ) → Opt
     → a ≡ a' → b ≡ b' → d ≡ d' → f a b d ≡ r → f a' b' d' ≡ r
 at_three f a a' b b' d d' r e g k h = rw (e, g, k) at h
 
--- listed documents are shown
+-- the filter of listed documents
 pub listed_gives : (ids : Option (List ℕ)) (body : List ℕ) (shown : Shown) (texts : List (List ℕ))
     → shown ≡ Listed → ids_in ids body ≡ Some texts → filter_in ids body shown ≡ Ok (DocIds (in_order texts))
 listed_gives ids body shown texts e f = rw e (gives (ids_in ids body) f)
@@ -68,7 +68,7 @@ listed_gives ids body shown texts e f = rw e (gives (ids_in ids body) f)
         → or_fault o BadDocIds (λ ids. Ok (DocIds (in_order ids))) ≡ Ok (DocIds (in_order texts))
     gives o e = rw e refl
 
--- ---- what needs room, behind parts that are good
+-- ---- parts that need room, after parts that are good
 
 abbrev pub staged_needs : Type 0 → Type 0 → Result Rows ParamFault → Type 0 → Result Kind ParamFault
     → (Shown → Type 0) → (Shown → Result Filter ParamFault) → Type 0 → Result Waits ParamFault

@@ -8,7 +8,7 @@ use Rattle.hub_params.specs.Encoded.{decoded_text}
 use Rattle.hub_params.specs.Query.{last_of, written_of}
 use Rattle.hub_params.specs.Room.{HasEscapedName}
 
--- the value of a name, where some pairs are left and this one was kept of those before
+-- the value of a name, where some pairs are left, and `kept` is its value in the pairs before
 abbrev pub last_with : List ℕ → List (List ℕ × List ℕ) → Option (List ℕ) → Option (List ℕ)
 last_with name left kept = option_or (last_of name left) kept
 
@@ -23,7 +23,7 @@ last_with_step : (wanted name value : List ℕ) (left : List (List ℕ × List �
 last_with_step wanted name value left kept =
     or_assoc (last_of wanted left) (if bytes_eq (decoded_text name) wanted then Some value else None) kept
 
--- all pairs are left, and none was kept
+-- all pairs are left, and no value was kept
 pub read_none : (wanted query : List ℕ) (left : List (List ℕ × List ℕ)) → left ≡ raw_pairs query
     → last_with wanted left None ≡ written_of wanted query
 read_none wanted query left e = rw e (or_none (written_of wanted query))
@@ -32,7 +32,7 @@ read_none wanted query left e = rw e (or_none (written_of wanted query))
     or_none None = refl
     or_none (Some x) = refl
 
--- one more pair is read: what was kept, and what is kept now
+-- one more pair is read: the value that was kept, and the value that is kept now
 pub read_one : (wanted name value text : List ℕ) (left rest : List (List ℕ × List ℕ))
     (kept next whole : Option (List ℕ))
     → left ≡ (name, value) ∷ rest
@@ -43,11 +43,11 @@ read_one wanted name value text left rest kept next whole e t n h =
 
 -- ---- names that are written as they read
 
--- each name of these pairs is
+-- each name of these pairs is written as it reads
 abbrev pub HasPlainNames : List (List ℕ × List ℕ) → Type 0
 HasPlainNames pairs = All (λ p. IsPlainText p.0) pairs
 
--- where each name of the query is, so is each that is left
+-- where each name of the query is written as it reads, so is each name that is left
 abbrev pub IsPlainFrom : List ℕ → List (List ℕ × List ℕ) → Type 0
 IsPlainFrom query left = HasPlainNames (raw_pairs query) → HasPlainNames left
 
@@ -60,7 +60,7 @@ pub plain_from_rest : (query name value : List ℕ) (left rest : List (List ℕ 
 plain_from_rest query name value left rest e from all =
     All-rest (λ (p : List ℕ × List ℕ). IsPlainText p.0) (name, value) rest left e (from all)
 
--- a name that is left is not, so the query has one
+-- a name that is left is escaped, so the query has an escaped name
 pub escaped_name : (query name value : List ℕ) (left rest : List (List ℕ × List ℕ))
     → left ≡ (name, value) ∷ rest → IsPlainFrom query left → ¬ IsPlainText name → HasEscapedName query
 escaped_name query name value left rest e from escaped all =

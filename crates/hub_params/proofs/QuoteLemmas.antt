@@ -5,7 +5,7 @@ use Rattle.std.proofs.lemmas.Bool.{cases_Bool}
 use Rattle.std.proofs.lemmas.Bool.Decides.{nat_tests}
 use Rattle.hub_params.specs.FeedValues.{before_last_quote, within_quotes}
 
--- where no double quote stands in front
+-- a text with no double quote in front
 pub kept_before : (text : List ℕ) → ((rest : List ℕ) → text ≢ 34 ∷ rest)
     → unwrap_or (within_quotes text) text ≡ text
 kept_before [] h = refl
@@ -15,13 +15,13 @@ kept_before (b ∷ text) h =
       | inr t ↦ rw t refl
     ]
 
--- what stands in front of a double quote at the end
+-- the text in front of a double quote at the end
 before_quote : (inner : List ℕ) → before_last_quote (inner ++ 34 ∷ []) ≡ Some inner
 before_quote [] = refl
 before_quote (b ∷ []) = refl
 before_quote (b ∷ c ∷ inner) = ap (option_map (λ text. b ∷ text)) (before_quote (c ∷ inner))
 
--- where none ends the text
+-- a text that no double quote ends
 no_quote : (text : List ℕ) → ((front : List ℕ) → text ≢ front ++ 34 ∷ []) → before_last_quote text ≡ None
 no_quote [] h = refl
 no_quote (b ∷ []) h =
@@ -37,7 +37,7 @@ pub within : (text rest inner : List ℕ) → text ≡ 34 ∷ rest → rest ≡ 
     → inner ≡ unwrap_or (within_quotes text) text
 within text rest inner e f = rw (e, f, before_quote inner) refl
 
--- one that has a double quote in front alone
+-- a text that has a double quote in front alone
 pub kept_behind : (text rest : List ℕ) → text ≡ 34 ∷ rest → ((front : List ℕ) → rest ≢ front ++ 34 ∷ [])
     → text ≡ unwrap_or (within_quotes text) text
 kept_behind text rest e h = rw (e, no_quote rest h) refl

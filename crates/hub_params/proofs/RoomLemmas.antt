@@ -1,4 +1,4 @@
--- What is written where room is needed.
+-- The bytes that are written where room is needed.
 use Rattle.std.proofs.Common.{◌≡◌, ◌<◌, ◌⊎◌, inl, inr, ℕ, List, [], ◌∷◌, length, Option, Some}
 use Rattle.std.proofs.Common.{None, Result, Ok, Err, IfErr, arith, refl, subst, sym, ◌∙◌}
 use Rattle.std.specs.Borrow.{Bor}
@@ -13,12 +13,12 @@ use Rattle.hub_document.specs.Read.{json_of}
 use Rattle.hub_params.specs.Encoded.{decoded_text, text_in}
 use Rattle.hub_params.specs.Room.{HasBytes}
 
--- whatever the error
+-- a fact of each error, at any error
 pub at_any_error : {A E : Type 0} (r : Result A E) (P : E → Type 0) → ((e : E) → P e) → IfErr r P
 at_any_error (Ok x) P p = tt
 at_any_error (Err e) P p = p e
 
--- nothing stands for nothing
+-- the empty value is decoded to the empty text
 decoded_nil : decoded_text [] ≡ []
 unfolding percent_decode utf8_lossy
 decoded_nil = refl
@@ -27,7 +27,7 @@ bytes_of_text : (written : List ℕ) → 0 < length (decoded_text written) → 0
 bytes_of_text [] h = rw decoded_nil at h
 bytes_of_text (x ∷ xs) h = omega arith
 
--- a text that is not empty was written
+-- a decoded text that is not empty has written bytes
 pub text_has_bytes : (value : Option (Bor (List ℕ))) → HasBytes (text_in value)
     → HasBytes (option_copied value)
 text_has_bytes None h = h
@@ -37,17 +37,17 @@ pub kept_has_bytes : (value : Option (Bor (List ℕ))) (text : List ℕ) → Som
     → 0 < length text → HasBytes (option_copied value)
 kept_has_bytes value text e h = text_has_bytes value (subst HasBytes e h)
 
--- nothing is no JSON
+-- the empty text is no JSON
 no_json : json_of [] ≡ None
 unfolding is_utf8 chars value punctuate lex
 no_json = refl
 
--- so what is read as JSON has bytes
+-- so a text that reads as JSON has bytes
 pub json_has_bytes : (text : List ℕ) (content : Data) → json_of text ≡ Some content → 0 < length text
 json_has_bytes [] content h = absurd (let e : None ≡ Some content = sym no_json ∙ h in cc)
 json_has_bytes (x ∷ xs) content h = omega arith
 
--- ids are given, or a body is
+-- the query gives ids, or there is a body
 pub given_or_body : (value : Option (Bor (List ℕ))) (body : List ℕ) (text : Option (List ℕ))
     → text ≡ text_in value → HasBytes text ⊎ (0 < length body)
     → HasBytes (option_copied value) ⊎ (0 < length body)

@@ -4,7 +4,7 @@ use Rattle.std.specs.Prelude.{ℕ, List, Bool, false, not, codes, Option, Some, 
 use Rattle.std.specs.Str.{bytes_eq}
 use Rattle.hub_params.specs.Query.{value_of}
 
--- the revision and the revisions that are asked for, as they were written; whether histories are; and whether
+-- the values of `rev` and `open_revs`, decoded; whether documents are shown with their histories; and whether
 -- revisions are made here
 pub record DocAsked : Type 0 where
   pub rev : Option (List ℕ)
@@ -12,12 +12,12 @@ pub record DocAsked : Type 0 where
   pub revs : Bool
   pub new_edits : Bool
 
--- whether there is a value, and it is this one
+-- whether there is a value, and it is this text
 abbrev pub is_value : List ℕ → Option (List ℕ) → Bool
 is_value text None = false
 is_value text (Some value) = bytes_eq value text
 
--- what a query asks of a document
+-- the parameters that a query gives a document's route
 abbrev pub doc_asked : List ℕ → DocAsked
 doc_asked query = record {
   rev = value_of (codes "rev") query;

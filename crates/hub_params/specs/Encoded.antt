@@ -6,10 +6,10 @@ use Rattle.std.specs.Option.{option_copied}
 use Rattle.std.specs.Str.Lossy.{utf8_lossy}
 use Rattle.form_urlencoded.specs.Form.{decode}
 
--- the text that a written name or value stands for
+-- the decoded text of a written name or value
 abbrev pub decoded_text : List ℕ → List ℕ
 decoded_text written = utf8_lossy (decode written)
 
--- the text of a value, where there is one
+-- the decoded text of a value, where there is one
 abbrev pub text_in : Option (Bor (List ℕ)) → Option (List ℕ)
 text_in value = option_map decoded_text (option_copied value)

@@ -5,7 +5,7 @@ use Rattle.hub_params.specs.FeedParams.{FeedAsked}
 use Rattle.hub_params.specs.FeedShown.{params_asked}
 use Rattle.hub_params.specs.declared.feed_params.FeedParams.{FeedParams}
 
--- a feed of the definitions that asks so
+-- the parameters of a feed in `hub_model` for this request
 abbrev pub params_in : FeedAsked → Params
 params_in asked =
     record {
@@ -18,6 +18,6 @@ params_in asked =
       heartbeat = is_some asked.heartbeat;
     }
 
--- the parameters of the definitions that these stand for
+-- the parameters of a feed in `hub_model` that the code's parameters stand for
 abbrev pub params_of : FeedParams → Params
 params_of params = params_in (params_asked params)

@@ -24,7 +24,7 @@ use Rattle.hub_params.specs.declared.feed_stages.Waits.{Waits}
 use Rattle.hub_params.specs.declared.feed_values.Shown.{Shown}
 use Rattle.hub_params.specs.declared.feed_values.Shown.TheVariants.{All, Listed, Designs}
 
--- what a query and a body ask of a feed
+-- the parameters that a query and a body give a feed
 pub record FeedAsked : Type 0 where
   pub mode : Mode
   pub since : Since
@@ -38,12 +38,12 @@ pub record FeedAsked : Type 0 where
 
 -- ---- the faults in their order
 
--- goes on with what was read, or stops at the fault
+-- goes on with the value that was read, or stops at the fault
 abbrev pub or_fault : {A B : Type 0} → Option A → ParamFault → (A → Result B ParamFault) → Result B ParamFault
 or_fault None fault next = Err fault
 or_fault (Some a) fault next = next a
 
--- goes on with what was read, or keeps its fault
+-- goes on with the value that was read, or keeps its fault
 abbrev pub or_stop : {A B : Type 0} → Result A ParamFault → (A → Result B ParamFault) → Result B ParamFault
 or_stop (Err e) next = Err e
 or_stop (Ok a) next = next a
@@ -63,8 +63,8 @@ kind_in feed filter =
     or_fault (shown_in filter) BadFilter (λ shown.
     Ok (record { mode = mode; shown = shown })))
 
--- the filter, by `doc_ids` and the body: only listed documents need ids. They stand in byte order, which
--- changes nothing of what is shown
+-- the filter, by `doc_ids` and the body: only listed documents need ids. The ids stand in byte order. Their
+-- order changes no document that is shown.
 abbrev pub filter_in : Option (List ℕ) → List ℕ → Shown → Result Filter ParamFault
 filter_in ids body All = Ok Everything
 filter_in ids body Listed = or_fault (ids_in ids body) BadDocIds (λ ids. Ok (DocIds (in_order ids)))
@@ -85,7 +85,7 @@ flags_in mode descending include_docs =
     or_fault (flag_in include_docs) BadFlag (λ include_docs.
     Ok (record { descending = descending; include_docs = include_docs }))))
 
--- what a query and a body ask of a feed, or the first fault
+-- the parameters that a query and a body give a feed, or the first fault
 abbrev pub feed_asked : List ℕ → List ℕ → Result FeedAsked ParamFault
 feed_asked query body =
     or_stop (rows_in (value_of (codes "since") query) (value_of (codes "limit") query)

@@ -3,7 +3,7 @@ use Rattle.hub_filter.specs.Shown.{filter_of}
 use Rattle.hub_params.specs.FeedParams.{FeedAsked}
 use Rattle.hub_params.specs.declared.feed_params.FeedParams.{FeedParams}
 
--- what the parameters ask of a feed
+-- the parameters as the definitions know them
 abbrev pub params_asked : FeedParams → FeedAsked
 params_asked params = record {
   mode = params.mode;

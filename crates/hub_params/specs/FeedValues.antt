@@ -16,11 +16,11 @@ use Rattle.hub_model.specs.declared.feeds.Since.TheVariants.{Now, Plain, Tagged}
 use Rattle.hub_params.specs.declared.feed_values.Shown.{Shown}
 use Rattle.hub_params.specs.declared.feed_values.Shown.TheVariants.{All, Listed, Designs}
 
--- 0-9
+-- whether the byte is a digit, 0 to 9
 abbrev pub is_digit : ℕ → Bool
 is_digit b = nat_le 48 b && nat_le b 57
 
--- one digit or more, and nothing else
+-- whether the text is one digit or more, and nothing else
 abbrev pub is_numeral : List ℕ → Bool
 is_numeral text = nat_lt 0 (length text) && list_all is_digit text
 
@@ -30,19 +30,19 @@ abbrev pub number_in : List ℕ → Option ℕ
 number_in text =
     if is_numeral text && nat_lt (digits_value 10 text) (2 ^ 64) then Some (digits_value 10 text) else None
 
--- what stands in front of a double quote that ends the text
+-- the text in front of the double quote at its end; None where no double quote ends it
 abbrev pub before_last_quote : List ℕ → Option (List ℕ)
 before_last_quote [] = None
 before_last_quote (b ∷ []) = if nat_eq b 34 then Some [] else None
 before_last_quote (b ∷ c ∷ text) = option_map (λ inner. b ∷ inner) (before_last_quote (c ∷ text))
 
--- what stands within the double quotes round a text, where it has them: of `"3-1"` it is 3-1, and of `"3-1`
--- there is none
+-- the text within its double quotes; None where one of them is missing. Of `"3-1"` it is 3-1, and of `"3-1`
+-- there is none.
 abbrev pub within_quotes : List ℕ → Option (List ℕ)
 within_quotes [] = None
 within_quotes (b ∷ text) = if nat_eq b 34 then before_last_quote text else None
 
--- a hyphen
+-- whether the byte is a hyphen
 abbrev pub is_hyphen : ℕ → Bool
 is_hyphen b = eqb b 45
 
@@ -52,21 +52,21 @@ tagged_in text =
     option_and_then (λ seq. option_map (λ life. (seq, life)) (number_in (after_first is_hyphen text)))
     (number_in (before_first is_hyphen text))
 
--- where the feed begins that is asked for so: `now`, a sequence, or a sequence with its life. So now, 3 and
--- 3-1 are good; 3-, -1 and the empty text are faults.
+-- the beginning of a feed with this text: `now`, a sequence, or a sequence with its life. So now, 3 and 3-1
+-- are good; 3-, -1 and the empty text are faults.
 abbrev pub since_text : List ℕ → Option Since
 since_text text =
     if bytes_eq text (codes "now") then Some Now
     else option_or (option_map Plain (number_in text)) (option_map (λ p. Tagged p.0 p.1) (tagged_in text))
 
--- where the feed begins: after 0 where nothing is said; one pair of double quotes is dropped (own), so
--- 3-1 and "3-1" are the same
+-- where the feed begins: after 0 where `since` is absent. One pair of double quotes is dropped (own), so 3-1
+-- and "3-1" are the same.
 abbrev pub since_in : Option (List ℕ) → Option Since
 since_in None = Some (Plain 0)
 since_in (Some text) = since_text (unwrap_or (within_quotes text) text)
 
--- how many rows at most: 0 acts as 1. 0 and 1 give 1, -1 is a fault, and where nothing is said there is no
--- limit.
+-- the greatest number of rows: 0 acts as 1. So 0 and 1 give 1, and -1 is a fault. Where `limit` is absent
+-- there is no limit.
 abbrev pub limit_in : Option (List ℕ) → Option (Option ℕ)
 limit_in None = Some None
 limit_in (Some text) = option_map (λ n. Some (max n 1)) (number_in text)
@@ -97,20 +97,21 @@ shown_in (Some text) =
 abbrev pub positive : ℕ → Option (Option ℕ)
 positive n = if nat_lt 0 n then Some (Some n) else None
 
--- the milliseconds between heartbeats, if there are any. true gives 60,000, and 5 gives 5; false gives none,
--- and 0 is a fault.
+-- the milliseconds between heartbeats; none where `heartbeat` is absent. true gives 60,000, and 5 gives 5;
+-- false gives none, and 0 is a fault.
 abbrev pub heartbeat_in : Option (List ℕ) → Option (Option ℕ)
 heartbeat_in None = Some None
 heartbeat_in (Some text) =
     if bytes_eq text (codes "true") then Some (Some 60000)
     else (if bytes_eq text (codes "false") then Some None else option_and_then positive (number_in text))
 
--- the milliseconds that the feed waits: 60,000 at most
+-- the milliseconds that the feed waits: 60,000 at most, and where `timeout` is absent
 abbrev pub timeout_in : Option (List ℕ) → Option ℕ
 timeout_in None = Some 60000
 timeout_in (Some text) = option_map (λ n. min n 60000) (number_in text)
 
--- whether a flag is set: true sets it, false and nothing do not, and another text, as 1, is a fault
+-- whether a flag is set: true sets it, false does not, and an absent one is not set. Another text, such as 1,
+-- is a fault.
 abbrev pub flag_in : Option (List ℕ) → Option Bool
 flag_in None = Some false
 flag_in (Some text) =

@@ -6,23 +6,24 @@ use Rattle.std.specs.Str.Lossy.{utf8_lossy}
 use Rattle.form_urlencoded.specs.Form.{parse, raw_pairs}
 use Rattle.hub_params.specs.Encoded.{decoded_text}
 
--- the value of the last pair whose name is decoded to this one, as it is written. Of the pairs of
+-- the value of the last pair whose decoded name is this one, as the value is written. Of the pairs of
 -- a=1&b=2&%61=%33 the name a has %33, since %61 is decoded to a.
 abbrev pub last_of : List ℕ → List (List ℕ × List ℕ) → Option (List ℕ)
 last_of name [] = None
 last_of name (p ∷ pairs) =
     option_or (last_of name pairs) (if bytes_eq (decoded_text p.0) name then Some p.1 else None)
 
--- the value that a name has after one more pair: this one where the pair has that name, and else the one before
+-- the value of a name after one more pair: the pair's value where the pair has that name, else the value
+-- before
 abbrev pub kept_of : List ℕ → List ℕ → List ℕ → Option (List ℕ) → Option (List ℕ)
 kept_of wanted name value before = option_or (if bytes_eq name wanted then Some value else None) before
 
--- the value that a query gives a name, as it is written: of a repeated name the last. a=1&b=2&a=%33 gives
--- the name a the value %33, and the name c none.
+-- the value that a query gives a name, as the value is written: of a repeated name the last. a=1&b=2&a=%33
+-- gives the name a the value %33, and the name c none.
 abbrev pub written_of : List ℕ → List ℕ → Option (List ℕ)
 written_of name query = last_of name (raw_pairs query)
 
--- the same value, decoded. a=1&b=2&a=%33 gives the name a the value 3.
+-- the value that a query gives a name, decoded. a=1&b=2&a=%33 gives the name a the value 3.
 abbrev pub value_of : List ℕ → List ℕ → Option (List ℕ)
 value_of name query = option_map decoded_text (written_of name query)
 
@@ -30,12 +31,12 @@ value_of name query = option_map decoded_text (written_of name query)
 abbrev pub pairs_of : List ℕ → List (List ℕ × List ℕ)
 pairs_of query = map (λ p. (utf8_lossy p.0, utf8_lossy p.1)) (parse query)
 
--- the value of the last pair of this name: of a=1&b=2&a=3 the name a has 3
+-- the value of the last pair with this name: of a=1&b=2&a=3 the name a has 3
 abbrev pub last_value : List ℕ → List (List ℕ × List ℕ) → Option (List ℕ)
 last_value name [] = None
 last_value name (p ∷ pairs) =
     option_or (last_value name pairs) (if bytes_eq p.0 name then Some p.1 else None)
 
--- what a query gives each name is what the last of its parsed pairs of that name has
+-- the value that a query gives each name is the value of the last of its parsed pairs with that name
 abbrev pub ValuesAreParsed : Type 0
 ValuesAreParsed = (name query : List ℕ) → value_of name query ≡ last_value name (pairs_of query)

@@ -1,5 +1,5 @@
--- What may run out of memory as a query is read: decoding what is not written as it reads, and keeping
--- a text that is not empty (own).
+-- The steps of reading a query that may run out of memory (own). They are the decoding of a name or a value
+-- that is not written as it reads, and the keeping of a text that is not empty.
 use Rattle.std.specs.Prelude.{◌⊎◌, ℕ, ◌<◌, All, List, length, codes, Option, None, option_map}
 use Rattle.std.specs.Prelude.{IsSomeAnd, Result, IsOkAnd}
 use Rattle.form_urlencoded.specs.Form.{raw_pairs, IsPlainText}
@@ -25,7 +25,7 @@ IsEscaped value = IsSomeAnd value (λ written. ¬ IsPlainText written)
 abbrev pub HasBytes : Option (List ℕ) → Type 0
 HasBytes value = IsSomeAnd value (λ written. 0 < length written)
 
--- the parameters of a document's routes: what is kept is `rev` and `open_revs`. rev=1-a needs room, and so
+-- the parameters of a document's routes need room: `rev` and `open_revs` are kept. rev=1-a needs room, and so
 -- does revs=%74rue; revs=true and rev= need none.
 pub data DocNeedsRoom (query : List ℕ) : Type 0 where
   name : HasEscapedName query → DocNeedsRoom query
@@ -34,18 +34,18 @@ pub data DocNeedsRoom (query : List ℕ) : Type 0 where
   revs : IsEscaped (written_of (codes "revs") query) → DocNeedsRoom query
   new_edits : IsEscaped (written_of (codes "new_edits") query) → DocNeedsRoom query
 
--- ---- the parameters of a feed, in the order of their faults: behind a fault nothing is read
+-- ---- the parameters of a feed, in the order of their faults: after a fault nothing is read
 
--- a value is escaped, or it is good and what stands behind it needs room
+-- a value needs room: it is escaped, or it is good and the values after it need room
 abbrev pub or_behind : {A : Type 0} → Option (List ℕ) → Option A → Type 0 → Type 0
 or_behind written read behind = IsEscaped written ⊎ IsSomeAnd read (λ _. behind)
 
--- a part needs room, or it is good and what stands behind it needs room
+-- a part needs room, or it is good and the parts after it need room
 abbrev pub or_next : {A : Type 0} → Type 0 → Result A ParamFault → (A → Type 0) → Type 0
 or_next needs part next = needs ⊎ IsOkAnd part next
 
--- `since`, `limit` and `style` need room. Of since=1&style=%61 they do; of since=x&style=%61 they do not,
--- since nothing is read behind the fault x.
+-- `since`, `limit` and `style` need room. With since=1&style=%61 they do. With since=x&style=%61 they do not,
+-- since nothing is read after the fault x.
 abbrev pub RowsNeedRoom : Option (List ℕ) → Option (List ℕ) → Option (List ℕ) → Type 0
 RowsNeedRoom since limit style =
     or_behind since (since_in (option_map decoded_text since)) (
@@ -56,7 +56,8 @@ RowsNeedRoom since limit style =
 abbrev pub KindNeedsRoom : Option (List ℕ) → Option (List ℕ) → Type 0
 KindNeedsRoom feed filter = or_behind feed (mode_in (option_map decoded_text feed)) (IsEscaped filter)
 
--- the list of ids: what the query or the body gives is parsed where it is not empty, and its ids are kept
+-- the list of ids needs room: the query's value or the body is parsed where it is not empty, and its ids are
+-- kept
 abbrev pub IdsNeedRoom : Option (List ℕ) → List ℕ → Shown → Type 0
 IdsNeedRoom ids body Every = ⊥
 IdsNeedRoom ids body Listed = HasBytes ids ⊎ (0 < length body)
@@ -67,15 +68,15 @@ abbrev pub WaitsNeedRoom : Option (List ℕ) → Option (List ℕ) → Type 0
 WaitsNeedRoom heartbeat timeout =
     or_behind heartbeat (heartbeat_in (option_map decoded_text heartbeat)) (IsEscaped timeout)
 
--- `descending` and `include_docs` need room. The second is read where the first is good by itself: in a
--- continuous feed descending=true is a fault, and include_docs=%31 behind it is not read.
+-- `descending` and `include_docs` need room. The second is read where the first is good by itself. In a
+-- continuous feed descending=true is a fault, and include_docs=%31 after it is not read.
 abbrev pub FlagsNeedRoom : Mode → Option (List ℕ) → Option (List ℕ) → Type 0
 FlagsNeedRoom mode descending include_docs =
     or_next (IsEscaped descending) (flags_in mode (option_map decoded_text descending) None) (λ _.
     IsEscaped include_docs)
 
--- The parameters of a feed need room. Those of since=1&limit=2 need none; those of
--- filter=_doc_ids&doc_ids=["a"] do, for the list of ids.
+-- The parameters of a feed need room. The query since=1&limit=2 needs none. The query
+-- filter=_doc_ids&doc_ids=["a"] does, for the list of ids.
 abbrev pub FeedNeedsRoom : List ℕ → List ℕ → Type 0
 FeedNeedsRoom query body =
     HasEscapedName query ⊎ (

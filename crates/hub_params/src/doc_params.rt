@@ -14,16 +14,16 @@ use std::alloc::{AllocError, Global};
 use std::borrow::CowStr;
 use std::marker::Model;
 
-/// What the query of a document's route asks for (CouchDB API reference, documents).
+/// The parameters in the query of a document's route (CouchDB API reference, documents).
 #[derive(Debug, Drop)]
 pub struct DocParams {
-    /// The value of `rev`, as it was written.
+    /// The value of `rev`, decoded.
     pub rev: Option<String>,
-    /// The value of `open_revs`, as it was written.
+    /// The value of `open_revs`, decoded.
     pub open_revs: Option<String>,
     /// Whether `revs` is `true`: documents are shown with their histories.
     pub revs: bool,
-    /// False where `new_edits` is `false`.
+    /// False where `new_edits` is `false`, else true.
     pub new_edits: bool,
 }
 
@@ -41,7 +41,7 @@ impl Model for DocParams {
     } };
 }
 
-// The last value of each name that is read, not decoded yet.
+// The last value of each parameter, not decoded yet.
 #[derive(Clone, Copy)]
 struct DocTexts<'q> {
     rev: Option<&'q [u8]>,
@@ -51,7 +51,7 @@ struct DocTexts<'q> {
 }
 
 impl<'q> DocTexts<'q> {
-    // The values that a query gives. It costs the query's length.
+    // The values of a query. The cost is the query's length. Only escaped names take memory.
     fn read(alloc: Global, query: &'q [u8]) -> Result<DocTexts<'q>, AllocError>
         ensures rev { IfOk result (λ t. option_copied t.rev ≡ written_of (codes "rev") query.now) }
         ensures open_revs { IfOk result
@@ -82,9 +82,9 @@ impl<'q> DocTexts<'q> {
 }
 
 impl DocParams {
-    /// The parameters that a query gives: names and values are compared decoded, and of a repeated
-    /// name the last value counts. It costs the query's length. Memory is taken for what has to be
-    /// decoded, and for `rev` and `open_revs`.
+    /// The parameters of a query. Names and values are compared decoded, and of a repeated name the last
+    /// value counts. The cost is the query's length. Memory is taken for escaped names and values, and for
+    /// `rev` and `open_revs`.
     pub fn read(alloc: Global, query: &[u8]) -> Result<DocParams, AllocError>
         ensures asked { IfOk result (λ p. p ≡ doc_asked query.now) }
         ensures memory { OnErr result (DocNeedsRoom query.now) }
@@ -103,7 +103,7 @@ impl DocParams {
     }
 }
 
-// A value as text of its own. An empty one takes no memory.
+// A value, decoded, as a text of its own. An empty value takes no memory.
 fn text(alloc: Global, value: Option<&[u8]>) -> Result<Option<String>, AllocError>
     ensures text { IfOk result (λ t. option_map string_bytes t ≡ text_in value.entry) }
     ensures memory { OnErr result (HasBytes (option_copied value.entry)) }
@@ -119,7 +119,7 @@ fn text(alloc: Global, value: Option<&[u8]>) -> Result<Option<String>, AllocErro
     }
 }
 
-// Whether a value is there, and it is this text, decoded.
+// Whether there is a value, and its decoded text is `wanted`.
 fn is_written(alloc: Global, value: Option<&[u8]>, wanted: &str) -> Result<bool, AllocError>
     ensures value { IfOk result (λ b. b ≡ is_value wanted.now (text_in value.entry)) }
     ensures memory { OnErr result (IsEscaped (option_copied value.entry)) }
@@ -128,7 +128,7 @@ fn is_written(alloc: Global, value: Option<&[u8]>, wanted: &str) -> Result<bool,
     Ok(is_text(&found, wanted))
 }
 
-// Whether there is a value, and it is this text.
+// Whether there is a value, and its text is `wanted`.
 fn is_text(value: &Option<CowStr<'_>>, wanted: &str) -> bool
     ensures { result ≡ is_value wanted.now (option_map cow_str_bytes value.now) }
 {

@@ -1,10 +1,10 @@
-//! Why parameters of a feed are none.
+//! The faults of a feed's parameters.
 
 use std::alloc::AllocError;
 use thiserror::Error;
 
-/// Why a query and a body are no parameters of a feed: the first of these, in this order.
-/// `NoMemory` may come in its place where memory is taken before it is known. The texts are the
+/// Why a query and a body are no parameters of a feed: the first of these faults, in this order. `NoMemory`
+/// may come in place of a fault, where memory is taken before the fault is known. The error texts are the
 /// reasons that a hub answers (own).
 #[derive(Clone, Copy, Debug, PartialEq, Eq, Error)]
 pub enum ParamFault {
@@ -26,7 +26,7 @@ pub enum ParamFault {
     /// `filter` is neither `_doc_ids` nor `_design`.
     #[error("bad filter")]
     BadFilter,
-    /// Listed documents are asked for, and no list of texts says which; or the body is no object.
+    /// With `filter=_doc_ids`: `doc_ids` is absent or no list of texts, or a body is there and is no object.
     #[error("bad doc_ids")]
     BadDocIds,
     /// `heartbeat` or `timeout` is no number in its range, nor a word that stands for one.

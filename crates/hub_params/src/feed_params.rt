@@ -13,14 +13,14 @@ use hub_filter::Filter;
 use hub_model::{Mode, Since, Style};
 use std::alloc::{AllocError, Global};
 
-/// What the query and the body of a changes feed ask for (CouchDB API reference, `_changes`).
+/// The parameters in the query and the body of a changes feed (CouchDB API reference, `_changes`).
 #[derive(Debug)]
 pub struct FeedParams {
     /// How long the feed lasts (`feed`).
     pub mode: Mode,
-    /// Where it begins (`since`).
+    /// Where the feed begins (`since`).
     pub since: Since,
-    /// How many rows it shows at most (`limit`), at least one; none: no end.
+    /// The greatest number of rows (`limit`), at least 1; None: no limit.
     pub limit: Option<u64>,
     /// Whether the newest row comes first.
     pub descending: bool,
@@ -30,9 +30,9 @@ pub struct FeedParams {
     pub include_docs: bool,
     /// Which documents are shown (`filter`, `doc_ids`).
     pub filter: Filter,
-    /// The milliseconds between heartbeats, at least one, if there are any.
+    /// The milliseconds between heartbeats, at least 1; None: no heartbeats.
     pub heartbeat: Option<u64>,
-    /// The milliseconds that it waits for a row, 60,000 at most.
+    /// The milliseconds that the feed waits for a row, 60,000 at most.
     pub timeout: u64,
 }
 
@@ -53,11 +53,11 @@ impl Drop for FeedParams {
 }
 
 impl FeedParams {
-    /// The parameters that a query and a body give, or the first fault in them. Names and values
-    /// are compared decoded, of a repeated name the last value counts, and unknown names are
-    /// ignored. The body is read only with `filter=_doc_ids`. It costs the length of both, and the
-    /// sorting of listed ids. Memory is taken for what has to be decoded and for listed ids, and a
-    /// fault is answered before anything behind it is looked at.
+    /// The parameters of a query and a body, or the first fault in them. Names and values are compared
+    /// decoded, of a repeated name the last value counts, and unknown names are ignored. The body is read
+    /// only with `filter=_doc_ids`. The cost is the length of both, and the sorting of listed ids. Memory is
+    /// taken for escaped names and values, and for listed ids. A fault is answered before the value of any
+    /// later parameter is looked at.
     pub fn read(alloc: Global, query: &[u8], body: &[u8]) -> Result<FeedParams, ParamFault>
         ensures ok { IfOk result (λ p. feed_asked query.now body.now ≡ Ok (params_asked p)) }
         ensures err { IfErr result (λ e. (e ≡ ParamFault.NoMemory)
@@ -83,7 +83,7 @@ impl FeedParams {
         })
     }
 
-    /// A copy. It costs the length of the listed ids, and takes memory for them alone.
+    /// A copy. The cost is the length of the listed ids, and only listed ids take memory.
     pub fn copy(&self, alloc: Global) -> Result<FeedParams, AllocError>
         ensures ok { IfOk result (λ p. params_asked p ≡ params_asked self.now) }
         ensures memory { OnErr result (HasIds (params_asked self.now).filter) }

@@ -35,21 +35,21 @@ pub(crate) struct Kind {
     pub(crate) shown: Shown,
 }
 
-/// How long it waits, in milliseconds.
+/// How long the feed waits, in milliseconds.
 #[derive(Clone, Copy)]
 pub(crate) struct Waits {
     pub(crate) heartbeat: Option<u64>,
     pub(crate) timeout: u64,
 }
 
-/// The flags.
+/// The flags of the feed.
 #[derive(Clone, Copy)]
 pub(crate) struct Flags {
     pub(crate) descending: bool,
     pub(crate) include_docs: bool,
 }
 
-// The text, where there is one.
+// The text, borrowed, where there is one.
 fn lent<'t>(text: &'t Option<CowStr<'_>>) -> Option<&'t str>
     ensures { option_map (λ s. s.now) result ≡ option_map cow_str_bytes text.now }
 {
@@ -59,7 +59,7 @@ fn lent<'t>(text: &'t Option<CowStr<'_>>) -> Option<&'t str>
     }
 }
 
-/// `since`, `limit` and `style`.
+/// Reads `since`, `limit` and `style`.
 pub(crate) fn rows_of(
     alloc: Global,
     since: Option<&[u8]>,
@@ -95,7 +95,7 @@ pub(crate) fn rows_of(
     })
 }
 
-/// `feed` and `filter`.
+/// Reads `feed` and `filter`.
 pub(crate) fn kind_of(
     alloc: Global,
     feed: Option<&[u8]>,
@@ -120,7 +120,7 @@ pub(crate) fn kind_of(
     Ok(Kind { mode, shown })
 }
 
-/// The filter. Ids (`doc_ids`) and the body are read only where listed documents are shown.
+/// The filter of this kind. `doc_ids` and the body are read only where listed documents are shown.
 pub(crate) fn filter_of_kind(
     alloc: Global,
     ids: Option<&[u8]>,
@@ -144,7 +144,7 @@ pub(crate) fn filter_of_kind(
     }
 }
 
-/// `heartbeat` and `timeout`.
+/// Reads `heartbeat` and `timeout`.
 pub(crate) fn waits_of(
     alloc: Global,
     heartbeat: Option<&[u8]>,
@@ -169,7 +169,7 @@ pub(crate) fn waits_of(
     Ok(Waits { heartbeat, timeout })
 }
 
-/// `descending` and `include_docs`.
+/// Reads `descending` and `include_docs`.
 pub(crate) fn flags_of(
     alloc: Global,
     mode: Mode,

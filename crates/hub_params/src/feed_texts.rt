@@ -1,4 +1,4 @@
-//! The values of a feed's parameters, as a query has them.
+//! The values of a feed's parameters, as they are written in a query.
 
 ghost use Rattle.std.specs.Prelude.{◌≡◌, IfOk, OnErr, codes};
 ghost use Rattle.std.specs.Option.{option_copied};
@@ -9,7 +9,7 @@ use crate::query::later;
 use form_urlencoded::{decode, raw_pairs};
 use std::alloc::{AllocError, Global};
 
-/// The last value of each name that is read, not decoded yet.
+/// The last value of each parameter, not decoded yet.
 #[derive(Clone, Copy)]
 pub(crate) struct FeedTexts<'q> {
     pub(crate) since: Option<&'q [u8]>,
@@ -25,7 +25,7 @@ pub(crate) struct FeedTexts<'q> {
 }
 
 impl<'q> FeedTexts<'q> {
-    // The values after one more pair.
+    // The values after one more pair, whose name is decoded.
     fn with(self, name: &str, value: &'q [u8]) -> FeedTexts<'q>
         ensures since { option_copied result.since
             ≡ kept_of (codes "since") name.now value.now (option_copied self.entry.since) }
@@ -62,7 +62,7 @@ impl<'q> FeedTexts<'q> {
         }
     }
 
-    /// The values that a query gives. It costs the query's length.
+    /// The values of a query. The cost is the query's length. Only escaped names take memory.
     pub(crate) fn read(alloc: Global, query: &'q [u8]) -> Result<FeedTexts<'q>, AllocError>
         ensures since { IfOk result (λ t. option_copied t.since ≡ written_of (codes "since") query.now) }
         ensures limit { IfOk result (λ t. option_copied t.limit ≡ written_of (codes "limit") query.now) }

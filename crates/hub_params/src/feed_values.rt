@@ -8,7 +8,7 @@ ghost use Rattle.hub_params.specs.FeedValues.{style_in, mode_in, shown_in, heart
 
 use hub_model::{Mode, Since, Style};
 
-// The milliseconds between heartbeats that `true` asks for, and the longest wait of a feed.
+// The milliseconds between heartbeats of `heartbeat=true`, and the longest wait of a feed.
 const MINUTE: u64 = 60_000;
 
 /// Which documents a feed shows.
@@ -16,7 +16,7 @@ const MINUTE: u64 = 60_000;
 pub(crate) enum Shown {
     /// Every document.
     All,
-    /// Those that are listed.
+    /// The listed documents.
     Listed,
     /// Design documents.
     Designs,
@@ -34,7 +34,7 @@ fn is_numeral(text: &str) -> bool
     !text.is_empty() && are_digits(text.as_bytes())
 }
 
-// The number that digits write, with any zeros in front; None past 2^64 - 1.
+// The number of a text of digits, with any zeros in front; None past 2^64 - 1, and of any other text.
 fn number(text: &str) -> Option<u64>
     ensures { result ≡ number_in text.now }
 {
@@ -47,7 +47,7 @@ fn number(text: &str) -> Option<u64>
     }
 }
 
-// The text without one pair of double quotes round it.
+// The text without its double quotes, where it has one in front and one at its end.
 fn unquoted(text: &str) -> &str
     ensures { result.now ≡ unwrap_or (within_quotes text.now) text.now }
 {
@@ -60,8 +60,8 @@ fn unquoted(text: &str) -> &str
     }
 }
 
-/// The sequence and the number of its life that a text writes as `N-L`, each in decimal digits, with
-/// any zeros in front; None where it is no such text, or one of them is past 2^64 - 1.
+/// The sequence and the number of its life in a text `N-L`, each in decimal digits, with any zeros in front.
+/// None of any other text, and where one of the numbers is past 2^64 - 1.
 pub fn read_tagged(text: &str) -> Option<(u64, u64)>
     ensures { result ≡ tagged_in text.now }
 {
@@ -69,7 +69,7 @@ pub fn read_tagged(text: &str) -> Option<(u64, u64)>
     Some((number(seq)?, number(life)?))
 }
 
-/// Where a feed begins (`since`).
+/// Where a feed begins (`since`); after 0 where `since` is absent.
 pub(crate) fn since_of(value: Option<&str>) -> Option<Since>
     ensures { result ≡ since_in (option_map (λ s. s.now) value.entry) }
 {
@@ -87,7 +87,7 @@ pub(crate) fn since_of(value: Option<&str>) -> Option<Since>
     Some(Since::Tagged(seq, life))
 }
 
-/// How many rows at most (`limit`), at least one.
+/// The greatest number of rows (`limit`), at least 1; `Some(None)` where `limit` is absent.
 pub(crate) fn limit_of(value: Option<&str>) -> Option<Option<u64>>
     ensures { result ≡ limit_in (option_map (λ s. s.now) value.entry) }
 {
@@ -134,7 +134,7 @@ pub(crate) fn shown_of(value: Option<&str>) -> Option<Shown>
     }
 }
 
-/// The milliseconds between heartbeats (`heartbeat`), if there are any.
+/// The milliseconds between heartbeats (`heartbeat`); `Some(None)` for no heartbeats.
 pub(crate) fn heartbeat_of(value: Option<&str>) -> Option<Option<u64>>
     ensures { result ≡ heartbeat_in (option_map (λ s. s.now) value.entry) }
 {
@@ -149,7 +149,7 @@ pub(crate) fn heartbeat_of(value: Option<&str>) -> Option<Option<u64>>
     }
 }
 
-/// The milliseconds that a feed waits (`timeout`), a minute at most.
+/// The milliseconds that a feed waits (`timeout`): a minute at most, and where `timeout` is absent.
 pub(crate) fn timeout_of(value: Option<&str>) -> Option<u64>
     ensures { result ≡ timeout_in (option_map (λ s. s.now) value.entry) }
 {
@@ -159,7 +159,7 @@ pub(crate) fn timeout_of(value: Option<&str>) -> Option<u64>
     }
 }
 
-/// A flag that is false where nothing is said.
+/// A flag, which is false where it is absent.
 pub(crate) fn flag_of(value: Option<&str>) -> Option<bool>
     ensures { result ≡ flag_in (option_map (λ s. s.now) value.entry) }
 {

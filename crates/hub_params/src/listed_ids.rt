@@ -13,7 +13,7 @@ use hub_document::{DocFault, read_value};
 use serde_json::Value;
 use std::alloc::{AllocError, Global};
 
-// The texts that the values are. None is a fault.
+// The texts of values that are JSON strings. None is a fault.
 fn texts_of(alloc: Global, values: &Vec<Value>) -> Result<Option<Vec<String>>, AllocError>
     ensures { IfOk result (λ o. option_map (λ v. map string_bytes v.items) o
         ≡ texts_of_items (items_view values.now.items)) }
@@ -28,7 +28,7 @@ fn texts_of(alloc: Global, values: &Vec<Value>) -> Result<Option<Vec<String>>, A
     Ok(Some(texts))
 }
 
-// The texts of a list of texts.
+// The texts of a JSON array of strings.
 fn listed_texts(alloc: Global, value: &Value) -> Result<Vec<String>, ParamFault>
     ensures ok { IfOk result (λ v. texts_in (view value.now) ≡ Some (map string_bytes v.items)) }
     ensures err { IfErr result (λ e. (e ≡ ParamFault.NoMemory)
@@ -38,7 +38,7 @@ fn listed_texts(alloc: Global, value: &Value) -> Result<Vec<String>, ParamFault>
     texts_of(alloc, values)?.ok_or(ParamFault::BadDocIds)
 }
 
-// The JSON value that a text is.
+// The JSON value of a text; `BadDocIds` where the text is no JSON.
 fn json(alloc: Global, text: &[u8]) -> Result<Value, ParamFault>
     ensures ok { IfOk result (λ v. json_of text.now ≡ Some (view v)) }
     ensures err { IfErr result (λ e. (e ≡ ParamFault.NoMemory)
@@ -66,7 +66,7 @@ fn ids_of_query(alloc: Global, value: Option<&str>) -> Result<Vec<String>, Param
     listed_texts(alloc, &list)
 }
 
-// The ids of a body that is not empty, or of the query where that names none.
+// The ids of a body that is not empty, or of the query where the body has no `doc_ids`.
 fn ids_of_body(alloc: Global, value: Option<&str>, body: &[u8]) -> Result<Vec<String>, ParamFault>
     ensures ok { IfOk result
         (λ v. ids_in_body (option_map (λ s. s.now) value.entry) body.now ≡ Some (map string_bytes v.items)) }
@@ -84,8 +84,8 @@ fn ids_of_body(alloc: Global, value: Option<&str>, body: &[u8]) -> Result<Vec<St
     }
 }
 
-/// The ids that the query's `doc_ids` and the body list. The body's come first: the query's are
-/// read only where the body has none. It costs the length of both.
+/// The ids that the body or the query's `doc_ids` lists. The query is read only where the body is empty, or
+/// has no `doc_ids`. The cost is the length of both.
 pub(crate) fn ids_of(
     alloc: Global,
     value: Option<&str>,

@@ -12,8 +12,8 @@ use form_urlencoded::decode;
 use std::alloc::{AllocError, Global};
 use std::borrow::CowStr;
 
-/// The value of the wanted name after one more pair: this value where the pair has that name, and
-/// else the one before. Values are not decoded yet, and the pair's name is.
+/// The value of the wanted name after one more pair: the pair's value where the pair has that name, else the
+/// value before. Values are not decoded yet, and the pair's name is decoded.
 pub(crate) fn later<'q>(
     wanted: &str,
     name: &str,
@@ -27,7 +27,7 @@ pub(crate) fn later<'q>(
     if name == wanted { Some(value) } else { before }
 }
 
-/// The text of a value. It borrows the query where there is nothing to decode.
+/// The decoded text of a value. The text borrows the query where nothing has to be decoded.
 pub(crate) fn decoded<'q>(
     alloc: Global,
     value: Option<&'q [u8]>,
@@ -41,9 +41,9 @@ pub(crate) fn decoded<'q>(
     }
 }
 
-/// What is decoded one after another is what the standard's parser gives: the value of a name is that
-/// of the last pair of this name (URL Standard, section 5, the application/x-www-form-urlencoded
-/// parser).
+/// Decoding the names and values of a query one by one gives the values of the standard's parser. The value
+/// of a name is the value of the last pair with this name (URL Standard, section 5, the
+/// application/x-www-form-urlencoded parser).
 pub fn values_are_parsed()
     ensures { ValuesAreParsed }
 {}

@@ -1,4 +1,4 @@
--- A document that is read is one that its text gives back.
+-- A document that is read is a document whose text reads back.
 use Rattle.std.proofs.Common.{◌≡◌, ℕ, ◌-◌, ◌<◌, ◌≤◌, ◌^◌, max, List, [], ◌∷◌, length, Bool, true}
 use Rattle.std.proofs.Common.{false, cond, Option, Some, None, option_map, option_and_then, codes}
 use Rattle.std.proofs.Common.{IsUtf8, refl, ap, ◌∙◌, subst, arith, eqb, ltb}
@@ -56,7 +56,7 @@ string_is (string t) s e w = let is : t ≡ s = cc in subst IsUtf8 is w
 string_is (array ds) s e w = absurd (cc)
 string_is (object ms) s e w = absurd (cc)
 
--- an id of any length, of UTF-8
+-- `_id` gives an id of any length, in UTF-8
 id_is : (ms : Members) (id : List ℕ) → AreWritableMembers ms → id_of (object ms) ≡ Some id
     → (is_id id ≡ true) × IsUtf8 id
 id_is ms id w e =
@@ -146,7 +146,7 @@ revs_of_history content revisions h =
     (limited_history start) (option_and_then as_array (get (codes "ids") content)) revisions more
     (λ ids list read. revs_starting start ids revisions read))
 
--- a history of revisions
+-- a history of revisions within the limits
 abbrev IsGood : List Revision → Type 0
 IsGood path = IsHistory path × AllByRecursion IsRevision path
 

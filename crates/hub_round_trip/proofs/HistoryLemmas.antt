@@ -66,7 +66,7 @@ hashes_whole (revision ∷ path) = hashes_whole path
 
 -- ---- the history's value
 
--- as it is read, its keys in order
+-- the value of a history as it is read, its keys in order
 abbrev pub history_read : List Revision → Data
 history_read path =
     object (member (codes "ids") (array (hashes path))
@@ -91,7 +91,7 @@ module _ (rev : Option Revision) (path : List Revision) (h : IsPathOf rev path) 
     (IsUtf8-are_ascii _ refl, hashes_writable path good, tt),
   )
 
--- ---- it reads as the history
+-- ---- the value reads as the history
 
 falls_down : (revision : Revision) (path : List Revision) → Falls revision path
     → FallsFrom revision.generation (revision ∷ path)
@@ -138,7 +138,7 @@ module _ (rev : Option Revision) (path : List Revision) (h : IsPathOf rev path) 
   history_in-history_read =
       starting_back path h.history.falls (good rev path h)
 
--- and the revision that is named is its first
+-- the history begins with the named revision
 pub head_is_head : (rev : Option Revision) (path : List Revision) → slice_get path 0 ≡ rev
     → is_head rev path ≡ true
 head_is_head None path h = refl

@@ -1,4 +1,4 @@
--- What members that are put one after another hold.
+-- The values of members that are put one after another.
 use Rattle.std.proofs.Common.{◌≡◌, ℕ, List, Bool, true, false, Ordering, Less, Equal}
 use Rattle.std.proofs.Common.{Greater, nat_cmp, cond, refl, sym, ap, ◌∙◌, subst, true≢false}
 use Rattle.std.proofs.lemmas.Bool.{and_from}
@@ -19,7 +19,7 @@ use Rattle.hub_round_trip.specs.RoundTrip.{AreWritableMembers, IsBefore, DoKeysR
 use Rattle.hub_document.specs.SpecialMembers.{is_good_member, are_good_members}
 use Rattle.hub_round_trip.proofs.ValueLemmas.{puts}
 
--- ---- what is compared as equal is the same
+-- ---- keys that compare as equal are the same
 
 pub same_key : (k l : List ℕ) → slice_cmp nat_cmp k l ≡ Equal → k ≡ l
 same_key k l e = (bytes_eq-Decides k l).0 (sym (is_eq-slice_cmp k l) ∙ ap is_eq e)
@@ -95,7 +95,7 @@ own_plain (member l e ms) = at (is_hidden l) refl (own_plain ms)
     at true is rest = rest
     at false is rest = (is, rest)
 
--- one is put among the own members alone
+-- an own member is put among the own members alone
 plain_put_at : (ordering : Ordering) (b : Bool) (k l : List ℕ) (content e : Data) (ms : Members)
     → slice_cmp nat_cmp k l ≡ ordering → is_hidden l ≡ b → is_hidden k ≡ false → DoKeysRise (member l e ms)
     → plain (put k content ms) ≡ put k content (plain ms)
@@ -123,7 +123,7 @@ plain-puts no_members found own h = refl
 plain-puts (member k d ms) found own h =
     plain-puts ms (put k d found) own.1 (rise_put k d found h) ∙ ap (puts ms) (plain_put k d found own.0 h)
 
--- and those that are not keep their values
+-- members that are not the document's own keep their values
 pub get_member-puts : (q : List ℕ) (ms found : Members) → is_hidden q ≡ true → AreOwn ms
     → get_member q (puts ms found) ≡ get_member q found
 get_member-puts q no_members found hides own = refl
@@ -133,7 +133,7 @@ get_member-puts q (member k d ms) found hides own =
 
 -- ---- members that a document may have
 
--- each is good, and has no float
+-- a document may have each member, and no member has a float
 abbrev pub AllFit : Members → Type 0
 AllFit no_members = ⊤
 AllFit (member k d ms) = (is_good_member k d ≡ true) × (has_float d ≡ false) × AllFit ms

@@ -25,7 +25,7 @@ use Rattle.hub_round_trip.proofs.MemberLemmas.{rise_put}
 use Rattle.hub_round_trip.proofs.Utf8Lemmas.{either, HaveUtf8, tokens_have_utf8, IsJsonUtf8}
 use Rattle.hub_round_trip.proofs.Utf8Lemmas.{AreItemsUtf8, AreMembersUtf8, json_has}
 
--- ---- what holds before floats are refused
+-- ---- facts of values before floats are refused
 
 abbrev IsRead : Num → Type 0
 IsRead (unsigned n) = n < 2 ^ 64
@@ -213,7 +213,7 @@ pub json_of_is : (text : List ℕ) (content : Data) → json_of text ≡ Some co
 json_of_is text content e =
     let h = loose_text text _ content refl e in (ordered-loose content h.0, writable-loose content h.0, h.1)
 
--- what stands at a key can be written
+-- the value at a key can be written
 pub member_writable : (k : List ℕ) (ms : Members) → AreWritableMembers ms
     → IfSome (get_member k ms) IsWritable
 member_writable k no_members h = tt

@@ -37,7 +37,7 @@ special id rev deleted path =
     history_by put history_read path
     (deleted_by put deleted (rev_by put rev (put (codes "_id") (string id) no_members)))
 
--- what they hold
+-- the values of these members
 record Holds (id : List ℕ) (rev : Option Revision) (deleted : Bool) (path : Option (List Revision))
     (ms : Members) : Type 0 where
   id_is : get_member (codes "_id") ms ≡ Some (string id)
@@ -110,7 +110,7 @@ special_fits : (id : List ℕ) (rev : Option Revision) (deleted : Bool) (path : 
 special_fits id rev deleted path =
     history_fits path _ (deleted_fits deleted _ (rev_fits rev _ (refl, refl, tt)))
 
--- ---- what is written can be read
+-- ---- the text that is written can be read
 
 history_before_writable : (rev : Option Revision) (path : Option (List Revision)) (ms : Members)
     → IfSome path (IsPathOf rev) → AreWritableMembers ms
@@ -143,7 +143,7 @@ rev_before_depth : (rev : Option Revision) (ms : Members) → members_depth ms <
 rev_before_depth None ms h = h
 rev_before_depth (Some revision) ms h = omega arith
 
--- and gives those members, and the document's own after them
+-- the text gives these members, and the document's own after them
 history_outline : (rev : Option Revision) (path : Option (List Revision)) (ms found : Members)
     → IfSome path (IsPathOf rev) → AreWritableMembers ms → AreOrderedMembers ms
     → of_members (members_outline (history_by member history_written path ms)) found
@@ -165,7 +165,7 @@ rev_outline : (rev : Option Revision) (ms found : Members)
 rev_outline None ms found = refl
 rev_outline (Some revision) ms found = refl
 
--- ---- the document that the members are
+-- ---- the document of these members
 
 if_head_is : (rev : Option Revision) (path : List Revision) → slice_get path 0 ≡ rev
     → if_head rev path ≡ Some path

@@ -127,7 +127,7 @@ backslash_byte x xs more unicode s u e =
 hex_is_ascii : (c : ℕ) → is_digit c 16 ≡ true → (c < 128) × (digit_value c < 16)
 hex_is_ascii c h = (grind (arith, nat_tests), grind (arith, nat_tests))
 
--- four hex digits, and what they spell
+-- four hexadecimal digits, and the number that they spell
 record Unit4 (a b c d v : ℕ) : Type 0 where
   one : a < 128
   two : b < 128
@@ -313,7 +313,7 @@ abbrev LexemesHaveUtf8 : List Lexeme → Type 0
 LexemesHaveUtf8 [] = ⊤
 LexemesHaveUtf8 (l ∷ ls) = LexemeHasUtf8 l × LexemesHaveUtf8 ls
 
--- what holds of both holds of the one that is chosen
+-- a fact of both values is a fact of the chosen one
 pub either : {A : Type 0} (P : A → Type 0) (b : Bool) (x y : A) → P x → P y → P (cond b x y)
 either P true x y h k = h
 either P false x y h k = k

@@ -26,7 +26,7 @@ use Rattle.serde_json.proofs.Texts.{print-outline}
 use Rattle.hub_round_trip.specs.RoundTrip.{IsWhole, IsWritable, AreWritable, AreWritableMembers, IsBefore}
 use Rattle.hub_round_trip.specs.RoundTrip.{DoKeysRise, IsOrdered, AreOrdered, AreOrderedMembers}
 
--- ---- what is written is JSON
+-- ---- the text that is written is JSON
 
 number_is : (n : Num) → IsWhole n → IsNumber (number_text n)
 number_is (unsigned n) h = IsNumber-decimal n h
@@ -69,7 +69,7 @@ mutual
   depth-members_outline no_members = refl
   depth-members_outline (member k d ms) = rw (depth-outline d, depth-members_outline ms) refl
 
--- a text is read as what its outline is
+-- a value's text reads as the value of its outline
 pub read-compact_text : (content : Data) → IsWritable content → depth content ≤ max_depth
     → read (compact_text content) ≡ of_json (outline content)
 read-compact_text content h shallow =
@@ -83,7 +83,7 @@ read-compact_text content h shallow =
     ∙ ap (λ o. option_and_then of_json (option_and_then (λ p. json.if_last p.0 p.1) o))
     (value-json_tokens j max_depth [] (omega (arith, shallow, depth-outline content)))
 
--- ---- and UTF-8
+-- ---- the text is UTF-8
 
 utf8-number : (n : Num) → IsWhole n → IsUtf8 (number_text n)
 utf8-number (unsigned n) h = IsUtf8-from_ascii _ (IsAscii-decimal n h)
@@ -147,7 +147,7 @@ before_middle : (l : List ℕ) (found : Members) (k : List ℕ) (content : Data)
 before_middle l no_members k content rest h = h.0
 before_middle l (member m e ms) k content rest h = before_middle l ms k content rest h.1
 
--- a key past the others goes last
+-- a key after the other keys goes last
 put_last : (found : Members) (k : List ℕ) (content : Data) (rest : Members)
     → DoKeysRise (append found (member k content rest))
     → put k content found ≡ append found (member k content no_members)
@@ -168,7 +168,7 @@ puts_in_order (member k d ms) found h =
 pub puts-no_members : (ms : Members) → DoKeysRise ms → puts ms no_members ≡ ms
 puts-no_members ms h = puts_in_order ms no_members h
 
--- ---- and it is the value
+-- ---- the outline reads as the value
 
 number_back : (n : Num) → IsWhole n → number_of (number_text n) ≡ Some n
 number_back (unsigned n) h = number_of-decimal n h

@@ -24,7 +24,7 @@ IsWhole (negative (pos n)) = ⊥
 IsWhole (negative (negsuc n)) = n < 2 ^ 63
 IsWhole (float x) = ⊥
 
--- each number is such a one, and each text and key is UTF-8
+-- each number is a whole number of 64 bits, and each text and key is UTF-8
 abbrev mutual
   pub IsWritable : Data → Type 0
   IsWritable null = ⊤
@@ -52,7 +52,7 @@ abbrev pub DoKeysRise : Members → Type 0
 DoKeysRise no_members = ⊤
 DoKeysRise (member k d ms) = IsBefore k ms × DoKeysRise ms
 
--- and so in each object inside
+-- the keys rise in each object of a value
 abbrev mutual
   pub IsOrdered : Data → Type 0
   IsOrdered null = ⊤
@@ -98,17 +98,17 @@ pub record IsDoc (doc : Doc) : Type 0 where
   pub path : IfSome doc.path (IsPathOf doc.rev)
   pub body : IsBody doc.body
 
--- what is read is such a document, with a path where the edit was not made here
+-- a document that is read is such a document, and has a path where the edit was not made here
 abbrev pub ReadsAreDocs : Type 0
 ReadsAreDocs =
     (new_edits : Bool) (text : List ℕ) (doc : Doc) → doc_in new_edits text ≡ Ok doc
     → IsDoc doc × (is_some doc.path ≡ not new_edits)
 
--- the text of each such document reads as it
+-- the text of each such document reads as the document
 abbrev pub DocsRead : Type 0
 DocsRead = (doc : Doc) → IsDoc doc → doc_in (not (is_some doc.path)) (doc_text doc) ≡ Ok doc
 
--- so what is read, written and read again is the same document
+-- so a document that is read, written and read again is the same
 abbrev pub DocsReadBack : Type 0
 DocsReadBack =
     (new_edits : Bool) (text : List ℕ) (doc : Doc) → doc_in new_edits text ≡ Ok doc

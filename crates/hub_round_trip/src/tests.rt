@@ -4,7 +4,7 @@ use hub_document::Doc;
 use std::alloc::Global;
 use std::test::Fail;
 
-// The text of the document that a text is.
+// The text that is written for the document of a text.
 fn written(alloc: Global, text: &[u8], new_edits: bool) -> Result<Vec<u8>, Fail> {
     let doc = Doc::read(alloc, text, new_edits)?;
     let mut out = Vec::new(alloc);

@@ -7,7 +7,7 @@ ghost use Rattle.hex.specs.Hex.{IsBytes, encode_lower, lower_digits};
 use crate::revision::RevId;
 use hex::FromHex;
 
-/// The digit of a number below 16. It is summed and not looked up: so a processor makes several at once.
+/// The digit of a number below 16, by a sum and no look-up: so a processor makes several digits at once.
 #[inline(always)]
 fn digit(number: u8) -> u8
     requires { number < 16 }
@@ -16,8 +16,8 @@ fn digit(number: u8) -> u8
     b'0' + number + 39 * u8::from(number > 9)
 }
 
-/// Writes the text of the digest, 32 lower-case digits, over these 32 letters. Constant time: a third of
-/// the instructions of `hex::encode_to_slice`, which looks each digit up. A row with its document has two
+/// Writes the digest's text, 32 lower-case digits, over these 32 bytes. Constant time, with a third of the
+/// instructions of `hex::encode_to_slice`, which looks each digit up. A row with its document has two
 /// digests.
 #[inline(always)]
 pub(crate) fn write_digits(letters: &mut [u8], digest: &[u8; 16])
@@ -35,8 +35,8 @@ pub(crate) fn write_digits(letters: &mut [u8], digest: &[u8; 16])
 impl RevId {
     ghost use Rattle.hub_model.specs.Revision.{Revision};
 
-    /// The 16 bytes whose hexadecimal text in lower-case digits the hash is; None where it is no such
-    /// text. Constant time.
+    /// The 16 bytes of the digest whose lower-case hexadecimal text is the hash; None where the hash is no
+    /// such text. Constant time.
     pub fn digest(&self) -> Option<[u8; 16]>
         ensures found { IfSome result (λ digest. self.now.hash ≡ encode_lower digest) }
         ensures none { IfNone result
@@ -51,8 +51,8 @@ impl RevId {
         }
     }
 
-    /// The revision of this generation whose hash is the hexadecimal text of the digest, in lower-case
-    /// digits. Constant time.
+    /// The revision of this generation whose hash is the digest's text, in lower-case hexadecimal digits.
+    /// Constant time.
     pub fn from_digest(generation: u16, digest: &[u8; 16]) -> RevId
         requires { 1 ≤ generation }
         ensures { result ≡ record { generation = generation; hash = encode_lower digest.now } }
@@ -66,8 +66,7 @@ impl RevId {
         }
     }
 
-    /// Whether the hash is the hexadecimal text of the digest, in lower-case digits. Constant time, and no
-    /// memory.
+    /// Whether the hash is the digest's text, in lower-case hexadecimal digits. Constant time, and no memory.
     pub fn has_digest(&self, digest: &[u8; 16]) -> bool
         ensures { result ≡ bytes_eq self.now.hash (encode_lower digest.now) }
     {

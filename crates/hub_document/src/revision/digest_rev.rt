@@ -11,8 +11,8 @@ use crate::revision::digest::write_digits;
 use std::alloc::AllocError;
 use std::marker::Model;
 
-/// A revision whose hash is the hexadecimal text of a digest of 16 bytes in lower-case digits, as each is
-/// that is made here. It takes 18 bytes.
+/// A revision whose hash is a digest's text: 16 bytes in lower-case hexadecimal digits. Each revision that is
+/// made here has this form. The value takes 18 bytes.
 #[derive(Debug, Drop)]
 pub struct DigestRev {
     generation: u16,
@@ -31,7 +31,7 @@ impl Model for DigestRev {
     ghost invariant = { λ a. 1 ≤ a.generation };
 }
 
-// The text of the revision of this digest and a generation of one digit, as a JSON string.
+// The JSON string of the revision with this digest and a generation of one digit.
 fn short_text(generation: u16, digest: &[u8; 16]) -> [u8; 36]
     requires { (1 ≤ generation) × (generation < 10) }
     ensures { result ≡ quoted (text_of (record {
@@ -55,7 +55,7 @@ impl DigestRev {
         DigestRev { generation, digest }
     }
 
-    /// How many edits lead to it, itself included.
+    /// How many edits lead to the revision, its own included.
     pub fn generation(&self) -> u16
         ensures value { result ≡ self.now.generation }
         ensures positive { 1 ≤ result }
@@ -63,14 +63,14 @@ impl DigestRev {
         self.generation
     }
 
-    /// The digest whose text its hash is.
+    /// The digest whose text is the hash.
     pub fn digest(&self) -> [u8; 16]
         ensures { self.now.hash ≡ encode_lower result }
     {
         self.digest
     }
 
-    /// The same once more. Constant time.
+    /// A copy. Constant time.
     pub fn copy(&self) -> DigestRev
         ensures { result ≡ self.now }
     {
@@ -80,15 +80,15 @@ impl DigestRev {
         }
     }
 
-    /// The same with the text of its hash. Constant time.
+    /// The revision with its hash as text. Constant time.
     pub fn rev(&self) -> RevId
         ensures { result ≡ self.now }
     {
         RevId::from_digest(self.generation, &self.digest)
     }
 
-    /// Its text as a JSON string; None where its generation has more than one digit. Constant time, and no
-    /// memory.
+    /// The revision's text as a JSON string; None where the generation has more than one digit. Constant
+    /// time, and no memory.
     pub fn short_text(&self) -> Option<[u8; 36]>
         ensures text { IfSome result (λ text. text ≡ quoted (text_of self.now)) }
         ensures none { IfNone result (10 ≤ self.now.generation) }
@@ -100,8 +100,8 @@ impl DigestRev {
         }
     }
 
-    /// Writes its text as a JSON string behind what the vector holds. After an error what was held
-    /// still stands in front, and a part of the string may stand behind it.
+    /// Appends the revision's text as a JSON string. Out of memory, the vector keeps its old bytes, and a
+    /// part of the string may follow them.
     pub fn print_quoted(&self, out: &mut Vec<u8>) -> Result<(), AllocError>
         ensures { Appends (quoted (text_of self.now)) result out.old.items out.new.items }
     {

@@ -12,7 +12,7 @@ returns-clause-docs c = reads_are_docs
 pub returns-clause-read : goal.returns-clause-read
 returns-clause-read c = doc_text_reads
 
--- the path says which kind of edit it was
+-- a document has a path exactly where its edit was not made here
 kind : (has_path new_edits : Bool) → has_path ≡ not new_edits → not has_path ≡ new_edits
 kind true true h = sym h
 kind true false h = refl

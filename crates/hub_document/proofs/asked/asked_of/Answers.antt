@@ -7,14 +7,14 @@ use Rattle.serde_json.specs.View.{view, members_view}
 use Rattle.hub_document.specs.Asking.{in_front, revs_in, asked_of}
 use Rattle.hub_document.proofs.asked.asked_of.Goals as goal
 
--- one that is put in front of the rest stands behind those before
+-- an element in front of the rest stands after the elements that are done
 regrouped : (done : List RevisionsOfDoc) (asked : RevisionsOfDoc) (rest : Option (List RevisionsOfDoc))
     → option_map (λ others. done ++ others) (in_front asked rest)
     ≡ option_map (λ others. (done ++ asked ∷ []) ++ others) rest
 regrouped done asked None = refl
 regrouped done asked (Some others) = ap Some (sym (append_assoc done (asked ∷ []) others))
 
--- one more member
+-- one more member is read
 one_more : (done : List RevisionsOfDoc) (id : List ℕ) (content : Data) (members : Members) (revs : List Revision)
     → revs_in content ≡ Some revs
     → option_map (λ others. done ++ others) (asked_of (member id content members))

@@ -16,7 +16,7 @@ behind_some : {A B : Type 0} (b : Bool) (x : Option A) (a : A) (f : A → Option
 behind_some true x a f e = absurd (cc)
 behind_some false x a f e = ap (option_and_then f) e
 
--- one more hash
+-- one more hash is read
 one_more : (done : List Revision) (rev : Revision) (n : ℕ) (content : Data) (items : Items)
     → hashed_at n content ≡ Some rev
     → option_map (λ rs. done ++ rs) (falling n (item content items))

@@ -9,7 +9,7 @@ use Rattle.hub_document.specs.Histories.{rev_in}
 use Rattle.hub_document.proofs.FrontLemmas.{regrouped}
 use Rattle.hub_document.proofs.open_revs.revs_of.Goals as goal
 
--- one more item
+-- one more item is read
 one_more : (done : List Revision) (rev : Revision) (content : Data) (items : Items) → rev_in content ≡ Some rev
     → option_map (λ rs. done ++ rs) (revs_of (item content items))
     ≡ option_map (λ rs. (done ++ rev ∷ []) ++ rs) (revs_of items)

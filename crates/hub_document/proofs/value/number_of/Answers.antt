@@ -8,7 +8,7 @@ use Rattle.serde_json.specs.Read.{number_of, number_from}
 use Rattle.serde_json.specs.View.{number_view}
 use Rattle.hub_document.proofs.value.number_of.Goals as goal
 
--- behind a minus sign, and without one
+-- the number after a minus sign, and the number without one
 signed : (text : List ℕ) → (get_or text 0 0 == 45) ≡ true
     → number_from true (scan (take (length text - 1) (drop 1 text))) ≡ number_of text
 unfolding number_of
