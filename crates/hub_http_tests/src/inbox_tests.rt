@@ -4,7 +4,7 @@ use crate::offers::Offers;
 use hub_transcript::replay;
 use std::test::Fail;
 
-// The first of the two requests whose fronts are offered ends at 41, the second at 60.
+// Of the two requests whose fronts are offered, the first has 41 bytes, and the second ends at 60.
 const OFFERS: &str = r"
 # requests come whole, one byte an offer
 > offer 1 1 PUT /d HTTP/1.1\r\nContent-Length: 3\r\n\r\nabc

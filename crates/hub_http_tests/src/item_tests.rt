@@ -10,12 +10,12 @@ use std::test::Fail;
 
 /// A feed, and the texts of its items.
 ///
-/// - `feed MODE ROWS LIFE`: a feed of this mode that wrote so many rows, of a database in this life.
-/// - `row SEQ REV DOC`: the row of a sequence and a document, with a further revision where it is one. `doc
-///   SEQ REV DOC`: the same of a row that brings the document. `end SEQ PENDING`, `beat`: the end and a
-///   heartbeat.
-/// - `update KIND SEQ NAME`: what happened to a database, in a feed of updates. `end_of_updates SEQ PENDING`,
-///   `beat_of_updates`: its end and a heartbeat.
+/// - `feed MODE ROWS LIFE`: a feed of this mode that wrote ROWS rows, of a database in this life.
+/// - `row SEQ REV DOC`: the row of a sequence and a document, with a second revision REV unless REV is
+///   none. `doc SEQ REV DOC`: the same row, with the document in it. `end SEQ PENDING`, `beat`: the end and
+///   a heartbeat.
+/// - `update KIND SEQ NAME`: the row of a database in a feed of updates. `end_of_updates SEQ PENDING`,
+///   `beat_of_updates`: the end and a heartbeat of that feed.
 /// - `method NAME`: the name of a method.
 #[derive(Drop)]
 struct Feed {
@@ -51,7 +51,7 @@ fn kind_of(name: &str) -> Option<UpdateKind> {
     None
 }
 
-// The revisions of a row, of which the second may be none.
+// The revisions of a row: one, or two where there is another.
 fn changes(alloc: Global, rev: RevId, other: Option<RevId>) -> Result<Changes, AllocError> {
     match other {
         Some(other) => Ok(Changes::new(Revisions::new(Vec::from_slice(alloc, &[rev, other])?))),
@@ -59,7 +59,7 @@ fn changes(alloc: Global, rev: RevId, other: Option<RevId>) -> Result<Changes, A
     }
 }
 
-// A row of these words: its sequence, a further revision, and its document, which it may bring.
+// A row of a command's words: its sequence, its second revision, and its document. The row may bring it.
 fn row_of(alloc: Global, command: &str, brings: bool) -> Result<ChangeRow, DocFault> {
     let mut words = Words::of(command);
     let seq = words.number();
@@ -79,7 +79,7 @@ fn row_of(alloc: Global, command: &str, brings: bool) -> Result<ChangeRow, DocFa
 }
 
 impl Feed {
-    // Shows an item's text, which stands behind what was held.
+    // Shows an item's text. It is appended to a vector that already holds bytes, which have to stay.
     fn tell<R: RowText>(&self, item: &Item<R>, answer: &mut Answer) -> Result<(), AllocError> {
         let mut out = Vec::from_slice(self.alloc, b"held")?;
         item_text(&mut out, self.mode, self.rows_before, self.life, item)?;

@@ -9,21 +9,21 @@ use std::fmt::Write;
 /// How many requests a text has at most.
 const MOST: usize = 8;
 
-/// An inbox. What comes next is a request, `not yet`, `end` or a fault, as `Reading` tells it.
+/// An inbox. Its next outcome is a request, `not yet`, `end` or a fault, shown as in `Reading`.
 ///
-/// - `put TIMES TEXT`: a text so often, or so many counted bytes, are offered at once.
-/// - `offer LENGTH TIMES TEXT`: the same bytes are offered in parts of at most so
-///   many bytes. What comes next before each is told, where it is not `not yet`, and then how often it is.
-/// - `next`: what comes next. `over`: no more bytes come.
-/// - `fronts TEXT`: of each front of a text, what comes next until a request is not whole, and then twice
-///   behind the end of the input: told where it differs from that of the front of one byte less.
+/// - `put TIMES TEXT`: TIMES times the text, or TIMES counted bytes without a text, offered at once.
+/// - `offer LENGTH TIMES TEXT`: the same bytes are offered in parts of at most LENGTH bytes. Before each
+///   part the outcome is shown, unless it is `not yet`. Then the count of `not yet` is shown.
+/// - `next`: shows the next outcome. `over`: no more bytes come.
+/// - `fronts TEXT`: each front of a text is offered. Its outcomes are those until one is no request, and
+///   two after the end of the input. They are shown where they differ from those with one byte less.
 #[derive(Drop)]
 pub(crate) struct Offers {
     alloc: Global,
     inbox: Inbox,
 }
 
-/// What comes next. Out of memory the same call is made again.
+/// The next outcome. Out of memory, the call is made once more.
 fn next_of(inbox: &mut Inbox) -> Result<Came, AllocError> {
     let next = match inbox.next() {
         Err(HttpFault::NoMemory) => inbox.next(),
@@ -38,7 +38,7 @@ fn next_of(inbox: &mut Inbox) -> Result<Came, AllocError> {
     }
 }
 
-/// Offers bytes. Out of memory they are offered again.
+/// Offers bytes. Out of memory, they are offered once more. It is an error to offer bytes after the end.
 fn offer(inbox: &mut Inbox, bytes: &[u8]) -> Result<(), AllocError> {
     for _ in 0..2 {
         if !inbox.is_over() && inbox.offer(bytes).is_ok() {
@@ -69,7 +69,7 @@ impl Offers {
         offer(&mut self.inbox, bytes.as_slice())
     }
 
-    // What comes of a front, and twice behind its end.
+    // The outcomes of a front, and two outcomes after the end of the input.
     fn front(&mut self, front: &[u8]) -> Result<String, AllocError> {
         let mut told = String::new(self.alloc);
         self.inbox = Inbox::new(self.alloc);

@@ -8,17 +8,17 @@ use std::alloc::{AllocError, Global};
 use std::io::ErrorKind;
 use std::test::Fail;
 
-/// An outbox, and a writer that it is handed to.
+/// An outbox, and a writer that takes its bytes.
 ///
-/// - `write TEXT`: a text is written, again where no memory is found: how many bytes. `vector TEXT`: a vector
-///   of a text is sent, which the outbox may keep: how that ends.
-/// - `front`: a front of what is to go. `holds N`: whether so many bytes are to go. `empty`: whether none
-///   are.
-/// - `sent N`: so many bytes went, where so many are there.
-/// - `writer MOST REFUSALS ERROR`: a writer that takes at most so many bytes a write, and has so many errors
-///   before each.
-/// - `hand N`: what is to go is handed to the writer so often: what becomes of each transfer. `held`: what
-///   the writer took.
+/// - `write TEXT`: writes a text, and shows the count of bytes. Out of memory, the command is given again.
+///   `vector TEXT`: sends a vector of a text, which the outbox may keep, and shows the outcome.
+/// - `front`: shows a front of the bytes that are to go. `holds N`: whether at least N bytes are to go.
+///   `empty`: whether no bytes are.
+/// - `sent N`: N bytes went, where so many are there.
+/// - `writer MOST REFUSALS ERROR`: a writer that takes at most MOST bytes a write, and has REFUSALS errors
+///   before each write.
+/// - `hand N`: hands the waiting bytes to the writer N times, and shows the outcome of each transfer.
+///   `held`: shows the bytes that the writer took.
 #[derive(Drop)]
 struct Waiting {
     alloc: Global,
@@ -26,12 +26,12 @@ struct Waiting {
     sink: Sink,
 }
 
-// A number, or 0 where it is none.
+// The number of a text, or 0 where the text is no number.
 fn number_of(text: &str) -> usize {
     text.parse().unwrap_or(0)
 }
 
-// The kind of this name, of the three that a writer of these tests has, or another.
+// The error kind of this name: one of the three that a writer of these tests has, or `Other`.
 fn kind_of(name: &str) -> ErrorKind {
     if name == "BrokenPipe" {
         return ErrorKind::BrokenPipe;
@@ -46,7 +46,7 @@ fn kind_of(name: &str) -> ErrorKind {
 }
 
 impl Waiting {
-    // A write that finds no memory takes nothing.
+    // Out of memory, a write takes nothing.
     fn write(&mut self, text: &[u8], answer: &mut Answer) -> Result<(), AllocError> {
         match self.outbox.write(text) {
             Ok(count) => answer.line(count),
@@ -68,7 +68,7 @@ impl Waiting {
         Ok(())
     }
 
-    // The writer has its room from the beginning.
+    // The writer has room for 64 bytes from the beginning.
     fn refuse(&mut self, command: &str) -> Result<(), AllocError> {
         let mut words = Words::of(command);
         let (most, times) = (words.number(), words.number());

@@ -1,11 +1,11 @@
-//! Requests that are read byte by byte, of readers that are interrupted and that fail.
+//! Requests that are read byte by byte, from readers that are interrupted or fail.
 
 use crate::reading::Reading;
 use hub_transcript::replay;
 use std::test::Fail;
 
-// The text of two requests has 60 bytes, and 61 reads behind interruptions take it and its end. The head of
-// the body that is too long has 43 bytes.
+// The text of two requests has 60 bytes. So 61 reads, beside the interrupted ones, take it and see its end.
+// The request whose body is too long has a head of 43 bytes.
 const READERS: &str = r"
 # requests that come together
 > slow 0 0 PUT /d HTTP/1.1\r\nHost: h\r\ncontent-length: 3\r\n\r\nabcGET /d/_changes HTTP/1.1\r\nConnection: Close\r\n\r\nGET / HTTP/1.0\r\n\r\n

@@ -11,8 +11,8 @@ use std::{fmt, io};
 /// How many requests a text has at most.
 const MOST: usize = 8;
 
-/// Gives at most so many bytes a read. It is interrupted before: so often before the first byte, and so often
-/// before each other. After so many good reads it fails.
+/// A reader that gives at most `most` bytes a read. It is interrupted `left` times before the first read,
+/// and `times` times before each other. After `good` good reads it fails.
 #[derive(Drop)]
 struct Slow {
     text: Cursor<Vec<u8>>,
@@ -23,7 +23,7 @@ struct Slow {
 }
 
 impl Slow {
-    /// Gives a whole text, and never fails.
+    /// A reader that gives a whole text, and never fails.
     fn ample(text: Vec<u8>) -> Slow {
         Slow {
             text: Cursor::new(text),
@@ -61,19 +61,19 @@ impl Display for Counts {
     }
 }
 
-/// The requests of a reader. A request is told by its method and its target, whether it has a length, whether
-/// it closes, and its body; behind the last stands `end`, or the fault.
+/// The requests of a reader. A request is shown by its method and its target, whether it has a length,
+/// whether it closes, and its body. After the last request stands `end`, or the fault.
 ///
-/// - `read TEXT`: a reader gives this text at once; each request is told.
-/// - `add TIMES TEXT`: puts a text so often, or so many counted bytes, behind the text that is gathered.
-///   `all`: a reader gives it at once; each request is told.
-/// - `slow LEFT TIMES TEXT`: a reader gives this text byte by byte, and is interrupted so often before the
-///   first, and so often before each other.
-/// - `next`: the next request is told. `room`: the room of the body that came last. `counts`: how many reads
-///   were made, and how many faulted.
-/// - `fronts TEXT`: each front of a text is read; `failing TEXT`: a text is read byte by byte by a reader
-///   that fails after so many good reads. What is told, at a second look behind the end too, is told where it
-///   differs from that of one byte less.
+/// - `read TEXT`: a reader gives this text at once; each request is shown.
+/// - `add TIMES TEXT`: appends a text TIMES times, or TIMES counted bytes, to the gathered text. `all`: a
+///   reader gives the gathered text at once; each request is shown.
+/// - `slow LEFT TIMES TEXT`: a reader gives this text byte by byte. It is interrupted LEFT times before the
+///   first byte, and TIMES times before each other.
+/// - `next`: shows the next request. `room`: shows the room of the last request's body. `counts`: how many
+///   reads were made, and how many faulted.
+/// - `fronts TEXT`: each front of a text is read. `failing TEXT`: a text is read byte by byte, by readers
+///   that fail after 0, 1, .. good reads. The requests, and a second look after the end, are shown where
+///   they differ from those with one byte less.
 /// - `memory TEXT`: three reads of at most two bytes, of memory.
 #[derive(Drop)]
 pub(crate) struct Reading {
@@ -83,7 +83,7 @@ pub(crate) struct Reading {
     room: usize,
 }
 
-/// What comes next. Where no memory is found it is asked for again: no byte is lost.
+/// The next request, end or fault. Out of memory, the call is made once more: no byte is lost.
 fn next_of(requests: &mut Requests<Tally<Slow>>) -> Result<Came, AllocError> {
     let next = match requests.next() {
         Err(HttpFault::NoMemory) => requests.next(),
@@ -97,7 +97,7 @@ fn next_of(requests: &mut Requests<Tally<Slow>>) -> Result<Came, AllocError> {
     }
 }
 
-// Reads memory three times.
+// Reads a text in memory three times, at most two bytes each time.
 fn read_memory(text: &[u8], answer: &mut Answer) -> Result<(), AllocError> {
     let mut input = Tally::new(text);
     let mut buf = [0u8; 2];
@@ -116,7 +116,7 @@ impl Reading {
         self.requests = Requests::new(self.alloc, Tally::new(reader));
     }
 
-    // What comes next, and the room of its body where it is a request.
+    // The next request, end or fault. The room of a request's body is noted.
     fn next(&mut self) -> Result<Came, AllocError> {
         let came = next_of(&mut self.requests)?;
         if let Came::Whole(request) = &came {
@@ -130,7 +130,7 @@ impl Reading {
         answer.line(came)
     }
 
-    // The requests of a reader and what comes behind them, a line each.
+    // The requests of a reader and the end or fault after them, a line each.
     fn all_of(&mut self, reader: Slow) -> Result<String, AllocError> {
         let mut told = String::new(self.alloc);
         self.open(reader);
@@ -145,7 +145,7 @@ impl Reading {
         Ok(told)
     }
 
-    // A copy of what is gathered, so that nothing is lost where memory is refused behind it.
+    // A copy of the gathered text, which stays whole where memory is refused later.
     fn copy(&self) -> Result<Vec<u8>, AllocError> {
         Vec::from_slice(self.alloc, self.gathered.as_slice())
     }
@@ -183,8 +183,8 @@ impl Reading {
         Counts(reader.reads().saturating_sub(before), Input::faults(reader))
     }
 
-    // What is told of a front of so many bytes, or of a reader that fails after so many good reads and how
-    // many more were made: also at a second look.
+    // The lines of a text, with a second look after the end. A reader that `fails` does so after `count`
+    // good reads. Then its further reads and its faults are counted too.
     fn at(&mut self, fails: bool, text: &[u8], count: usize) -> Result<String, AllocError> {
         let mut reader = Slow::ample(Vec::from_slice(self.alloc, text)?);
         if fails {
@@ -199,7 +199,7 @@ impl Reading {
         Ok(told)
     }
 
-    // Tells what is told of each count of bytes, where it differs.
+    // Shows the lines of each count of bytes, where they differ from those before.
     fn each(&mut self, fails: bool, text: &str, answer: &mut Answer) -> Result<(), AllocError> {
         let text = undone(self.alloc, text)?;
         let mut before = String::new(self.alloc);

@@ -51,21 +51,21 @@ const REFUSALS: &[Refusal] = &[
     Refusal::MethodNotAllowed,
 ];
 
-/// Answers. In each command a word `head` stands for a head alone, another for a whole answer; a word `close`
-/// behind it for the last answer of a connection. Bytes are shown as they are written.
+/// Answers. In each command the word `head` asks for a head alone, and any other word for a whole answer.
+/// The word `close` after it makes the last answer of a connection. Bytes are shown as they are written.
 ///
 /// - `made HEAD CLOSE`: the answer that a database was made. `refuse NAME HEAD CLOSE`: a refusal.
 /// - `stream CLOSE`: the head of a stream.
 /// - `from FAULT`: the refusal of a fault.
 /// - `tell NAME`: the status of a refusal, its error and its reason.
-/// - `chunk TEXT`: a text is written as a chunk behind those before. `greet NAME`: so is a greeting.
+/// - `chunk TEXT`: writes a text as the next chunk. `greet NAME`: writes a greeting as one.
 #[derive(Drop)]
 struct Answers {
     alloc: Global,
     chunks: ChunkWriter,
 }
 
-/// A greeting, which is made where it is sent from.
+/// A greeting, which is made in the buffer that it is sent from.
 #[derive(Drop)]
 struct Greeting<'a> {
     name: &'a [u8],
@@ -159,7 +159,7 @@ impl Answers {
         self.chunk(&Greeting { name }, answer)
     }
 
-    // Where the writer or the chunks find no memory, the chunk is made again.
+    // Out of memory, in the writer or in the chunks, the command is given again.
     fn chunk<T: Text>(&mut self, text: &T, answer: &mut Answer) -> Result<(), AllocError> {
         let mut writer = Tally::new(Vec::new(self.alloc));
         if self.chunks.write(&mut writer, text).is_err() {

@@ -207,7 +207,7 @@ fn texts(rt: HostRuntime) -> Result<(), Fail> {
     replay::<Reading, _>(&rt, rt.alloc(), TEXTS)
 }
 
-// The head of the first has 42 bytes, that of the second 40.
+// The head of the first request has 42 bytes, the head of the second 40.
 const ROOM: &str = r"
 # a long body that came whole
 > add 1 PUT / HTTP/1.1\r\nContent-Length: 100000\r\n\r\n
@@ -226,7 +226,7 @@ end
 5040
 ";
 
-/// A long body keeps the room that it came into, which is its request's.
+/// A long body keeps the room into which its request came, so the head counts too.
 #[test]
 fn room_for_what_came(rt: HostRuntime) -> Result<(), Fail> {
     replay::<Reading, _>(&rt, rt.alloc(), ROOM)

@@ -4,8 +4,8 @@ use std::alloc::Global;
 use std::io;
 use std::io::{ErrorKind, Write};
 
-/// Takes at most so many bytes a write. It refuses by this error before: so often before the first write, so
-/// often before each other, and so often before a flush.
+/// A writer that takes at most `most` bytes a write. It gives `error` `left` times before the first write,
+/// `times` times before each other, and `flush_left` times before a flush.
 #[derive(Drop)]
 pub(crate) struct Sink {
     pub(crate) held: Vec<u8>,
@@ -15,13 +15,13 @@ pub(crate) struct Sink {
     pub(crate) times: u64,
     pub(crate) flush_left: u64,
     pub(crate) flushes: u64,
-    /// It found no memory.
+    /// A write found no memory.
     pub(crate) lacks_memory: bool,
 }
 
 impl Sink {
-    /// A writer that takes one byte a write, and is interrupted so often before the first, so often before
-    /// each other, and so often before a flush.
+    /// A writer that takes one byte a write. It is interrupted `left` times before the first write, `times`
+    /// times before each other, and `flush_left` times before a flush.
     pub(crate) fn new(alloc: Global, left: u64, times: u64, flush_left: u64) -> Sink {
         Sink {
             held: Vec::new(alloc),
@@ -36,7 +36,7 @@ impl Sink {
     }
 }
 
-// An error, where some are left.
+// An error, where errors are left. Then one less is left.
 fn refuse(left: &mut u64, error: ErrorKind) -> io::Result<()> {
     if *left == 0 {
         return Ok(());

@@ -1,4 +1,4 @@
-//! Bytes as transcripts write them, and what comes of a connection.
+//! Bytes as transcripts write them, and the next outcome of a connection.
 
 use hub_http::{HttpFault, Request};
 use hub_transcript::Words;
@@ -6,7 +6,7 @@ use std::alloc::{AllocError, Global};
 use std::fmt::{Display, Formatter};
 use std::{ascii, fmt};
 
-/// The byte that a letter behind a backslash stands for. A letter of no other meaning stands for itself.
+/// The byte that a letter stands for after a backslash. A letter of no other meaning stands for itself.
 fn meant(letter: u8) -> u8 {
     if letter == b'r' {
         return b'\r';
@@ -40,8 +40,8 @@ pub(crate) fn undone(alloc: Global, text: &str) -> Result<Vec<u8>, AllocError> {
     Ok(bytes)
 }
 
-/// The bytes of the words `TIMES TEXT`: a text so often. Where no text stands there they are so many bytes
-/// that count from 0 to 250, and from 0 again.
+/// The bytes of the words `TIMES TEXT`: the text TIMES times. Without a text they are TIMES bytes that
+/// count from 0 to 250, and from 0 again.
 pub(crate) fn repeated(alloc: Global, words: &mut Words<'_>) -> Result<Vec<u8>, AllocError> {
     let times = words.number();
     let part = undone(alloc, words.rest())?;
@@ -56,7 +56,7 @@ pub(crate) fn repeated(alloc: Global, words: &mut Words<'_>) -> Result<Vec<u8>, 
     Ok(bytes)
 }
 
-/// Bytes as they are shown: what prints as it stands, a backslash as two, the others by escapes.
+/// Bytes as they are shown: a printing byte as it stands, a backslash as two, other bytes by escapes.
 #[derive(Drop)]
 pub(crate) struct Shown<'a>(pub(crate) &'a [u8]);
 
@@ -73,7 +73,7 @@ impl Display for Shown<'_> {
     }
 }
 
-/// What comes next of a connection.
+/// The next outcome of a connection.
 #[derive(Drop)]
 pub(crate) enum Came {
     /// A request: its method and its target, whether it has a length, whether it closes, and its body.

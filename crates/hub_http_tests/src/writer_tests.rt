@@ -7,13 +7,13 @@ use hub_transcript::{Answer, Subject, Words, replay};
 use std::alloc::{AllocError, Global};
 use std::test::Fail;
 
-/// Writers of one byte a write. A writer is interrupted LEFT times before the first write, TIMES times before
-/// each other, and FLUSH times before a flush.
+/// Writers of one byte a write. A writer is interrupted LEFT times before the first write, TIMES times
+/// before each other, and FLUSH times before a flush.
 ///
-/// - `write LEFT TIMES FLUSH TEXT`: all of a text is written. `send LEFT TIMES FLUSH TEXT`: it is sent. Each
-///   answers how it ends, how many flushes are made, and what is taken.
-/// - `memory TEXT`: a text is written to memory, and flushed: how many bytes are taken, whether it is
-///   flushed, how often it faults, and what it is then.
+/// - `write LEFT TIMES FLUSH TEXT`: writes all of a text. `send LEFT TIMES FLUSH TEXT`: sends it. Each
+///   shows the outcome, the count of flushes, and the bytes that the writer took.
+/// - `memory TEXT`: writes a text to memory, and flushes it. Shows the count of bytes, whether the flush
+///   went well, the count of faults, and the bytes in memory.
 #[derive(Drop)]
 struct Writing {
     alloc: Global,
@@ -31,7 +31,7 @@ fn written(sends: bool, sink: Sink, text: &[u8]) -> (Result<(), IoFault>, Sink) 
 }
 
 impl Writing {
-    // A writer that finds no memory holds a front of the text. The command is given again.
+    // Out of memory, the writer holds a front of the text, and the command is given again.
     fn put(&self, sends: bool, command: &str, answer: &mut Answer) -> Result<(), AllocError> {
         let mut words = Words::of(command);
         let (left, times, flush_left) = (words.number(), words.number(), words.number());
@@ -46,7 +46,7 @@ impl Writing {
     }
 }
 
-// Writes to memory.
+// Writes a text to memory, and flushes it.
 fn keep(alloc: Global, text: &[u8], answer: &mut Answer) -> Result<(), AllocError> {
     let mut output = Tally::new(Vec::new(alloc));
     let Ok(count) = Output::write(&mut output, text) else {

@@ -1,6 +1,6 @@
-//! Bodies that no answer of a hub shows, as a transcript: the greatest numbers, a name of a database with
-//! bytes that need an escape, and a batch of which some elements have nothing said. The other bodies are
-//! shown by `hub_service_tests`.
+//! Bodies that no answer of a hub shows, as a transcript. They have the greatest numbers, a database name
+//! whose bytes need an escape, and a batch with elements that have no reply. `hub_service_tests` shows the
+//! other bodies.
 
 use hub_database::Info;
 use hub_document::{RevId, read_value};
@@ -13,13 +13,13 @@ use std::alloc::{AllocError, Global};
 use std::str;
 use std::test::Fail;
 
-/// Makes bodies, which are answered without the line feed at their ends. `ODD` stands for a text with bytes
-/// that need an escape.
+/// Makes bodies, and answers each without the line feed at its end. `ODD` stands for a text with bytes that
+/// need an escape.
 ///
-/// - `name NAME`: of a list of this name of a database alone;
-/// - `info NAME DOCUMENTS DELETED SEQ LIFE`: of what a database says of itself;
-/// - `edit ID REV` and `edit ID COUNT`: of an edit, and of one of a local document;
-/// - `batch COUNT LIST`: of a batch of these elements, and so many of the replies of `said`.
+/// - `name NAME`: the list of this database name alone;
+/// - `info NAME DOCUMENTS DELETED SEQ LIFE`: the answer to a question about a database;
+/// - `edit ID REV` and `edit ID COUNT`: the answer to an edit, and to an edit of a local document;
+/// - `batch COUNT LIST`: the answer to a batch of these elements, with the first COUNT replies of `said`.
 #[derive(Drop)]
 struct Maker {
     alloc: Global,
@@ -54,8 +54,8 @@ fn put(answer: &mut Answer, body: Vec<u8>) -> Result<(), AllocError> {
     answer.line(line_of(body.as_slice()))
 }
 
-// A quote, a backslash, a line feed, the byte 1, a letter of two bytes and one of four. The JSON string of
-// this text is "\"\\\n\u0001é😀".
+// The characters are a quote, a backslash, a line feed, the byte 1, a letter of two bytes and one of four.
+// The JSON string of this text is "\"\\\n\u0001é😀".
 const ODD: &str = "\"\\\n\u{1}é😀";
 
 // The text that the next word stands for.
@@ -88,7 +88,7 @@ fn edit(alloc: Global, mut words: Words<'_>, answer: &mut Answer) -> Result<(), 
     }
 }
 
-// What is said of the elements of a batch, by their places.
+// The replies to the elements of a batch, by their places. An element with None has no reply.
 fn said() -> [Option<BatchReply>; 7] {
     [
         None,
@@ -137,7 +137,7 @@ const BODIES: &str = r#"
 []
 "#;
 
-/// Bodies that are made of what no request gives.
+/// Bodies that are made of numbers and texts that no request gives.
 #[test]
 fn bodies(rt: HostRuntime) -> Result<(), Fail> {
     replay::<Maker, _>(&rt, rt.alloc(), BODIES)
