@@ -19,8 +19,8 @@ status_of Cut = 1
 status_of Broken = 1
 status_of Exhausted = 1
 
--- A hub without databases answered these bytes, the written bytes were the first before and the second then,
--- and the session closed for a reason that has this status.
+-- A hub without databases answered these bytes. The written bytes went from `before` to `after`, and the
+-- session closed for a reason that has this status.
 abbrev pub EndsWith : List ℕ → ℕ → (before after : Option (List ℕ)) → Type 0
 EndsWith bytes status before after = (closing : Closing) × (last : Option Sent)
     × IsSession connection_rules bytes closing (moment None before) (moment last after)
