@@ -18,7 +18,8 @@ appends_kept (Some xs) None new bytes grew stays = absurd grew
 appends_kept (Some xs) (Some ys) None bytes grew stays = absurd stays
 appends_kept (Some xs) (Some ys) (Some zs) bytes grew stays = stays ∙ grew
 
--- bytes that grew by a front where the writing broke, and then stayed, have grown so
+-- bytes that grew by a text, or by a front of it where the writing broke, and then stayed, have grown by
+-- that
 sends_kept : (broken : Bool) (old mid new : Option (List ℕ)) (bytes : List ℕ) → Sends broken old mid bytes
     → Keeps mid new → Sends broken old new bytes
 sends_kept false old mid new bytes sent stays = appends_kept old mid new bytes sent stays
@@ -38,8 +39,7 @@ session_kept rules bytes closing before last mid new is stays = record {
   written = sends_kept (is_broken closing) is.mid mid new is.last is.written stays;
 }
 
--- a session over known bytes that closed so ends with the status of its closing, also once its
--- answers are flushed
+-- a session over known bytes ends with the status of its closing, also once its answers are flushed
 pub ends_with : (bytes : Option (List ℕ)) (closing : Closing) (status : ℕ)
     (before mid after : Option (List ℕ))
     → IfSome bytes (λ bytes.

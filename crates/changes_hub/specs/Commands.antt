@@ -30,13 +30,12 @@ abbrev pub count_in : List ℕ → Option ℕ
 count_in text =
     if is_numeral text && nat_lt (digits_value 10 text) (2 ^ 32) then Some (digits_value 10 text) else None
 
--- the task of the words behind `stdin`: there is none behind it
+-- the task of the words behind `stdin`, of which there may be none
 abbrev pub stdin_with : List (List ℕ) → Option ProgramTask
 stdin_with [] = Some Stdin
 stdin_with (word ∷ words) = None
 
--- the task of the words behind `serve`: an ADDRESS and a COUNT, and nothing else; whether the address is one
--- is not looked at
+-- the task of the words behind `serve`: an ADDRESS and a COUNT, and nothing else; the address is not checked
 abbrev pub serve_with : List (List ℕ) → Option ProgramTask
 serve_with [] = None
 serve_with (address ∷ []) = None

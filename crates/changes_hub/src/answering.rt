@@ -14,7 +14,7 @@ use std::io;
 use std::process::ExitCode;
 use std::sync::Wait;
 
-// The status of a session that closed so.
+// The status of a session that closed for this reason.
 fn status_of(closing: Closing) -> u8
     ensures { result ≡ status_of closing }
 {

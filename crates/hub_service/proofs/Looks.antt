@@ -419,8 +419,8 @@ batch_written new_edits items batch r w goes (inl is) =
           (batch_outcomes new_edits _ batch w goes) is;
     })
 
--- a stored revision of a list is one of a list with the same first entry, where this holds of the entries
--- after it
+-- a stored revision of a list is also in a list with the same first entry, where that holds of the entries
+-- behind
 stored_behind : (rev : Revision) (o : Outcome Revision) (os ps : List (Outcome Revision))
     → (Contains os (Stored rev) → Contains ps (Stored rev)) → Contains (o ∷ os) (Stored rev)
     → Contains (o ∷ ps) (Stored rev)

@@ -135,6 +135,6 @@ Gives None (Some item) t = ⊥
 Gives (Some sent) (Some item) t = (left : Sent) × GoesOn sent (Some item) left
     × (t ≡ if stream.is_end item then None else Some left)
 
--- a connection's feed or list is not sent on: it is given back
+-- a connection drops its feed or list, which is not sent on
 abbrev pub Drops : Option Sent → Option Sent → Type 0
 Drops maybe_sent t = t ≡ None

@@ -98,8 +98,8 @@ Responds body (Err fault) r = r ≡ Err (of_route_fault fault)
 Responds body (Ok route) r =
     AnswersCall route.call (cow_str_bytes route.db) (cow_str_bytes route.id) route.query.now body r
 
--- the response is sent so, and this feed or list is being sent then: the one that is begun, or else the old
--- one
+-- the response is sent as this answer; a feed or list that it begins is being sent then, else the old one
+-- still is
 abbrev pub IsSent : Result Response Refusal → Answer → Option Sent → Option Sent → Type 0
 IsSent (Ok (response.Body status body)) a maybe_sent t =
     (a ≡ answer.Whole (Done status body)) × (t ≡ maybe_sent)
@@ -107,7 +107,7 @@ IsSent (Ok (response.Stream mode sent)) a maybe_sent t =
     (a ≡ answer.Stream mode (life_of sent)) × (t ≡ Some sent)
 IsSent (Err e) a maybe_sent t = (a ≡ answer.Whole (Refused e)) × (t ≡ maybe_sent)
 
--- from a connection that sends this feed or list, a request may be answered so, and leave the other
+-- a connection that sends `maybe_sent` may answer the request with this answer, and then it sends `t`
 pub record Answers (maybe_sent : Option Sent) (asked : PlainRequest) (answer : Answer)
     (t : Option Sent) : Type 0 where
   pub route : Result Route RouteFault

@@ -139,7 +139,7 @@ module _ {S : Type 0} (rules : Rules S) (mode : Mode) (life : ℕ) (before : Mom
             (one_sent mode life rows item false now.written next.written step.4);
       }
 
-  -- the stream ends so
+  -- the stream comes to its end
   pub went_ends : (after : Moment S) (end : StreamEnd) → Went rules mode life before sent rows now
       → IsStreamed rules mode life sent rows (Err end) now after
       → IsFed rules (items_text mode life 0) end before after
@@ -153,7 +153,7 @@ module _ {S : Type 0} (rules : Rules S) (mode : Mode) (life : ℕ) (before : Mom
         (is_broken end) w.rows_is w.written step.2;
   }
 
--- after an item that can't be written the stream has ended, or is given back
+-- after an item that can't be written the stream has ended, or is dropped
 pub stream_fails : {S : Type 0} (rules : Rules S) (sent : ℕ) (s mid t : S) (item : StreamItem)
     → rules.gives s (Some item) mid → GivesBack rules item mid t
     → Streams rules sent s (item ∷ []) Broken t

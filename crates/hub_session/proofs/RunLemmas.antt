@@ -90,8 +90,8 @@ faults_stay bytes behind fault.BodyTooLong n f = head_fault_more bytes behind fa
 faults_stay bytes behind fault.Version n f = head_fault_more bytes behind fault.Version f
 faults_stay bytes behind fault.Coding n f = head_fault_more bytes behind fault.Coding f
 
--- A session that broke at the reply to a fault still does so, whatever bytes come behind. The end of the
--- input is told as an input that can't be read: neither has a reply.
+-- A session that broke at the reply to a fault does so whatever bytes come behind. The end of the input is
+-- told as an input that can't be read: neither has a reply.
 broken_stays : (bytes behind text : List ℕ) (e : HttpFault) → Faults bytes e → text ≡ fault_text e
     → Closes (bytes ++ behind) Broken text
 broken_stays bytes behind text fault.Ended f t = (fault.IoFault, tt, t)

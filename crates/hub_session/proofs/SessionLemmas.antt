@@ -64,7 +64,7 @@ module _ {S : Type 0} (rules : Rules S) (before : Moment S) where
     written = Appends-nil before.written;
   })
 
-  -- the bytes have this fault, which was answered so
+  -- the bytes have this fault, and its reply was written, or the writing broke
   pub one_faulted : (new b left : Option (List ℕ)) (fault : HttpFault) (closing : Closing)
       → IfSome b (λ bytes. Leaves bytes (Err fault) left)
       → (closing ≡ Fault fault) ⊎ (closing ≡ Broken)

@@ -44,15 +44,15 @@ abbrev pub feed_text : Mode → (life : ℕ) → List StreamItem → List ℕ
 feed_text mode life items = text_chunks (feed_head mode) ++ items_text mode life 0 items
 
 -- A stream is not sent on after its service, now at s, gave this item. After a row or a beat the service
--- gives the stream back. After an End the stream holds nothing, and the service stays as it is. So where the
--- text of row 2 finds no memory the stream is given back, and where the text of an End finds none it is not.
+-- drops the stream. After an End the stream holds nothing, and the service stays as it is. So the stream is
+-- dropped where the text of row 2 finds no memory, and not where the text of an End finds none.
 abbrev pub GivesBack : {S : Type 0} → Rules S → StreamItem → S → S → Type 0
 GivesBack rules item s t = MatchBool (is_end item) (t ≡ s) (rules.drops s t)
 
--- After so many items, with its service at s, a stream goes on with these items, ends so, and leaves its
--- service at t. A service that gives row 1, row 2 and then an End may have these three items and Complete. A
--- service that gives row 1 and then no item has row 1 and Stopped. A service whose row 2 finds no memory for
--- its text has row 1 and NoMemory.
+-- After so many items, with its service at s, a stream goes on with these items, has this end, and leaves
+-- its service at t. A service that gives row 1, row 2 and then an End may have these three items and
+-- Complete. A service that gives row 1 and then no item has row 1 and Stopped. A service whose row 2 finds
+-- no memory for its text has row 1 and NoMemory.
 pub data Streams {S : Type 0} (rules : Rules S) : ℕ → S → List StreamItem → StreamEnd → S → Type 0 where
   -- a row or a beat is sent, and the stream goes on after it
   goes_on : {sent : ℕ} {s mid t : S} {item : StreamItem} {items : List StreamItem} {end : StreamEnd}
@@ -64,15 +64,15 @@ pub data Streams {S : Type 0} (rules : Rules S) : ℕ → S → List StreamItem 
   -- its End comes, and can't be written to the other side
   ends_broken : {sent : ℕ} {s t : S} {item : StreamItem} → rules.gives s (Some item) t → is_end item ≡ true
       → Streams rules sent s (item ∷ []) Broken t
-  -- the service has no further item, and gives the stream back
+  -- the service has no further item, and drops the stream
   stops : {sent : ℕ} {s t : S} (mid : S) → rules.gives s None mid → rules.drops mid t
       → Streams rules sent s [] Stopped t
   -- the text of an item finds no memory: the item is lost, and the stream is not sent on
   loses : {sent : ℕ} {s t : S} (mid : S) (lost : StreamItem) → rules.gives s (Some lost) mid
       → GivesBack rules lost mid t → Streams rules sent s [] NoMemory t
-  -- the other side can't be written to, and the service gives the stream back
+  -- the other side can't be written to, and the service drops the stream
   breaks : {sent : ℕ} {s t : S} → rules.drops s t → Streams rules sent s [] Broken t
-  -- its items can't be counted further, and the service gives the stream back
+  -- its items can't be counted further, and the service drops the stream
   gives_up : {sent : ℕ} {s t : S} → rules.drops s t → last_count ≤ sent → Streams rules sent s [] Exhausted t
 
 -- A stream that had sent so many items, with its service at s, has sent these rows and beats since. It has
@@ -94,7 +94,7 @@ is_broken NoMemory = false
 is_broken Broken = true
 is_broken Exhausted = false
 
--- a stream was sent, and ended so: this text of its items was written, or a front of the text where the
+-- a stream was sent to this end: this text of its items was written, or a front of the text where the
 -- writing broke
 pub record IsFed {S : Type 0} (rules : Rules S) (text : List StreamItem → List ℕ) (end : StreamEnd)
     (before after : Moment S) : Type 0 where
@@ -102,8 +102,8 @@ pub record IsFed {S : Type 0} (rules : Rules S) (text : List StreamItem → List
   pub streams : Streams rules 0 before.service items end after.service
   pub written : Sends (is_broken end) before.written after.written (text items)
 
--- The contract of a call that sends a stream to a writer. The stream was sent so, and where it ended as
--- Broken the writer's counts tell of that. A stream whose second row is refused by the writer ends as Broken
+-- The contract of a call that sends a stream to a writer. The stream was sent to this end, and where that is
+-- Broken the writer's counts tell of it. A stream whose second row is refused by the writer ends as Broken
 -- after the first row, and either count is one more.
 pub record IsFedTo {S W : Type 0} (rules : Rules S) (written_of : W → Option (List ℕ))
     (faults_of failures_of : W → ℕ) (text : List StreamItem → List ℕ) (end : StreamEnd)
@@ -112,9 +112,10 @@ pub record IsFedTo {S W : Type 0} (rules : Rules S) (written_of : W → Option (
   pub counts : CallCounts (end ≡ Broken) faults_of failures_of old new
 
 -- A stream that sent so many items, so many of them rows, took one step. Either one more row or beat was
--- written, and the step gives the number of rows then. Or the stream ended so, and the text of its last item
--- was written, or a front of it. After row 1 of a normal feed the step sends row 2 with its comma, and gives
--- 2. Or it sends the End with the last chunk, and gives Complete. Or it sends nothing, and gives Stopped.
+-- written, and the step gives the number of rows then. Or the stream came to this end, and the text of its
+-- last item was written, or a front of the text. After row 1 of a normal feed the step sends row 2 with its
+-- comma, and gives 2. Or it sends the End with the last chunk, and gives Complete. Or it sends nothing, and
+-- gives Stopped.
 abbrev pub IsStreamed : {S : Type 0} → Rules S → Mode → (life sent rows : ℕ) → Result ℕ StreamEnd
     → Moment S → Moment S → Type 0
 IsStreamed rules mode life sent rows (Ok rows_then) before after =

@@ -24,7 +24,7 @@ abbrev pub rows_after : ℕ → StreamItem → ℕ
 rows_after rows item = if is_row item then rows + 1 else rows
 
 -- the text of an item in a stream of the life of this number, before which so many rows came: each kind has
--- its own texts of rows and of ends
+-- its own rows and its own end
 abbrev pub stream_item_text : Mode → (life rows : ℕ) → StreamItem → List ℕ
 stream_item_text mode life rows (Change item) = item_text change_row_text change_end_text mode rows life item
 stream_item_text mode life rows (Update item) = item_text update_row_text update_end_text mode rows life item

@@ -10,7 +10,7 @@ pub record Rules (S : Type 0) : Type 1 where
   pub answers : S → PlainRequest → Answer → S → Type 0
   -- go on with this item of its stream, or with none where the stream stops
   pub gives : S → Option StreamItem → S → Type 0
-  -- give its stream back
+  -- drop its stream, and give back all that the stream holds
   pub drops : S → S → Type 0
 
 -- A service that is asked for an item without a wait answers true, and goes on with this item, or with none

@@ -56,7 +56,7 @@ IsOfEnd next = ⊥
 
 -- ---- one step
 
--- the place of a session after an answer: closed so, or between two requests
+-- the place of a session after an answer: closed for this reason, or between two requests
 abbrev pub place_behind : Option Closing → Place
 place_behind None = Between
 place_behind (Some closing) = Closed closing
@@ -141,7 +141,7 @@ pub data TellsNoMemory {S : Type 0} (old new : SessionView S) : Type 0 where
       → TellsNoMemory old new
 
 -- The views of a session at this place before and after a call that gives it up. Between two requests it
--- closes as Broken. Within a stream it closes as Broken too, and its service gives the stream back. A closed
+-- closes as Broken. Within a stream it closes as Broken too, and its service drops the stream. A closed
 -- session stays as it is.
 abbrev pub GivesUpAt : {S : Type 0} → Place → Rules S → SessionView S → SessionView S → Type 0
 GivesUpAt Between rules old new = new ≡ record old { place = Closed Broken }
@@ -240,8 +240,8 @@ abbrev pub run_offered : {S : Type 0} → (over : Bool) → List ℕ → Run S �
 run_offered true bytes run = run
 run_offered false bytes run = with_offered run bytes
 
--- A session was given up: its views before and after that are as `GivesUpAt` says, it is closed then, and it
--- still has the run that it had.
+-- A session was given up. Its views before and after that are as `GivesUpAt` says, the session is closed
+-- then, and the run that it had is still its run.
 pub record IsGivenUp {S : Type 0} (rules : Rules S) (old new : SessionView S) : Type 0 where
   pub given_up : GivesUpAt old.place rules old new
   pub closed : IsSome (closing_at new.place)

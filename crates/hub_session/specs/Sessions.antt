@@ -61,7 +61,7 @@ after_answer close = if close then Some Requested else None
 abbrev pub after_whole : (broken : Bool) → (close : Bool) → Option Closing
 after_whole broken close = if broken then Some Broken else after_answer close
 
--- Why a session closes after a stream that ended so, if it does. After Complete the session goes on, unless
+-- Why a session closes after a stream with this end, if it does. After Complete the session goes on, unless
 -- the request asked to close. After Stopped it always closes, as Cut, for no last chunk was sent.
 abbrev pub after_stream : Bool → StreamEnd → Option Closing
 after_stream close stream.Complete = after_answer close
@@ -70,8 +70,8 @@ after_stream close stream.NoMemory = Some Cut
 after_stream close stream.Broken = Some Broken
 after_stream close stream.Exhausted = Some Exhausted
 
--- While the answer of an exchange is sent, the service goes from s to t. Then the session closes so, or goes
--- on where `next` is None.
+-- While the answer of an exchange is sent, the service goes from s to t. Then the session closes for the
+-- reason `next`, or goes on where `next` is None.
 pub data Goes {S : Type 0} (rules : Rules S) (exchange : Exchange) (s : S) (next : Option Closing) (t : S)
     : Type 0 where
   -- a whole answer is written
@@ -80,7 +80,7 @@ pub data Goes {S : Type 0} (rules : Rules S) (exchange : Exchange) (s : S) (next
   -- a whole answer can't be written to the other side
   whole_broken : (reply : Reply) → exchange.answer ≡ Whole reply → exchange.items ≡ [] → t ≡ s
       → next ≡ Some Broken → Goes rules exchange s next t
-  -- HEAD asked for a stream: the head of its answer is written, and the service gives the stream back
+  -- HEAD asked for a stream: the head of its answer is written, and the service drops the stream
   head_alone : (mode : Mode) (life : ℕ) → exchange.answer ≡ Stream mode life → is_head exchange.asked ≡ true
       → exchange.items ≡ []
       → rules.drops s t → next ≡ after_answer exchange.asked.close → Goes rules exchange s next t
@@ -88,12 +88,12 @@ pub data Goes {S : Type 0} (rules : Rules S) (exchange : Exchange) (s : S) (next
   stream_sent : (mode : Mode) (life : ℕ) (end : StreamEnd) → exchange.answer ≡ Stream mode life
       → is_head exchange.asked ≡ false → Streams rules 0 s exchange.items end t
       → next ≡ after_stream exchange.asked.close end → Goes rules exchange s next t
-  -- the head of a stream's answer can't be written to the other side: the service gives the stream back
+  -- the head of a stream's answer can't be written to the other side, and the service drops the stream
   head_broken : (mode : Mode) (life : ℕ) → exchange.answer ≡ Stream mode life → exchange.items ≡ []
       → rules.drops s t → next ≡ Some Broken → Goes rules exchange s next t
 
--- From s the service may answer the request of the exchange so, and be at t once the answer is sent. Then
--- the session closes so, or goes on.
+-- From s the service may give the answer of the exchange to its request, and be at t once the answer is
+-- sent. Then the session closes for the reason `next`, or goes on where `next` is None.
 pub record Answers {S : Type 0} (rules : Rules S) (s : S) (exchange : Exchange) (next : Option Closing)
     (t : S)
     : Type 0 where
@@ -101,9 +101,9 @@ pub record Answers {S : Type 0} (rules : Rules S) (s : S) (exchange : Exchange) 
   pub answered : rules.answers s exchange.asked exchange.answer mid
   pub goes : Goes rules exchange mid next t
 
--- Over bytes that begin with no request a session closes so, with this text. Over no bytes it closes as
--- Finished, with no text. Over a head with a Content-Length of x it closes as Fault BadHead, with the text
--- of that refusal.
+-- Over bytes that begin with no request a session closes for this reason, with this text. Over no bytes it
+-- closes as Finished, with no text. Over a head with a Content-Length of x it closes as Fault BadHead, with
+-- the text of that refusal.
 abbrev pub Closes : List ℕ → Closing → List ℕ → Type 0
 Closes bytes Finished text = (bytes ≡ []) × (text ≡ [])
 Closes bytes Requested text = ⊥
@@ -126,9 +126,9 @@ pub record Ending (S : Type 0) : Type 0 where
   pub service : S
 
 -- From this state a session has these exchanges, one after the other, goes on after each of them, and then
--- ends so. Over two requests, of which the second asks to close, it has the exchange of the first. It ends
--- Requested, with the text of the second answer. Over two requests that do not ask to close it has both
--- exchanges, and ends Finished, with no text.
+-- has this ending. Over two requests, of which the second asks to close, it has the exchange of the first.
+-- It ends Requested, with the text of the second answer. Over two requests that do not ask to close it has
+-- both exchanges, and ends Finished, with no text.
 pub data Session {S : Type 0} (rules : Rules S) : SessionState S → List Exchange → Ending S → Type 0 where
   -- a request is answered, and the session goes on after it
   goes_on : {now : SessionState S} {x : Exchange} {xs : List Exchange} {ending : Ending S}
@@ -171,8 +171,8 @@ is_broken Cut = false
 is_broken Broken = true
 is_broken Exhausted = false
 
--- The contract of a call that tells a writer a fault of reading a request, after which the session closes
--- so. Either the fault's text was written, and the session closes with the fault. Or the writing broke, the
+-- The contract of a call that tells a writer a fault of reading a request, and then closes the session.
+-- Either the fault's text was written, and the session closes with the fault. Or the writing broke, the
 -- writer's counts tell of that, and the session closes as Broken.
 pub record HasToldFault {W : Type 0} (written_of : W → Option (List ℕ)) (faults_of failures_of : W → ℕ)
     (fault : HttpFault) (closing : Closing) (old new : W) : Type 0 where
@@ -180,10 +180,11 @@ pub record HasToldFault {W : Type 0} (written_of : W → Option (List ℕ)) (fau
   pub closes : (closing ≡ Fault fault) ⊎ (closing ≡ Broken)
   pub counts : CallCounts (closing ≡ Broken) faults_of failures_of old new
 
--- These bytes were served, and the session closed so. The texts of the exchanges after which it went on were
--- written whole, one after the other. Then the text that it closed with was written, or a front of it where
--- the writing broke. Of two requests the second may not be answered, since the other side is gone: then the
--- text of the first was written, and a front of the text of the second, which is `last`.
+-- These bytes were served, and the session closed for this reason. The texts of the exchanges after which it
+-- went on were written whole, one after the other. Then the text that it closed with was written, or a front
+-- of it where the writing broke. Take two requests of which the second can't be answered, since the other
+-- side is gone. The text of the first was written, and then a front of the text of the second, which is
+-- `last`.
 pub record IsSession {S : Type 0} (rules : Rules S) (bytes : List ℕ) (closing : Closing)
     (before after : Moment S) : Type 0 where
   pub exchanges : List Exchange  -- the exchanges after which the session went on
@@ -199,8 +200,8 @@ abbrev pub is_write_failure : Option Closing → Bool
 is_write_failure None = false
 is_write_failure (Some closing) = is_broken closing
 
--- This request was answered, and then the session closes so, or goes on. The text of the answer was written,
--- or a front of the text where the writing broke.
+-- This request was answered, and then the session closes for the reason `next`, or goes on. The text of the
+-- answer was written, or a front of the text where the writing broke.
 pub record HasAnswer {S : Type 0} (rules : Rules S) (asked : PlainRequest) (next : Option Closing)
     (before after : Moment S) : Type 0 where
   pub exchange : Exchange
@@ -208,8 +209,9 @@ pub record HasAnswer {S : Type 0} (rules : Rules S) (asked : PlainRequest) (next
   pub goes : Answers rules before.service exchange next after.service
   pub written : Sends (is_write_failure next) before.written after.written (exchange_text exchange)
 
--- The answer to this request was begun. Either it is over, and then the session closes so, or goes on. Or it
--- is a stream in this mode, of the life of this number, and its text before the items was written.
+-- The answer to this request was begun. Either the answer is over, and the session closes for the reason
+-- `next`, or goes on. Or it is a stream in this mode, of the life of this number, and its text before the
+-- items was written.
 abbrev pub HasBegun : {S : Type 0} → Rules S → PlainRequest → Begun → Moment S → Moment S → Type 0
 HasBegun rules asked (Answered next) before after = HasAnswer rules asked next before after
 HasBegun rules asked (Streaming mode life) before after =
@@ -235,7 +237,8 @@ pub record IsClosed {S : Type 0} (bytes : List ℕ) (next : Option Closing) (bef
   pub same : after.service ≡ before.service
   pub written : Sends (is_broken closing) before.written after.written text
 
--- a session took one step over these bytes, and then closes so, or goes on with the bytes that are left
+-- A session took one step over these bytes. Then it closes for the reason `next`, or goes on with the bytes
+-- that are left.
 pub data IsServed {S : Type 0} (rules : Rules S) (bytes : List ℕ) (next : Option Closing)
     (left : Option (List ℕ)) (before after : Moment S) : Type 0 where
   -- the next request was answered

@@ -20,7 +20,7 @@ use std::alloc::Global;
 /// How an answer was begun.
 #[derive(Clone, Copy)]
 pub(crate) enum Begun {
-    /// The answer is over, whole or up to a fault of the writer. The session closes so, or goes on.
+    /// The answer is over, written whole or broken. The session closes for this reason, or goes on.
     Answered(Option<Closing>),
     /// A stream in this mode, of the life of this number. Its text before its items was written.
     Streaming(Mode, u64),

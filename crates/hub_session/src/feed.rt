@@ -64,7 +64,7 @@ fn send_item<W: Output, S: Service>(
     }
 }
 
-/// Gives back the stream of an item that was not sent. After its End a stream holds nothing to give back.
+/// Drops the stream of an item that was not sent. After its End a stream holds nothing, and is not dropped.
 fn give_back<S: Service>(service: &mut S, item: LentItem<'_>)
     ensures { GivesBack S.rules (lent_in item.entry) service.old service.new }
 {
@@ -84,8 +84,8 @@ pub(crate) struct Sending {
 }
 
 /// Sends the item that the service gave of its stream. It answers how many rows are sent then, or how the
-/// stream ended. A stream that ends before it handed its End is given back. Where it stopped or found no
-/// memory, it is flushed too. A fault of that flush is not told: the stream is cut all the same.
+/// stream ended. A stream that ends before it handed its End is dropped. Where it stopped or found no
+/// memory, the writer is flushed too. A fault of that flush is not told: the stream is cut all the same.
 pub(crate) fn send_given<W: Output, S: Service>(
     chunks: &mut ChunkWriter,
     writer: &mut W,
@@ -172,9 +172,9 @@ pub(crate) fn begin_items<W: Output, S: Service>(
 /// answer. Each nonempty text is a chunk, and behind the End stands the last chunk (RFC 9112, section 7.1).
 ///
 /// The end of a stream is flushed. So are the bytes before an item that is not ready, since the subscriber
-/// waits for that item. A stream that stops without its End, or finds no memory, is flushed too, and given
-/// back to the service. An item costs the length of its text and one write. It takes memory only where its
-/// text is longer than each text before it.
+/// waits for that item. A stream that stops without its End, or finds no memory, is flushed too, and the
+/// service drops it. An item costs the length of its text and one write. It takes memory only where its text
+/// is longer than each text before it.
 pub fn stream_feed<W: Output, S: Service>(
     alloc: Global,
     writer: &mut W,

@@ -236,8 +236,8 @@ impl<S: Service> Session<S> {
         handed
     }
 
-    /// Gives up a session whose other side is gone. It closes as `Broken`, and its service gives back its
-    /// stream. A session that closed before stays as it is.
+    /// Gives up a session whose other side is gone. It closes as `Broken`, and its service drops its stream.
+    /// A session that closed before stays as it is.
     pub fn give_up(&mut self)
         ensures { IsGivenUp S.rules (session_view self.old) (session_view self.new) }
     {

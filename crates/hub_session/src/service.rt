@@ -18,7 +18,7 @@ pub enum Answer {
 
 /// A service answers requests, and hands the items of the stream that it answered last.
 pub trait Service {
-    /// Its rules: the answers to requests, the items of its stream, and how a stream is given back.
+    /// Its rules: the answers to requests, the items of its stream, and how a stream is dropped.
     ghost rules: { Rules Self };
 
     /// The answer to a request. Out of memory is an answer too.
@@ -44,8 +44,8 @@ pub trait Service {
         true
     }
 
-    /// The stream that was answered last is not sent on: it is given back. After the End of a stream this is
-    /// not called.
+    /// Drops the stream that was answered last: it is not sent on, and the service gives back all that it
+    /// holds. After the End of a stream this is not called.
     fn drop_stream(&mut self)
         ensures { rules.drops self.old self.new };
 }
