@@ -39,7 +39,7 @@ life_of (Listed answer) = answer.life
 life_of (Changes feed) = feed.label.life
 life_of (Updates feed) = feed.label.life
 
--- ---- beginning one
+-- ---- beginning a feed
 
 -- the feed that is asked of a database is begun, in this mode; a list that goes downwards is made at once
 abbrev pub IsBegun : FeedAsked → Mode → Sent → Type 0
@@ -48,7 +48,8 @@ IsBegun asked mode (Listed answer) = (asked.descending ≡ true) × (mode ≡ No
 IsBegun asked mode (Changes feed) = (asked.descending ≡ false) × (mode ≡ asked.mode) × IsNew asked 0 feed
 IsBegun asked mode (Updates feed) = ⊥
 
--- why a database begins no feed: it was deleted, or it has as many feeds as it may have
+-- why a database begins no feed: it was deleted, or it has as many feeds as it may have, or memory was
+-- missing
 abbrev pub IsUnopened : FeedAsked → Refusal → Type 0
 IsUnopened asked e = HasDatabase (λ db.
     e ≡ if asked.descending then (if db.deleted then refusal.Deleted else refusal.NoMemory)
@@ -86,7 +87,7 @@ abbrev pub Begins : (FeedAsked → Result Response Refusal → Type 0) → List 
     → Type 0
 Begins begins query body r = BeginsRead begins (FeedNeedsRoom query body) (feed_asked query body) r
 
--- ---- its items
+-- ---- the items of a feed or list
 
 -- the next item of an answer with these rows left: the first of the rows, or the end
 abbrev pub next_of_rows : List ChangeRow → (last_seq pending : ℕ) → Item ChangeRow

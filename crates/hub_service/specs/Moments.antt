@@ -31,8 +31,9 @@ pub record HasDatabase (holds : Database → Type 0) : Type 0 where
 abbrev pub said_unless_deleted : Database → CallAnswer → CallAnswer
 said_unless_deleted db said = if db.deleted then Refusing Deleted else said
 
--- A look at some database found this. Where nothing was found, the database was deleted, or memory was
--- missing. A later look may differ: it may find a deleted database where this one found a document.
+-- A look at some database found this. A look that found nothing says that the database was deleted, or that
+-- memory was missing. A later look may differ: it may find a deleted database where this one found a
+-- document.
 abbrev pub IsFound : {A : Type 0} → (Database → A → Type 0) → Result A Refusal → Type 0
 IsFound found (Ok a) = HasDatabase (λ db. (db.deleted ≡ false) × found db a)
 IsFound found (Err e) = (e ≡ NoMemory) ⊎ ((e ≡ Deleted) × HasDatabase (λ db. db.deleted ≡ true))

@@ -44,25 +44,26 @@ abbrev pub AtName : List ℕ → (Result Response Refusal → Type 0) → Result
 AtName name answers r =
     ((is_name name ≡ false) × (r ≡ Err BadName)) ⊎ ((is_name name ≡ true) × answers r)
 
--- a database was made, or there was one of the name, or there were too many, or the log of updates was full
+-- A database was made. Or a database of the name was there, or there were too many, or the log of updates
+-- was full, or memory was missing.
 abbrev pub IsMade : Result Response Refusal → Type 0
 IsMade r = IsSaid (Body 201 ok_body) r ⊎ ((r ≡ Err Exists) ⊎ ((r ≡ Err TooMany) ⊎ (r ≡ Err SequenceFull)))
 
--- a database was removed, or there was none of the name, or the log of updates was full
+-- a database was removed, or no database had the name, or the log of updates was full, or memory was missing
 abbrev pub IsRemoved : Result Response Refusal → Type 0
 IsRemoved r = IsSaid (Body 200 ok_body) r ⊎ ((r ≡ Err Absent) ⊎ (r ≡ Err SequenceFull))
 
--- names of databases were listed, each once, in the order of their bytes
+-- names of databases were listed, each once, in the order of their bytes, or memory was missing
 abbrev pub IsListed : Result Response Refusal → Type 0
 IsListed r =
     ((names : List (List ℕ)) × AreNames most_databases names × Says r (Body 200 (names_body names)))
     ⊎ IsWant r
 
--- the database of the name answered, or there was no database of the name
+-- the database of the name answered, or no database had the name, or memory was missing
 abbrev pub AtDatabase : List ℕ → (Result Response Refusal → Type 0) → Result Response Refusal → Type 0
 AtDatabase name answers r = AtName name (λ r. answers r ⊎ ((r ≡ Err Absent) ⊎ IsWant r)) r
 
--- why no database of the name is found
+-- why no database of the name is found: the name is bad, or no database has it, or memory was missing
 abbrev pub IsNoDatabase : List ℕ → Refusal → Type 0
 IsNoDatabase name e =
     ((is_name name ≡ false) × (e ≡ BadName))

@@ -1,5 +1,4 @@
--- RFC 9112, section 9 (persistent connections); own for the answers: the texts of a session, and how it goes
--- on.
+-- RFC 9112, section 9 (persistent connections); own for the answers: a session's texts, and how it goes on.
 use Rattle.std.specs.Prelude.{◌≡◌, ◌≤◌, ◌⊎◌, ℕ, ◌+◌, List, [], ◌∷◌, ◌++◌, Bool, true, false, Option, Some}
 use Rattle.std.specs.Prelude.{None, if◌then◌else◌, codes, bytes_eq}
 use Rattle.std.specs.List.{flat_map}
@@ -152,7 +151,7 @@ abbrev pub session_state : {S : Type 0} → ℕ → List ℕ → S → SessionSt
 session_state served bytes service = record { served = served; bytes = bytes; service = service }
 
 -- From its first state a session has had these exchanges, has gone on after each of them, and is in its last
--- state now. Over two requests it has had no exchange, that of the first, or both.
+-- state now. Over two requests it has had no exchange, the exchange of the first, or both.
 pub data HasServed {S : Type 0} (rules : Rules S) : SessionState S → List Exchange → SessionState S → Type 0 where
   -- no request was answered
   stands : {now : SessionState S} → HasServed rules now [] now

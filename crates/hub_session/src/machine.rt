@@ -25,7 +25,7 @@ pub enum Step {
     Served,
     /// The bytes that came are no whole request: offer more, or say that no more come.
     WantsInput,
-    /// The outbox has to go first: all of it before a request, all but 64 KiB before an item.
+    /// The outbox has to go first: all of it before a request, down to less than 64 KiB before an item.
     WantsRoom,
     /// The stream has no item yet: step again when it may have one.
     WantsNews,

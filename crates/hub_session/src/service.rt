@@ -44,8 +44,8 @@ pub trait Service {
         true
     }
 
-    /// Drops the stream that was answered last: it is not sent on, and the service gives back all that it
-    /// holds. After the End of a stream this is not called.
+    /// Drops the stream that was answered last: it is not sent on, and the service gives back all that the
+    /// stream holds. After the End of a stream this is not called.
     fn drop_stream(&mut self)
         ensures { rules.drops self.old self.new };
 }
