@@ -121,7 +121,7 @@ abbrev pub says_local : Option Local → CallAnswer
 says_local None = Refusing Missing
 says_local (Some local) = Body 200 (local_doc_body local.id local.count local.body)
 
--- the answer to a local document that is kept, unless it was written too often
+-- the answer to a local document that is kept, unless its count of writes reaches 2^64
 abbrev pub local_reply : Local → CallAnswer
 local_reply local =
     if nat_le (2 ^ 64) local.count then Refusing SequenceFull else

@@ -77,8 +77,8 @@ pub record IsStored (new_edits : Bool) (docs : List Doc) (written : Written) : T
   pub lapsed : IsSome written.lapsed → HasStored written.batch.replies
 
 -- Some database of any journal has kept a local document, and says how often it was written. Or the database
--- was deleted, or can't count on, or memory was missing. A document that was written twice before is told
--- the count 3.
+-- was deleted, or the count would reach 2^64, or memory was missing. A document that was written twice
+-- before is told the count 3.
 abbrev pub IsKept : LocalDoc → Result ℕ Refusal → Type 0
 IsKept doc (Ok count) = (db : Database) × (db.deleted ≡ false) × (count ≡ (local_after_write db.locals doc).count)
 IsKept doc (Err e) =
