@@ -30,7 +30,7 @@ pub enum StreamEnd {
 #[derive(Clone, Copy, Debug, PartialEq, Eq, Error)]
 pub enum Closing {
     /// The input ended between two requests.
-    #[error("the input ended behind a request")]
+    #[error("the input ended after a request")]
     Finished,
     /// The last request asked to close.
     #[error("the last request asked to close")]
