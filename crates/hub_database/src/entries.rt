@@ -54,9 +54,8 @@ impl DbState {
         Some((document.id.as_str(), edit.rev))
     }
 
-    /// The edit of this sequence, with the history of its arrival; None for a sequence that no edit has.
-    /// The cost is that of `RevTree::path`, of all that stands behind its revision by now, and a copy of
-    /// the members.
+    /// The edit of this sequence, with the history of its arrival; None for a sequence that no edit has. The
+    /// cost is that of `RevTree::path`, of all that is behind its revision by now, and a copy of the members.
     pub fn entry_doc(&self, seq: u64) -> Result<Option<Doc>, AllocError>
         ensures doc { IfOk result (λ doc. doc ≡ entry_doc_of self.now.journal seq) }
         ensures memory { OnErr result (IsSome (entry_at self.now.journal seq)) }
