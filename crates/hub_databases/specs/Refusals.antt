@@ -18,9 +18,9 @@ pub record IsCallByName {A : Type 0} (name : List ℕ) (result : Result A HubFau
 abbrev pub IsFree : NamesState → List ℕ → Type 0
 IsFree state name = ¬ Contains state.names name × (length state.names < state.limit)
 
--- The fault where no database is made under this name. Exists: the name is there. TooMany: it is not there, and
--- no room is left. SequenceFull (a full log) and NoMemory come only where the name is free. With the one name a
--- and a limit of 1, a is refused as Exists, and b as TooMany, be the log full or not.
+-- The fault where no database is made under this name. Exists: the name is there. TooMany: it is not there,
+-- and no room is left. SequenceFull (a full log) and NoMemory come only for a free name. With the one name
+-- a and a limit of 1, a is refused as Exists, and b as TooMany, be the log full or not.
 abbrev pub IsCreationFault : NamesState → List ℕ → HubFault → Type 0
 IsCreationFault state name NoMemory = IsFree state name
 IsCreationFault state name BadName = ⊥

@@ -131,8 +131,8 @@ impl Log {
         }
     }
 
-    /// Adds a note at the end. The cost is a look in the map of ids and a move in the index of rows. The first
-    /// note of a pair costs two copies of its id. An error leaves all as it was.
+    /// Adds a note at the end. The cost is a look in the map of ids and a move in the index of rows. A
+    /// pair's first note costs two copies of its id. An error leaves all as it was.
     pub(crate) fn note(&mut self, notice: &Notice) -> Result<(), AllocError>
         requires room { length self.old.notes < 2 ^ 32 - 1 }
         ensures { MatchResult result
