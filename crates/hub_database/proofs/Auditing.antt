@@ -57,7 +57,7 @@ one_more_stands journal receipts at receipt low is told before =
     (All-push (λ receipt. HasEdit journal receipt) (take at receipts) receipt before
     ((edit_told journal receipt).0 told))
 
--- one receipt more was compared: the journal has not its edit
+-- one receipt more was compared: the journal does not have its edit
 pub one_is_wrong : (journal : List Edit) (receipts : List Receipt) (at : ℕ) (receipt : Receipt)
     → at < length receipts → receipt ≡ slice_index_or receipts at receipt → has_edit journal receipt ≡ false
     → IfSome (slice_get receipts at) (λ receipt. ¬ HasEdit journal receipt)

@@ -143,7 +143,7 @@ module _ (q : Current → Bool) where
             ∙ step_none rows place (rw f at e)
       ]
 
--- the test of a row that passes, and lies above the feed's beginning
+-- whether a row passes, and lies above the feed's beginning
 abbrev pub is_shown : Params → ℕ → Current → Bool
 is_shown asked since row = nat_lt since row.seq && is_passing asked.filter row.id
 
@@ -442,7 +442,7 @@ module _ (since low : ℕ) where
   abbrev is_between : Current → Bool
   is_between row = nat_lt since row.seq && nat_lt row.seq low
 
-  -- where since is the lowest place, no row lies between
+  -- where the two places are the same, no row lies between
   none_between : since ≡ low → (row : Current) → is_between row ≡ false
   none_between e row = elim (cases_Bool (nat_lt since row.seq)) [
     | inl t ↦

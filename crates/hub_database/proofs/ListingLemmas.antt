@@ -81,7 +81,7 @@ same_rising (x ∷ xs) (y ∷ ys) a b f g =
     (rest_in y x ys xs (sym e) b g) in
     ap (λ z. z ∷ xs) e ∙ ap (λ zs. y ∷ zs) rest
 
--- the element that an element of the image comes from, for a map, and for a map that may leave out
+-- an element of an image comes from an element of the list: for a map, and for a map that may leave out
 module _ {A B : Type 0} where
   in_map : (f : A → B) (xs : List A) (b : B) → Contains (map f xs) b → (a : A) × Contains xs a × (f a ≡ b)
   in_map f [] b h = absurd (contains_none b h)

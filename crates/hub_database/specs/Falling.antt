@@ -2,7 +2,7 @@
 use Rattle.std.specs.Prelude.{ℕ, List, [], ◌∷◌, max, Option, Some, None}
 use Rattle.hub_model.specs.Row.{ChangeRow}
 
--- the most rows that are shown, where there are so many; a limit of 0 acts as 1
+-- the most rows that are shown: the limit, where 0 acts as 1, or without a limit this length
 abbrev pub most_of : Option ℕ → ℕ → ℕ
 most_of None len = len
 most_of (Some limit) len = max 1 limit

@@ -114,7 +114,7 @@ pub record Setting : Type 0 where
   pub entries : List Entry
   pub rows : List (ℕ × ℕ)
 
--- the look at an incoming edit there, where the journal takes so many edits
+-- the look at an incoming edit in a setting, with this limit of the journal
 abbrev pub look_in : ℕ → Setting → Incoming → Looked
 look_in limit setting edit =
     unless_full (nat_le limit (length setting.entries))

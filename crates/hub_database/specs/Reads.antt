@@ -81,7 +81,7 @@ info_of journal life = record {
   life = life;
 }
 
--- the edit of this sequence, from 1
+-- the edit of this sequence, where sequences count from 1
 abbrev pub entry_at : List Edit → ℕ → Option Edit
 entry_at journal zero = None
 entry_at journal (suc k) = slice_get journal k

@@ -71,9 +71,8 @@ has_edit journal receipt = is_entry_of (entry_of journal receipt.seq) receipt
 abbrev pub HasEdit : List Edit → Receipt → Type 0
 HasEdit journal receipt = entry_of journal receipt.seq ≡ Some (receipt.id, receipt.rev)
 
--- The result of an audit. Ok: the journal has the edit of each receipt. Err: it lacks the edit of the
--- receipt at this place, and has those of the receipts before. Of three receipts whose second has a wrong
--- revision 1 is named.
+-- The result of an audit. Ok: the journal has the edit of each receipt. Err: it lacks the edit of the receipt
+-- at this place, and has those before. Of three receipts whose second has a wrong revision, the place is 1.
 abbrev pub IsAudit : List Edit → List Receipt → Result (Unit {0}) AuditFault → Type 0
 IsAudit journal receipts (Ok all) = All (λ r. HasEdit journal r) receipts
 IsAudit journal receipts (Err (WrongReceipt at)) =

@@ -36,8 +36,7 @@ pub struct Info {
     pub life: u64,
 }
 
-/// The missing ones of the revisions that were asked for of a document (CouchDB API reference,
-/// `_revs_diff`).
+/// The missing revisions of a document, among those asked for (CouchDB API reference, `_revs_diff`).
 #[derive(Debug, Drop)]
 pub struct Diff {
     /// The document's id.

@@ -64,6 +64,6 @@ impl Replies {
 pub struct Batch {
     /// The outcomes of the documents, from the first on.
     pub replies: Replies,
-    /// Whether memory ran out at the document after these: it and the later ones are not stored.
+    /// Whether memory ran out at the document after these: this and the later documents are not stored.
     pub stopped: bool,
 }

@@ -174,7 +174,7 @@ impl DbState {
         Ok(self.standing()?.open_revs(id, which, revs)?)
     }
 
-    /// The missing ones of the revisions asked for, in the order asked. A document that misses none is left
+    /// The missing revisions among those asked for, in the order asked. A document that misses none is left
     /// out. The cost is that of `Contents::revs_diff`.
     pub fn revs_diff(&self, asked: Vec<Asked>) -> Result<Vec<Diff>, DbFault>
         ensures { let missed = diffs self.now.journal asked.items in
@@ -285,7 +285,7 @@ impl DbState {
         reply(outcome)
     }
 
-    /// Deletes the database, and ends its open feeds: each has only its end left to hand. It takes no
+    /// Deletes the database, and ends its open feeds: each has only its end left to hand. The call takes no
     /// memory. The cost is a step for each feed.
     pub fn delete(&mut self) -> Result<(), DbFault>
         ensures ok { OnOk result ((self.old.deleted ≡ false) × (self.new ≡ deleted_database self.old)) }

@@ -20,9 +20,9 @@ use std::marker::Model;
 pub struct Descending {
     /// The greatest sequence first.
     pub rows: Vec<ChangeRow>,
-    /// The sequence of the last row; without rows that at which the feed began.
+    /// The sequence of the last row; without rows the sequence at which the feed began.
     pub last_seq: u64,
-    /// The number of current rows between the feed's beginning and `last_seq`, without those two.
+    /// The number of current rows above the feed's beginning and below `last_seq`.
     pub pending: u64,
     /// The number of the life of these sequences.
     pub life: u64,
@@ -42,7 +42,7 @@ impl Model for Descending {
     } };
 }
 
-// The most rows that are shown: the limit, which is at least 1, or else the length.
+// The most rows that are shown: the limit, where 0 acts as 1, or without a limit the length.
 fn most_of(limit: Option<u64>, length: u64) -> u64
     ensures { result ≡ most_of limit length }
 {
@@ -52,7 +52,7 @@ fn most_of(limit: Option<u64>, length: u64) -> u64
     }
 }
 
-// The sequence of the last row; without rows that at which the feed began.
+// The sequence of the last row; without rows the sequence at which the feed began.
 fn lowest_row(rows: &[ChangeRow], since: u64) -> u64
     ensures { result ≡ lowest_row since rows.now }
 {
@@ -103,8 +103,8 @@ impl Contents {
 
     /// The current rows that pass, the greatest sequence first, in one answer. Only `since`, `limit`,
     /// `style`, `include_docs` and `filter` are looked at. The index makes a step for each row from the end
-    /// to the last one shown, or to `since` below the limit. The cost is these steps, that of each row
-    /// shown, and two counts of rows. A count is a step for each page of the index above its place.
+    /// to the last one shown, or to `since` with rows below the limit. The cost is these steps, the rows
+    /// shown, and two counts of rows: a step for each page of the index above a place.
     pub fn changes_descending(&self, params: &FeedParams) -> Result<Descending, AllocError>
         ensures ok { IfOk result (λ answer.
             answer ≡ descending self.now.journal self.now.life (params_of params.now)) }

@@ -218,8 +218,8 @@ impl Document {
         }
     }
 
-    /// The row of the document at this sequence, made while there are `seen` edits. Its time is constant;
-    /// with every leaf it is that of `RevTree::leaves`, and a document costs a copy of its members.
+    /// The row of the document at this sequence, made while there are `seen` edits. The cost is constant;
+    /// with every leaf it is that of `RevTree::leaves`, and with the document a copy of its members.
     pub(crate) fn row(
         &self,
         alloc: Global,

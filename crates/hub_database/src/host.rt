@@ -163,7 +163,7 @@ impl DbState {
     /// The item that a feed has to hand now, if any. An item is made and nothing changes: `accept_item`
     /// goes on. A feed that has nothing to hand goes to the journal's length. The cost is that of
     /// `FeedState::next_item`, and a binary search among the feeds unless the last call was for the same
-    /// feed. It keeps no rows of listed documents: `hand` does.
+    /// feed. The call keeps no rows of listed documents: `hand` does.
     pub fn next_item(&mut self, feed: FeedId) -> Result<Next<ChangeRow>, AllocError>
         ensures ok { IfOk result (λ next. (next ≡ next_of_number (hosted_of self.old) feed.number)
             × (self.new ≡ with_hosted self.old (hosted_after_next (hosted_of self.old) feed.number next))) }

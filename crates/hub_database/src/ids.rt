@@ -27,7 +27,7 @@ impl<'a> Named for Ids<'a> {
 
 impl Ids<'_> {
     /// The number of the document with this id. Where the number is remembered, the call mostly compares
-    /// one id, and else logarithmically many.
+    /// one id. Else it compares logarithmically many.
     pub(crate) fn number_of(&self, numbers: &IdOrder, hints: &IdHints, id: &str) -> Option<u32>
         requires order { IsOrder (ids_of (files self.now.documents.now)) numbers.now }
         requires own { HasNumbers (files self.now.documents.now) numbers.now }

@@ -25,7 +25,7 @@ pub struct Local {
 }
 
 impl Local {
-    /// A second one with the same count and members. The cost is a copy of the members.
+    /// A copy of the local document. The cost is a copy of its members.
     pub fn copy(&self, alloc: Global) -> Result<Local, AllocError>
         ensures { IfOk result (λ local. local ≡ self.now) }
     {

@@ -34,7 +34,7 @@ pub enum Question {
         which: OpenRevs,
         revs: bool,
     },
-    /// The missing ones of these revisions.
+    /// The revisions among these that are missing.
     RevsDiff(Vec<Asked>),
     /// A feed that goes downwards.
     Descending(FeedParams),

@@ -53,7 +53,7 @@ impl Contents {
         }
     }
 
-    // The missing ones of the revisions asked for of a document; None where it misses none.
+    // The missing revisions of a document, among those asked for; None where it misses none.
     fn diff(&self, asked: Asked) -> Result<Option<Diff>, AllocError>
         ensures ok { IfOk result (λ diff. diff ≡ wanted_diff self.now.journal asked) }
         ensures memory { OnErr result (¬ (wanted_diff self.now.journal asked ≡ None)) }
@@ -82,7 +82,7 @@ impl Contents {
         }))
     }
 
-    /// The missing ones of the revisions asked for, in the order asked. A document that misses none is left
+    /// The missing revisions among those asked for, in the order asked. A document that misses none is left
     /// out. The cost is a search of the id for each document, and that of `RevTree::missing` and
     /// `RevTree::possible_ancestors`.
     pub fn revs_diff(&self, asked: Vec<Asked>) -> Result<Vec<Diff>, AllocError>

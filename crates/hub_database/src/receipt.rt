@@ -54,8 +54,8 @@ impl ReceiptRoom {
         Ok(ReceiptRoom { ids, receipts })
     }
 
-    /// The receipts of the documents, which got these replies after so many edits. It takes no memory. The
-    /// cost is a step for each document.
+    /// The receipts of the documents, which got these replies where there were `before` edits. The call
+    /// takes no memory. The cost is a step for each document.
     pub fn fill(self, before: u64, replies: &[Outcome<RevId>]) -> Vec<Receipt>
         requires fits { before < 2 ^ 32 }
         ensures { result.items ≡ receipts_from before self replies.now }
@@ -98,9 +98,9 @@ fn has_edit(state: &DbState, receipt: &Receipt) -> bool
     }
 }
 
-/// Compares receipts with the journal of a database. The edit of each has to be there at its sequence, with
-/// its document and its revision. The fault names the first receipt whose edit is not. It takes no memory.
-/// The cost is a look in the journal for each receipt.
+/// Compares receipts with the journal of a database. The edit of each receipt has to be there at its
+/// sequence, with its document and its revision. The fault names the first receipt whose edit is not there.
+/// The call takes no memory. The cost is a look in the journal for each receipt.
 pub fn audit_of(state: &DbState, receipts: &[Receipt]) -> Result<(), AuditFault>
     ensures { IsAudit state.now.journal receipts.now result }
 {

@@ -160,9 +160,9 @@ impl Hub {
     }
 
     /// Removes the database of this name, and notes that it was deleted. Once the names are free, the
-    /// database is deleted under its own lock: its feeds come to their ends. It is let go there unless
-    /// someone still has it. The cost is the wait for the names and for the log, a search among the names,
-    /// a note, and the cost of `Handle::delete`.
+    /// database is deleted under its own lock: its feeds come to their ends. The database is let go there
+    /// unless someone still has it. The cost is the wait for the names and for the log, a search among the
+    /// names, a note, and the cost of `Handle::delete`.
     pub fn remove<R: Wait>(&self, rt: &R, name: &str) -> Result<(), HubFault>
         ensures { IsCallByName name.now result
             (λ e. ¬ (e ≡ HubFault.Exists) × ¬ (e ≡ HubFault.TooMany)) }
@@ -227,11 +227,11 @@ impl Hub {
         }
     }
 
-    /// Stores documents, as `Handle::store`. Once the database is free again, it notes an update, where at
-    /// least one document was stored. Where the log is full or out of memory, the edits stand without a
-    /// note. A removed database refuses each document. The cost is the notice, which is one allocation, the
-    /// wait for the database and for the log, a step for each reply, and those of `DbState::write_edits`
-    /// and `Updates::note`.
+    /// Stores documents, as `Handle::store`. Once the database is free again, the call notes an update,
+    /// where at least one document was stored. Where the log is full or out of memory, the edits stand
+    /// without a note. A removed database refuses each document. The cost is the notice, which is one
+    /// allocation, the wait for the database and for the log, a step for each reply, and the costs of
+    /// `DbState::write_edits` and `Updates::note`.
     pub fn write<R: Wait>(
         &self,
         rt: &R,
@@ -257,7 +257,7 @@ impl Hub {
 
     /// Opens a feed of the log of updates, which stays until it is finished. Its connection calls
     /// `HostFeed::poll`, or takes by `HostFeed::take` while a `pump` hands. The feed shows every row of the
-    /// log, upwards (`Updates::open_feed`). The cost is the wait for the log, and that of this call.
+    /// log, upwards. The cost is the wait for the log, and that of `Updates::open_feed`.
     pub fn updates<R: Wait>(&self, rt: &R, params: FeedParams) -> Result<UpdatesFeed, OpenFault>
         ensures new { IfOk result (IsNew (updates_asked (params_asked params)) 0) }
         ensures err { IfErr result (λ e. (e ≡ OpenFault.NoMemory) ⊎ (e ≡ OpenFault.TooManyFeeds)) }

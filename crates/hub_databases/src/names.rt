@@ -55,9 +55,9 @@ impl Names {
         self.list.get(name)
     }
 
-    /// Puts an empty database of the next life under a name that is free, where there is room. It is not
-    /// counted yet. On a fault all stays as it was. The numbers of lives end at 2^64 - 1. By then the log
-    /// of updates, which has a note for each life, is full. The cost is a search among the names.
+    /// Puts an empty database of the next life under a free name, where there is room, and does not count
+    /// it yet. Else all stays, and the fault is the first that holds. Lives end at 2^64 - 1: by then the
+    /// log of updates, which has a note for each, is full. The cost is a search among the names.
     pub(crate) fn add(&mut self, alloc: Global, limits: Limits, name: &str) -> Result<(), HubFault>
         requires { is_database_name name.now ≡ true }
         ensures free { OnOk result (IsFree self.old name.now) }

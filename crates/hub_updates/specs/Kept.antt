@@ -23,7 +23,7 @@ ids_with_sequence number seq ids = slice_set ids number (id_in (slice_get ids nu
 abbrev pub note_at : List (List ℕ × ℕ) → ℕ → Note
 note_at ids k = note_of (id_in (slice_get ids k))
 
--- The notes. Each is kept as the number of its pair. Let d be created, updated and updated again: then the
+-- The notes. Each is kept as the number of its pair. Let d be created, updated and updated again. Then the
 -- pairs are cd and ud, with the latest sequences 1 and 3, and the notes are kept as 0, 1 and 1.
 abbrev pub notes_of : List (List ℕ × ℕ) → List ℕ → List Note
 notes_of ids entries = map (note_at ids) entries

@@ -25,7 +25,7 @@ pub record LogContents : Type 0 where
 
 -- A log as a host of feeds. Its feeds follow the notes as edits: a note is current until the same happens
 -- to the same database again. Where d was created, updated and updated again, the current rows are at 1 and
--- 3. A log has as many feeds as its limits say, and is never deleted.
+-- 3. A log has at most as many feeds as its limits say, and is never deleted.
 abbrev pub hosted_of : Updates → Hosted UpdateRow
 hosted_of log = record {
   length = length log.notes;

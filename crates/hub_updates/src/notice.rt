@@ -58,7 +58,7 @@ impl Model for Notice {
 }
 
 impl Notice {
-    /// A notice that this happened to the database of this name. It copies the name: one allocation.
+    /// A notice of an event of this kind, of the database of this name. It copies the name: one allocation.
     pub fn new(alloc: Global, kind: UpdateKind, name: &str) -> Result<Notice, AllocError>
         ensures { IfOk result (λ notice. notice ≡ record { kind = kind; name = name.now }) }
     {
