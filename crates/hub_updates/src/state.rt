@@ -91,8 +91,8 @@ impl UpdatesState {
     }
 
     /// Adds a notice at the end, under the next sequence. On a fault the notice is handed back, and nothing
-    /// changed. The limit is looked at before memory is. The cost is a look in the map of ids, and a move
-    /// in the index of rows.
+    /// changed. The limit is looked at before memory is. The cost is a look in the map of ids, a move in
+    /// the index of rows, and for a pair's first note two copies of its id.
     pub fn note(&mut self, notice: Notice) -> Result<(), (Notice, NoteFault)>
         ensures room { OnOk result (length self.old.notes < self.old.limits.journal) }
         ensures ok { OnOk result (self.new ≡ record self.old { notes = self.old.notes ++ notice ∷ [] }) }
