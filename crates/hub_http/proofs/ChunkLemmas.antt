@@ -12,7 +12,7 @@ use Rattle.hub_document.proofs.WriteLemmas.{three_parts}
 use Rattle.hub_http.specs.Texts.{chunk_text}
 use Rattle.hub_http.specs.Chunks.{text_chunks}
 
--- a text that follows the digits goes on to follow them
+-- digits onto a text with more bytes behind it are the digits onto the text, and then these bytes
 onto_more : (k n : ℕ) (acc more : List ℕ)
     → digits_onto k 16 false n (acc ++ more) ≡ digits_onto k 16 false n acc ++ more
 onto_more zero n acc more = refl
@@ -23,7 +23,7 @@ onto_more (suc k) n acc more =
     by_test true x y z more e = refl
     by_test false x y z more e = e
 
--- with no digit written yet, all digits stand before the rest
+-- digits onto a rest are the digits, and then the rest
 none_written : (n : ℕ) (rest : List ℕ) → digits_onto 64 16 false n rest ≡ digits 16 false n ++ rest
 unfolding digits
 none_written n rest = onto_more 64 n [] rest
@@ -139,7 +139,7 @@ chunk_made held ext new start size room e long h =
     ∙ ended (drop 18 held) (size - 18) n
     ∙ sym (some_text (drop 18 held) (omega (arith, length-drop 18 held)))
 
--- a lent part of this length is the whole front that was written
+-- the first n bytes are the whole front, where the front has n bytes
 pub lent_whole : (ys rest text : List ℕ) (n start : ℕ) → length ys ≡ n → drop start ys ≡ text
     → drop start (take n (ys ++ rest)) ≡ text
 lent_whole ys rest text n start long e =

@@ -27,15 +27,15 @@ pub record HasLeft (bytes : List ℕ) (old new : Outbox) : Type 0 where
   pub pending : pending_in new ≡ bytes
   pub faults : faults_in new ≡ faults_in old
 
--- the bytes that a writer took of those that waited
+-- the front of the waiting bytes that a writer took
 abbrev pub transferred_bytes : Transfer → List ℕ → List ℕ
 transferred_bytes (Took n) old = take n old
 transferred_bytes Again old = []
 transferred_bytes Refused old = []
 
--- A writer took the first n of the bytes that waited. Its known bytes grew by just these n, and the others
--- still wait. n is 0 only where no byte waited. With another outcome than Took nothing changed. Where abcd
--- waited and the writer took 3, its bytes grew by abc, and d still waits.
+-- A writer took the first n of the waiting bytes. Its known bytes grew by just these n, and the others still
+-- wait. n is 0 only where no byte waited. With another outcome than Took nothing changed. Where abcd waited
+-- and the writer took 3, its bytes grew by abc, and d still waits.
 abbrev pub Transfers : Transfer → List ℕ → List ℕ → Option (List ℕ) → Option (List ℕ) → Type 0
 Transfers (Took n) old new before after =
     (n ≤ length old) × (0 < length old → 0 < n) × (new ≡ drop n old) × Appends before after (take n old)

@@ -20,7 +20,7 @@ abbrev pub IsOpenFault : HttpFault → Type 0
 IsOpenFault fault = (fault ≡ BadHead) ⊎ ((fault ≡ HeadTooLong) ⊎ (fault ≡ Ended))
 
 -- Bytes that spell a request have no fault of their own, whatever follows the request. The line
--- `GET / HTTP/1.1`, an empty line and then `junk` have none.
+-- `GET / HTTP/1.1`, an empty line and then `junk` have no fault.
 abbrev pub SpelledHasNoFault : Type 0
 SpelledHasNoFault =
     (bytes : List ℕ) (asked : PlainRequest) (rest : List ℕ) (fault : HttpFault)
@@ -55,8 +55,9 @@ WholeHeadHasOneFault =
     → Faults bytes fault → Faults bytes other → IsOutside fault ⊎ (IsOutside other ⊎ (fault ≡ other))
 
 -- Bytes without a whole head have no fault of their own but a bad head, a head too long and an end in the
--- middle. These faults do not exclude each other. `GET` and a target that is not UTF-8 so far are no head
--- whatever follows, and end in the middle. 65 fields and then the end are too many, and end in the middle.
+-- middle. These faults do not exclude each other. `GET` and a target that is not UTF-8 so far are no head,
+-- whatever follows, and end in the middle. A head of 65 fields and then the end is too long, and ends in the
+-- middle.
 abbrev pub OtherFaultsAreOpen : Type 0
 OtherFaultsAreOpen =
     (bytes : List ℕ) (fault : HttpFault) → HasNoRequest bytes → Faults bytes fault → IsOutside fault

@@ -161,6 +161,6 @@ HasHeadFault bytes NoMemory = ⊥
 HasHeadFault bytes Ended = ⊥
 HasHeadFault bytes IoFault = ⊥
 
--- some bytes, fewer than a head may have, in which a head goes on
+-- some bytes, fewer than the most of a head, that go on
 abbrev pub IsPartOfHead : List ℕ → Type 0
 IsPartOfHead bytes = (0 < length bytes) × GoesOn bytes × (length bytes < head_limit)

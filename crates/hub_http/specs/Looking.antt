@@ -36,8 +36,8 @@ pub record IsHeadAt (buf : List ℕ) (head : Head) (other : RequestHead) : Type 
   pub length : length_by other ≡ Ok head.length
   pub close : head.close ≡ close_by other
 
--- The meaning of a fault for the bytes in which a head was looked for. Out of memory needs a byte, and the
--- other faults are those of the table.
+-- The meaning of a fault for the bytes in which a head was looked for. Out of memory needs a byte, and each
+-- other fault is by the table.
 abbrev pub LookFaults : List ℕ → HttpFault → Type 0
 LookFaults buf NoMemory = 0 < length buf
 LookFaults buf fault = HasHeadFault buf fault
@@ -55,8 +55,8 @@ abbrev pub LooksWithin : ℕ → List ℕ → Result (Option Head) HttpFault →
 LooksWithin room buf (Err HeadTooLong) = room ≡ field_limit → LookFaults buf HeadTooLong
 LooksWithin room buf looked = Looks buf looked
 
--- The meaning of a fault of the search for a head, for the held bytes and those that are left. It is by the
--- table, or out of memory, an end in the middle or the reader's failure.
+-- The meaning of a fault of the search for a head, for the held bytes and the bytes that are left. It is by
+-- the table, or out of memory, an end in the middle or the reader's failure.
 abbrev pub FindFaults : List ℕ → Option (List ℕ) → HttpFault → Type 0
 FindFaults held left NoMemory = IfSome left (λ more. 0 < length (held ++ more))
 FindFaults held left Ended = IsPartOfHead held × IsAtEnd left

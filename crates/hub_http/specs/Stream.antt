@@ -50,11 +50,11 @@ IsCut bytes =
     (head : RequestHead) × (part : List ℕ) × (n : ℕ) × Begins bytes head part × (length_by head ≡ Ok (Some n))
     × (length part < n)
 
--- the bytes of the block and then those that are left to read, where these are known
+-- the bytes of the block and then the bytes that are left to read, where the latter are known
 abbrev pub to_read : List ℕ → Option (List ℕ) → Option (List ℕ)
 to_read block left = prepend_known block left
 
--- the held bytes and then those that are left, where these are known
+-- the held bytes and then the bytes that are left, where the latter are known
 abbrev pub known : List ℕ → Option (List ℕ) → Option (List ℕ)
 known held left = prepend_known held left
 

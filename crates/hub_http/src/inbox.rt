@@ -66,8 +66,7 @@ impl Inbox {
         self.is_over
     }
 
-    /// Offers the bytes that came next, behind those of earlier offers. An error changes nothing: the same
-    /// bytes may be offered again.
+    /// Offers the bytes that came next. An error changes nothing: the same bytes may be offered again.
     pub fn offer(&mut self, bytes: &[u8]) -> Result<(), AllocError>
         requires { is_over self.old ≡ false }
         ensures ok { OnOk result (arrived_bytes self.new ≡ arrived_bytes self.old ++ bytes.now) }

@@ -15,7 +15,7 @@ pub trait Input {
     /// The number of reads that answered an error.
     ghost fault_count: { Self → ℕ };
 
-    /// The number of those reads whose error was no interruption.
+    /// The number of these reads whose error was no interruption.
     ghost failure_count: { Self → ℕ };
 
     /// The number of reads.

@@ -17,7 +17,7 @@ const ROOM: usize = 256;
 /// The outcome of handing bytes to a writer.
 #[derive(Clone, Copy, Debug, PartialEq, Eq)]
 pub enum Transfer {
-    /// The writer took so many bytes.
+    /// The writer took this many bytes.
     Took(usize),
     /// The writer took no byte. The same call may be made again: at once, or when the writer has room.
     Again,
@@ -69,7 +69,7 @@ impl Outbox {
         texts >= count || self.moved.len() >= count - texts
     }
 
-    /// A front of the bytes that wait. It is empty only where no byte waits.
+    /// A front of the waiting bytes. It is empty only where no byte waits.
     pub fn front(&self) -> &[u8]
         ensures front { (behind : List ℕ) × (pending_in self.now ≡ result.now ++ behind) }
         ensures some { 0 < length (pending_in self.now) → 0 < length result.now }
@@ -106,7 +106,7 @@ impl Outbox {
         }
     }
 
-    /// Hands a front of the bytes that wait to a writer, by one write, and keeps the bytes that it did not
+    /// Hands a front of the waiting bytes to a writer, by one write, and keeps the bytes that it did not
     /// take.
     pub fn send_to<W: Write>(&mut self, writer: &mut W) -> Transfer
         ensures handed { Transfers result (pending_in self.old) (pending_in self.new)
@@ -130,7 +130,7 @@ impl Outbox {
         }
     }
 
-    /// Puts bytes behind those that wait. An error changes nothing.
+    /// Puts bytes behind the waiting ones. An error changes nothing.
     fn put(&mut self, bytes: &[u8]) -> Result<(), AllocError>
         ensures put { AppendsWhole bytes.now result (pending_in self.old) (pending_in self.new) }
         ensures faults { self.new.faults ≡ self.old.faults }

@@ -19,7 +19,7 @@ pub trait Output {
     /// The number of calls that answered an error, or took no byte of a text that is not empty.
     ghost fault_count: { Self → ℕ };
 
-    /// The number of those calls that were no interruptions.
+    /// The number of these calls that were no interruptions.
     ghost failure_count: { Self → ℕ };
 
     /// Writes a front of the bytes, and answers its length.

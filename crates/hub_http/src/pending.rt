@@ -109,7 +109,7 @@ impl Pending {
         len
     }
 
-    /// Puts bytes behind those that are left. An error changes nothing.
+    /// Puts bytes behind the bytes that are left. An error changes nothing.
     pub(crate) fn put(&mut self, bytes: &[u8]) -> Result<(), AllocError>
         ensures { AppendsWhole bytes.now result self.old self.new }
     {

@@ -5,7 +5,7 @@ ghost use Rattle.hub_http.specs.Statuses.{reason_phrase};
 
 use std::marker::Model;
 
-/// The status of a reply (RFC 9110, section 15): one of those that the hub sends. A contract sees its number.
+/// The status of a reply (RFC 9110, section 15): a status that the hub sends. A contract sees its number.
 #[derive(Clone, Copy, Debug, PartialEq, Eq)]
 pub struct StatusCode(u16);
 

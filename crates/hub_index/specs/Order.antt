@@ -52,8 +52,8 @@ pub record IsNumberPage {Y : Type 0} (page : Vec ℕ Y) : Type 0 where
   pub some : 0 < length page.items
   pub few : length page.items ≤ 256
 
--- The place of a number among those of all pages, by its page and its place there. Where the pages 0 and 1
--- have 200 numbers each, place 3 of page 2 is place 403 of all.
+-- The place of a number among the numbers of all pages, by its page and its place there. Where the pages 0
+-- and 1 have 200 numbers each, place 3 of page 2 is place 403 of all.
 abbrev pub place_of : {Y : Type 0} → List (Vec ℕ Y) → ℕ → ℕ → ℕ
 place_of pages page at = length (numbers_of (take page pages)) + at
 

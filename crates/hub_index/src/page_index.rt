@@ -16,9 +16,9 @@ use std::alloc::{AllocError, Global};
 use std::marker::Model;
 
 /// Rows in pages of 256 sequences. A contract sees the list of the rows. A page has a slot of eight bytes for
-/// each sequence, and is given back once it has no row left. Then the pages behind it move up in one list, by
-/// some forty bytes each. A search for a page takes constant time where no page number from its own to the
-/// last is missing. Else its time is logarithmic in the number of pages.
+/// each sequence, and is given back once it has no row left. Then the pages behind it move up in one list,
+/// where each has some forty bytes. A search for a page takes constant time where no page number from its own
+/// to the last is missing. Else its time is logarithmic in the number of pages.
 #[derive(Debug)]
 pub struct PageIndex {
     alloc: Global,

@@ -53,8 +53,8 @@ HasOtherBytes path = ¬ All (IsKept (record { mask = 0 })) path
 abbrev pub HasPercent : List ℕ → Type 0
 HasPercent part = ¬ All (λ b. b ≢ percent_sign) part
 
--- The search for the kind of a path takes memory: the path has a byte outside ASCII, or the table says that
--- it is a document's, and its id has an escape. `/a/_changes` takes none, nor does `/a/b`; `/a/%62` does.
+-- The search for the kind of a path takes memory. Either the path has a byte outside ASCII, or the table says
+-- that it is a document's and its id has an escape. `/a/_changes` takes none, nor does `/a/b`; `/a/%62` does.
 abbrev pub NeedsRoomForKind : List ℕ → Type 0
 NeedsRoomForKind path =
     HasOtherBytes path ⊎ ((kind_at (ascii_path path) ≡ Some Document) × HasPercent (id_part path))

@@ -22,7 +22,7 @@ database_of asked = name_of (path_of asked.target)
 abbrev pub document_of : PlainRequest → List ℕ
 document_of asked = id_of (path_of asked.target)
 
--- the path of a request is of this kind, which takes its method
+-- the path of a request is of this kind, and the kind takes the request's method
 pub record IsServed (asked : PlainRequest) (kind : Kind) : Type 0 where
   pub path : kind_of (path_of asked.target) ≡ Some kind
   pub method : IsSome (asked_of kind (method_of asked.method))

@@ -20,7 +20,7 @@ fn index_of(bytes: &[u8], at: u8) -> Option<usize>
     bytes.iter().position(|b| *b == at)
 }
 
-/// The bytes before the first byte `at` and those behind it; all and none where there is no such byte.
+/// The bytes before the first byte `at`, and the bytes behind it; all bytes and none where `at` is absent.
 pub fn cut(bytes: &[u8], at: u8) -> (&[u8], &[u8])
     ensures before { result.0.now ≡ before_first (λ b. b == at) bytes.now }
     ensures after { result.1.now ≡ after_first (λ b. b == at) bytes.now }
