@@ -105,7 +105,7 @@ pairs_of head = map name_and_value head.fields
 abbrev pub length_by : RequestHead → Result (Option ℕ) HttpFault
 length_by head = length_or_fault head.minor head.target (pairs_of head)
 
--- the connection closes after the answer
+-- the connection closes after the reply
 abbrev pub close_by : RequestHead → Bool
 close_by head = list_any asks_close (pairs_of head)
 

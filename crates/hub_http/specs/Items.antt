@@ -23,8 +23,7 @@ after_row Normal = []
 after_row Longpoll = []
 after_row Continuous = codes "\n"
 
--- the text before the members that end a feed: it closes the list of the rows, or opens an object without a
--- list
+-- the text before the members that end a feed: the end of the list of rows, or without a list a brace
 unfoldable pub before_end : Mode → List ℕ
 before_end Normal = codes "\n],\n"
 before_end Longpoll = codes "\n],\n"

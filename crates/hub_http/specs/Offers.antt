@@ -8,14 +8,15 @@ use Rattle.hub_http.specs.declared.next.Next.TheVariants.{Whole, NotYet, End}
 use Rattle.hub_http.specs.Heads.{IsPartOfHead}
 use Rattle.hub_http.specs.Stream.{PlainRequest, asked_by, Spells, IsCut, Faults}
 
--- The bytes are empty, or end in the middle of a head or of a body. So do the fronts of a request up to any
+-- The bytes are empty, or end in the middle of a head or of a body. A front of a request is short, up to any
 -- of its bytes but the last one. `GET / HT` is short, and so is a whole head that asks for 3 bytes, with ab
 -- behind it.
 abbrev pub IsShort : List ℕ → Type 0
 IsShort bytes = (bytes ≡ []) ⊎ (IsPartOfHead bytes ⊎ IsCut bytes)
 
--- The bytes that came so far may be refused with this fault, whether or not more come. An end in the middle
--- is a fault only where the input is over. The bytes lie in memory, and are never refused as unreadable.
+-- The bytes that came so far may be refused with this fault. An end in the middle is a fault only where the
+-- input is over. The other faults do not depend on more bytes. The bytes lie in memory, and are never refused
+-- as unreadable.
 abbrev pub FaultsSoFar : Bool → List ℕ → HttpFault → Type 0
 FaultsSoFar over bytes Ended = (over ≡ true) × Faults bytes Ended
 FaultsSoFar over bytes IoFault = ⊥

@@ -68,7 +68,8 @@ Faults bytes IoFault = ⊤
 Faults bytes fault = HasHeadFault bytes fault
 
 -- The bytes that are left after a call of `next` over these bytes. Where the bytes are one request and then
--- c, and the request was read, c is left. Out of memory, all bytes are left.
+-- c, and the request was read, c is left. Out of memory, all bytes are left. After another fault any may be
+-- left.
 abbrev pub Leaves : List ℕ → Result (Option Request) HttpFault → Option (List ℕ) → Type 0
 Leaves bytes r None = ⊥
 Leaves bytes (Ok (Some q)) (Some rest) = Spells bytes (asked_by q) rest

@@ -63,14 +63,14 @@ pub struct ChunkWriter {
 }
 
 impl ChunkWriter {
-    /// A writer of chunks. It costs nothing: the first chunk allocates.
+    /// A writer of chunks. It costs nothing: the first text allocates.
     pub fn new(alloc: Global) -> ChunkWriter {
         ChunkWriter {
             buffer: Vec::new(alloc),
         }
     }
 
-    /// Whether the writer of chunks has memory of its own, as after its first chunk. Constant time.
+    /// Whether the writer of chunks has memory of its own, as after its first text. Constant time.
     pub fn has_room(&self) -> bool {
         self.buffer.capacity() > 0
     }

@@ -1,5 +1,4 @@
--- Pages of numbers in the order of their ids: the page of an id, and the numbers of all pages after one page
--- changed.
+-- Pages of numbers in the order of their ids: the page of an id, and all numbers after a page changed.
 use Rattle.std.proofs.Common.{◌≡◌, ◌≢◌, ℕ, zero, suc, ◌+◌, ◌-◌, ◌<◌, ◌≤◌}
 use Rattle.std.proofs.Common.{List, [], ◌∷◌, ◌++◌, length, get_or, Bool, true}
 use Rattle.std.proofs.Common.{false, not, ap, refl, sym, ◌∙◌, subst, arith}
@@ -136,8 +135,7 @@ module _ {A : Type 0} (f : A → List ℕ) where
               (pairs_across (Rises ids) xs (m ∷ (ys ++ zs)) pairs (get_or xs j d) m
               (Contains-get_or xs j d m<l) (0, omega arith, refl)) e)
 
-      -- where the first k pages begin with the id or below it, the numbers before the last of these pages lie
-      -- below the id
+      -- where the first k pages begin with the id or below it, the numbers before page k - 1 lie below the id
       pub before_page : (pages : List A) (k : ℕ) → k ≤ length pages → AllPairs (Rises ids) (flat_map f pages)
           → AllWithin (λ x. begins_up_to ids id (f x) ≡ true) pages 0 k
           → All (λ n. is_below ids id n ≡ true) (flat_map f (take (k - 1) pages))

@@ -15,8 +15,8 @@ abbrev pub row_in : (ℕ → Option (List ℕ × ℕ)) → ℕ × ℕ → Curren
 row_in ids row = record { seq = row.0; id = id_in (ids row.1) }
 
 -- `ids` gives numbers their ids, with the sequence of the latest edit of each. The rows are the current ones
--- of the edits. A number that has an id has its row at its latest edit, and a number without an id has no
--- row. With edits of a, b and a again, where a has the number 0 and b the number 1, the rows are (2, 1) and
+-- of the edits. A number with an id has its row at its latest edit, and a number without an id has no row.
+-- With edits of a, b and a again, where a has the number 0 and b the number 1, the rows are (2, 1) and
 -- (3, 0).
 pub record IsIndexed (ids : ℕ → Option (List ℕ × ℕ)) (journal : List Edit) (index : List (ℕ × ℕ)) : Type 0
   where

@@ -4,8 +4,8 @@ use Rattle.std.specs.Prelude.{◌≢◌, ℕ, ◌<◌, List, [], ◌∷◌, ◌+
 use Rattle.std.specs.Prelude.{Option, Some, None, option_map, find, filter, reverse, count_by}
 use Rattle.std.specs.List.{All, AllPairs}
 
--- Of two rows the earlier one has the lower sequence, and another document. Sequences begin at 1. (2, 1), (3,
--- 0) are such rows. (3, 0), (2, 1) are not, and neither are (2, 1), (3, 1).
+-- Of two rows the earlier one has the lower sequence, and another document. Sequences begin at 1. (2, 1),
+-- (3, 0) are such rows. (3, 0), (2, 1) are not, and neither are (2, 1), (3, 1).
 pub record IsIndex (rows : List (ℕ × ℕ)) : Type 0 where
   pub rising : AllPairs (λ (row other_row : ℕ × ℕ). row.0 < other_row.0) rows
   pub once : AllPairs (λ (row other_row : ℕ × ℕ). row.1 ≢ other_row.1) rows

@@ -44,7 +44,7 @@ fn hash_of(id: &str) -> u32 {
 }
 
 impl IdHints {
-    /// No number. It takes no memory yet; `remember` takes it from this allocator.
+    /// Hints without a number. They take no memory yet; `remember` takes it from this allocator.
     pub fn new(alloc: Global) -> IdHints {
         IdHints {
             alloc,

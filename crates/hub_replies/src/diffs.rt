@@ -35,7 +35,7 @@ fn put_ancestors(out: &mut Vec<u8>, revs: &[RevId]) -> Result<(), AllocError>
     Ok(())
 }
 
-// Appends the member of a document: its id, and the revisions that it misses.
+// Appends the member of a document: its id, its missing revisions and their possible ancestors.
 fn put_diff(out: &mut Vec<u8>, diff: &Diff) -> Result<(), AllocError>
     ensures { OnOk result (out.new.items ≡ out.old.items ++ diff_text diff.now) }
 {

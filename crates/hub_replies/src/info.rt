@@ -1,4 +1,4 @@
-//! The counts of a database.
+//! The body with the counts of a database.
 
 ghost use Rattle.std.specs.Prelude.{◌≡◌, IfOk};
 ghost use Rattle.hub_replies.specs.Bodies.{info_body};

@@ -92,7 +92,7 @@ pub fn table(alloc: Global) -> Result<Router<Kind>, AllocError>
     Ok(router)
 }
 
-/// The kind of a path whose decoded id has these bytes. So an escaped slash too tells a local document.
+/// The kind of a path whose decoded id has these bytes: a local document is found by an escaped slash too.
 pub fn refined(kind: Kind, id: &[u8]) -> Kind
     ensures { result ≡ kind_by_id kind id.now }
 {

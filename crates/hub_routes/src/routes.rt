@@ -38,8 +38,8 @@ fn target_of(request: &Request) -> (&[u8], &[u8])
     cut(request.target.as_slice(), b'?')
 }
 
-// The id of the document that a path of this kind names; empty where the path names none. `read` is the id
-// where it is decoded already, and is not decoded again.
+// The id of the document that a path of this kind names. It is empty where the path names none, and `BadId`
+// where no such document may have it. An id in `read` is decoded already, and is not decoded again.
 fn document_id<'p>(
     alloc: Global,
     kind: Kind,
