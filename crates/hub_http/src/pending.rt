@@ -117,8 +117,8 @@ impl Pending {
         self.bytes.extend_from_slice(bytes)
     }
 
-    /// Makes room on the way to `wanted` bytes, and answers how many bytes may then be left: twice those that
-    /// are left, at least 65,536 more than these, and at most `wanted`. The bytes stay as they are.
+    /// Makes room on the way to `wanted` bytes, and answers how many bytes may then be left. It is twice the
+    /// present count, at least 65,536 above that count, and at most `wanted`. The bytes stay as they are.
     pub(crate) fn make_room(&mut self, wanted: usize) -> Result<usize, AllocError>
         ensures { (self.new ≡ self.old) × IfOk result (λ room. room
             ≡ min wanted (length self.old + max (length self.old) 65536)) }
