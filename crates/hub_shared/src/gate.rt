@@ -1,6 +1,6 @@
-//! What threads pass and read: gates, by which a test holds them, and a clock.
+//! Gates, at which a test can hold a thread, and clocks.
 
-/// Where a gate is passed.
+/// The points at which a gate is passed.
 #[derive(Clone, Copy, Debug, PartialEq, Eq)]
 pub enum Point {
     /// By a pump, before each holding of the lock.
@@ -12,7 +12,7 @@ pub enum Point {
     Request(u64),
 }
 
-/// What threads pass at their points, so that a test can hold one there.
+/// A gate, which threads pass at their points. A test can hold a thread there.
 pub trait Gate {
     /// Comes back once the thread may go on.
     fn pass(&self, point: Point);
