@@ -94,8 +94,7 @@ impl<S: Service> Port<S> {
         self.is_closed.load(Ordering::SeqCst)
     }
 
-    /// Whether there is nothing for the worker, which is about to sleep. Whoever has something later wakes
-    /// it.
+    /// Whether there is nothing for the worker, which is about to sleep. Later news and connections wake it.
     pub(crate) fn begin_sleep<R: Wait>(&self, rt: &R) -> bool {
         self.is_asleep.store(true, Ordering::SeqCst);
         !self.bell.is_rung() && !self.is_closed() && self.inbox.lock(rt).is_empty()

@@ -128,8 +128,7 @@ impl<S: Service + Watchable + Drop> Slot<S> {
         }
     }
 
-    /// Tells it the clock's reading `now`. The answer is when it will have waited long enough, `NEVER` once
-    /// it has.
+    /// Tells it the clock's `now`. The answer is when it will have waited long enough, `NEVER` once it has.
     pub(crate) fn tell_time(&mut self, now: u64) -> u64 {
         if self.due <= now {
             self.due = NEVER;
