@@ -16,7 +16,7 @@ pub trait Count: Drop {
 
     ghost use Rattle.std.specs.Prelude.{ℕ, Bool};
 
-    /// Whether it counts at all.
+    /// Whether edits are counted at all.
     ghost counts: { Bool };
 
     /// How many parts there are.

@@ -5,7 +5,7 @@
 pub enum Point {
     /// By a pump, before each holding of the lock.
     PumpFree,
-    /// By a pump, once inside each holding of the lock.
+    /// Inside each holding of the lock for a feed, by a pump or a poll.
     PumpHolding,
     /// By a connection of this number, before each answer. Connections are numbered from 1 as they
     /// are accepted.

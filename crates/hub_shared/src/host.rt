@@ -27,7 +27,7 @@ impl<S: HostView, C: Count> Host<S, C> {
         &self.shared.0
     }
 
-    /// Tells the pumps that wait that there are news, once the lock is free.
+    /// Wakes the pumps that wait for news. It is called once the lock is free.
     pub(crate) fn tell(&self) {
         self.shared.1.notify_all();
     }

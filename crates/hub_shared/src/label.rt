@@ -62,7 +62,7 @@ impl<S> FeedLabel<S> {
     }
 }
 
-/// It allows a list of blocks where their items, one block after the other, are rightly handed.
+/// It allows a list of blocks where their items, one block after the other, are right for the feed.
 impl<S: HostView> Kept<Block<S::Row>> for FeedLabel<S> {
     ghost use Rattle.hub_params.specs.FeedModel.{params_in};
     ghost use Rattle.hub_shared.specs.Blocks.{items_in};

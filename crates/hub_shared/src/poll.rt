@@ -1,4 +1,4 @@
-//! How one thread sends many feeds: each is asked for its next item, and none is waited for.
+//! How one thread sends many feeds: each feed is asked for its next item, and no feed is waited for.
 
 ghost use Rattle.std.specs.Prelude.{◌≡◌};
 ghost use Rattle.hub_shared.specs.Feeds.{Takes};
@@ -69,8 +69,8 @@ impl<S: FeedHost, C: Count> HostFeed<S, C> {
     /// no item is due either, a heartbeat or the end of the feed's time comes as the clock says. `None` says
     /// that the feed waits, or that it is over (`is_over`): an item found no memory, or the End was handed. A
     /// feed that waits is to be asked again when its host has news (`watch`), and at the clock's `due` at the
-    /// latest. Without an item left it costs a holding, unless the last one found nothing more. A heartbeat
-    /// costs one more, an expiry two.
+    /// latest. A poll without an item left costs a holding, unless the last one found nothing more. A
+    /// heartbeat costs one holding more, the end of the time two.
     pub fn poll<R, G, K>(&mut self, rt: &R, gate: &G, clock: &K, next: &mut Option<Item<S::Row>>)
     where
         R: Asks<FeedLabel<S>, Block<S::Row>>,

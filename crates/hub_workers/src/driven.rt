@@ -27,7 +27,7 @@ impl<S: Service> Driven<S> {
         })
     }
 
-    /// Offers bytes that came to the session; no bytes say that no more come. Out of memory for them, the
+    /// Offers the session bytes that came; no bytes say that no more come. Out of memory for them, the
     /// session closes (`Session::close_out_of_memory`).
     pub(crate) fn take_in(&mut self, bytes: &[u8]) {
         match self.session.offer(bytes) {

@@ -1,4 +1,4 @@
-//! The relief of runners that are held: at a gate, behind a lock, or by a long request.
+//! The relief of runners that are held at a gate, at a lock or by a long request.
 
 ghost use Rattle.std.specs.Prelude.{◌≡◌, ◌-◌, ◌↔◌, IsTrue, if◌then◌else◌};
 
@@ -17,8 +17,8 @@ const PERIOD: u64 = 4;
 /// How many looks in a row that find no worker busy come before a sleep.
 const LOOKS: u32 = 25;
 
-/// The times of the looks for runners that are held. A look comes every few milliseconds while a worker is
-/// busy, and shortly after that. Then the thread that looks sleeps until a worker begins a turn.
+/// The times of the looks for runners that are held. A look comes every `PERIOD` while a worker is busy, and
+/// `LOOKS` times after that. Then the thread that looks sleeps until a worker begins a turn.
 #[derive(Drop)]
 pub(crate) struct Monitor {
     parker: Parker,

@@ -13,7 +13,7 @@ use std::collections::VecDeque;
 const STEP: u64 = 16;
 
 /// The connections of a worker, by their tokens, and whose turn is next. The queues have room for each token,
-/// which is made with the token's place: so a queue takes a token without memory.
+/// made with the token's place: so a queue takes a token without memory.
 #[derive(Drop)]
 pub(crate) struct Table<S: Service> {
     slots: Vec<Slot<S>>,
