@@ -55,8 +55,7 @@ module _ {L I : Type 0} (allows : L → List I → Type 0) where
   abbrev pub IsOfReceiver : L → View L I → Type 0
   IsOfReceiver label view = (view ≡ OfReceiver label (items_of view)) × HasAllowedRest view
 
-  -- A lane: the sent items are the taken items and then those in the queue, and the label allows the sent
-  -- items.
+  -- A lane: the sent items are the taken items and then those in the queue. The label allows the sent items.
   -- With a, b and c sent and a taken, the queue holds b and c.
   pub record IsLabelled (items : List I) (views : List (View L I)) : Type 0 where
     pub label : L

@@ -57,8 +57,7 @@ module _ {I : Type 0} where
       flat_map-append (λ items. items) blocks (block ∷ [])
       ∙ ap (λ list. items_in blocks ++ list) (append-nil block)
 
-  -- a statement about the items of all blocks holds of a front of some blocks' items, the rest of them, and
-  -- the others
+  -- a statement about all blocks' items holds of a front, the rest of these items, and the others' items
   front_allowed : (P : List I → Type 0) (blocks others : List (List I)) (front left : List I)
       → items_in blocks ≡ front ++ left → P (items_in (blocks ++ others))
       → P (front ++ (left ++ items_in others))

@@ -24,8 +24,7 @@ pub record HandleState : Type 0 where
   pub parts : ℕ  -- its parts of the right to know how many edits were accepted through all handles
   pub count : ℕ  -- how many edits were accepted through it, and through the handles joined to it
 
--- the view of a handle with this share; `parts` and `amount` give a share's parts, and the edits that it
--- counted
+-- the view of a handle with this share; `parts` and `amount` give a share's parts and its counted edits
 abbrev pub handle_of : {S : Type 0} → (parts amount : S → ℕ) → S → HandleState
 handle_of parts amount share = record { parts = parts share; count = amount share }
 
@@ -46,16 +45,14 @@ pub record HasRisen (counts : Bool) (edits rise : ℕ) (old new : HandleState) :
 
 -- A database as a call through the handle finds it. Its journal is legal, and has at least the edits that the
 -- handle counted. Where the handle has every part, the journal has just these edits.
--- A handle that counted 3 finds 5 edits where another counted 2. Joined to the other, it counts 5 and finds
--- 5.
+-- A handle that counted 3 finds 5 edits where another counted 2. Both joined count 5, and find 5.
 pub record IsFoundBy (counts : Bool) (all_parts : ℕ) (state : HandleState) (db : Database) : Type 0 where
   pub legal : IsLegal db.journal
   pub counted : state.count ≤ length db.journal
   pub whole : counts ≡ true → state.parts ≡ all_parts → length db.journal ≡ state.count
 
 module _ (counts : Bool) (all_parts : ℕ) (state : HandleState) where
-  -- a call that only looks: `holds_of` holds of some database that the handle may find, and the handle is as
-  -- it was
+  -- a call that only looks: `holds_of` holds of a database that the handle may find; the handle stays
   pub record IsLook (new : HandleState) (holds_of : Database → Type 0) : Type 0 where
     pub db : Database
     pub found : IsFoundBy counts all_parts state db
@@ -95,8 +92,7 @@ IsBeginningAt seq count since = (since ≤ seq) × (min seq count ≤ since)
 
 -- The label of a feed that was asked for with this since, by a handle that counted `count` edits. With `now`
 -- the feed begins after all of these edits. A sequence of another life counts as 0.
--- With since=7-2, by a handle that counted 5, a feed begins at 5, 6 or 7 in life 2, and in any other life at
--- 0.
+-- With since=7-2, by a handle that counted 5, it begins at 5, 6 or 7 in life 2, and in any other life at 0.
 abbrev pub IsBeginningFor : Since → (count : ℕ) → Label → Type 0
 IsBeginningFor Now count label = count ≤ label.since
 IsBeginningFor (Plain seq) count label = IsBeginningAt seq count label.since

@@ -24,8 +24,7 @@ pub record LockedState (S K : Type 0) : Type 0 where
 -- where `label` gives the label of an outbox, and `sent` the items that were sent to it
 module _ {R K : Type 0} (label : K → Label) (sent : K → List (Item R)) (fits : Feed → List (Item R) → Type 0)
   where
-    -- the outbox of a feed: its label has the feed's parameters and since, and the items sent to it fit the
-    -- feed
+    -- the outbox of a feed: its label has the feed's parameters and since, and its sent items fit the feed
     pub record IsSenderOf (f : Feed) (k : K) : Type 0 where
       pub asks : params_in (label k).asked ≡ f.params
       pub begins : (label k).since ≡ f.since
@@ -38,16 +37,14 @@ module _ {R K : Type 0} (label : K → Label) (sent : K → List (Item R)) (fits
     IsServed (Some f) None = ⊥
     IsServed (Some f) (Some k) = IsSenderOf f k
 
-    -- The outboxes are those of the feeds that are not finished: each such feed has its own, and there are no
-    -- others.
+    -- Each feed that is not finished has its own outbox, and there are no other outboxes.
     -- With feeds 3 and 5 there is one outbox with the items that feed 3 handed, and one with those of feed 5.
     pub record AreSendersOf (h : Hosted R) (senders : List (ℕ × K)) : Type 0 where
       pub rising : AreRising senders
       pub given : All (λ (p : ℕ × K). p.0 < h.next_feed) senders
       pub each : (number : ℕ) → IsServed (entry_in number h.feeds) (entry_in number senders)
 
--- The total in the book of a host of so many edits: at most these edits, and just these where there is a
--- count.
+-- The total in the book of a host of so many edits: at most the edits, and all of them where it counts.
 -- After 5 edits a book that counts has counted 5, and a book that counts nothing 0.
 abbrev pub IsBookOf : (counts : Bool) → (total edits : ℕ) → Type 0
 IsBookOf counts total edits = (total ≤ edits) × (counts ≡ true → total ≡ edits)
@@ -86,9 +83,8 @@ module _ {S R K : Type 0} (hosted : S → Hosted R) (with_hosted : S → Hosted 
         (answer ≡ handed.Nothing) × (new ≡ stepped l (λ h. hosted_after_next h number next.Nothing))
     Hands refuses next.Gone l number answer new = (answer ≡ handed.Gone) × (new ≡ l)
 
--- The effect of a beat, where a heartbeat is due or not. A heartbeat that is due is sent, and the feed stays;
--- or it is refused, and nothing changes. The answer is Full where it is refused, and Nothing in each other
--- case.
+-- The effect of a beat, where a heartbeat is due or not. A due heartbeat is sent, and the feed stays; or it
+-- is refused, and nothing changes. The answer is Full where it is refused, and else Nothing.
 abbrev pub Beats : {S R K : Type 0} → (K → Item R → K) → (K → Item R → Type 0) → Bool → LockedState S K → ℕ
     → Handed → LockedState S K → Type 0
 Beats behind refuses true l number handed.Full new = IsRefused refuses l.senders number Beat × (new ≡ l)

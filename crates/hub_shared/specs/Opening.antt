@@ -22,8 +22,7 @@ module _ {S R K T : Type 0} (hosted : S → Hosted R) (with_hosted : S → Hoste
       }
 
   -- A feed of a new number was opened; `end` takes, and the feed's outbox is the other end. The host had no
-  -- reason to refuse, and no feed of it had the number. The label is that of a feed which this host opens
-  -- now.
+  -- reason to refuse, and no feed had the number. The label is that of a feed that this host opens now.
   pub record Begins (params : FeedParams) (l : LockedState S K) (number : ℕ) (end : T)
       (new : LockedState S K) : Type 0 where
     pub free : opening_refusal (hosted l.state) ≡ None

@@ -36,8 +36,7 @@ IsOutOfMemoryFor docs fault = (fault ≡ NoMemory) × (0 < length docs)
 abbrev pub batch_of : Accepted → Batch
 batch_of accepted = record { replies = accepted.replies; stopped = accepted.stopped }
 
--- `count` edits were added to the journal, and nothing else changed; the journal is legal, and below 2^32
--- edits
+-- `count` edits were added to the journal, and nothing else changed; it is legal, with less than 2^32 edits
 pub record Adds (count : ℕ) (old new : Database) : Type 0 where
   pub edits : List Edit
   pub behind : new.journal ≡ old.journal ++ edits

@@ -7,8 +7,8 @@ use Rattle.hub_shared.specs.Stored.{StoresBatch, batch_of}
 use Rattle.hub_shared.specs.declared.write.Accepted.{Accepted}
 
 -- The documents before the stop were stored one after the other, and nothing else changed. Say that a, b and
--- c are given after 5 edits. Where b is refused, there are 7 edits then, with the receipts (6, a, ..) and (7,
--- c, ..). Where memory runs out at b, there are 6 edits, and one reply.
+-- c are given after 5 edits. Where b is refused, there are 7 edits then, with the receipts (6, a, ..) and
+-- (7, c, ..). Where memory runs out at b, there are 6 edits, and one reply.
 pub record Stores (new_edits : Bool) (docs : List Doc) (old : Database) (accepted : Accepted)
     (new : Database) : Type 0 where
   -- the documents were stored, as a batch without receipts

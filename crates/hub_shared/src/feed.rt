@@ -33,8 +33,7 @@ pub type ChangeItem = Item<ChangeRow>;
 pub type Feed<C> = HostFeed<DbState, C>;
 
 /// A feed of a shared host, as its connection has it. `finish` finishes it: a feed that is dropped otherwise
-/// stays among the feeds of its host. Contracts see its number, its lane, its label, and all items that were
-/// taken.
+/// stays among the feeds of its host. Contracts see its number, its lane, its label, and all taken items.
 #[derive(Drop)]
 pub struct HostFeed<S: HostView, C: Count = Plain> {
     pub(crate) host: Host<S, C>,

@@ -45,8 +45,8 @@ pub trait Watchable {
     fn due(&self) -> Option<u64>;
 
     /// From here on this watch gets news of each change that the feed may wait for. The caller asks the feed
-    /// for its next item once more after the call: an earlier write gave no news. The call may wait for the
-    /// host's lock.
+    /// for its next item once more after the call: an earlier write gave no news. It may wait for the host's
+    /// lock.
     fn watch(&self, watch: Arc<Watch, Global>);
 }
 

@@ -88,7 +88,7 @@ impl<C: Count, K: Outbox<DbState>> Locked<DbState, C, K> {
     }
 
     /// Stores documents, as `DbState::write_edits`, counts the stored ones, and tells the feeds that wait.
-    /// The batch comes with the rise of the share's amount. The cost is that of `write_edits`, and a look at
+    /// The batch comes with the rise of the share's amount. The cost is that of `write_edits` and a look at
     /// each feed.
     pub fn store(
         &mut self,
