@@ -14,9 +14,9 @@ const MINUTE: u64 = 60_000;
 #[derive(Drop)]
 pub struct Host<S: HostView, C: Count = Plain> {
     /// The only lock, and the news. The lock guards the host and its subscribers. It is held for one call:
-    /// nothing is waited for while it is held, and no other lock is taken under it. The news are told of each
-    /// change that a pump may wait for, and of each end of a feed, once the lock is free again. Pumps with
-    /// nothing to hand wait for the news.
+    /// nothing is waited for while it is held, and no other lock is taken under it. The news tells pumps of
+    /// each change that they may wait for, and of each end of a feed, once the lock is free again. Pumps with
+    /// nothing to hand sleep on it.
     pub(crate) shared: Arc<(Mutex<Locked<S, C>>, Condvar), Global>,
     pub(crate) alloc: Global,
 }
