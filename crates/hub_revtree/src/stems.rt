@@ -42,9 +42,9 @@ pub(crate) fn place_in(stems: &[Stem], number: usize, rev: &RevId) -> Option<Pla
 }
 
 /// A place of the revision; None where no stem has it. With an index it is the place in the first stem that
-/// has the revision: constant time for digests that differ in their first eight bytes, else at most log n
-/// comparisons of revisions. Without an index the stems are read from the newest on, up to one that has the
-/// revision.
+/// has the revision. That takes constant time for digests that differ in their first eight bytes, else at
+/// most log n comparisons of revisions. Without an index it is one look for each stem, from the newest on up
+/// to the first that has the revision.
 pub(crate) fn place_of(stems: &[Stem], index: Option<&Index>, rev: &RevId) -> Option<Place>
     requires { AreIndexed stems.now (option_map (λ i. i.now) index) }
     ensures { IsFound stems.now rev.now result }
@@ -346,8 +346,7 @@ impl Branches {
     }
 
     /// How a path that may be stored meets the stems: behind the revisions that its stem keeps, it is the
-    /// front of one chain. The cost is that of `place` for each new revision, and for each chain that it
-    /// meets.
+    /// front of one chain. The cost is that of `place` for each new revision and for each chain on the way.
     pub(crate) fn met_by(&self, path: &Run) -> Meeting
         ensures { IsMeeting self.now.stems path.now result.at result.place result.behind result.joins }
     {

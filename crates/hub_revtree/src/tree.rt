@@ -64,8 +64,7 @@ impl Model for RevTree {
 #[derive(Debug, Drop)]
 pub struct Ready {
     path: Run,
-    /// The front of the path that the tree is to keep, as the look counted it, in the form in which the tree
-    /// keeps it.
+    /// The front of the path that the tree is to keep, as the look made it.
     run: Run,
     deleted: bool,
     body: Body,
@@ -145,8 +144,8 @@ impl RevTree {
     }
 
     /// How many different revisions the paths name; a revision that paths have in common counts once. The
-    /// cost is one step for each edit, and more for edits that join others, as `Branches::revision_count`
-    /// says.
+    /// cost is that of `Branches::revision_count`: one step for each edit, and more for one that joins
+    /// others.
     pub fn nodes(&self) -> usize
         ensures { result ≡ min (revision_count self.now.edits) (2 ^ 64 - 1) }
     {
@@ -229,10 +228,10 @@ impl RevTree {
         Some(winner.rev)
     }
 
-    /// Looks whether the tree can take an edit. The reply is `None` where the edit's revision is known, else
-    /// the edit with memory: a place in the tree, and the front of the path that the tree is to keep. The
-    /// cost is the path's length, and a find for each new revision up to the highest generation of the tree,
-    /// for the first known one, and for each chain at whose end the path goes on.
+    /// Looks whether the tree can take an edit. The reply is `None` where the edit's revision is known. Else
+    /// it is the edit with memory: a place in the tree, and the front of the path that the tree is to keep.
+    /// The cost is the path's length and some finds. A find is for each new revision up to the highest
+    /// generation of the tree, the first known one, and each chain at whose end the path goes on.
     pub fn look_merge(
         &mut self,
         path: Path,
@@ -266,11 +265,11 @@ impl RevTree {
     /// the path is cut to it instead, in its own memory. The cost is that of `look_merge`.
     ///
     /// The winner takes constant time where it is the new edit's revision, or the old winner, on which the
-    /// edit does not stand. Else the best leaf is looked for. With an index that costs at most log n
-    /// comparisons of revisions for each edit that ever comes: an edit becomes a candidate once at most, and
-    /// is given up once. Without an index, or memory for the candidates, it costs one step for each edit. So
-    /// an edit that `look_extend` made on the newest revision of a line takes constant time. To that comes
-    /// the time to free the path's memory, and to make or grow the index and the shared path.
+    /// edit does not stand. Else the best leaf is looked for. An edit becomes a candidate once at most, and
+    /// is given up once. So with an index these looks cost at most log n comparisons of revisions for each
+    /// edit that ever comes. Without an index, or memory for the candidates, a look costs one step for each
+    /// edit. So an edit that `look_extend` made on the newest revision of a line takes constant time. To that
+    /// comes the time to free the path's memory, and to make or grow the index and the shared path.
     pub fn adopt(&mut self, ready: Ready)
         requires acceptable { IsAcceptable self.old.edits ready }
         requires room { length ready.path ≤ self.old.room }
