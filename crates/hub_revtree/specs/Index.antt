@@ -128,7 +128,7 @@ pub record IsOfLast (list : List Stem) (number at : ℕ) : Type 0 where
   pub newest : number + 1 ≡ length list
   pub within : at < length (revisions_at list number)
 
--- the same, and `firsts` leads to the first stem of each revision before that place
+-- the same, and `firsts` leads to the first stem of each of their revisions
 pub record IsOfLastTold (list : List Stem) (firsts : Firsts) (number at : ℕ) : Type 0 where
   pub stems : AreStems list
   pub newest : number + 1 ≡ length list

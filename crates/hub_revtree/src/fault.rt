@@ -36,7 +36,7 @@ impl From<AllocError> for MergeFault {
 pub enum EditFault {
     /// Memory was not to be had.
     NoMemory,
-    /// The named revision is no leaf, the winner in its place is not deleted, or the new revision is known.
+    /// The named revision is no leaf, an unnamed winner is not deleted, or the new revision is known.
     Conflict,
     /// The revision that the edit extends has the last generation, 65,535.
     GenerationLimit,
