@@ -15,7 +15,7 @@ use Rattle.hex.specs.declared.error.FromHexError.{FromHexError}
 use Rattle.hex.proofs.HexLemmas.{decode_sized-encode_lower}
 use Rattle.hub_revtree.proofs.StemLemmas.{same_truth}
 
--- the number of the bytes up to a place is below what one at the next place is worth
+-- the number of the bytes up to a place is below the worth of 1 at the next place
 abbrev worth : (ℕ → ℕ) → ℕ → ℕ
 worth f k = sum_through (λ i. byte_worth i (f i)) k
 

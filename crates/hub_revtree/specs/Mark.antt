@@ -25,7 +25,7 @@ is_passed DeletedLeaf = false
 is_passed Inner = true
 is_passed DeletedInner = true
 
--- a stem with this note of whether it is inner
+-- a stem with the note that it is inner, or that it is not
 abbrev pub with_note : Bool → Stem → Stem
 with_note inner stem =
     record {
@@ -39,7 +39,7 @@ with_note inner stem =
       body = stem.body;
     }
 
--- a stem without a note
+-- a stem without its note, as if it were not inner
 abbrev pub plain : Stem → Stem
 plain stem = with_note false stem
 

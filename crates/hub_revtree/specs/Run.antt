@@ -1,7 +1,7 @@
 -- The revisions that a run keeps (own). In the examples d' is the hexadecimal text of the digest d, in
 -- lower-case digits, and so on. A run of the newest generation 3 and the digests d, e and f has the revisions
--- 3-d', 2-e' and 1-f'. It has the same where e and f are a shared line. Where they are one and the run has 2
--- revisions at most, it has 3-d' and 2-e'.
+-- 3-d', 2-e' and 1-f'. It has the same where e and f are on a shared line. With that line and 2 revisions at
+-- most, it has 3-d' and 2-e' alone.
 use Rattle.std.specs.Prelude.{ℕ, ◌-◌, List, [], ◌∷◌, take}
 use Rattle.hex.specs.Hex.{encode_lower}
 use Rattle.hub_model.specs.Revision.{Revision}

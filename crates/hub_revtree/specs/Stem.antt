@@ -159,7 +159,7 @@ one_of (Some revision) = revision ∷ []
 abbrev pub own_path : List Stem → Stem → List Revision
 own_path stems stem = stem.revisions ++ one_of (rev_at stems stem.parent)
 
--- revision stands directly behind other in a stem and the revision that it stands on
+-- revision stands directly behind other in the own path of a stem
 abbrev pub IsBrought : List Stem → Revision → Revision → Type 0
 IsBrought stems revision other =
     (k : ℕ) × (stem : Stem) × (slice_get stems k ≡ Some stem) × IsNext (own_path stems stem) other revision
@@ -173,7 +173,7 @@ pub record IsFound (stems : List Stem) (revision : Revision) (place : Option Pla
   pub found : IfSome place (StandsAt stems revision)
   pub none : IfNone place (has_revision stems revision ≡ false)
 
--- the stems have a revision at the place, and it stands directly behind other as a stem brought both
+-- the stems have a revision at the place, and it stands directly behind other in the own path of a stem
 abbrev pub IsBehind : List Stem → Revision → Place → Type 0
 IsBehind stems other place =
     IsWithin stems place

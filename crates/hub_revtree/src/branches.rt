@@ -1,4 +1,4 @@
-//! The stored edits of a document. They share the revisions that stand behind those that they brought.
+//! The stored edits of a document. Each keeps the revisions that it brought, and shares those behind them.
 
 ghost use Rattle.std.specs.Prelude.{◌≡◌, ◌≤◌, ◌<◌, ◌+◌, ◌++◌, ◌∷◌, List, Some, [], ◌-◌, ◌^◌, length, map};
 ghost use Rattle.std.specs.Prelude.{min, take, false, find, not, ◌&&◌, option_map, option_and_then};
@@ -82,7 +82,7 @@ pub(crate) fn lent(index: &Option<Box<Index>>) -> Option<&Index>
 }
 
 // The path's first `count` revisions: the run where it has just these, else the path, cut in its own memory.
-// And the digests of a whole path that may be shared: only the sharing takes new memory.
+// Also the digests of a whole path that may be shared. The sharing alone takes new memory.
 fn kept(run: Run, path: Run, count: usize) -> (Run, Option<Line>)
     requires some { 1 ≤ count }
     requires within { count ≤ length path }
@@ -193,8 +193,8 @@ impl Branches {
         }
     }
 
-    /// The same of an edit whose revision is a leaf; None where the revision stands behind another edit's
-    /// head. Then the revision is not made. Constant time.
+    /// The same for an edit whose revision is a leaf; None, and no revision is made, where it stands behind
+    /// another edit's head. Constant time.
     pub(crate) fn head_if_leaf(&self, at: usize) -> Option<Winner>
         requires { at < length self.now.list }
         ensures leaf { IfSome result (λ head. IsHeadAt self.now.list at head false) }
@@ -246,7 +246,7 @@ impl Branches {
         }
     }
 
-    /// Whether an edit that is made here shares the digests of its path with the next edits.
+    /// Whether an edit that is made here shares its path's digests with the next ones: it does with an index.
     pub(crate) fn shares_lines(&self) -> bool {
         self.index.is_some()
     }
@@ -303,7 +303,7 @@ impl Branches {
     /// shared path alone, and out of memory goes on without them. The run is a front of the path. Where the
     /// run has just the revisions that the stem is to keep, the stem takes it, and the path is shared or its
     /// memory given back. Else the path is cut to these revisions. The cost is that of `new_count` and of
-    /// `renewed`. Where one of these revisions was known, a find for each of them comes to it.
+    /// `renewed`, and a find for each of these revisions where one of them was known.
     pub(crate) fn push(&mut self, path: Run, run: Run, deleted: bool, body: Body)
         requires acceptable { IsAcceptable (edits_in self.old.list) (nameless path deleted body) }
         requires front { run ≡ take (length run) path }

@@ -23,8 +23,8 @@ use hub_document::RevId;
 use std::alloc::{AllocError, Global};
 use std::collections::{BTreeMap, HashMap};
 
-// The number of stems from which on there is an index. To look at each of so many takes twice as long as one
-// look in the map. Many documents have fewer edits, and they shall have no more memory.
+// From this number of stems on there is an index. To look at each of them takes twice as long as one look in
+// the map. Many documents have fewer edits, and they shall take no memory for an index.
 const TURN: usize = 256;
 
 /// The first stem that has each revision. A look takes constant time where the revision's hash is a digest's
@@ -35,8 +35,8 @@ pub(crate) struct Firsts {
     /// From the key of a digest to the number of the first stem that has a revision with that key. It takes
     /// some 30 to 60 bytes for each key.
     stems: HashMap<u64, u32>,
-    /// From each other revision to the number of the first stem that has it. It takes some 100 to 200 bytes
-    /// for each, and none while there is none.
+    /// From each revision to which `stems` does not lead to the number of the first stem that has it. It
+    /// takes some 100 to 200 bytes for each, and none while there is none.
     others: BTreeMap<RevKey, u32>,
 }
 
@@ -51,8 +51,8 @@ pub(crate) struct Index {
     /// The digests of the newest stem's newest revision and of all revisions behind it, for the next edit on
     /// it. None where the newest edit was not made on a shared line, and out of memory.
     pub(crate) line: Option<Line>,
-    /// The candidates for the best leaf. None before a search for it that takes no constant time, and out of
-    /// memory.
+    /// The candidates for the best leaf. None before the first search for it that takes more than constant
+    /// time, and out of memory.
     pub(crate) candidates: Option<Candidates>,
 }
 
@@ -128,7 +128,7 @@ impl Firsts {
     }
 
     /// The place of the revision in the first stem that has it; None where no stem has it. Constant time
-    /// where its hash is a digest's text and the key's stem has the revision, or the key has none. Else at
+    /// where its hash is a digest's text and the key's stem has the revision, or no stem has the key. Else at
     /// most log n comparisons of revisions.
     pub(crate) fn place(&self, stems: &[Stem], rev: &RevId) -> Option<Place>
         requires { AreToldOf stems.now self.now }

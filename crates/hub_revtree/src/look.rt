@@ -39,8 +39,8 @@ impl RevTree {
     }
 
     /// A known revision and all revisions behind it, in memory of just their size; None of an unknown
-    /// revision. The cost is two finds, the path's length, and two looks for each join of the path, for the
-    /// stem that goes on. Such a look is two looks in the index. Without an index it passes over the edits.
+    /// revision. The cost is two finds, the path's length, and at each join of the path two looks for the
+    /// stem that goes on. Such a look is two looks in the index, or without an index one at each edit.
     pub fn path(&self, alloc: Global, rev: &RevId) -> Result<Option<Path>, AllocError>
         ensures ok { IfOk result (λ path. path ≡ path_to self.now.edits rev.now) }
         ensures memory { OnErr result (IsKnown self.now.edits [] rev.now) }

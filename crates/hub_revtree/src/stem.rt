@@ -114,7 +114,8 @@ impl Stem {
         }
     }
 
-    /// The place that the stem stands on, if it stands on one: the revision behind its last. Constant time.
+    /// The place that the stem stands on, if there is one: it has the revision behind the last. Constant
+    /// time.
     pub(crate) fn parent(&self) -> Option<Place>
         ensures { result ≡ self.now.parent }
     {

@@ -44,7 +44,7 @@ pub(crate) fn place_in(stems: &[Stem], number: usize, rev: &RevId) -> Option<Pla
 /// A place of the revision; None where no stem has it. With an index it is the place in the first stem that
 /// has the revision. That takes constant time for digests that differ in their first eight bytes, else at
 /// most log n comparisons of revisions. Without an index it is one look for each stem, from the newest on up
-/// to the first that has the revision.
+/// to one that has the revision.
 pub(crate) fn place_of(stems: &[Stem], index: Option<&Index>, rev: &RevId) -> Option<Place>
     requires { AreIndexed stems.now (option_map (λ i. i.now) index) }
     ensures { IsFound stems.now rev.now result }
@@ -100,7 +100,7 @@ pub(crate) fn is_newest(stems: &[Stem], rev: &RevId) -> bool
     }
 }
 
-/// The place directly behind the revision in the stem of this number, or that it stands on. Constant time.
+/// The place behind the revision in the stem of this number; behind its last, its parent. Constant time.
 pub(crate) fn behind_in(stems: &[Stem], number: usize, sought: &Sought) -> Option<Place>
     requires { IsNumberIn stems.now number }
     ensures found { IfSome result (IsBehind stems.now sought.now) }
@@ -123,9 +123,9 @@ pub(crate) fn behind_in(stems: &[Stem], number: usize, sought: &Sought) -> Optio
     }
 }
 
-/// The place directly behind the revision in a stem that has it, or the place that such a stem stands on.
-/// With an index the cost is that of `place_of`. One look at the links comes to it where the chain of the
-/// first stem with the revision ends there. Without an index each stem may be read.
+/// The place directly behind the revision, as `behind_in` finds it in a stem. With an index the cost is that
+/// of `place_of`. Where the chain of the first stem with the revision ends there, a look at the links is
+/// added, at most log n comparisons of revisions. Without an index it is one look for each stem at most.
 pub(crate) fn place_behind(stems: &[Stem], index: Option<&Index>, rev: &RevId) -> Option<Place>
     requires { AreIndexed stems.now (option_map (λ i. i.now) index) }
     ensures found { IfSome result (IsBehind stems.now rev.now) }
@@ -232,9 +232,9 @@ impl Branches {
         }
     }
 
-    /// The number of a revision and all revisions behind it; 0 where no path names it. The cost is a find.
-    /// Where the revision's chain ends above generation 1, one step for each stem and the cost of
-    /// `behind_last` for each chain come to it.
+    /// The number of revisions from this one on to the last one behind it; 0 where no path names it. The cost
+    /// is a find. Where the revision's chain ends above generation 1, a step for each stem of the line is
+    /// added, and that of `behind_last` for each chain.
     pub(crate) fn line_length(&self, rev: &RevId) -> u16
         ensures { result ≡ length (line_to (edits_in self.now.list) (Some rev.now)) }
     {

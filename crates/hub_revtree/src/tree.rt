@@ -24,11 +24,11 @@ use std::marker::Model;
 /// The stored edits of one document, in the order in which they came, and their winner. The document's id
 /// stands elsewhere.
 ///
-/// A find of a revision reads the edits from the newest on, up to the one that brought the revision. From 256
-/// edits on a tree has an index of its revisions, if it finds memory for it. Then a find takes constant time
-/// where the hash is a digest's text, and no other revision with the digest's first eight bytes came before.
-/// Else it costs at most log n comparisons of revisions. With an index, edits on one another share their path
-/// too, so that an edit on the newest revision of a line takes constant time.
+/// A find of a revision takes one step for each edit, from the newest on, up to the one that brought the
+/// revision. From 256 edits on a tree has an index of its revisions, if it finds memory for it. Then a find
+/// takes constant time where the hash is a digest's text, and no other revision with the digest's first eight
+/// bytes came before. Else it costs at most log n comparisons of revisions. With an index, edits on one
+/// another share their path too, so that an edit on the newest revision of a line takes constant time.
 ///
 /// One bit for each edit says whether its revision stands behind that of another edit by now. So to ask
 /// whether an edit's revision is a leaf takes constant time.
@@ -143,9 +143,8 @@ impl RevTree {
         self.branches.len()
     }
 
-    /// How many different revisions the paths name; a revision that paths have in common counts once. The
-    /// cost is that of `Branches::revision_count`: one step for each edit, and more for one that joins
-    /// others.
+    /// How many different revisions the paths name; a revision that paths have in common counts once. It
+    /// costs one step for each edit, and more for an edit that joins others (`Branches::revision_count`).
     pub fn nodes(&self) -> usize
         ensures { result ≡ min (revision_count self.now.edits) (2 ^ 64 - 1) }
     {
@@ -230,8 +229,8 @@ impl RevTree {
 
     /// Looks whether the tree can take an edit. The reply is `None` where the edit's revision is known. Else
     /// it is the edit with memory: a place in the tree, and the front of the path that the tree is to keep.
-    /// The cost is the path's length and some finds. A find is for each new revision up to the highest
-    /// generation of the tree, the first known one, and each chain at whose end the path goes on.
+    /// The cost is the path's length and finds: one for each new revision up to the highest generation of the
+    /// tree, one for the first known one, and one for each chain at whose end the path goes on.
     pub fn look_merge(
         &mut self,
         path: Path,
@@ -265,11 +264,12 @@ impl RevTree {
     /// the path is cut to it instead, in its own memory. The cost is that of `look_merge`.
     ///
     /// The winner takes constant time where it is the new edit's revision, or the old winner, on which the
-    /// edit does not stand. Else the best leaf is looked for. An edit becomes a candidate once at most, and
-    /// is given up once. So with an index these looks cost at most log n comparisons of revisions for each
-    /// edit that ever comes. Without an index, or memory for the candidates, a look costs one step for each
-    /// edit. So an edit that `look_extend` made on the newest revision of a line takes constant time. To that
-    /// comes the time to free the path's memory, and to make or grow the index and the shared path.
+    /// edit does not stand. Else there is a search for the best leaf. An edit becomes a candidate once at
+    /// most, and is given up once. So with an index these searches cost at most log n comparisons of
+    /// revisions for each edit that ever comes. Without an index, or memory for the candidates, a search
+    /// costs one step for each edit. So an edit that `look_extend` made on the newest revision of a line
+    /// takes constant time, save for two things. The path's memory is given back, and the index and the
+    /// shared path are made or grow.
     pub fn adopt(&mut self, ready: Ready)
         requires acceptable { IsAcceptable self.old.edits ready }
         requires room { length ready.path ≤ self.old.room }
