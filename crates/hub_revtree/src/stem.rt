@@ -114,8 +114,7 @@ impl Stem {
         }
     }
 
-    /// The place that the stem stands on, if there is one: it has the revision behind the last. Constant
-    /// time.
+    /// The place of the revision behind the stem's last: the stem stands on it, if on any. Constant time.
     pub(crate) fn parent(&self) -> Option<Place>
         ensures { result ≡ self.now.parent }
     {
