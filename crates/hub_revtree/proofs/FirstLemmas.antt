@@ -222,7 +222,7 @@ has_low stems k revision h = from (slice_get stems k) refl h
     from None e t = absurd (cc)
     from (Some s) e t = slice_get_within stems k s e
 
--- a revision that one of the stems has is one of the stems'
+-- the stems have each revision that one of them has, and no other
 pub has_any : (stems : List Stem) (k : ℕ) (revision : Revision) → Has stems k revision
     → has_revision stems revision ≡ true
 has_any stems k revision h = from (slice_get stems k) refl h

@@ -305,7 +305,7 @@ module _ (stems : List Stem) (a : AreStems stems) (k : ℕ) (stem : Stem)
         from None q = ends q
         from (Some p) q = tt
 
--- a statement that holds where there is a value, and there is one
+-- where there is a value, the statement holds that any value gives
 pub some_if : {A : Type 0} (o : Option A) (P : Type 0) → IfSome o (λ _. P) → is_some o ≡ true → P
 some_if None P h t = absurd (cc)
 some_if (Some x) P h t = h

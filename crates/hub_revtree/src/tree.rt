@@ -229,8 +229,8 @@ impl RevTree {
 
     /// Looks whether the tree can take an edit. The reply is `None` where the edit's revision is known. Else
     /// it is the edit with memory: a place in the tree, and the front of the path that the tree is to keep.
-    /// The cost is the path's length and finds: one for each new revision up to the highest generation of the
-    /// tree, one for the first known one, and one for each chain at whose end the path goes on.
+    /// The cost is the path's length and some finds. Each new revision up to the highest generation of the
+    /// tree costs one, and so do the first known revision and each chain at whose end the path goes on.
     pub fn look_merge(
         &mut self,
         path: Path,
