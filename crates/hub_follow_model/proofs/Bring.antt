@@ -1,5 +1,5 @@
--- The leaves of a document bring all of it: each revision and each step behind a revision is on the path of a
--- leaf, and stays there.
+-- The leaves of a document bring the whole document: each revision, and each step behind a revision, is on
+-- the path of a leaf, and stays there.
 use Rattle.std.proofs.Common.{◌≡◌, ◌≢◌, ℕ, List, [], ◌∷◌, ◌++◌, Contains, ◌⊎◌, inl, inr}
 use Rattle.std.proofs.Common.{refl, sym, ap, ⊎_elim, ◌∙◌, subst, append_assoc, Bool}
 use Rattle.std.proofs.lemmas.List.Elements.{Contains-append_left, Contains-push, Contains-push_cases}
@@ -16,7 +16,7 @@ use Rattle.hub_model.proofs.Lists.{contains_none, contains_cases, same_text}
 use Rattle.hub_follow_model.proofs.Paths.{behind_more, first_same, first_or_next, legal_at, in_path, fronts}
 use Rattle.hub_model.proofs.Walks.{walk_steps}
 
--- r is revision or stands behind it, step by step
+-- the revision leads to itself, and to each revision that stands behind it, step by step
 pub data Leads (other_journal : List Edit) (id : List ℕ) (revision : Revision) : Revision → Type 0 where
   here : Leads other_journal id revision revision
   back : {s r : Revision} → Leads other_journal id revision s → IsBehind other_journal id r s

@@ -1,4 +1,4 @@
--- The number up to which all was copied: it stays one as journals grow, and logs agree on such numbers.
+-- The number up to which all was copied: it stays right as journals grow, and logs agree on right numbers.
 use Rattle.std.proofs.Common.{◌≡◌, ◌≢◌, ℕ, suc, ◌≤◌, min, cond, List, [], ◌∷◌, ◌++◌, length}
 use Rattle.std.proofs.Common.{map, take, drop, Contains, ◌⊎◌, inl, inr, refl, sym, ap, ⊎_elim}
 use Rattle.std.proofs.Common.{◌∙◌, subst, arith, Bool, true, false, nat_eq, if◌then◌else◌}

@@ -1,5 +1,5 @@
 -- The answer of a source to a follower that asks for changes: all items that a normal feed of every leaf has
--- handed, its end included (CouchDB Replication Protocol, listen to changes feed).
+-- handed, its end included. (CouchDB Replication Protocol, listen to changes feed.)
 use Rattle.std.specs.List.{list_any}
 use Rattle.std.specs.Prelude.{◌≡◌, true, ℕ, List, [], ◌∷◌, ◌++◌, length, map, false, Some}
 use Rattle.hub_model.specs.declared.feeds.Item.TheVariants.{Row, End}
@@ -32,7 +32,7 @@ params_from since =
 abbrev pub params_after : ℕ → Params
 params_after since = params_from (Plain since)
 
--- such a feed after its End, which names `last`
+-- a feed with these parameters after its End, which names `last`
 abbrev pub ended_feed : (since last rows : ℕ) → Feed
 ended_feed since last rows =
     record {

@@ -60,8 +60,8 @@ pub data Phase : Type 0 where
   SourceCheckpoint : Phase
   TargetCheckpoint : Phase
 
--- a follower: without a session, or at one of the two logs by which a session begins, or with a session and
--- no phase, or with a session and a phase
+-- a follower has no session, or is at one of the two logs by which a session begins. Or it has a session, and
+-- is in no phase or in one.
 pub data Follower : Type 0 where
   Down : Follower
   SourceStart : (session_id : List ℕ) → Follower
@@ -102,8 +102,8 @@ revisions_of_row row = record { id = row.id; revs = row.changes }
 abbrev pub missing_revisions : Diff → RevisionsOfDoc
 missing_revisions diff = record { id = diff.id; revs = diff.missing }
 
--- The call that a phase makes. Where the changes after 3 list a with 2-d, the calls are RevsDiff of a with
--- 2-d, then OpenRevs of a with 2-d, then Merge of the fetched document (proved: `SecondRoundCalls`).
+-- The call that a phase makes. Let the changes after 3 list a with 2-d. The calls are RevsDiff of a with 2-d,
+-- then OpenRevs of a with 2-d, then Merge of the fetched document (proved: `SecondRoundCalls`).
 abbrev pub phase_call : Session → Phase → Call
 phase_call session Listing = Changes session.place
 phase_call session (Comparison asked last) = RevsDiff asked

@@ -1,5 +1,5 @@
--- Sequences of a source as a follower keeps them: each with the number of its life, where that is known (own,
--- over the CouchDB Replication Protocol, to which a sequence is an opaque text).
+-- Sequences of a source as a follower keeps them: each with the number of its life, where the life is known.
+-- (Own, over the CouchDB Replication Protocol, to which a sequence is an opaque text.)
 use Rattle.std.specs.Prelude.{ℕ, min, nat_eq, Bool, true, false, if◌then◌else◌, Option, Some, None}
 use Rattle.hub_model.specs.Feed.{counted_in}
 use Rattle.hub_follow_model.specs.declared.seq.Seq.{Seq}
@@ -38,8 +38,8 @@ abbrev pub counted_by : Seq → Option ℕ → ℕ
 counted_by seq None = seq.n
 counted_by seq (Some life) = seq_in life seq
 
--- whether the new place is the old one, as the old one counts in the new one's life: 5-1 after 5 is the same
--- place, and so is 0-2 after 5-1
+-- whether the new place is the old one, as the old one counts in the new one's life. After 5 the place 5-1 is
+-- the same, and so is 0-2 after 5-1.
 abbrev pub is_same_place : (old new : Option Seq) → Bool
 is_same_place None None = true
 is_same_place None (Some new) = false

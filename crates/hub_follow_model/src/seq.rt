@@ -9,7 +9,7 @@ ghost use Rattle.hub_follow_model.specs.Sequence.{beginning, lesser_seq, seq_in,
 pub struct Seq {
     /// The number of the edit.
     pub n: u64,
-    /// The number of the source's life in which the edit was made.
+    /// The number of the source's life to which the sequence belongs.
     pub life: Option<u64>,
 }
 

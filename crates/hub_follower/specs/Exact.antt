@@ -1,4 +1,5 @@
--- A follower over two peers that answer exactly is a run of its world, also where a call fails (own).
+-- The calls of a follower over two peers that answer exactly are a run of its world, also where one fails
+-- (own).
 use Rattle.std.specs.Prelude.{◌≡◌, ◌⊎◌, ℕ, List, map, take, Option, Some}
 use Rattle.hub_model.specs.Journal.{Edit}
 use Rattle.hub_model.specs.Missing.{diffs}
@@ -40,14 +41,15 @@ IsStoredInPart limit held (follow.Merge docs) new =
     (count : ℕ) × (new ≡ record held { journal = (merges_all limit held.journal (take count docs)).journal })
 IsStoredInPart limit held call new = ⊥
 
--- The failure of a call of such a database. The call has no effect; or it has its whole effect, and the
--- answer is lost; or it is a merge that stops. So of a merge of a and b the journal gets nothing, a, or both.
+-- The failure of a call of a database that nobody else writes. The call has no effect; or it has its whole
+-- effect, and the answer is lost; or it is a merge that stops. So of a merge of a and b the journal gets
+-- nothing, a, or both.
 abbrev pub IsExactLoss : ℕ → PeerContents → follow.Call → PeerContents → Type 0
 IsExactLoss limit held call new =
     (new ≡ held)
     ⊎ (((answer : follow.Answer) × IsExact limit held call answer new) ⊎ IsStoredInPart limit held call new)
 
--- the world of a follower over such peers, in which these sessions have begun
+-- the world of a follower over exact peers, in which these sessions have begun
 abbrev pub world_at : ℕ → List (List ℕ) → FollowState PeerContents PeerContents → World
 world_at limit sessions at =
     record {
@@ -61,11 +63,11 @@ world_at limit sessions at =
       follower = at.follower;
     }
 
--- over such peers the follower makes its calls until it owes none
+-- over exact peers the follower makes its calls until it owes none
 abbrev pub IsExactWalk : ℕ → FollowState PeerContents PeerContents → FollowState PeerContents PeerContents → Type 0
 IsExactWalk limit old new = IsWalk (IsExact limit) (IsExact limit) old new
 
--- over such peers the follower makes its calls up to a call that fails for this fault
+-- over exact peers the follower makes its calls up to a call that fails for this fault
 abbrev pub BreaksExactly : ℕ → FollowFault → FollowState PeerContents PeerContents → FollowState PeerContents PeerContents → Type 0
 BreaksExactly limit fault old new =
     Breaks (IsExact limit) (IsExact limit) (IsExactLoss limit) (IsExactLoss limit) fault old new
@@ -75,7 +77,7 @@ abbrev pub HasRun : ℕ → List (List ℕ) → FollowState PeerContents PeerCon
 HasRun limit sessions old new =
     (events : List Event) × Run (world_at limit sessions old) events (world_at limit sessions new)
 
--- the law: a walk of a follower over such peers is a run of its world
+-- the law: a walk of a follower over exact peers is a run of its world
 abbrev pub ExactWalksRun : Type 0
 ExactWalksRun =
     (limit : ℕ) (sessions : List (List ℕ)) (old new : FollowState PeerContents PeerContents) → IsExactWalk limit old new

@@ -32,8 +32,8 @@ listing_params since =
       heartbeat = false;
     }
 
--- these are all rows of the list, with `len` as their last sequence, where the list has 100 at most; else the
--- first 100, with the sequence of the last of them
+-- The first rows of the list `all`, and their last sequence. Where the list has 100 rows at most, these are
+-- all rows, and `len`. Else they are the first 100 rows, and the sequence of the last of them.
 pub record AreFirst (all : List ChangeRow) (len : ℕ) (rows : List ChangeRow) (last : ℕ) : Type 0 where
   pub short : length all ≤ 100 → (rows ≡ all) × (last ≡ len)
   pub long : 100 < length all → (rows ≡ take 100 all) × ((row : ChangeRow) → last ≡ (get_or all 99 row).seq)

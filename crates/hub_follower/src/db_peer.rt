@@ -105,7 +105,7 @@ fn changes_after<R: Wait>(
     changes
 }
 
-// The revisions of these that the database misses.
+// The revisions of `asked` that the database misses.
 fn diffs_of<R: Wait>(
     rt: &R,
     alloc: Global,

@@ -151,11 +151,11 @@ fn answer_end(
     Ok(None)
 }
 
-/// Whether these items are an answer to a follower that asks for the changes above `since`: all that a normal
-/// feed of every leaf, with a limit of 100, may have handed by now, its end included. The number of pending
-/// rows is not looked at. Of a deleted database the journal that it had decides. The cost is the storing of
-/// each edit in a copy, and for each row a list of all current rows. The function is meant for tests and for
-/// `FollowWorld`, not for serving.
+/// Whether these items are an answer to a follower that asks for the changes above `since`. An answer has all
+/// items that a normal feed of every leaf, with a limit of 100, may have handed by now, its end included. The
+/// number of pending rows is not looked at. Of a deleted database the journal that it had decides. The cost
+/// is the storing of each edit in a copy, and for each row a list of all current rows. The function is meant
+/// for tests and for `FollowWorld`, not for serving.
 pub fn rightly_handed(
     alloc: Global,
     db: &DbState,

@@ -93,7 +93,7 @@ pub trait Peer {
         ensures called { IsCalled gives loses fault_count (follow.Changes since)
             (λ c. follow.ChangesAnswer c.rows.items c.last_seq c.life) result self.old self.new };
 
-    /// The revisions of these that the peer misses, document by document.
+    /// The revisions of `asked` that the peer misses, document by document.
     fn revs_diff(&mut self, asked: &[Asked]) -> Result<Vec<Diff>, CallFault>
         ensures called { IsCalled gives loses fault_count (follow.RevsDiff asked.now)
             (λ diffs. follow.RevsDiffAnswer diffs.items) result self.old self.new };

@@ -26,7 +26,7 @@ pub record Answer : Type 0 where
   pub reply : Reply
   pub world : World
 
--- this reply, and this world after it
+-- the answer with this reply, and with this world after it
 abbrev pub answer_with : Reply → World → Answer
 answer_with reply world = record { reply = reply; world = world }
 

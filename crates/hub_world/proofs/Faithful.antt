@@ -57,7 +57,7 @@ ends_last place (End l m ∷ before) later last n h =
     (subst (λ (items : List ChangeItem). Contains items (End last n)) h.1
     (Contains-append_right before (End last n ∷ later) (End last n) (contains_here _ _))))
 
--- the row of a sequence
+-- the row that has this sequence, where the sequence is among those of the rows
 row_at : (rows : List ChangeRow) (n : ℕ) → Contains (map (λ (r : ChangeRow). r.seq) rows) n
     → (row : ChangeRow) × Contains rows row × (row.seq ≡ n)
 row_at [] n c = absurd (contains_none n c)

@@ -141,7 +141,7 @@ module _ (Q : List Edit → Subscription → List ChangeItem → List ChangeItem
             (stays journal (slice_get subscriptions g) items others i)
       ]
 
-  -- more edits come
+  -- edits are added to the journal
   more_edits : (journal other_journal : List Edit) (maybe_subscription : Option Subscription)
       (items others : List ChangeItem)
       → ((edits : List Edit) × (other_journal ≡ journal ++ edits))
@@ -168,7 +168,7 @@ module _ (Q : List Edit → Subscription → List ChangeItem → List ChangeItem
             (rw (append-nil items ∙ none.0, append-nil others ∙ none.1) (k.begins journal params life))
       ]
 
-  -- every open feed is closed
+  -- the database is deleted, and every open feed ends
   closes : (journal : List Edit) (subscriptions : List Subscription) (g : ℕ) (items others : List ChangeItem)
       → In Q journal (slice_get subscriptions g) items others
       → In Q journal (slice_get (map ended_subscription subscriptions) g) (items ++ []) (others ++ [])
@@ -250,7 +250,7 @@ module _ (Q : List Edit → Subscription → List ChangeItem → List ChangeItem
         | inr other ↦ rw (ne_eqb f g other) (rw (ne_eqb f g other) at c)
       ]
 
-  -- one step
+  -- one step keeps the fact at every feed's number
   pub step_keeps : (old : World) (event : Event) (reply : Reply) (new : World) (g : ℕ) (h t : List ChangeItem)
       → Step old event reply new → In Q old.journal (subscription old g) h t →
       In Q new.journal (subscription new g) (h ++ handed_by g event reply) (t ++ taken_by g event reply)
@@ -300,7 +300,7 @@ module _ (Q : List Edit → Subscription → List ChangeItem → List ChangeItem
   step_keeps old Delete DatabaseDeleted new g h t m i = rw m.1 (stays old.journal (subscription old g) h t i)
   step_keeps old Delete _ new g h t m i = absurd m
 
-  -- a whole run
+  -- a whole run keeps the fact at every feed's number
   pub run_keeps : (old : World) (events : List Event) (replies : List Reply) (new : World)
       (g : ℕ) (items others : List ChangeItem)
       → Run old events replies new → In Q old.journal (subscription old g) items others →

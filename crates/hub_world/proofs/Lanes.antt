@@ -22,7 +22,7 @@ use Rattle.hub_model.proofs.Fitting.{fits_nothing, fits_expire, fits_close, fits
 use Rattle.hub_world.proofs.StandingLists.{open_stands}
 use Rattle.hub_world.proofs.Kept.{IsKept, In, step_keeps, run_keeps}
 
--- the fitting alone
+-- the fact that the handed items fit the feed
 FitsAlone : List Edit → Subscription → List ChangeItem → List ChangeItem → Type 0
 FitsAlone journal subscription items others = Fits change_rows journal subscription.feed items
 

@@ -97,7 +97,7 @@ module _ (program : Program) (number : ℕ) where
 
 -- ---- hands
 
--- an item was handed
+-- an item was handed: the result is Row or End
 abbrev pub HasHanded : Handed → Type 0
 HasHanded did.Row = ⊤
 HasHanded did.End = ⊤
@@ -338,7 +338,7 @@ module _ (program new : Program) (id : FeedId) (of : IsWorld program)
           (subst (λ c. Leads (core_of program) (event.Heartbeat id) (reply.Pushed Beat) c) beat_core
           (beat_pushed (core_of program) id due (omega (arith, within, grown, limit))))
 
--- ---- what keeps the lanes
+-- ---- steps that keep the lanes
 
 pub kept_lists : (old new : Program) → IsWorld old → new ≡ record old { state = new.state }
     → new.state.limits.lane ≡ old.state.limits.lane → HasLists new

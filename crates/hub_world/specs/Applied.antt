@@ -43,8 +43,8 @@ whole_reply (Outcomes batch) = Outcomes (whole_batch batch.replies)
 whole_reply reply = reply
 
 -- A batch that did not stop answers for each document. A batch that stopped answers for fewer, and the next
--- document needed room: of five documents with a known one in the middle it may answer for 0, 1, 3 or 4, and
--- never for 2.
+-- document needed room. Of five documents with a known one in the middle such a batch may answer for 0, 1, 3
+-- or 4, and never for 2.
 pub record IsAnsweredFor (new_edits : Bool) (old : Core) (docs : List Doc) (batch : Batch) (new : Core) :
     Type 0 where
   pub whole : batch.stopped ≡ false → length batch.replies ≡ length docs

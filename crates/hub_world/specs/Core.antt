@@ -1,5 +1,5 @@
--- The core: the database and the lanes that a program keeps under a lock. It shows a world. Finished feeds
--- are dropped from the core, and stay in the world (own).
+-- The core: the database and the lanes that a program keeps under a lock; and the world that a core shows.
+-- Finished feeds are dropped from the core, and stay in the world (own).
 use Rattle.std.specs.Prelude.{◌≡◌, ℕ, ◌+◌, List, [], ◌∷◌, length, map, true, All, if◌then◌else◌}
 use Rattle.hub_document.specs.declared.limits.Limits as hub
 use Rattle.hub_database.specs.Database.{Database}
@@ -9,7 +9,7 @@ use Rattle.hub_shared.specs.Locked.{LockedState}
 use Rattle.hub_world.specs.PlainList.{ListState}
 use Rattle.hub_world.specs.World.{World, Limits, Subscription, is_finished}
 
--- a database, and the lanes of its feeds by their numbers
+-- a core: a database, and the lanes of its feeds by their numbers
 pub record Core : Type 0 where
   pub db : Database
   pub lanes : List (ℕ × List ChangeItem)

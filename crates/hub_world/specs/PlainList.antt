@@ -11,7 +11,7 @@ items_of (Behind' marker before item) = items_of before ++ item.value ∷ []
 
 -- a list, as contracts see it
 pub record ListState : Type 0 where
-  pub label : Label  -- the parameters of its feed, and where the feed began
+  pub label : Label  -- the parameters of its feed, its since and its life
   pub held : List ChangeItem  -- the items that were sent and not taken, the front first
   pub sent : List ChangeItem  -- all items that were sent
   pub capacity : ℕ  -- how many items it holds at most
