@@ -166,7 +166,7 @@ MissingLeavesPlace =
 abbrev pub at_storage : Follower
 at_storage = Busy (session_at (seq 3)) (Storage (second_edit ∷ []) (seq 4))
 
--- the answer of a target whose journal has room for three edits
+-- the answer of a target that has three edits, and may have no more
 abbrev pub full_answer : Answer
 full_answer = MergeAnswer (merges_all 3 three_edits (second_edit ∷ [])).outcomes
 

@@ -36,7 +36,7 @@ follower_of (TargetStart session_id source) = follow.TargetStart (string_bytes s
 follower_of (Ready session) = follow.Ready session
 follower_of (Busy session phase) = follow.Busy session (phase_of phase)
 
--- the follower of a session that goes on in this way
+-- the follower of a session and its next state
 abbrev pub follower_behind : follow.Session → Next → follow.Follower
 follower_behind session goes.Ready = follow.Ready session
 follower_behind session (goes.ReadyAt last) = follow.ready_at session last

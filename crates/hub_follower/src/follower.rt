@@ -173,12 +173,12 @@ impl<S: Peer + Drop, T: Peer + Drop> Follower<S, T> {
         &self.core
     }
 
-    /// Copies the changes above the place, 100 documents at most. It asks the target which of the listed
-    /// leaves it misses, fetches these with their histories, and stores them. A place of another life than
-    /// the source's counts as 0, and a place of no known life as it is; the round gives it the source's life.
-    /// Without changes the result is `Idle`: the changes end at the place. Else the place moves to their end,
-    /// once each fetched document was stored or known. After an error the session and its place are as
-    /// before: the source was only read, and the target may have some of the fetched revisions.
+    /// Copies the changes above the place, 100 documents at most. The round asks the target which of the
+    /// listed leaves it misses, fetches these with their histories, and stores them. A place of another life
+    /// than the source's counts as 0, and a place of no known life as it is; the round gives it the source's
+    /// life. Without changes the result is `Idle`: the changes end at the place. Else the place moves to
+    /// their end, once each fetched document was stored or known. After an error the session and its place
+    /// are as before. The source was only read, and the target may have some of the fetched revisions.
     #[tactic(auto, using(crate::proofs::Walking::round_fails))]
     pub fn round(&mut self) -> Result<Round, FollowFault>
         ensures done { IsCarriedOut S.gives T.gives S.loses T.loses S.fault_count T.fault_count

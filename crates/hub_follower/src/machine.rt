@@ -48,7 +48,7 @@ impl Model for FollowCore {
     ghost view = { λ c. follower_of c.state };
 }
 
-// The way on of a session by the answer to the call that its phase owes. The phase is spent.
+// The next state of a session, by the answer to the call that its phase owes. The phase is spent.
 fn answered(
     alloc: Global,
     session: &Session,
@@ -89,7 +89,7 @@ fn answered(
     }
 }
 
-// The state of a session that goes on in this way.
+// The machine's state for a session and its next state.
 fn gone_on(session: Session, next: Next) -> State
     ensures value { follower_of result ≡ follower_behind session next }
 {

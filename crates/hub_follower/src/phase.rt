@@ -32,7 +32,7 @@ pub(crate) enum Phase {
     TargetCheckpoint,
 }
 
-/// The way on of a session after an answer.
+/// The next state of a session, after an answer.
 #[derive(Drop)]
 pub(crate) enum Next {
     /// The checkpoint is done.
@@ -57,8 +57,8 @@ fn revisions_of_rows(alloc: Global, rows: Vec<ChangeRow>) -> Result<Vec<Asked>, 
     Ok(asked)
 }
 
-/// The way on after the changes: their revisions are compared, or the round is over where there are none. It
-/// takes memory for the list.
+/// The next state after the changes: their revisions are compared, or the round is over where there are none.
+/// It takes memory for the list.
 pub(crate) fn comparison_or_ready(
     alloc: Global,
     rows: Vec<ChangeRow>,
@@ -89,7 +89,7 @@ fn missing_revisions(alloc: Global, diffs: Vec<Diff>) -> Result<VecDeque<Asked>,
     Ok(asked)
 }
 
-/// The way on after a fetch: the next document that the target misses is fetched. Where none is left, all
+/// The next state after a fetch: the next document that the target misses is fetched. Where none is left, all
 /// fetched documents are stored; where none was fetched, the round is over. It takes no memory.
 pub(crate) fn retrieval_or_storage(later: VecDeque<Asked>, got: FetchedDocs, last: Seq) -> Next
     ensures value { (s : follow.Session)
@@ -103,7 +103,7 @@ pub(crate) fn retrieval_or_storage(later: VecDeque<Asked>, got: FetchedDocs, las
     }
 }
 
-/// The way on after the comparison: the missing revisions are fetched. It takes memory for the list.
+/// The next state after the comparison: the missing revisions are fetched. It takes memory for the list.
 pub(crate) fn first_retrieval(
     alloc: Global,
     diffs: Vec<Diff>,
