@@ -40,7 +40,7 @@ pub struct Follower<S, T> {
 /// A session that did not begin, with the two peers.
 #[derive(Debug, Drop)]
 pub struct FailedStart<S, T> {
-    /// The reason.
+    /// The fault for which the session did not begin.
     pub fault: FollowFault,
     pub source: S,
     pub target: T,

@@ -44,9 +44,9 @@ is_finished Finished = true
 abbrev pub open_feeds : World → ℕ
 open_feeds world = count_by (λ s. not (is_finished s.feed.status)) world.feeds
 
--- whether no more feed may be opened: the limit's number of feeds is not finished, or no number is left. With
--- a limit of one feed and one feed that is not finished, no other may be opened. Once that feed is finished,
--- another may (proved: `FeedsAreCounted`).
+-- whether no more feed may be opened: as many feeds as the limit allows are not finished, or no number is
+-- left. With a limit of one feed and one feed that is not finished, no other may be opened. Once that feed is
+-- finished, another may (proved: `FeedsAreCounted`).
 abbrev pub has_no_room : World → Bool
 has_no_room world = nat_le world.limits.feeds (open_feeds world) || nat_le (2 ^ 64 - 1) (length world.feeds)
 
