@@ -93,9 +93,9 @@ abbrev pub draft_result : ℕ → List Edit → Draft → Stores
 draft_result limit journal draft =
     draft_result_on limit journal draft (extended_path journal draft.id (leaves_of journal draft.id) draft.rev)
 
--- The draft extends a path, and the next generation is at most 65,535, so a revision is made for the draft. A
--- draft without `_rev` extends a path where its document is unknown or the winner is deleted. It extends none
--- where the winner is not deleted.
+-- The draft extends a path, and the next generation is at most 65,535, so the draft's revision is to be made.
+-- A draft without `_rev` extends a path where its document is unknown or the winner is deleted. It extends
+-- none where the winner is not deleted.
 abbrev pub HasNextRevision : List Edit → Draft → Type 0
 HasNextRevision journal draft =
     (path : List Revision) × (extended_path journal draft.id (leaves_of journal draft.id) draft.rev ≡ Some path)

@@ -140,8 +140,7 @@ after_end feed last_seq = record feed { place = last_seq; status = Ended }
 abbrev pub after_nothing : Feed → ℕ → Feed
 after_nothing feed len = record feed { place = len }
 
--- the feed after the step that was due, while there are len edits: it handed an item, or found nothing to
--- hand
+-- the feed after the step that was due, while there are len edits: it handed an item, or found none
 abbrev pub feed_after_due : Feed → Due → ℕ → Feed
 feed_after_due feed (DueRow c) len = after_row feed c.seq len
 feed_after_due feed (DueEnd last_seq) len = after_end feed last_seq

@@ -66,7 +66,7 @@ module _ {R : Type 0} (kind : RowKind R) where
       (journal : List Edit) (feed : Feed) (items : List (Item R)) → Fits kind journal feed items
       → Fits kind journal (finished_feed feed) items
 
-  -- A feed that has handed as many rows as its limit is not open; a limit of 0 acts as 1. With a limit of 3,
+  -- A feed that has handed as many rows as its limit is not open; a limit of 0 acts as 1. With a limit of 3
   -- only the End is left to hand after the third row.
   abbrev pub LimitedEnds : Type 0
   LimitedEnds =
