@@ -62,8 +62,9 @@ module _ {R : Type 0} (kind : RowKind R) where
       × IsTrue (is_passing feed.params.filter c.id)
 
   -- The feed may have handed the row: it was current in the first `seen` edits, passes, and lies above since
-  -- and not above the place. After edits of a, b and then a again, take a feed after 0 with place 1. It may
-  -- have handed the row of a at 1 with seen 1, but not with seen 3, since the row of a is at 3 by then.
+  -- and not above the place or the bound. After edits of a, b and then a again, take a feed after 0 with
+  -- place 1. It may have handed the row of a at 1 with seen 1, but not with seen 3, since the row of a is at
+  -- 3 by then.
   pub record IsRowOf (journal : List Edit) (feed : Feed) (row : R) : Type 0 where
     pub shown : IsPassingRow (take (kind.seen row) journal) feed row
     pub above : feed.since < kind.seq row
