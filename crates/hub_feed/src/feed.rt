@@ -304,8 +304,7 @@ impl FeedState {
         }
     }
 
-    /// The feed moves as after a hand of the item that `next_item` gives now. It takes no memory, and
-    /// constant time.
+    /// The feed moves as if it handed the item of `next_item`. It takes no memory, and constant time.
     pub fn accept_item<S: Source>(&mut self, source: &S, item: &Item<S::Row>)
         requires due { item_of_due (S.shown source.now self.old.params.style self.old.params.include_docs)
             (S.current source.now) (next_due (S.current source.now) self.old)

@@ -29,7 +29,7 @@ pub struct Feeds {
     list: Vec<(u64, FeedState)>,
     /// The number of the next feed: only lower numbers were given.
     next: u64,
-    /// The place of the feed that `place` found last. It looks there first.
+    /// The place of the feed that was found last. The next search looks there first.
     near: usize,
 }
 
@@ -176,8 +176,7 @@ impl Feeds {
         state.1.hand(source, first, handle, sink)
     }
 
-    /// The feed at `at` moves as after a hand of the item that `next_at` gives it now. It takes no memory,
-    /// and constant time.
+    /// The feed at `at` moves as if it handed the item of `next_at`. It takes no memory, and constant time.
     pub fn accept_at<S: Source>(&mut self, source: &S, feed: FeedId, at: usize, item: &Item<S::Row>)
         requires placed { Some at ≡ position (is_of feed.number) self.old.feeds }
         requires due { item_of_number

@@ -148,7 +148,7 @@ pub trait FeedHost: HostView {
     ghost rightly: { (s : Self) (f : Feed) (items : List (HandedItem Self.Row)) → Self.fits s f items
         → Self.right f.params f.since items };
 
-    /// A list that fits a feed fits it whatever feeds the host has.
+    /// A list that fits a feed still fits with other feeds in the host.
     ghost stays: { (s : Self) (h : Hosted Self.Row) (f : Feed) (items : List (HandedItem Self.Row))
         → Self.fits s f items → Self.fits (with_hosted s h) f items };
 
@@ -157,16 +157,16 @@ pub trait FeedHost: HostView {
         → (item : HandedItem Self.Row) → item_of_feed (Self.hosted s) f ≡ Some item → Self.fits s f items
         → Self.fits s (hosted_feed_after_due (Self.hosted s) f) (items ++ item ∷ []) };
 
-    /// A list that fits a feed still fits it after it found nothing to hand.
+    /// A list that fits a feed still fits after the feed found nothing to hand.
     ghost waiting_fits: { (s : Self) (f : Feed) (items : List (HandedItem Self.Row))
         → next_due (Self.hosted s).current f ≡ DueNothing → Self.fits s f items
         → Self.fits s (after_nothing f (Self.hosted s).length) items };
 
-    /// A list that fits a feed still fits it with a heartbeat at its end, if the feed may hand one.
+    /// A list that fits a feed still fits with a heartbeat at the end, if the feed may hand a heartbeat.
     ghost beat_fits: { (s : Self) (f : Feed) (items : List (HandedItem Self.Row)) → is_beat_allowed f ≡ true
         → Self.fits s f items → Self.fits s f (items ++ Beat ∷ []) };
 
-    /// A list that fits a feed still fits it once its time without an item is over.
+    /// A list that fits a feed still fits once the feed's time without an item is over.
     ghost expired_fits: { (s : Self) (f : Feed) (items : List (HandedItem Self.Row)) → Self.fits s f items
         → Self.fits s (expired_feed f) items };
 }

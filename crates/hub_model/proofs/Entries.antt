@@ -24,7 +24,7 @@ use Rattle.hub_model.proofs.Shown.{find_is}
 
 -- a search for the first element that passes a test
 module _ {A : Type 0} (p : A → Bool) (xs : List A) where
-  -- an element that passes, at its place
+  -- where the search gives a place, the element there is the first that passes
   pub place_found : (at : ℕ) → Some at ≡ position p xs → (x : A) → x ≡ get_or xs at x
       → (find p xs ≡ Some x) × (slice_get xs at ≡ Some x)
   place_found at e x is = from (nat_lt (position_or_len p xs) (length xs)) refl e
@@ -40,7 +40,7 @@ module _ {A : Type 0} (p : A → Bool) (xs : List A) where
           (find_at p xs ∙ (ap (slice_get xs) same ∙ there), there)
       from false t e = absurd (none-some at (sym e))
 
-  -- no place, and so no element
+  -- where the search gives no place, no element passes
   pub place_none : position p xs ≡ None → find p xs ≡ None
   place_none e = from (nat_lt (position_or_len p xs) (length xs)) refl e
     where
@@ -303,7 +303,7 @@ module _ {A : Type 0} where
   abbrev AreBelow : ℕ → List (ℕ × A) → Type 0
   AreBelow next entries = All (λ (p : ℕ × A). p.0 < next) entries
 
-  -- no entry has a number that is above all their numbers
+  -- no entry has the next number
   pub none_above : (next : ℕ) (entries : List (ℕ × A)) → AreBelow next entries → entry_in next entries ≡ None
   none_above next [] all = refl
   none_above next (p ∷ entries) all =

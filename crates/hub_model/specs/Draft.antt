@@ -23,8 +23,8 @@ pub record Draft : Type 0 where
   pub body : List ℕ
 
 -- The path that a draft extends, if there is one. With a name it is the line of the named leaf. Without a
--- name it is empty for an unknown document, and otherwise the line of a winner that is deleted. Take the
--- leaves 2-a, with 1-q behind it, and 1-z. The path is 2-a 1-q for the name 2-a. There is no path for the
+-- name the path is empty for an unknown document, and otherwise the line of a winner that is deleted. Take
+-- the leaves 2-a, with 1-q behind it, and 1-z. The path is 2-a 1-q for the name 2-a. There is no path for the
 -- name 1-q, which is no leaf, and none without a name, since the winner 2-a is not deleted.
 abbrev pub extended_path : List Edit → List ℕ → List Leaf → Option Revision → Option (List Revision)
 extended_path journal id leaves (Some rev) =

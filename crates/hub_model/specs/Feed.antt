@@ -42,9 +42,9 @@ pub record Feed : Type 0 where
 abbrev pub counted_in : (life seq of : ℕ) → ℕ
 counted_in life seq of = if nat_eq of life then seq else 0
 
--- The sequence after which a feed begins, while there are len edits of this life. It is len at most. With 5
--- edits of life 1 it is 5 for Now, 2 for Plain 2 and 5 for Plain 9. It is 2 for Tagged 2 1, and 0 for Tagged
--- 2 7 (proved: `FallsAfterAll`, `FallsByLife`).
+-- The sequence after which a feed begins, while there are len edits of this life. The sequence is len at
+-- most. With 5 edits of life 1 Now gives 5, Plain 2 gives 2 and Plain 9 gives 5. Tagged 2 1 gives 2, and
+-- Tagged 2 7 gives 0 (proved: `FallsAfterAll`, `FallsByLife`).
 abbrev pub since_of : Since → (len life : ℕ) → ℕ
 since_of Now len life = len
 since_of (Plain seq) len life = min seq len
@@ -106,8 +106,8 @@ due_by_status Finished rows feed = DueGone
 abbrev pub next_due : List Current → Feed → Due
 next_due rows feed = due_by_status feed.status rows feed
 
--- The bound of a feed after a row, while there are len edits: a longpoll feed takes its bound at its first
--- row. Where it hands that row while there are 4 edits, its bound is 4 from then on (proved:
+-- The bound of a feed after a row, while there are len edits: a longpoll feed takes len as its bound at its
+-- first row. A feed that hands this row while there are 4 edits has the bound 4 from then on (proved:
 -- `LongpollWaits`).
 abbrev pub bound_after : Mode → Option ℕ → ℕ → Option ℕ
 bound_after Normal bound len = bound

@@ -1,5 +1,5 @@
--- A list of items that fits a feed fits it after each step too. The laws hold for rows of any kind (CouchDB
--- API reference, _changes and _db_updates).
+-- A list of items that fits a feed still fits after each step of the feed. The laws hold for rows of any kind
+-- (CouchDB API reference, _changes and _db_updates).
 use Rattle.std.specs.Prelude.{◌≡◌, ◌≤◌, ℕ, List, [], ◌∷◌, ◌++◌, length, max, true, Some}
 use Rattle.hub_model.specs.Journal.{Edit}
 use Rattle.hub_model.specs.Feed.{Params, Feed, Open, DueNothing, new_feed}
@@ -18,7 +18,7 @@ module _ {R : Type 0} (kind : RowKind R) where
       (journal : List Edit) (params : Params) (life : ℕ)
       → Fits kind journal (new_feed params (length journal) life) []
 
-  -- A list that fits a feed still fits it after more edits. Where the row at 3 was handed and its document is
+  -- A list that fits a feed still fits after more edits. Where the row at 3 was handed and its document is
   -- edited again at 9, that row stays right: it was current when it was made.
   abbrev pub GrownFits : Type 0
   GrownFits =
@@ -35,32 +35,32 @@ module _ {R : Type 0} (kind : RowKind R) where
       → Fits kind journal feed items
       → Fits kind journal (feed_after_due feed (journal_due journal feed) (length journal)) (items ++ item ∷ [])
 
-  -- A list that fits a feed still fits it after it found nothing to hand. While there are 5 edits its place
-  -- is 5 then, and each row above since and up to 5 that passes was handed.
+  -- A list that fits a feed still fits after the feed found nothing to hand. While there are 5 edits the
+  -- feed's place is 5 then. Each row above since and up to 5 that passes was handed.
   abbrev pub WaitingFits : Type 0
   WaitingFits =
       (journal : List Edit) (feed : Feed) (items : List (Item R)) → journal_due journal feed ≡ DueNothing
       → Fits kind journal feed items → Fits kind journal (after_nothing feed (length journal)) items
 
-  -- a list that fits a feed, with a heartbeat at its end, fits it too, where the feed may hand a heartbeat
+  -- a list that fits a feed still fits with a heartbeat at the end, where the feed may hand a heartbeat
   abbrev pub BeatFits : Type 0
   BeatFits =
       (journal : List Edit) (feed : Feed) (items : List (Item R)) → is_beat_allowed feed ≡ true
       → Fits kind journal feed items → Fits kind journal feed (items ++ Beat ∷ [])
 
-  -- a list that fits a feed still fits it once its time without an item is over
+  -- a list that fits a feed still fits once the feed's time without an item is over
   abbrev pub ExpiredFits : Type 0
   ExpiredFits =
       (journal : List Edit) (feed : Feed) (items : List (Item R)) → Fits kind journal feed items
       → Fits kind journal (expired_feed feed) items
 
-  -- a list that fits a feed still fits it once its source is deleted
+  -- a list that fits a feed still fits once the feed's source is deleted
   abbrev pub EndedFits : Type 0
   EndedFits =
       (journal : List Edit) (feed : Feed) (items : List (Item R)) → Fits kind journal feed items
       → Fits kind journal (end feed) items
 
-  -- a list that fits a feed still fits it once its subscriber is gone
+  -- a list that fits a feed still fits once the feed's subscriber is gone
   abbrev pub FinishedFits : Type 0
   FinishedFits =
       (journal : List Edit) (feed : Feed) (items : List (Item R)) → Fits kind journal feed items

@@ -21,9 +21,9 @@ item_of_due show rows DueGone = None
 abbrev pub journal_due : List Edit → Feed → Due
 journal_due journal feed = next_due (current journal) feed
 
--- The item that is due to a feed over these edits, if there is one. After edits of a, b and then a again it
--- is the row of b at 2 for a new normal feed after 0. Once the row of a at 3 was handed it is an End at 3
--- with 0 pending (proved: `AgainIsLater`).
+-- The item that is due to a feed over these edits, if there is one. After edits of a, b and then a again the
+-- row of b at 2 is due to a new normal feed after 0. Once the feed handed the row of a at 3, an End at 3 with
+-- 0 pending is due (proved: `AgainIsLater`).
 abbrev pub next_item : {R : Type 0} → RowKind R → List Edit → Feed → Option (Item R)
 next_item kind journal feed =
     item_of_due (kind.shown journal feed.params.style feed.params.include_docs) (current journal)

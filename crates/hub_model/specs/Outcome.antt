@@ -19,7 +19,7 @@ pub record Stores : Type 0 where
 abbrev pub refusal_result : List Edit → Fault → Stores
 refusal_result journal fault = record { outcome = Refused fault; journal = journal }
 
--- the result of adding an edit; where the journal has `limit` edits or more it is refused
+-- the result of adding an edit, which is refused where the journal has `limit` edits or more
 abbrev pub addition_result : ℕ → List Edit → Edit → Stores
 addition_result limit journal edit =
     if nat_le limit (length journal) then refusal_result journal SequenceFull
@@ -79,7 +79,7 @@ stores_all store false journal (x ∷ xs) =
     record { outcomes = here.outcome ∷ rest.outcomes; journal = rest.journal }
 
 -- The result of storing edits with their histories, one after the other. Of edits of one document with the
--- paths 2-b, 3-c, 3-c 2-b and 4-d 3-c 2-b all but the third are stored, and it is Known (proved:
+-- paths 2-b, 3-c, 3-c 2-b and 4-d 3-c 2-b all but the third are stored, and the third is Known (proved:
 -- `LateIsStored`).
 abbrev pub merges_all : ℕ → List Edit → List Edit → StoresAll
 merges_all limit journal edits = stores_all (merge_result limit) false journal edits

@@ -1,4 +1,4 @@
--- Kinds of rows: those of changes, and those of updates (own; feeds by CouchDB API reference, _changes and
+-- The kinds of rows: rows of changes, and rows of updates (own; feeds by CouchDB API reference, _changes and
 -- _db_updates).
 use Rattle.std.specs.Prelude.{◌≡◌, ℕ, List, length, Bool, refl}
 use Rattle.hub_model.specs.Journal.{Edit}

@@ -7,7 +7,7 @@ pub enum Fault {
     Deleted,
     /// The path is no history, or gives a known revision another parent.
     Contradicts,
-    /// `_rev` is no leaf, or it is missing and the winner is not deleted, or the new revision is known.
+    /// `_rev` is no leaf, or is missing where the winner is not deleted, or the new revision is known.
     Conflict,
     /// The leaf that the document extends has the last generation, 65,535.
     GenerationLimit,

@@ -12,7 +12,7 @@ pub fn place_of<T>(entries: &[(u64, T)], number: u64) -> Option<usize>
     entries.binary_search_by_key(&number, |entry| entry.0).ok()
 }
 
-/// The same place, with `near` as a guess of it. A right guess costs constant time, and a wrong one costs as
+/// The same place, where `near` is a guess. A right guess costs constant time, and a wrong guess costs as
 /// much as `place_of`.
 pub fn place_near<T>(entries: &[(u64, T)], near: usize, number: u64) -> Option<usize>
     requires rising { AreRising entries.now }
