@@ -1,4 +1,4 @@
--- A document has at most one current row, so this row is the first row of the listed document.
+-- A document has at most one current row, so the first row of one listed document is this row or none.
 use Rattle.std.proofs.Common.{◌≡◌, ℕ, ◌+◌, List, [], ◌∷◌, map, true, false, ◌&&◌, nat_eq, nat_lt, inl, inr}
 use Rattle.std.proofs.Common.{refl, sym, ◌∙◌, ap, subst, Option, Some, None, find, option_map, Contains}
 use Rattle.std.specs.Str.{bytes_eq}

@@ -109,7 +109,7 @@ listed_none place bound rows =
     never true false t = absurd (cc)
     never false b t = absurd (cc)
 
--- a row of one listed document is ahead of the place, and has the document's id
+-- a row of one listed document lies above the place and not above the bound, and has the document's id
 pub one_parts : (place : ℕ) (bound : Option ℕ) (id : List ℕ) (row : Current)
     → is_listed_within place bound (id ∷ []) row ≡ true
     → ((nat_lt place row.seq && is_within bound row.seq) ≡ true) × (row.id ≡ id)

@@ -42,9 +42,9 @@ IsFirst first rows feed =
     IfSome feed (λ f. f.status ≡ Open → first ≡ option_map (λ c. c.seq) (find (is_in_reach f) rows))
 
 -- A feed is ready for a step while there are so many edits with these current rows. Its place is at most the
--- number of edits. If it is open, `seq` is the sequence of its first row in reach, or None where there is
--- none. Take 9 edits with rows at 2, 6 and 9. An open feed at place 3 without a bound or a filter is ready
--- with 6. At place 12 no feed is ready.
+-- number of edits. If the feed is open, `seq` is the sequence of its first row in reach, or None where no row
+-- is in reach. Take 9 edits with rows at 2, 6 and 9. An open feed at place 3 without a bound or a filter is
+-- ready with 6. At place 12 no feed is ready.
 pub record IsReady (length : ℕ) (rows : List Current) (feed : Feed) (seq : Option ℕ) : Type 0 where
   pub reached : feed.place ≤ length
   pub first : feed.status ≡ Open → seq ≡ option_map (λ c. c.seq) (find (is_in_reach feed) rows)

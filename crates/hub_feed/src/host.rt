@@ -23,8 +23,8 @@ use hub_model::Item;
 use hub_params::FeedParams;
 use std::alloc::AllocError;
 
-/// A feed's number in its host, from 0 on. No number is given twice. A given number that no feed has is the
-/// number of a finished feed.
+/// A feed's number in its host, from 0 on. No number is given twice. A number that was given and that no feed
+/// has is the number of a finished feed.
 #[derive(Clone, Copy, Debug, PartialEq, Eq)]
 pub struct FeedId {
     pub number: u64,

@@ -28,7 +28,7 @@ pub trait Pushes<K: Sink<I>, I> {
         ensures same { IfErr result (λ back. (back ≡ item) × (sink.new ≡ sink.old)) }
         ensures full { OnErr result (refuses self.now sink.old item) };
 
-    /// After a push the sink took its items, and then this item.
+    /// After a push the sink has taken its earlier items, and then this item.
     ghost sends: { (sink : K) (item : I) → K.sent (K.behind sink item) ≡ K.sent sink ++ item ∷ [] };
 
     /// After a push the sink still allows the lists that it allowed.
