@@ -30,8 +30,8 @@ AreBehind length feeds = All (λ (p : ℕ × Feed). IsBehind length p.1) feeds
 
 -- The feed of this number stands at `at` and is ready for a step, while there are so many edits with these
 -- current rows. If the feed is open, `seq` is the sequence of its first row in reach, or None where no row is
--- in reach. Take 9 edits with rows at 2, 6 and 9, and open feeds 3 and 5 without a filter, both at place 3.
--- Feed 5 is ready at 1 with 6.
+-- in reach. Take 9 edits with rows at 2, 6 and 9, and open feeds 3 and 5 without a bound or a filter, both at
+-- place 3. Feed 5 is ready at 1 with 6.
 pub record IsReadyAt (length : ℕ) (rows : List Current) (feeds : List (ℕ × Feed)) (id at : ℕ)
     (seq : Option ℕ) : Type 0 where
   pub behind : AreBehind length feeds

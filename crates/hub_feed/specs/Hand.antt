@@ -23,9 +23,10 @@ MayTake allows sent sink item = allows sink (sent sink ++ item ∷ [])
 -- it took the item. Where it gave the item back, `refuses sink item` holds.
 module _ {R X K : Type 0} (behind : K → Item R → K) (refuses : K → Item R → Type 0)
     (old given looked : X) (sink : K) where
-  -- One hand with this answer. The sink takes the item that is due, and the state moves on; or it refuses the
-  -- item, and nothing changes. It never takes another item. Where the row at 6 is due, the answer may be Row:
-  -- the sink took that row, and the feed's place is 6. It may be Full: feed and sink are as they were.
+  -- One hand with this answer. The sink takes the item that is due, and the state moves on; or the sink
+  -- refuses the item, and nothing changes. The sink never takes another item. Where the row at 6 is due, the
+  -- answer may be Row: the sink took that row, and the feed's place is 6. It may be Full: feed and sink are
+  -- as they were.
   abbrev pub HandsTo : Next R → Handed → X → K → Type 0
   HandsTo (next.Give item) handed.Row new taker =
       (handed_as item ≡ handed.Row) × (new ≡ given) × (taker ≡ behind sink item)

@@ -16,7 +16,7 @@ module _ {R : Type 0} (kind : RowKind R) (allowed : List Edit → Type 0) where
 
   -- The list is rightly handed, by a feed with these parameters and this since, over some edits that a source
   -- may have. The place and the bound may be any. For a normal feed after 0 the rows of b at 2 and of a at 3
-  -- are right: take edits of a, b and then a again. The row at 3 and then the row at 2 are right over no
+  -- are right, over edits of a, b and then a again. The row at 3 and then the row at 2 are right over no
   -- edits.
   pub record IsRightFor (params : Params) (since : ℕ) (items : List (Item R)) : Type 0 where
     pub edits : List Edit

@@ -58,8 +58,8 @@ pub trait HostView {
     ghost right: { Params → ℕ → List (HandedItem Self.Row) → Type 0 };
 }
 
-/// A host of feeds: they follow it, and it keeps each from its opening until it is finished. A step of a feed
-/// changes only the feeds and the number of the next feed (`with_hosted`).
+/// A host of feeds. The feeds follow the host, and the host keeps each feed from its opening until it is
+/// finished. A step of a feed changes only the feeds and the number of the next feed (`with_hosted`).
 pub trait FeedHost: HostView {
     /// The host with the feeds, and the number of the next feed, of this view.
     ghost with_hosted: { Self → Hosted Self.Row → Self };

@@ -7,7 +7,7 @@ use hub_model::Item;
 pub enum Next<R> {
     /// This item is due. The feed moves once the item is accepted.
     Give(Item<R>),
-    /// Nothing is due now. Later edits may bring more.
+    /// Nothing is due now. Later edits may bring an item.
     Nothing,
     /// Nothing is due any more: the feed handed its end, or is finished.
     Gone,

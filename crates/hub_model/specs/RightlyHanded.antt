@@ -71,10 +71,10 @@ module _ {R : Type 0} (kind : RowKind R) where
     pub reached : kind.seq row ≤ feed.place
     pub bounded : IfSome feed.bound (λ bound. kind.seq row ≤ bound)
 
-  -- The whole list is right for the feed: nothing in it is wrong, and no row up to the place is left out. For
-  -- edits of a, b and then a again, and a feed after 0 with place 3, the rows of b at 2 and a at 3 are right
-  -- (proved: `AgainIsLater`). The row at 3 alone is not, since the row at 2 is left out. With place 1 the
-  -- empty list is right.
+  -- The whole list is right for the feed: nothing in it is wrong, and no row up to the place is left out.
+  -- Take edits of a, b and then a again, and a feed after 0 with place 3. The rows of b at 2 and of a at 3
+  -- are right (proved: `AgainIsLater`). The row at 3 alone is not, since the row at 2 is left out. With place
+  -- 1 the empty list is right.
   pub record RightlyHanded (journal : List Edit) (feed : Feed) (items : List (Item R)) : Type 0 where
     pub rising : AllPairs Follows (rows_of items)
     pub rows : All (IsRowOf journal feed) (rows_of items)
