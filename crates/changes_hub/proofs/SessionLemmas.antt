@@ -1,4 +1,4 @@
--- A session whose written bytes stay as they are is the session that it was.
+-- A session whose written bytes stay as they are is still the same session.
 use Rattle.std.proofs.Common.{◌≡◌, ℕ, List, ◌∙◌, Bool, true, false, take}
 use Rattle.std.specs.Prelude.{Option, Some, None, IfSome}
 use Rattle.std.specs.Io.KnownBytes.{Appends, Keeps}
@@ -18,13 +18,14 @@ appends_kept (Some xs) None new bytes grew stays = absurd grew
 appends_kept (Some xs) (Some ys) None bytes grew stays = absurd stays
 appends_kept (Some xs) (Some ys) (Some zs) bytes grew stays = stays ∙ grew
 
--- and where the writing broke they have grown by a front
+-- bytes that grew by a text, or by a front of it where the writing broke, and then stayed, have grown by
+-- that
 sends_kept : (broken : Bool) (old mid new : Option (List ℕ)) (bytes : List ℕ) → Sends broken old mid bytes
     → Keeps mid new → Sends broken old new bytes
 sends_kept false old mid new bytes sent stays = appends_kept old mid new bytes sent stays
 sends_kept true old mid new bytes (n, sent) stays = (n, appends_kept old mid new (take n bytes) sent stays)
 
--- a session goes on being one where what it wrote is flushed
+-- a session is still a session after its written bytes were flushed
 session_kept : {S : Type 0} (rules : Rules S) (bytes : List ℕ) (closing : Closing)
     (before : Moment S) (last : S)
     (mid new : Option (List ℕ)) → IsSession rules bytes closing before (moment last mid) → Keeps mid new
@@ -38,8 +39,7 @@ session_kept rules bytes closing before last mid new is stays = record {
   written = sends_kept (is_broken closing) is.mid mid new is.last is.written stays;
 }
 
--- a session over known bytes that closed so ends with the status of its closing, also once its
--- answers are flushed
+-- a session over known bytes ends with the status of its closing, also once its answers are flushed
 pub ends_with : (bytes : Option (List ℕ)) (closing : Closing) (status : ℕ)
     (before mid after : Option (List ℕ))
     → IfSome bytes (λ bytes.

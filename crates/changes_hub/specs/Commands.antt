@@ -1,4 +1,4 @@
--- What the words of a command line ask for (own).
+-- The commands of command lines (own).
 use Rattle.std.specs.Prelude.{ℕ, ◌^◌, List, [], ◌∷◌, Bool, ◌&&◌, nat_le, nat_lt, length, codes, bytes_eq}
 use Rattle.std.specs.Prelude.{if◌then◌else◌, Option, Some, None, option_map, string_bytes}
 use Rattle.std.specs.List.{list_all}
@@ -6,17 +6,17 @@ use Rattle.std.specs.Str.Parse.{digits_value}
 use Rattle.changes_hub.specs.declared.command.Command.{Command}
 use Rattle.changes_hub.specs.declared.command.Command.TheVariants as command
 
--- what the program is asked to do: to answer standard input, or to serve so many connections at an address
+-- the tasks of the program: to answer standard input, or to serve so many connections at an address
 pub data ProgramTask : Type 0 where
   Stdin : ProgramTask
   Serve : (address : List ℕ) (count : ℕ) → ProgramTask
 
--- what a command is asked to do
+-- the task of a command
 abbrev pub asked_of : Command → ProgramTask
 asked_of command.Stdin = Stdin
 asked_of (command.Serve address count) = Serve (string_bytes address) count
 
--- 0-9
+-- the byte is a digit, 0 to 9
 abbrev pub is_digit : ℕ → Bool
 is_digit b = nat_le 48 b && nat_le b 57
 
@@ -30,20 +30,21 @@ abbrev pub count_in : List ℕ → Option ℕ
 count_in text =
     if is_numeral text && nat_lt (digits_value 10 text) (2 ^ 32) then Some (digits_value 10 text) else None
 
--- nothing stands behind `stdin`
+-- the task of the words behind `stdin`, of which there may be none
 abbrev pub stdin_with : List (List ℕ) → Option ProgramTask
 stdin_with [] = Some Stdin
 stdin_with (word ∷ words) = None
 
--- an ADDRESS and a COUNT stand behind `serve`, and nothing else; whether the address is one is not looked at
+-- the task of the words behind `serve`: an ADDRESS and a COUNT, and nothing else; the address is not checked
 abbrev pub serve_with : List (List ℕ) → Option ProgramTask
 serve_with [] = None
 serve_with (address ∷ []) = None
 serve_with (address ∷ text ∷ []) = option_map (Serve address) (count_in text)
 serve_with (address ∷ text ∷ word ∷ words) = None
 
--- What words ask for, without the program's own name; where they are no command the usage is told. `stdin` is
--- a command, and `serve 127.0.0.1:5984 3` is one. `serve`, `stdin 3` and `serve 127.0.0.1:5984 x` are none.
+-- The task that words ask for, without the program's own name; where they are no command the usage is told.
+-- `stdin` is a command, and `serve 127.0.0.1:5984 3` is one. `serve`, `stdin 3` and `serve 127.0.0.1:5984 x`
+-- are none.
 abbrev pub asked_by : List (List ℕ) → Option ProgramTask
 asked_by [] = None
 asked_by (first ∷ words) =

@@ -8,9 +8,9 @@ use Rattle.hub_session.specs.declared.closing.Closing.{Closing}
 use Rattle.hub_session.specs.declared.closing.Closing.TheVariants.{Finished, Requested, Fault, Cut, Broken}
 use Rattle.hub_session.specs.declared.closing.Closing.TheVariants.{Exhausted}
 
--- The status of a session that closed so. It is 0 where the client asked for the end: the input ended
--- between two requests, or the last request asked to close. It is 1 where the session closed for another
--- reason, as at a request that is no HTTP.
+-- The status of a session that closed for this reason. It is 0 where the client asked for the end: the input
+-- ended between two requests, or the last request asked to close. It is 1 where the session closed for
+-- another reason, as at a request that is no HTTP.
 abbrev pub status_of : Closing → ℕ
 status_of Finished = 0
 status_of Requested = 0
@@ -19,8 +19,8 @@ status_of Cut = 1
 status_of Broken = 1
 status_of Exhausted = 1
 
--- A hub without databases answered these bytes, the written bytes were the first before and the second then,
--- and the session closed for a reason that has this status.
+-- A hub without databases answered these bytes. The written bytes went from `before` to `after`, and the
+-- session closed for a reason that has this status.
 abbrev pub EndsWith : List ℕ → ℕ → (before after : Option (List ℕ)) → Type 0
 EndsWith bytes status before after = (closing : Closing) × (last : Option Sent)
     × IsSession connection_rules bytes closing (moment None before) (moment last after)

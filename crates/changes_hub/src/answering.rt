@@ -14,7 +14,7 @@ use std::io;
 use std::process::ExitCode;
 use std::sync::Wait;
 
-// The status of a session that closed so.
+// The status of a session that closed for this reason.
 fn status_of(closing: Closing) -> u8
     ensures { result ≡ status_of closing }
 {
@@ -24,9 +24,9 @@ fn status_of(closing: Closing) -> u8
     }
 }
 
-/// Answers requests by a hub without databases, up to the first closing, and flushes the answers. The
-/// status is that of the closing: 0 where the client ended or asked for the end, and else 1. An error says
-/// that the hub found no memory to begin with, or that the last flush failed.
+/// Answers requests by a hub without databases, up to the first closing, and flushes the answers. The status
+/// is that of the closing: 0 where the client ended or asked for the end, and else 1. An error says that the
+/// hub found no memory to begin with, or that the last flush failed.
 pub(crate) fn answer<N: Wait, R: Input, W: Output>(
     rt: &N,
     alloc: Global,

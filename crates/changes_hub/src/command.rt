@@ -1,4 +1,4 @@
-//! What the words of a command line ask for.
+//! The commands of command lines.
 
 ghost use Rattle.std.specs.Prelude.{◌≡◌, map, option_map, string_bytes};
 ghost use Rattle.std.specs.Vec.Iter.{into_iter_items};
@@ -6,7 +6,7 @@ ghost use Rattle.changes_hub.specs.Commands.{asked_by, asked_of, count_in, serve
 
 use std::vec::IntoIter;
 
-/// What the program does.
+/// The command of the program.
 #[derive(Drop)]
 pub(crate) enum Command {
     /// Answers the requests on standard input on standard output.
@@ -15,7 +15,7 @@ pub(crate) enum Command {
     Serve { address: String, count: u64 },
 }
 
-// The number of connections that a word writes. A sign is none of its digits.
+// The number of connections that a word writes. A sign is no digit of it.
 fn count_of(word: &str) -> Option<u64>
     ensures { result ≡ count_in word.now }
 {
@@ -51,8 +51,8 @@ fn read_serve(mut words: IntoIter<String>) -> Option<Command>
 }
 
 impl Command {
-    /// The command that words spell, without the program's own name. None says that they spell none, and that
-    /// the usage is to be told. It takes no memory.
+    /// The command that words spell, without the program's own name. None says that they spell no command:
+    /// the usage is to be told then. It takes no memory.
     pub(crate) fn read(words: Vec<String>) -> Option<Command>
         ensures { option_map asked_of result ≡ asked_by (map string_bytes words.items) }
     {

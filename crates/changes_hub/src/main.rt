@@ -21,7 +21,7 @@ use std::thread::Threads;
 use std::time::Clock;
 use std::{env, io};
 
-/// The bytes that are written to standard output at once.
+/// The size of the buffer of standard output, in bytes.
 const OUTPUT: usize = 65_536;
 
 /// The words of the command line, without the program's own name.

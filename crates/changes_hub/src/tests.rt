@@ -9,7 +9,7 @@ use std::process::ExitCode;
 use std::sync::Wait;
 use std::test::Fail;
 
-/// What words ask for.
+/// The commands of command lines, as the tests expect them.
 #[derive(Clone, Copy)]
 enum Wanted {
     Stdin,
@@ -18,7 +18,7 @@ enum Wanted {
     Usage,
 }
 
-/// Command lines, and what they ask for.
+/// Command lines, and their commands.
 const LINES: &[(&[&str], Wanted)] = &[
     (&[], Wanted::Usage),
     (&["stdin"], Wanted::Stdin),
@@ -45,7 +45,7 @@ const LINES: &[(&[&str], Wanted)] = &[
     (&["serve", "127.0.0.1:5984", "3x"], Wanted::Usage),
 ];
 
-/// Words of their own.
+/// Owned copies of words.
 fn owned(alloc: Global, words: &[&str]) -> Result<Vec<String>, AllocError> {
     let mut list = Vec::new(alloc);
     for word in words {
@@ -54,7 +54,7 @@ fn owned(alloc: Global, words: &[&str]) -> Result<Vec<String>, AllocError> {
     Ok(list)
 }
 
-/// Whether a command is to serve so many connections at that address, where this is wanted.
+/// Whether an address and a count are those of the wanted command.
 fn is_served(address: &str, count: u64, wanted: Wanted) -> bool {
     match wanted {
         Wanted::Serve(most) => address == "127.0.0.1:5984" && count == most,
@@ -62,7 +62,7 @@ fn is_served(address: &str, count: u64, wanted: Wanted) -> bool {
     }
 }
 
-/// Whether a command line is read as what is wanted.
+/// Whether a command line is read as the wanted command.
 fn is_read(command: &Option<Command>, wanted: Wanted) -> bool {
     match command {
         None => matches!(wanted, Wanted::Usage),
@@ -71,7 +71,7 @@ fn is_read(command: &Option<Command>, wanted: Wanted) -> bool {
     }
 }
 
-/// How many of these command lines are read as they should be, before the first that is not.
+/// How many of these command lines are read as they should be, before the first one that is not.
 fn read_count(alloc: Global, lines: &[(&[&str], Wanted)]) -> Result<usize, AllocError> {
     for (number, (words, wanted)) in lines.iter().enumerate() {
         if !is_read(&Command::read(owned(alloc, words)?), *wanted) {
@@ -88,7 +88,7 @@ fn command_lines(rt: HostRuntime) -> Result<(), Fail> {
     Ok(())
 }
 
-/// What a client sends, and whether it came to an end that it asked for.
+/// The bytes that a client sends, and whether the session ends as the client asked.
 const SESSIONS: &[(&str, bool)] = &[
     ("", true),
     ("PUT /d HTTP/1.1\r\n\r\n", true),
@@ -119,7 +119,7 @@ fn has_status<N: Wait>(rt: &N, alloc: Global, input: &str, success: bool) -> boo
     }
 }
 
-/// How many of these sessions have their status, before the first that has not.
+/// How many of these sessions have their status, before the first one that has not.
 fn status_count<N: Wait>(rt: &N, alloc: Global, sessions: &[(&str, bool)]) -> usize {
     for (number, (input, success)) in sessions.iter().enumerate() {
         if !has_status(rt, alloc, input, *success) {

@@ -1,4 +1,4 @@
--- What the test of an audit tells, and that the receipts of a write pass it.
+-- The test of an audit, and that the receipts of a write pass it.
 use Rattle.std.proofs.Common.{◌≡◌, ℕ, ◌+◌, ◌<◌, List, [], ◌∷◌, ◌++◌, length, take, true}
 use Rattle.std.proofs.Common.{false, Option, Some, None, ap, refl, sym, ◌∙◌, subst, suc}
 use Rattle.std.proofs.Common.{slice_index_or, append_assoc, length-append, arith}
@@ -37,7 +37,7 @@ entry_told (Some entry) receipt = (
         and_from (bytes_eq receipt.id receipt.id) (is_same receipt.rev receipt.rev)
         ((bytes_eq-Decides receipt.id receipt.id).1 (λ k. receipt.id)) (same_self receipt.rev)
 
--- it is true just where the journal has the edit
+-- the test is true just where the journal has the edit
 pub edit_told : (journal : List Edit) (receipt : Receipt)
     → Decides (has_edit journal receipt) (HasEdit journal receipt)
 edit_told journal receipt = entry_told (entry_of journal receipt.seq) receipt
@@ -57,7 +57,7 @@ one_more_stands journal receipts at receipt low is told before =
     (All-push (λ receipt. HasEdit journal receipt) (take at receipts) receipt before
     ((edit_told journal receipt).0 told))
 
--- or it has not
+-- one receipt more was compared: the journal does not have its edit
 pub one_is_wrong : (journal : List Edit) (receipts : List Receipt) (at : ℕ) (receipt : Receipt)
     → at < length receipts → receipt ≡ slice_index_or receipts at receipt → has_edit journal receipt ≡ false
     → IfSome (slice_get receipts at) (λ receipt. ¬ HasEdit journal receipt)
@@ -104,12 +104,12 @@ receipts_rise n (edit ∷ edits) (receipt ∷ receipts) a = (
       (receipts_rise (n + 1) edits receipts a.3),
 )
 
--- the receipts of what was added stand in the journal
+-- the receipts of added edits stand in the journal
 pub added_stand : (journal other_journal : List Edit) (receipts : List Receipt)
     → AreAdded journal other_journal receipts → All (λ r. HasEdit other_journal r) receipts
 added_stand journal other_journal receipts a = receipts_stand journal other_journal a.0 receipts a.1 a.2
 
--- and their sequences rise
+-- and the sequences of these receipts rise
 pub added_rise : (journal other_journal : List Edit) (receipts : List Receipt)
     → AreAdded journal other_journal receipts → AreRising (length journal) receipts
 added_rise journal other_journal receipts a = receipts_rise (length journal) a.0 receipts a.2

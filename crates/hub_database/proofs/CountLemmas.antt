@@ -1,4 +1,4 @@
--- How many documents of a journal pass a test, with one edit more.
+-- The number of documents of a journal that pass a test, with one edit more.
 use Rattle.std.proofs.Common.{◌≡◌, ◌≢◌, ℕ, ◌+◌, ◌≤◌, List, [], ◌∷◌, ◌++◌, length, Bool, true, false, ap, refl}
 use Rattle.std.proofs.Common.{sym, ◌∙◌, ◌&&◌, ◌||◌, not, arith, inl, inr, ◌⊎◌}
 use Rattle.std.specs.Prelude.{count_by, if◌then◌else◌}
@@ -60,7 +60,7 @@ edited_some q journal h = edited_by q journal ∙ from (edits_of journal q) h
     from [] h = absurd (omega arith)
     from (e ∷ edits) h = refl
 
--- how many current rows have an id that passes the test
+-- the number of current rows whose id passes the test
 abbrev rows_of : (List ℕ → Bool) → List Current → ℕ
 rows_of P rows = count_by (λ c. P c.id) rows
 
@@ -85,7 +85,7 @@ step P n edit journal = from (is_edited edit.id journal)
     from true = omega arith
     from false = one_more P (record { seq = n; id = edit.id }) (current_from (n + 1) journal)
 
--- another test, that says otherwise of one document alone
+-- the count by another test, which differs for one document alone
 same_sums : (a b : ℕ) (k p q : Bool) → a + one_if (k && q) ≡ b + one_if (k && p)
     → a + one_if (not k && p) + one_if q ≡ b + one_if (not k && q) + one_if p
 same_sums a b true p q h = omega arith
@@ -112,7 +112,7 @@ swap P Q q same n (edit ∷ journal) =
         (is_edited q journal) (P q) (Q q) h)
     from (inr d) h = rw (text_apart q edit.id d, same edit.id (λ t. d (sym t))) (omega arith)
 
--- one edit more
+-- the count with one edit more
 push_sums : (a b : ℕ) (k p : Bool) → a + one_if (k && p) ≡ b + one_if p
     → a + 0 + one_if p ≡ b + one_if (not k && p) + one_if p
 push_sums a b true p h = omega arith
@@ -156,7 +156,7 @@ all_of : (rows : List Current) → rows_of (λ i. true) rows ≡ length rows
 all_of [] = refl
 all_of (row ∷ rows) = omega (arith, one_more (λ i. true) row rows, all_of rows)
 
--- how many documents there are, with one edit more
+-- the number of documents, with one edit more
 pub documents_more : (journal : List Edit) (edit : Edit)
     → length (current (journal ++ edit ∷ [])) + one_if (is_edited edit.id journal) ≡ length
     (current journal) + 1
@@ -191,7 +191,7 @@ others_stay journal edit i n =
     ∙ (ap (λ b. edits_of journal i ++ (if b then (edit ∷ []) else [])) (text_apart edit.id i (λ t. n (sym t)))
     ∙ append-nil (edits_of journal i))))
 
--- how many have a deleted winner, with one edit more
+-- the number of documents with a deleted winner, with one edit more
 pub deleted_more : (journal : List Edit) (edit : Edit)
     → deleted_in (journal ++ edit ∷ []) + one_if (is_deleted (leaves_of journal edit.id))
     ≡ deleted_in journal + one_if (is_deleted (leaves_of (journal ++ edit ∷ []) edit.id))
@@ -220,7 +220,7 @@ deleted_some journal q =
 pub deleted_few : (journal : List Edit) → deleted_in journal ≤ length (current journal)
 deleted_few journal = count_by-le-length (λ (row : Current). deleted journal row.id) (current journal)
 
--- the other documents are counted by what is left
+-- the rows that fail a test and the rows that pass it are all rows
 left_of : (p : Current → Bool) (rows : List Current)
     → count_by (λ row. not (p row)) rows + count_by p rows ≡ length rows
 left_of p [] = refl

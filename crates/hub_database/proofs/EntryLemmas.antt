@@ -35,7 +35,7 @@ edit_found limit numbers documents entries st k x here document is =
     ∙ sym (slice_get-map (edit_at (files documents)) entries k
     ∙ ap (option_map (edit_at (files documents))) here))
 
--- what is lent of it, with its document's id
+-- the parts that are lent of this edit, with its document's id
 module _ {A : Type 0} (id : List ℕ) (rev : A → Revision) (deleted : A → Bool)
     (body : A → List ℕ) (x : A) where
   pub bare_lent : (maybe_edit : Option Edit)
@@ -59,6 +59,6 @@ pub none_lent : (id : List ℕ) (maybe_edit : Option Edit) → None ≡ option_m
 none_lent id None e = refl
 none_lent id (Some edit) e = absurd (none-some (tip_of edit) e)
 
--- of a sequence
+-- the edit of a sequence stands at the place before it
 pub at_sequence : (journal : List Edit) (seq k : ℕ) → seq ≡ suc k → entry_at journal seq ≡ slice_get journal k
 at_sequence journal seq k e = ap (entry_at journal) e

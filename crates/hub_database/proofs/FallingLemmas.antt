@@ -71,12 +71,12 @@ contains_most (Some limit) xs x h = contains_take (max 1 limit) xs x h
 abbrev pub falling_all : List Edit → List Current
 falling_all journal = reverse (current journal)
 
--- those below a place that pass a test
+-- the rows below a place that pass a test
 abbrev pub below : (Current → Bool) → ℕ → List Current → List Current
 below q place rows = filter (λ (row : Current). nat_lt row.seq place && q row) rows
 
 module _ (q : Current → Bool) where
-  -- of rows that fall, a step finds the first below a place, and what is left lies below that
+  -- of rows that fall, a step finds the first below a place, and the rest of them lies below this row
   step_some : (rows : List Current) (place : ℕ) (row : Current)
       → AllPairs (λ (a b : Current). b.seq < a.seq) rows
       → find (λ (row : Current). nat_lt row.seq place) rows ≡ Some row
@@ -131,7 +131,7 @@ module _ (q : Current → Bool) where
           ap (λ b. if b && q other then (other ∷ below q place rows) else below q place rows) f
           ∙ (rest ∙ ap (λ (ys : List Current). if q row then (row ∷ ys) else ys) (sym own))
 
-  -- where it finds none, none is left
+  -- where a step finds no row, no row is left
   step_none : (rows : List Current) (place : ℕ)
       → find (λ (other : Current). nat_lt other.seq place) rows ≡ None → below q place rows ≡ []
   step_none [] place e = refl
@@ -143,7 +143,7 @@ module _ (q : Current → Bool) where
             ∙ step_none rows place (rw f at e)
       ]
 
--- a row that passes, and lies above where the feed begins
+-- whether a row passes, and lies above the feed's beginning
 abbrev pub is_shown : Params → ℕ → Current → Bool
 is_shown asked since row = nat_lt since row.seq && is_passing asked.filter row.id
 
@@ -170,14 +170,14 @@ module _ (journal : List Edit) (asked : Params) (since : ℕ) where
   abbrev pub left : ℕ → List Current
   left place = below (is_shown asked since) place (falling_all journal)
 
-  -- what is shown in all
+  -- all rows that are shown
   abbrev pub all_shown : ℕ → List ChangeRow
   all_shown most = map show (take most (filter (is_shown asked since) (falling_all journal)))
 
   falls : AllPairs (λ (row other : Current). other.seq < row.seq) (falling_all journal)
   falls = pairs_reverse (λ (row other : Current). row.seq < other.seq) (current journal) (rows_rise journal)
 
-  -- at the beginning all is left
+  -- at the beginning all rows are left
   pub begins : (most place : ℕ) → place ≡ length journal + 1
       → all_shown most ≡ [] ++ map show (take (most - 0) (left place))
   begins most place e =
@@ -205,21 +205,21 @@ module _ (journal : List Edit) (asked : Params) (since : ℕ) where
     step : left place ≡ (if is_shown asked since c then (c ∷ left c.seq) else left c.seq)
     step = step_some (is_shown asked since) (falling_all journal) place c falls (sym found)
 
-    -- a row that does not pass
+    -- a row that does not pass leaves the rows below it
     pub passed_by : since < c.seq → is_passing asked.filter c.id ≡ false → left place ≡ left c.seq
     passed_by h f =
         step
         ∙ ap (λ b. if b then (c ∷ left c.seq) else left c.seq)
         (ap (λ b. b && is_passing asked.filter c.id) (lt-ltb since c.seq h) ∙ f)
 
-    -- and one that does
+    -- and a row that passes is taken up
     pub taken_up : since < c.seq → is_passing asked.filter c.id ≡ true → left place ≡ c ∷ left c.seq
     taken_up h t =
         step
         ∙ ap (λ b. if b then (c ∷ left c.seq) else left c.seq)
         (ap (λ b. b && is_passing asked.filter c.id) (lt-ltb since c.seq h) ∙ t)
 
-    -- none of the rows from here on lies above where the feed begins
+    -- where the row does not lie above the feed's beginning, no row is left
     pub past_since : c.seq ≤ since → left place ≡ []
     past_since h =
         step
@@ -246,7 +246,7 @@ module _ (journal : List Edit) (asked : Params) (since : ℕ) where
   take_none zero = refl
   take_none (suc n) = refl
 
-  -- so the rows are all
+  -- where no row is left, the rows so far are all rows
   pub rows_all : (most : ℕ) (rows : List ChangeRow) (place : ℕ)
       → all_shown most ≡ rows ++ map show (take (most - length rows) (left place)) → left place ≡ []
       → rows ≡ all_shown most
@@ -256,7 +256,7 @@ module _ (journal : List Edit) (asked : Params) (since : ℕ) where
       ∙ (ap (λ cs. rows ++ map show (take (most - length rows) cs)) e
       ∙ (ap (λ rs. rows ++ rs) (take_none (most - length rows)) ∙ append-nil rows)))
 
-  -- as they are once there are enough
+  -- where there are enough rows, the rows so far are all rows
   pub rows_enough : (most : ℕ) (rows : List ChangeRow) (place : ℕ)
       → all_shown most ≡ rows ++ map show (take (most - length rows) (left place)) → most ≤ length rows
       → rows ≡ all_shown most
@@ -264,7 +264,7 @@ module _ (journal : List Edit) (asked : Params) (since : ℕ) where
       let none : most - length rows ≡ 0 = omega (arith, e) in
       sym (h ∙ (ap (λ n. rows ++ map show (take n (left place))) none ∙ append-nil rows))
 
-  -- one row more
+  -- one row more was taken up
   pub rows_more : (most : ℕ) (rows rows' : List ChangeRow) (place : ℕ) (c : Current) (row : ChangeRow)
       → length rows < most → all_shown most ≡ rows ++ map show (take (most - length rows) (left place))
       → left place ≡ c ∷ left c.seq
@@ -285,7 +285,7 @@ module _ (journal : List Edit) (asked : Params) (since : ℕ) where
   more_than_none [] row more e = absurd (cc)
   more_than_none (x ∷ rows) row more e = absurd (cc)
 
-  -- a row that is taken up while there are too few is one of those that are shown
+  -- a row that is taken up while there are too few is one of the rows that are shown
   row_shown : (most : ℕ) (rows : List ChangeRow) (place : ℕ) (row : Current) → length rows < most
       → all_shown most ≡ rows ++ map show (take (most - length rows) (left place))
       → left place ≡ row ∷ left row.seq → ¬ (all_shown most ≡ [])
@@ -295,7 +295,7 @@ module _ (journal : List Edit) (asked : Params) (since : ℕ) where
       (ap (λ n. rows ++ map show (take n (row ∷ left row.seq))) (sym one)
       ∙ (ap (λ cs. rows ++ map show (take (most - length rows) cs)) (sym e) ∙ (sym h ∙ none)))
 
-  -- what is shown in all is the answer
+  -- all rows that are shown are the rows of the answer
   pub shown_all : all_shown (most_of asked.limit (length journal)) ≡ map show
       (falling_rows journal asked since)
   shown_all =
@@ -318,7 +318,7 @@ module _ (journal : List Edit) (asked : Params) (since : ℕ) where
       from None = take_all (length journal) (reverse (filter (is_shown asked since) (current journal))) few
       from (Some limit) = refl
 
-  -- so where a row is taken up the answer has one
+  -- so where a row is taken up the answer has a row
   pub row_due : (most : ℕ) (rows : List ChangeRow) (place : ℕ) (row : Current)
       → most ≡ most_of asked.limit (length journal) → length rows < most
       → all_shown most ≡ rows ++ map show (take (most - length rows) (left place))
@@ -331,7 +331,7 @@ module _ (journal : List Edit) (asked : Params) (since : ℕ) where
   nothing_shown [] e = refl
   nothing_shown (row ∷ rows) e = absurd (cc)
 
-  -- and has one where one is due
+  -- the answer has a row where the falling rows are not empty
   pub answer_some : (life : ℕ) → since ≡ since_of asked.since (length journal) life
       → ¬ (falling_rows journal asked since ≡ [])
       → ¬ ((descending journal life asked).rows ≡ [])
@@ -340,7 +340,7 @@ module _ (journal : List Edit) (asked : Params) (since : ℕ) where
       (ap (λ n. map (row_of journal asked.style asked.include_docs) (falling_rows journal asked n)) begin
       ∙ e))
 
-  -- and lies above where the feed begins
+  -- each row of the answer lies above the feed's beginning
   pub rows_above : (row : Current) → Contains (falling_rows journal asked since) row → since < row.seq
   rows_above row h =
       let i =
@@ -404,7 +404,7 @@ lowest_last since (other ∷ []) (suc k) row e g = absurd (omega arith)
 lowest_last since (other ∷ y ∷ rows) zero row e g = absurd (omega arith)
 lowest_last since (other ∷ y ∷ rows) (suc k) row e g = lowest_last since (y ∷ rows) k row (omega arith) g
 
--- how many rows lie between two places
+-- the number of rows between two places
 abbrev one : Bool → ℕ
 one b = if b then 1 else 0
 
@@ -442,7 +442,7 @@ module _ (since low : ℕ) where
   abbrev is_between : Current → Bool
   is_between row = nat_lt since row.seq && nat_lt row.seq low
 
-  -- where there is none between
+  -- where the two places are the same, no row lies between
   none_between : since ≡ low → (row : Current) → is_between row ≡ false
   none_between e row = elim (cases_Bool (nat_lt since row.seq)) [
     | inl t ↦

@@ -1,4 +1,4 @@
--- What a write changes, and what a feed of a database gives.
+-- The changes of a write, and the items that a feed of a database gives.
 use Rattle.std.proofs.Common.{◌≡◌, ℕ, ◌≤◌, List, [], ◌∷◌, ◌++◌, length}
 use Rattle.std.proofs.Common.{Bool, true, false, ap, refl, sym, subst, ◌∙◌}
 use Rattle.std.proofs.Common.{◌<◌, arith, get_or, nat_le, take}
@@ -105,7 +105,7 @@ refused_batch new_edits deleted limit journal docs n batch t e is =
       stops = λ s. let no : true ≡ false = sym s ∙ is.1 in absurd (cc);
     }
 
--- a batch stops at a document that needs room, behind those that have their replies
+-- a batch stops at a document that needs room, after the documents that have their replies
 pub stopped_batch : (new_edits : Bool) (limit : ℕ) (before now after : List Edit) (docs stored : List Doc)
     (doc : Doc) (rest : List Doc) (replies : List (Outcome Revision))
     → docs_result new_edits false limit before stored ≡ record { outcomes = replies; journal = now }
@@ -144,7 +144,7 @@ item_given show rows (DueEnd last_seq) item e = cc
 item_given show rows DueNothing item e = absurd (cc)
 item_given show rows DueGone item e = absurd (cc)
 
--- what a feed gives is due to it, and may be accepted
+-- an item that a feed gives is due to the feed, and may be accepted
 pub gives_due : (db : Database) (id : ℕ) (item : Item ChangeRow) → Give item ≡ next_of_number (hosted_of db) id
     → item_of_number (hosted_of db) id ≡ Some item
 gives_due db id item e = from (entry_in id db.feeds) e

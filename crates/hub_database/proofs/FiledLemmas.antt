@@ -1,5 +1,5 @@
--- One more edit of a document, that is there or new: the journal has it at its end, and the documents stay in
--- order.
+-- One more edit of a document that is there or new: the journal has the edit at its end, and the documents
+-- stay in order.
 use Rattle.std.proofs.Common.{◌≡◌, ◌≢◌, ℕ, ◌+◌, ◌<◌, ◌≤◌, List, [], ◌∷◌, ◌++◌, length, ap, refl, sym, ◌∙◌}
 use Rattle.std.proofs.Common.{subst, arith, inl, inr, ◌⊎◌, ⊎_elim}
 use Rattle.std.specs.Prelude.{Option, Some, None, slice_get, get_or, map, if◌then◌else◌}
@@ -270,7 +270,7 @@ module _ (limit : ℕ) (numbers : List ℕ → Option ℕ) (documents : List Fil
             let new = edited_none id (journal_of documents entries) (st.others id none) in
             (omega (arith, more g, st.fewer), omega (arith, more g, st.each, rows, ap one_if new))
 
-    -- what holds of the documents goes on to hold
+    -- the invariant of the documents goes on to hold
     pub filed_more : e.id ≡ [] → IsFiled limit numbers' documents' (entries ++ entry ∷ [])
     filed_more nameless = record {
       found = found';

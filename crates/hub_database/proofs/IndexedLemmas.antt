@@ -1,4 +1,4 @@
--- The rows of a store by sequence, by what holds of the rows of any index.
+-- The rows of a database by sequence, by the laws of the rows of any index.
 use Rattle.std.proofs.Common.{◌≡◌, ◌≢◌, ℕ, ◌+◌, ◌<◌, List, [], ◌∷◌, ◌++◌, length, ap, refl, sym, ◌∙◌, subst}
 use Rattle.std.proofs.Common.{arith}
 use Rattle.std.proofs.Common.{slice_get}
@@ -33,7 +33,7 @@ rows_below documents entries index ix k d low =
     let within = rows_within (latest_at documents) (journal_of documents entries) index ix k d low in
     omega (arith, within, length-map entries (edit_at documents))
 
--- One more edit of a document, that is there or new: the rows go on to be the current ones.
+-- One more edit of a document that is there or new: the rows go on to be the current rows.
 module _ (limit : ℕ) (numbers : List ℕ → Option ℕ) (documents : List FiledDocument) (entries : List Entry)
     (index : List (ℕ × ℕ)) (st : IsFiled limit numbers documents entries)
     (ix : IsIndexed documents entries index)

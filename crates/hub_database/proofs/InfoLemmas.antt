@@ -1,4 +1,4 @@
--- What a database says of itself, by the counts that are kept.
+-- The counts of a database, by the counts that are kept.
 use Rattle.std.proofs.Common.{◌≡◌, ◌∙◌, ℕ, ◌+◌, ◌≤◌, ap, length, arith}
 use Rattle.std.specs.Prelude.{count_by, not}
 use Rattle.std.proofs.lemmas.List.{length-map}
@@ -12,7 +12,7 @@ use Rattle.hub_database.specs.Documents.{filed_document, files, deleted_in}
 use Rattle.hub_database.specs.Inside.{HasDocuments, IsCounted, edits_inside}
 use Rattle.hub_database.proofs.CountLemmas.{live_in, deleted_few}
 
--- the count is no greater than the number of documents
+-- the count is at most the number of documents
 pub count_below : (inside : Inside) → HasDocuments inside → IsCounted inside
     → inside.deleted ≤ length inside.documents.items
 count_below inside st counted = omega (
@@ -23,7 +23,7 @@ count_below inside st counted = omega (
   length-map inside.documents.items filed_document,
 )
 
--- the answer
+-- the answer with the counts
 pub info_by : (inside : Inside) → HasDocuments inside → IsCounted inside → (live updates life : ℕ)
     → live + inside.deleted ≡ length inside.documents.items → updates ≡ length (edits_inside inside)
     → ◌≡◌ {A = Info}

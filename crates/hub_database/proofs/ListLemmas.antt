@@ -1,4 +1,4 @@
--- A list of which one element is written over by itself, how many a filter leaves, and a test of three.
+-- A list of which one element is written over by itself, the length of a filtered list, and a test of three.
 use Rattle.std.proofs.Common.{◌≡◌, ℕ, zero, suc, ◌≤◌, List, [], ◌∷◌, length, Bool, true, false, ap, refl, sym}
 use Rattle.std.proofs.Common.{arith}
 use Rattle.std.proofs.Common.{◌||◌}

@@ -1,4 +1,4 @@
--- The rows of a feed of listed documents: how they are found and searched, and what they outlast.
+-- The rows of a feed of listed documents: how they are found and searched, and which steps keep them.
 use Rattle.std.proofs.Common.{◌≡◌, ℕ, suc, zero, ◌+◌, ◌<◌, ◌≤◌, List, [], ◌∷◌, ◌++◌, length, map, Bool}
 use Rattle.std.proofs.Common.{true, false, ◌&&◌, nat_lt, nat_le, nat_eq, inl, inr, refl, sym, ◌∙◌, ap}
 use Rattle.std.proofs.Common.{subst, arith, take, String, Global, string_bytes, Bor, HoldsAt, MatchOption}
@@ -42,14 +42,14 @@ use Rattle.hub_feed.proofs.ListedLemmas.{one_parts}
 use Rattle.hub_database.specs.Listing.{IsListing, passing_sequences, seq_of_row}
 use Rattle.hub_database.specs.declared.listing.Listing.{Listing}
 
--- a number behind the first of rising ones is above it, and those behind it rise
+-- of rising numbers those after the first are above it, and they rise
 above_first : (x : ℕ) (xs : List ℕ) → AllPairs (λ m n. m < n) (x ∷ xs) → (n : ℕ) → Contains xs n → x < n
 above_first x xs rise n (k, l, e) = subst (λ z. x < z) e (rise 0 (suc k) n (omega arith) (omega arith))
 
 rest_rises : (x : ℕ) (xs : List ℕ) → AllPairs (λ m n. m < n) (x ∷ xs) → AllPairs (λ m n. m < n) xs
 rest_rises x xs rise i j d lt inside = rise (suc i) (suc j) d (omega arith) (omega arith)
 
--- of two lists that rise and have the same numbers the first ones are the same, and so are the others
+-- of two lists that rise and have the same numbers the first numbers are the same, and so are the others
 first_same : (x y : ℕ) (xs ys : List ℕ) → AllPairs (λ m n. m < n) (x ∷ xs) → AllPairs (λ m n. m < n) (y ∷ ys)
     → Contains (y ∷ ys) x → Contains (x ∷ xs) y → x ≡ y
 first_same x y xs ys a b there here =
@@ -81,7 +81,7 @@ same_rising (x ∷ xs) (y ∷ ys) a b f g =
     (rest_in y x ys xs (sym e) b g) in
     ap (λ z. z ∷ xs) e ∙ ap (λ zs. y ∷ zs) rest
 
--- from which element a map, and a map that may leave out, give what they do
+-- an element of an image comes from an element of the list: for a map, and for a map that may leave out
 module _ {A B : Type 0} where
   in_map : (f : A → B) (xs : List A) (b : B) → Contains (map f xs) b → (a : A) × Contains xs a × (f a ≡ b)
   in_map f [] b h = absurd (contains_none b h)
@@ -131,7 +131,7 @@ passing_rises shows journal =
     (current journal)
     (rows_rise journal))
 
--- those of listed documents are the sequences of their rows
+-- the sequence of a listed document is that of its row
 row_found : (journal : List Edit) (id : List ℕ) (n : ℕ) → seq_of_row journal id ≡ Some n
     → (row : Current) × Contains (current journal) row × (row.id ≡ id) × (row.seq ≡ n)
 row_found journal id n e = from (first_listed 0 None (id ∷ []) (current journal)) refl e
@@ -174,7 +174,7 @@ passing_found journal ids n h =
     some_in (seq_of_row journal) ids listed.0 n listed.1
     (ap (seq_of_row journal) (sym same) ∙ (row_there journal i.0 kept.0 ∙ ap Some i.2))
 
--- what is found of the ids, in order and each once, is what passes
+-- the sequences found for the ids, in order and each once, are the sequences that pass
 pub arranged : (journal : List Edit) (ids : List (List ℕ)) (found list : List ℕ)
     → found ≡ filter_map (seq_of_row journal) ids → AllPairs (λ m n. m < n) list
     → ((n : ℕ) → Contains found n → Contains list n) → ((n : ℕ) → Contains list n → Contains found n)
@@ -184,7 +184,7 @@ arranged journal ids found list is rise keeps adds =
     (λ n h. found_passing journal ids n (subst (λ l. Contains l n) is (adds n h)))
     (λ n h. keeps n (subst (λ l. Contains l n) (sym is) (passing_found journal ids n h)))
 
--- one document more
+-- the sequences found so far, with one document more
 pub gathered : (journal : List Edit) (texts : List (String Global)) (i : ℕ) (d : String Global)
     → i < length texts
     → (found : List ℕ) (seq : Option ℕ)
@@ -209,11 +209,11 @@ parted xs place rise i j d le lt e =
           let b = leb-true (get_or xs j d) place e in le-leb (get_or xs i d) place (omega (arith, a, b))
     ]
 
--- the first of rising numbers above a place, and not above a bound
+-- the test of a number above a place, and not above a bound
 abbrev is_between : ℕ → Option ℕ → ℕ → Bool
 is_between place bound n = nat_lt place n && is_within bound n
 
--- what the number at the place of a binary search is taken for
+-- the answer of a binary search, by the number at its place
 abbrev pub taken : ℕ → Option ℕ → Option ℕ → Option ℕ
 taken place bound None = None
 taken place bound (Some n) = if nat_lt place n && is_within bound n then Some n else None
@@ -259,7 +259,7 @@ pub taken_at : (place : ℕ) (bound : Option ℕ) (xs : List ℕ) (at : ℕ) (o 
 taken_at place bound xs at o rise point got =
     ap (taken place bound) (copied_at xs at o got) ∙ searched place bound xs at rise point
 
--- that of a feed's passing rows is the first in its reach
+-- the first passing row between a feed's place and its bound is the first in its reach
 reach_taken : (feed : Feed) (rows : List Current)
     → find (is_between feed.place feed.bound)
     (map (λ (row : Current). row.seq) (filter (λ (row : Current). is_passing feed.params.filter row.id) rows))
@@ -283,7 +283,7 @@ reach_taken feed (row ∷ rows) =
       ]
     ]
 
--- so what is found among rows that are kept is the first in reach of a feed that lists these ids
+-- so the sequence found among kept rows is that of the first row in reach of a feed that lists these ids
 listed_is : (shows : Filter) (ids : List (List ℕ)) → Some ids ≡ listed_in shows → shows ≡ DocIds ids
 listed_is Everything ids e = absurd (cc)
 listed_is (DocIds listed) ids e = ap DocIds (sym (same_Some ids listed e))
@@ -302,7 +302,7 @@ first_is feed journal ids place bound rows first lists p b r is is_waiting_mode 
     (r ∙ ap (λ z. passing_sequences z journal) (sym (listed_is feed.params.filter ids lists)))
     ∙ reach_taken feed (current journal))))
 
--- each feed that is there, of those whose numbers were given, was there before and asks for the same
+-- each feed with a number that was given before was there before, and asks for the same
 abbrev AskTheSame : ℕ → List (ℕ × Feed) → List (ℕ × Feed) → Type 0
 AskTheSame next old new =
     (q : ℕ) → q < next
@@ -377,7 +377,7 @@ answers_asking id next len (Give item) feeds = all_stay next feeds
 answers_asking id next len Nothing feeds = one_asks id next (λ f. after_nothing f len) feeds (λ f. refl)
 answers_asking id next len Gone feeds = all_stay next feeds
 
--- then the rows that are kept of one go on to be its
+-- then the rows that are kept of a feed go on to be its rows
 module _ (journal : List Edit) (old new : List (ℕ × Feed)) (next next' : ℕ) (later : next ≤ next')
     (same : AskTheSame next old new) (listing : Listing) where
   given_on : (o : Option ℕ) → IfSome o (λ n. n < next) → IfSome o (λ n. n < next')
@@ -402,7 +402,7 @@ module _ (journal : List Edit) (old new : List (ℕ × Feed)) (next next' : ℕ)
   pub kept_on : IsListing journal old next listing → IsListing journal new next' listing
   kept_on x = record { given = given_on listing.feed x.given; rows = rows_on listing.feed x.given x.rows }
 
--- so do those of feeds of which one answered
+-- the kept rows stay so where a feed answered
 pub answer_kept : {R : Type 0} (journal : List Edit) (len : ℕ) (rows : List Current)
     (shown : Style → Bool → Current → R)
     (old new : FeedList) (id : ℕ) (answer : Next R) (listing : Listing)
@@ -413,7 +413,7 @@ answer_kept journal len rows shown old new id answer listing is x =
     (kept_on journal old.feeds (feeds_behind id len answer old.feeds) old.next old.next (omega arith)
     (answers_asking id old.next len answer old.feeds) listing x)
 
--- or handed what was due to it
+-- the kept rows stay so where a feed handed its due item
 pub handed_kept : {R : Type 0} (journal : List Edit) (len : ℕ) (rows : List Current)
     (shown : Style → Bool → Current → R)
     (old new : FeedList) (id : ℕ) (listing : Listing) → new ≡ feeds_of (hosted_after_hand (over len rows shown old) id)

@@ -21,14 +21,14 @@ use Rattle.hub_database.proofs.CountLemmas.{text_turned}
 abbrev pub entry_as : {Y : Type 0} → (String Y × code.Local) → Local
 entry_as e = local_named (string_bytes e.0) e.1
 
--- the same of one that is borrowed
+-- the same for a local document that is borrowed
 pub kept_behind : (id : List ℕ) (o : Option (Bor code.Local))
     → option_map (λ l. local_named id l.now) o
     ≡ option_map (local_named id) (option_copied o)
 kept_behind id None = refl
 kept_behind id (Some l) = refl
 
--- the one that a look finds
+-- the local document that a look finds
 pub found_in : {Y : Type 0} (id : List ℕ) (es : List (String Y × code.Local))
     → option_map (local_named id) (lookup (is_at (λ k. slice_cmp nat_cmp id (string_bytes k))) es)
     ≡ find (λ (local : Local). bytes_eq local.id id) (map entry_as es)
@@ -49,7 +49,7 @@ found_in id (e ∷ es) =
         ap (λ (i : List ℕ). Some (local_named i e.1)) (sym ((bytes_eq-Decides (string_bytes e.0) id).0 t))
     from false t h = h
 
--- the list with one put in
+-- the list, once a local document is put in
 pub put_in : {Y : Type 0} (es : List (String Y × code.Local)) (key : String Y) (local : code.Local)
     → map entry_as (insert_entry string_cmp es key local)
     ≡ put_local (local_named (string_bytes key) local) (map entry_as es)

@@ -1,4 +1,4 @@
--- What a look at a document's tree says of storing an edit in the journal.
+-- The look at a document's tree, and the storing of the edit in the journal.
 use Rattle.std.proofs.Common.{◌≡◌, ℕ, List, [], ◌∷◌, ◌++◌, length, Bool, true, false}
 use Rattle.std.proofs.Common.{ap, refl, sym, subst, ◌∙◌, ◌&&◌, not, ◌⊎◌, inl, inr}
 use Rattle.std.specs.Prelude.{IfOk, IfErr, Option, Some, None, Result}
@@ -37,7 +37,7 @@ use Rattle.hub_database.specs.declared.document.Looked.{Looked}
 use Rattle.hub_database.specs.declared.document.Looked.TheVariants.{Known, Refused, Ready}
 use Rattle.hub_database.proofs.NamedLemmas.{known_named, extended_named}
 
--- the tests on a tree, from what its look says
+-- the tests on a tree, from the result of its look
 head_known : (edits : List Edit) (path : List Revision) → HasKnownHead edits path
     → is_head_known edits [] path ≡ true
 head_known edits [] (r, i, k) = absurd i
@@ -83,7 +83,7 @@ module _ (journal : List Edit) (id : List ℕ) (edits : List Edit)
       (same_head path)
       ∙ ap (λ b. is_history path && (not (is_head_known edits [] path) && b)) (same_agrees path)
 
-  -- what the tree can take may be stored in the journal
+  -- an edit that the tree can take may be stored in the journal
   pub acceptable_in : (edit : Edit) → IsLegal journal → edit.id ≡ [] → IsAcceptable edits edit
       → IsAcceptable journal (edit_with_id id edit)
   acceptable_in edit legal none ok =
@@ -94,14 +94,14 @@ module _ (journal : List Edit) (id : List ℕ) (edits : List Edit)
       (same_acceptable edit.path edit.deleted edit.body
       ∙ (ap (is_acceptable edits) same ∙ is_acceptable_from edits edit ok))
 
-  -- what takes memory on the tree takes it in the journal
+  -- an edit that takes memory on the tree takes it in the journal
   pub needs_in : (origin : Origin) (deleted : Bool) (body : List ℕ) → IsLegal journal
       → NeedsRoomFrom edits [] origin deleted body → NeedsRoomFrom journal id origin deleted body
   needs_in (Elsewhere path) deleted body legal ok = acceptable_in (nameless path deleted body) legal refl ok
   needs_in (Here rev) deleted body legal (path, on, low) =
       (path, extended_named journal id edits kept one rev ∙ on, low)
 
-  -- an answer with the journal after it, by what a look says
+  -- an outcome with the journal after it, by the result of a look
   abbrev said : Looked → Stores
   said looked = record { outcome = outcome_of looked; journal = journal_after looked id journal }
 
@@ -190,14 +190,14 @@ module _ (journal : List Edit) (id : List ℕ) (edits : List Edit)
         ap (draft_result_on limit journal (draft id rev deleted body)) (extended_named journal id edits kept one rev)
         ∙ made_by (draft id rev deleted body) refl (extended_path edits [] (leaves_of edits []) rev)
 
-    -- storing it answers what the tree's look says
+    -- storing an edit answers the outcome of the tree's look
     pub stores_by : (edit : Incoming) → stores_edit limit journal id edit ≡ record {
       outcome = outcome_of (unless_full full (look_at id edits edit));
       journal = journal_after (unless_full full (look_at id edits edit)) id journal;
     }
     stores_by edit = from_origin edit.origin edit.deleted edit.body
 
--- what a look says of an edit with its history
+-- the look at an edit with its history
 pub looks_known : (id : List ℕ) (edits : List Edit) (path : List Revision) (deleted : Bool) (body : List ℕ)
     → HasKnownHead edits path → Known ≡ look_from id edits (Elsewhere path) deleted body
 looks_known id edits path deleted body h =
@@ -253,7 +253,7 @@ made_unknown limit journal draft other_journal h =
         (is_known journal draft.id (new_revision draft (parent_of path)))
         (nat_le limit (length journal)) (draft_edit draft path) h
 
--- what one edit that is made answers
+-- the answer to one edit that is made here
 made_reply : (limit : ℕ) (journal : List Edit) (draft : Draft) (o : Outcome Revision)
     (other_journal : List Edit) → draft_result limit journal draft ≡ record { outcome = o; journal = other_journal }
     → IfOk (reply_of o) (λ r.
@@ -307,7 +307,7 @@ made_reply limit journal draft (outcome.Refused f) other_journal h =
         (is_known journal draft.id (new_revision draft (parent_of path)))
         (nat_le limit (length journal)) (draft_edit draft path) h
 
--- what a database that stands answers to one edit that is made
+-- the answer of a database that stands to one edit that is made here
 pub one_reply : (old new : Database) (doc : Doc) (o : Outcome Revision) (r : Result Revision DbFault)
     → old.deleted ≡ false → r ≡ reply_of o
     → stores_doc true old.limits.journal old.journal doc ≡ record { outcome = o; journal = new.journal }

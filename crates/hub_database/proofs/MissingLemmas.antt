@@ -1,4 +1,4 @@
--- What a document misses, by its tree and of a document that is unknown.
+-- The revisions that a document misses, by its tree, and those that an unknown document misses.
 use Rattle.std.proofs.Common.{◌≡◌, ◌≢◌, ℕ, List, [], ◌∷◌, ◌++◌, length}
 use Rattle.std.proofs.Common.{Bool, true, false, ap, refl, sym, ◌∙◌, arith}
 use Rattle.std.specs.Prelude.{Option, Some, None, filter, nat_lt, if◌then◌else◌, not, ◌==◌}
@@ -15,7 +15,7 @@ use Rattle.hub_database.specs.Found.{IsFound, wanted_diff}
 use Rattle.hub_database.proofs.NamedLemmas.{known_named}
 use Rattle.hub_database.proofs.ShownLemmas.{leaves_same, no_leaves}
 
--- a difference, where these are missing
+-- a difference, where these revisions are missing
 abbrev chosen : List ℕ → List Revision → List Revision → Option Diff
 chosen id revisions others =
     if nat_lt 0 (length revisions) then
@@ -35,7 +35,7 @@ chosen_not : (id : List ℕ) (revisions others : List Revision) → revisions �
     → ¬ (chosen id revisions others ≡ None)
 chosen_not id revisions others some = λ e. absurd (let never = chosen_some id revisions others some ∙ e in cc)
 
--- what a test for an empty list says
+-- a list that passes the test for an empty list is empty
 pub none_of : (revisions : List Revision) → true ≡ (length revisions == 0) → revisions ≡ []
 none_of [] e = refl
 none_of (revision ∷ revisions) e =
@@ -46,7 +46,7 @@ pub some_of : (revisions : List Revision) → false ≡ (length revisions == 0) 
 some_of [] e = absurd (cc)
 some_of (revision ∷ revisions) e = λ n. absurd (cc)
 
--- what a document that is asked for misses
+-- the difference for a document that is asked for
 module _ (journal : List Edit) (id : List ℕ) (document : Document) (f : IsFound journal id document) where
   missing_same : (revisions : List Revision)
       → unknown_revisions document.tree.edits [] revisions ≡ unknown_revisions journal id revisions
@@ -66,14 +66,14 @@ module _ (journal : List Edit) (id : List ℕ) (document : Document) (f : IsFoun
       ∙ ap (filter (λ r. nat_lt r.generation (highest (unknown_revisions journal id revisions))))
       (leaves_same journal id document f)
 
-  -- nothing
+  -- no difference, where no revision is missing
   pub whole_found : (revisions others : List Revision) → others ≡ unknown_revisions document.tree.edits [] revisions
       → others ≡ [] → None ≡ wanted_diff journal (record { id = id; revs = revisions })
   whole_found revisions others is none =
       ap (λ ns. chosen id ns (possible_ancestors journal id revisions))
       (sym none ∙ (is ∙ missing_same revisions))
 
-  -- something
+  -- the difference, where a revision is missing
   pub diff_found : (revisions others ancestors : List Revision)
       → others ≡ unknown_revisions document.tree.edits [] revisions
       → ancestors ≡ possible_ancestors document.tree.edits [] revisions → others ≢ []
@@ -91,7 +91,7 @@ module _ (journal : List Edit) (id : List ℕ) (document : Document) (f : IsFoun
       chosen_not id (unknown_revisions journal id revisions) (possible_ancestors journal id revisions)
       (λ e. some (missing_same revisions ∙ e))
 
--- of an unknown document all are missing
+-- an unknown document misses all revisions
 module _ (journal : List Edit) (id : List ℕ) (none : edits_of journal id ≡ []) where
   all_missing : (revisions : List Revision) → unknown_revisions journal id revisions ≡ revisions
   all_missing [] = refl

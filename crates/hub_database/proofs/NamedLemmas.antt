@@ -1,4 +1,4 @@
--- A document's edits in a journal are those of its tree, with its id: what is said of them is the same.
+-- A document's edits in a journal are those of its tree, with its id. Definitions give the same for both.
 use Rattle.std.proofs.Common.{◌≡◌, ℕ, zero, suc, List, [], ◌∷◌, Bool, true, false, ap, refl, sym, ◌∙◌}
 use Rattle.std.specs.Prelude.{Option, Some, None, map, find, option_map, if◌then◌else◌}
 use Rattle.std.specs.List.{list_any}
@@ -133,7 +133,7 @@ module _ (journal : List Edit) (id : List ℕ) (edits : List Edit)
       ∙ (find_named id revision edits
       ∙ ap (λ es. option_map (edit_with_id id) (find (is_head revision) es)) (sym one))
 
-  -- what is shown of a revision
+  -- the edit that is shown for a revision
   pub shown_named : (revision : Revision)
       → shown_edit journal id revision ≡ option_map (edit_with_id id) (shown_edit edits [] revision)
   shown_named revision =

@@ -12,12 +12,12 @@ use Rattle.hub_database.specs.declared.document.Incoming.{Incoming}
 use Rattle.hub_database.specs.declared.document.Looked.{Looked}
 use Rattle.hub_database.specs.declared.document.Looked.TheVariants.{Ready}
 
--- a look that says that an edit with its history is to be stored says that of the edit itself
+-- where a look says that an edit with its history is to be stored, it is this edit
 by_is : (e0 edit : Edit) (known acceptable full : Bool)
     → Ready edit ≡ unless_full full (look_by e0 known acceptable) → edit ≡ e0
 by_is e0 edit known acceptable full h = grind (arith, common_steps)
 
--- one that says it of an edit that is made here has a path for it, and a generation
+-- where a look says so of an edit that is made here, the edit has a path, and a generation is left
 made_has : (edits : List Edit) (draft : Draft) (edit : Edit) (o : Option (List Revision)) (full : Bool)
     → Ready edit ≡ unless_full full (look_made (edit_on_path edits draft o))
     → (path : List Revision) × (o ≡ Some path) × (generation_of (parent_of path) < 65535)
@@ -28,7 +28,7 @@ needs : (id : List ℕ) (edits : List Edit) (full : Bool) (edit : Incoming) (e :
     → NeedsRoomFor edits [] edit
 needs id edits full edit e storable h = grind (arith, nat_tests, common_steps, by_is, made_has)
 
--- so an error behind such a look is out of memory, where memory is needed
+-- so an error after such a look is out of memory, where memory is needed
 pub ready_needs : {A E : Type 0} (r : Result A E) (id : List ℕ) (edits : List Edit) (full : Bool)
     (edit : Incoming) (l : Looked) (e : Edit)
     → l ≡ Ready e → IsStorable edits l → l ≡ unless_full full (look_at id edits edit)

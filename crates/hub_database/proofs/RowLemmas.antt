@@ -40,7 +40,7 @@ doc_named false id leaves = refl
 doc_named true id [] = refl
 doc_named true id (leaf ∷ leaves) = refl
 
--- the row at this sequence of a document of this id and these edits, where so many edits are seen
+-- the row at this sequence, of a document with this id and these edits, made while there are so many edits
 abbrev row_as : ℕ → List ℕ → List Edit → Style → Bool → ℕ → ChangeRow
 row_as seq id edits style include_docs seen = record {
   seq = seq;
@@ -63,7 +63,7 @@ row_by journal style include_docs row edits kept tree =
       doc_named include_docs row.id (leaves_of edits []),
     ) refl
 
--- the row that the journal's entry at a current row's sequence leads to
+-- the row of the document to which the journal's entry at a current row's sequence leads
 module _ (limit : ℕ) (numbers : List ℕ → Option ℕ) (documents : List Document) (entries : List Entry)
     (st : IsFiled limit numbers (files documents) entries) where
   pub entry_low : (i : ℕ) (x : Entry) → i < length entries → x ≡ get_or entries i x
@@ -111,7 +111,7 @@ module _ (limit : ℕ) (numbers : List ℕ → Option ℕ) (documents : List Doc
       (at_place documents x.document document (entry_low i x low is) at) tree style include_docs)))
   row_answer (Err e) seq seen i x s low is document at style include_docs row tree all = tt
 
--- what a step in the index finds
+-- the rows that a step in the index finds
 module _ (documents : List Document) (entries : List Entry) (index : List (ℕ × ℕ))
     (ix : IsIndexed (files documents) entries index) where
   -- a number that has an id is a document's

@@ -1,4 +1,4 @@
--- A call that reads gives up only where it has something to show.
+-- A call that reads fails for memory only where its answer is not empty.
 use Rattle.std.proofs.Common.{◌≡◌, ℕ, List, [], ◌∷◌, ◌++◌, Bool, true}
 use Rattle.std.proofs.Common.{false, inl, inr, ap, refl, sym, ◌∙◌, subst}
 use Rattle.std.specs.Prelude.{Contains, Some, None, map, if◌then◌else◌}
@@ -19,7 +19,7 @@ use Rattle.hub_database.specs.Found.{IsFound, wanted_diff}
 use Rattle.hub_database.specs.Reads.{open_rev, open_revs}
 use Rattle.hub_database.proofs.ShownLemmas.{leaves_same}
 
--- what is made of each of some things is something
+-- the image of a list that is not empty is not empty
 pub map_some : {A B : Type 0} (f : A → B) (xs : List A) → ¬ (xs ≡ []) → ¬ (map f xs ≡ [])
 map_some f [] some = absurd (some refl)
 map_some f (x ∷ xs) some = λ e. absurd (cc)
@@ -40,25 +40,25 @@ leaves_some journal id legal some = from (edits_of journal id) refl
 
 module _ (journal : List Edit) (id : List ℕ) (document : Document) (f : IsFound journal id document)
     (revs : Bool) where
-  -- where its tree has an edit a leaf is shown
+  -- where a document's tree has an edit, a leaf is shown
   pub edits_open : IsLegal journal → ¬ (document.tree.edits ≡ []) → ¬ (open_revs journal id All revs ≡ [])
   edits_open legal some =
       map_some (open_rev journal id revs) (revisions_of (leaves_of journal id))
       (leaves_some journal id legal (λ e. map_some (edit_with_id id) document.tree.edits some (sym f.kept ∙ e)))
 
-  -- and where there is a leaf
+  -- where there is a leaf, a leaf is shown
   pub leaves_open : (revisions : List Revision) → revisions ≡ revisions_of (leaves_of document.tree.edits [])
       → ¬ (revisions ≡ []) → ¬ (open_revs journal id All revs ≡ [])
   leaves_open revisions same some =
       map_some (open_rev journal id revs) (revisions_of (leaves_of journal id))
       (λ e. some (same ∙ (leaves_same journal id document f ∙ e)))
 
--- of each revision that is listed something is shown
+-- where revisions are listed, the answer is not empty
 pub listed_open : (journal : List Edit) (id : List ℕ) (revs : Bool) (revisions : List Revision)
     → ¬ (revisions ≡ []) → ¬ (open_revs journal id (Listed revisions) revs ≡ [])
 listed_open journal id revs revisions some = map_some (open_rev journal id revs) revisions some
 
--- a document that misses something is told of
+-- a document that misses a revision has its difference in the answer
 pub diffs_some : (journal : List Edit) (before later : List RevisionsOfDoc) (asked : RevisionsOfDoc)
     → ¬ (wanted_diff journal asked ≡ None) → ¬ (diffs journal (before ++ asked ∷ later) ≡ [])
 diffs_some journal [] later asked some = from (is_wanted (diff_of journal asked)) refl

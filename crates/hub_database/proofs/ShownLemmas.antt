@@ -1,4 +1,4 @@
--- What a document's tree shows is what the journal has of it.
+-- A document's tree shows the same as the journal.
 use Rattle.std.proofs.Common.{◌≡◌, ℕ, zero, suc, List, [], ◌∷◌, take, Bool, true, false, ap, refl, sym, ◌∙◌}
 use Rattle.std.proofs.Common.{subst}
 use Rattle.std.specs.Prelude.{Option, Some, None, Contains, map, find, option_map, slice_get, get_or}
@@ -45,7 +45,7 @@ module _ (journal : List Edit) (id : List ℕ) (document : Document) (f : IsFoun
       ap winner_of (leaves_named journal id document.tree.edits f.kept f.one)
       ∙ winner_renamed id (leaves_of document.tree.edits [])
 
-  -- what is shown of a revision
+  -- the edit that is shown for a revision
   pub shown_found : (revision : Revision) → shown_edit journal id revision ≡ shown_in document revision
   shown_found revision =
       shown_named journal id document.tree.edits f.kept f.one revision
@@ -62,7 +62,7 @@ head_first : (revisions : List Revision) (revision other : Revision) → is_firs
 head_first [] revision other t e = absurd (cc)
 head_first (x ∷ revisions) revision other t e = same_is revision x t ∙ same_Some x other e
 
--- what is lent of an edit that is found
+-- the parts that are lent of an edit that is found
 lent : {P : Type 0} (maybe_edit : Option Edit) (tip : Tip) (p : Option (List Revision))
     → Some tip ≡ option_map tip_of maybe_edit → Some p ≡ option_map (λ edit. Some edit.path) maybe_edit
     → ((edit : Edit) → maybe_edit ≡ Some edit → tip ≡ tip_of edit → p ≡ Some edit.path → P) → P
@@ -70,7 +70,7 @@ lent None tip p same on next = absurd (none-some tip (sym same))
 lent (Some edit) tip p same on next =
     next edit refl (same_Some tip (tip_of edit) same) (same_Some p (Some edit.path) on)
 
--- a document that is copied from the edit that a revision heads
+-- a document that is copied from the edit which a revision heads
 module _ (document : Document) (revision other : Revision) (deleted : Bool) (body : List ℕ) where
   abbrev edits : List Edit
   edits = document.tree.edits
@@ -251,7 +251,7 @@ module _ (document : Document) (legal : IsLegal document.tree.edits) where
             body = b;
           })) (same_Some body leaf.edit.body h) ∙ copied)
 
--- what is shown of a leaf is of the edit that it heads
+-- the edit that is shown for a leaf is the edit that the leaf heads
 module _ (journal : List Edit) (id : List ℕ) (legal : IsLegal journal) where
   leaf_shown : (leaf : Leaf) → Contains (leaves_of journal id) leaf
       → shown_edit journal id leaf.rev
@@ -263,7 +263,7 @@ module _ (journal : List Edit) (id : List ℕ) (legal : IsLegal journal) where
       })
   leaf_shown leaf c = ap (shown_of journal id leaf.rev) (leaf_headed journal id legal leaf c)
 
-  -- a winner that is deleted
+  -- the answer where the winner is deleted
   pub lookup_deleted : (revs : Bool) (winner : Winner) → Some winner ≡ winner_of (leaves_of journal id)
       → winner.deleted ≡ true → looked.Deleted ≡ lookup journal id revs
   lookup_deleted revs winner is gone = from (leaves_of journal id) is
@@ -276,7 +276,7 @@ module _ (journal : List Edit) (id : List ℕ) (legal : IsLegal journal) where
           (same_Some _ winner (sym e)) ∙ gone in
           rw mark refl
 
-  -- and one that is not
+  -- the answer where the winner is not deleted
   lookup_live : (revs : Bool) (winner : Winner) → Some winner ≡ winner_of (leaves_of journal id)
       → winner.deleted ≡ false
       → option_map looked.Found (option_map (doc_shown revs) (shown_edit journal id winner.rev)) ≡ Some
@@ -304,7 +304,7 @@ module _ (journal : List Edit) (id : List ℕ) (legal : IsLegal journal) where
           }))))
           (sym mark))
 
-  -- it is found
+  -- a document whose winner is not deleted is found
   lookup_found : (revs : Bool) (winner : Winner) → Some winner ≡ winner_of (leaves_of journal id)
       → winner.deleted ≡ false → HasDocument journal id revs
   lookup_found revs winner is live = from (leaves_of journal id) is
@@ -354,7 +354,7 @@ module _ (journal : List Edit) (id : List ℕ) (legal : IsLegal journal) where
     pub never_none : None ≡ option_map (doc_shown revs) (shown_in d w.rev) → w.deleted ≡ false → ⊥
     never_none e m = none-some _ (live None e m)
 
-  -- no winner
+  -- the answer where there is no winner
   pub unknown_found : (document : Document) → IsFound journal id document → (revs : Bool)
       → winner_of (leaves_of document.tree.edits []) ≡ None → looked.Unknown ≡ lookup journal id revs
   unknown_found document f revs none = from (leaves_of journal id) (winner_found journal id document f ∙ none)
@@ -389,7 +389,7 @@ document_found limit numbers documents entries st id k there document is =
       one = st.one k (filed_document document) at;
     }
 
--- each of the revisions that are asked for
+-- the answer for each of the revisions that are asked for
 module _ (journal : List Edit) (id : List ℕ) (document : Document) (f : IsFound journal id document)
     (revs : Bool) where
   opened : (revisions : List Revision)
@@ -401,19 +401,19 @@ module _ (journal : List Edit) (id : List ℕ) (document : Document) (f : IsFoun
       (sym (shown_found journal id document f revision))
       ∙ ap (λ os. open_rev journal id revs revision ∷ os) (opened revisions)
 
-  -- listed ones
+  -- the answer for listed revisions
   pub listed_found : (revisions : List Revision)
       → map (λ r. open_rev_of revs r (shown_in document r)) revisions ≡ open_revs journal id
       (Listed revisions) revs
   listed_found revisions = opened revisions
 
-  -- and the leaves
+  -- the answer for the leaves
   pub all_found : (revisions : List Revision) → revisions ≡ revisions_of (leaves_of document.tree.edits [])
       → map (λ r. open_rev_of revs r (shown_in document r)) revisions ≡ open_revs journal id All revs
   all_found revisions same =
       opened revisions ∙ ap (map (open_rev journal id revs)) (same ∙ leaves_same journal id document f)
 
--- of an unknown document
+-- an unknown document has no leaf
 module _ (journal : List Edit) (id : List ℕ) (none : edits_of journal id ≡ []) where
   pub no_leaves : leaves_of journal id ≡ []
   no_leaves = ap (λ es. best_first (leaves_among es es)) none

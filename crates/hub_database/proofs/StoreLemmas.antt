@@ -1,4 +1,4 @@
--- What storing one edit does to the documents and the journal of a database.
+-- The storing of one edit in the documents and the journal of a database.
 use Rattle.std.proofs.Common.{◌≡◌, ◌≢◌, ℕ, ◌+◌, ◌<◌, ◌≤◌, List, [], ◌∷◌, ◌++◌, length, Bool, true}
 use Rattle.std.proofs.Common.{false, ap, refl, sym, ◌∙◌, subst, arith, inl, inr}
 use Rattle.std.specs.Prelude.{OnErr, Result, Ok, Err, Option, Some, None, slice_get, slice_set}
@@ -52,8 +52,8 @@ use Rattle.hub_database.proofs.FiledLemmas.{Was, kept_of, journal_is, filed_more
 use Rattle.hub_database.proofs.IndexedLemmas.{indexed_edit}
 pub use Rattle.hub_revtree.proofs.BranchLemmas.{on_err}
 
--- what storing an edit leaves: the documents and the rows in order, and the journal with the edit if it is
--- stored
+-- The state after an edit is stored: the documents and the rows are in order, and the journal has the edit
+-- if it is stored.
 abbrev pub Leaves : ℕ → List FiledDocument → List Entry → List ℕ → Looked → (List ℕ → Option ℕ) → List FiledDocument
     → List Entry → List (ℕ × ℕ) → Type 0
 Leaves limit documents entries id looked numbers' documents' entries' index' =
@@ -61,7 +61,7 @@ Leaves limit documents entries id looked numbers' documents' entries' index' =
     (journal_of documents' entries' ≡ journal_after looked id (journal_of documents entries)) × IsIndexed
     documents' entries' index'
 
--- what is to be stored finds the journal not full
+-- where an edit is to be stored, the journal is not full
 room_in : (limit n : ℕ) (looked : Looked) (edit : Edit) → unless_full (nat_le limit n) looked ≡ Ready edit
     → n < limit
 room_in limit n looked edit h = leb-false limit n (from (nat_le limit n) looked h)
@@ -81,7 +81,7 @@ stays journal later_journal id same count count' was is w i c h =
     let all : deleted_in later_journal ≡ deleted_in journal = ap deleted_in same in
     omega (arith, h, c, all, ap one_if now)
 
--- the count goes on to be that of the documents with a deleted winner
+-- the count goes on to be the number of documents with a deleted winner
 counted_on : (journal later_journal : List Edit) (id : List ℕ) (looked : Looked)
     → later_journal ≡ journal_after looked id journal
     → (count count' : ℕ) (was is : Bool) → was ≡ is_deleted (leaves_of journal id)
@@ -98,7 +98,7 @@ counted_on journal later_journal id (Ready e) same count count' was is w i c h =
     let all : deleted_in later_journal ≡ deleted_in (journal ++ edit_with_id id e ∷ []) = ap deleted_in same in
     omega (arith, h, c, more, all, ap one_if w, ap one_if now)
 
--- where it is stored
+-- the state where the edit is stored
 module _ (limit : ℕ) (numbers : List ℕ → Option ℕ) (documents : List FiledDocument) (entries : List Entry)
     (st : IsFiled limit numbers documents entries) (index : List (ℕ × ℕ))
     (ix : IsIndexed documents entries index) (id : List ℕ) (k : ℕ) (edits : List Edit)
@@ -174,7 +174,7 @@ module _ (limit : ℕ) (numbers : List ℕ → Option ℕ) (documents : List Doc
       (journal_of (files documents) entries) document.id document.tree.edits kept_at tree.one)
       ∙ deleted_named document.id (leaves_of document.tree.edits []))
 
-  -- so it is counted
+  -- so this document is counted
   pub mark_counted : IsRevTree document.tree.edits → (count : ℕ)
       → count ≡ deleted_in (journal_of (files documents) entries)
       → one_if (is_deleted (leaves_of document.tree.edits [])) ≤ count
@@ -193,7 +193,7 @@ module _ (limit : ℕ) (numbers : List ℕ → Option ℕ) (documents : List Doc
       × IsIndexed (files (slice_set documents k other)) entries' index'
   unchanged index index' ix other entries' e es is = rw (same_files other e, es, is) (st, refl, ix)
 
-  -- what takes memory on its tree takes it in the journal
+  -- an edit that takes memory on the tree takes it in the journal
   pub needs_at : (id : List ℕ) → numbers id ≡ Some k → IsRevTree document.tree.edits → (edit : Incoming)
       → NeedsRoomFor document.tree.edits [] edit → NeedsRoomFor (journal_of (files documents) entries) id edit
   needs_at id there tree edit n =
@@ -240,7 +240,7 @@ module _ (limit : ℕ) (numbers : List ℕ → Option ℕ) (documents : List Doc
   leaves_so index index' ix tree (Refused fault) room other entries' s e es is =
       rw (same_files other e, es, is) (st, refl, ix)
 
-  -- what storing it leaves
+  -- the state after an edit of this document is stored
   pub extended : (index index' : List (ℕ × ℕ)) → IsIndexed (files documents) entries index → (id : List ℕ)
       → numbers id ≡ Some k → IsRevTree document.tree.edits
       → (edit : Incoming) (other : Document) (entries' : List Entry) (o : Outcome Revision)
@@ -381,7 +381,7 @@ module _ (old : Inside) (st : HasDocuments old) (ix : HasRows old) (id : List �
             ix,
           )
 
--- the count after it
+-- the count after the first edit of a document
 first_counted : (journal later_journal : List Edit) (id : List ℕ) (looked : Looked) (setting : Setting)
     (count count' : ℕ)
     → setting.document ≡ unwritten_document id → later_journal ≡ journal_after looked id journal
@@ -424,7 +424,7 @@ first_counted journal later_journal id (Ready e) setting count count' first same
     (is_deleted (leaves_of (e ∷ []) [])) before
     (now ∙ ap (λ K. is_deleted (leaves_of K id)) (sym same)) c (omega (arith, h, only))
 
--- what a new document brings, one by one
+-- the fields after the first edit of a document, one by one
 pub first_stored : (id : List ℕ) (edit : Incoming) (old new : Inside) (none d : FiledDocument) (look : Looked)
     (e : Edit) (revision : Revision) (number : ℕ)
     → none ≡ unwritten_document id
@@ -502,7 +502,7 @@ first_stored id edit old new none d look e revision number first looked ready st
           (subst (λ (z : FiledDocument). IsStorable z.edits look) first storable);
     }
 
--- what storing it leaves
+-- the state after the first edit of a document is stored
 pub inserted_so : (old new : Inside) → HasDocuments old → IsCounted old → HasRows old → (id : List ℕ)
     → number_by old id ≡ None → (edit : Incoming) (o : Outcome Revision)
     → IsInserted id (look_in old.limits.journal (first_setting id old) edit) old new o
@@ -556,7 +556,7 @@ same_store old new st counted ix w stay =
       rw (w.documents, w.journal, w.index) ix,
     )
 
--- what is answered to a first edit, and the journal after it
+-- the outcome of a first edit, and the journal after it
 pub first_said : (old : Inside) → HasDocuments old → (id : List ℕ) → number_by old id ≡ None
     → (edit : Incoming)
     → stores_edit old.limits.journal (edits_inside old) id edit
@@ -571,7 +571,7 @@ first_said old st id absent edit =
     stores_by (edits_inside old) id [] (st.filed.others id absent) refl old.limits.journal
     (nat_le old.limits.journal (length old.journal.items)) full edit
 
--- what the call leaves
+-- the invariant holds after a first edit
 pub inserted_whole : (old new : Inside) → IsWhole old → (id : List ℕ) → number_by old id ≡ None
     → (edit : Incoming) (o : Outcome Revision)
     → IsInserted id (look_in old.limits.journal (first_setting id old) edit) old new o
@@ -601,7 +601,7 @@ number_below limit numbers documents entries st id k there =
     let f = st.found id k there in
     omega (arith, slice_get_within (files documents) k f.0 f.1, length-map documents filed_document)
 
--- and the document is there
+-- the document of a number that is found is in the list
 pub document_there : (inside : Inside) → HasDocuments inside → (id : List ℕ) (k : ℕ)
     → number_by inside id ≡ Some k
     → (document : Document) → document ≡ get_or inside.documents.items k document
@@ -613,12 +613,12 @@ document_there inside st id k there document is =
     there in
     at_place inside.documents.items k document low is
 
--- what follows from what holds of an error
+-- a consequence of a statement about an error
 pub err_then : {T E P Q : Type 0} (result : Result T E) → (P → Q) → OnErr result P → OnErr result Q
 err_then (Ok x) f p = tt
 err_then (Err e) f p = f p
 
--- what takes memory of a new document takes it in the journal
+-- a first edit that takes memory on its tree takes it in the journal
 pub needs_first : (inside : Inside) → HasDocuments inside → (id : List ℕ) → number_by inside id ≡ None
     → (edit : Incoming) → NeedsRoomFor [] [] edit → NeedsRoomFor (edits_inside inside) id edit
 needs_first inside st id absent edit n =
@@ -635,7 +635,7 @@ no_row inside ix =
 
 -- ---- the ids of documents
 
--- a document that keeps its id
+-- the ids, where one document changed, and kept its id
 pub ids_stay : (documents : List Document) (k : ℕ) (document other : Document)
     → slice_get documents k ≡ Some document
     → other.id ≡ document.id → ids_of (files (slice_set documents k other)) ≡ ids_of (files documents)
@@ -645,7 +645,7 @@ ids_stay documents k document other at same =
     (same ∙ ap (λ (z : Document). z.id) (sym (get_or_from_slice_get documents k document document at)))
     ∙ sym (map-map (λ (z : FiledDocument). z.id) filed_document documents))
 
--- an edit that is written keeps its document's id
+-- a document keeps its id when an edit of it is written
 pub id_kept : (looked : Looked) (k : ℕ) (document other : Document) (entries : List Entry)
     (index : List (ℕ × ℕ))
     → filed_document other ≡ document_after looked (setting_of k document entries index) → other.id ≡ document.id
@@ -653,7 +653,7 @@ id_kept Known k document other entries index e = ap (λ (z : FiledDocument). z.i
 id_kept (Refused fault) k document other entries index e = ap (λ (z : FiledDocument). z.id) e
 id_kept (Ready x) k document other entries index e = ap (λ (z : FiledDocument). z.id) e
 
--- contents one of whose documents changed, and kept its id
+-- contents in which one document changed, and kept its id
 pub store_stays : (old new : Inside) (k : ℕ) (document other : Document) → HasDocuments old
     → slice_get old.documents.items k ≡ Some document → other.id ≡ document.id
     → new.documents.items ≡ slice_set old.documents.items k other → new.numbers ≡ old.numbers
@@ -672,7 +672,7 @@ store_stays old new k document other st at same documents numbers filed_now =
       order = rw (ids, numbers) st.order;
     }
 
--- what a write leaves that changed nothing of a document that is there
+-- the invariant holds after a write that changed nothing of a document that is there
 pub unchanged_whole : (old new : Inside) → IsWhole old → (id : List ℕ) (k : ℕ) → number_by old id ≡ Some k
     → (document other : Document) → document ≡ get_or old.documents.items k document
     → filed_document other ≡ filed_document document → new.documents.items ≡ slice_set old.documents.items k other
@@ -694,7 +694,7 @@ unchanged_whole old new w id k there document other is same documents numbers jo
     })
     limits
 
--- what the write of an edit of a document that is there leaves
+-- the invariant holds after the write of an edit of a document that is there
 pub extended_whole : (old new : Inside) → IsWhole old → (id : List ℕ) (k : ℕ) → number_by old id ≡ Some k
     → (document other : Document) → document ≡ get_or old.documents.items k document
     → IsRevTree document.tree.edits → IsRevTree other.tree.edits → (edit : Incoming) (o : Outcome Revision)
@@ -757,7 +757,7 @@ number_has documents numbers own id k low here =
     ap (number_in (ids_of (files documents)) numbers) (sym edit_with_id)
     ∙ own k d (slice_get-get_or (files documents) k (unwritten_document []) within)
 
--- an id that the journal has no edit of has no number
+-- an id without an edit in the journal has no number
 pub no_number : (inside : Inside) → HasDocuments inside → (id : List ℕ)
     → edits_of (edits_inside inside) id ≡ [] → number_by inside id ≡ None
 no_number inside is id none = from (number_by inside id) refl

@@ -1,4 +1,4 @@
--- What a database answers to a question (CouchDB API reference: documents, GET /{db}, _revs_diff, _changes).
+-- The answers of a database to questions (CouchDB API reference: documents, GET /{db}, _revs_diff, _changes).
 use Rattle.std.specs.Prelude.{◌≡◌, ℕ, List, [], option_map, string_bytes, IsSome}
 use Rattle.hub_model.specs.Descending.{descending}
 use Rattle.hub_model.specs.Leaves.{leaves_of}
@@ -18,7 +18,7 @@ use Rattle.hub_database.specs.declared.question.Answer.TheVariants as says
 abbrev pub local_named : List ℕ → kept.Local → Local
 local_named id local = record { id = id; count = local.count; body = local.body }
 
--- the answer to each question is the one of its own kind, by the words of databases
+-- an answer is of its question's kind, and is the one that the definitions give for this database
 abbrev pub IsAnswer : Database → Question → Answer → Type 0
 IsAnswer db asks.Info (says.Info info) = info ≡ info_of db.journal db.life
 IsAnswer db (asks.Get id revs) (says.Get found) = found ≡ lookup db.journal (string_bytes id) revs

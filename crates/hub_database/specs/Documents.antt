@@ -9,15 +9,15 @@ use Rattle.hub_database.specs.Looked.{Setting}
 use Rattle.hub_database.specs.declared.document.Document.{Document}
 use Rattle.hub_database.specs.declared.entry.Entry.{Entry}
 
--- a document without what its tree has memory for
+-- a document without the room of its tree
 abbrev pub filed_document : Document → FiledDocument
 filed_document document = record { id = document.id; latest = document.latest; edits = document.tree.edits }
 
--- documents without what their trees have memory for
+-- documents without the rooms of their trees
 abbrev pub files : List Document → List FiledDocument
 files documents = map filed_document documents
 
--- how many documents of a journal have a deleted winner
+-- the number of documents of a journal that have a deleted winner
 abbrev pub deleted_in : List Edit → ℕ
 deleted_in journal = count_by (λ c. is_deleted (leaves_of journal c.id)) (current journal)
 
@@ -26,7 +26,7 @@ abbrev pub one_if : Bool → ℕ
 one_if true = 1
 one_if false = 0
 
--- where an edit is stored of a document that is there
+-- the setting of a write to this document
 abbrev pub setting_of : ℕ → Document → List Entry → List (ℕ × ℕ) → Setting
 setting_of number document entries rows =
     record { number = number; document = filed_document document; entries = entries; rows = rows }

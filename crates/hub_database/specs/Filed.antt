@@ -23,7 +23,7 @@ edit_with_id id edit = record { id = id; path = edit.path; deleted = edit.delete
 abbrev pub no_edit : Edit
 no_edit = record { id = []; path = []; deleted = false; body = [] }
 
--- the edit of this number, of the document that is there
+-- the edit of this number of a document
 abbrev pub edit_in : Option FiledDocument → ℕ → Edit
 edit_in None revision = no_edit
 edit_in (Some document) revision = edit_with_id document.id (get_or document.edits revision no_edit)
@@ -32,7 +32,7 @@ edit_in (Some document) revision = edit_with_id document.id (get_or document.edi
 abbrev pub edit_at : List FiledDocument → Entry → Edit
 edit_at documents entry = edit_in (slice_get documents entry.document) entry.revision
 
--- the journal
+-- the journal that documents and entries make up
 abbrev pub journal_of : List FiledDocument → List Entry → List Edit
 journal_of documents entries = map (edit_at documents) entries
 
@@ -42,7 +42,8 @@ HasNumbers documents numbers =
     (k : ℕ) (filed : FiledDocument) → slice_get documents k ≡ Some filed
     → number_in (ids_of documents) numbers filed.id ≡ Some k
 
--- what holds of the documents, of their numbers by id, and of the entries
+-- The invariant of the documents, of their numbers by id, and of the entries. Just the ids of documents
+-- have numbers, and a document has the journal's edits with its id. The journal is legal.
 pub record IsFiled (limit : ℕ) (numbers : List ℕ
     → Option ℕ) (documents : List FiledDocument) (entries : List Entry) : Type 0 where
   pub found : (id : List ℕ) (k : ℕ) → numbers id ≡ Some k

@@ -6,7 +6,7 @@ use Rattle.hub_model.specs.RightlyHanded.{ChangeItem}
 use Rattle.hub_model.specs.RowKind.{change_rows}
 use Rattle.hub_feed.specs.Handing as handing
 
--- the list fits the feed while this is the journal, and that is one that a database can have
+-- the list fits the feed while this is the journal, and a database can have this journal
 abbrev pub IsFitting : List Edit → Feed → List ChangeItem → Type 0
 IsFitting journal feed items = handing.IsFitting change_rows IsLegal journal feed items
 

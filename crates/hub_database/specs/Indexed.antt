@@ -1,4 +1,4 @@
--- The rows of a store by sequence (own).
+-- The rows of a database by sequence (own).
 use Rattle.std.specs.Prelude.{◌≡◌, ◌<◌, ℕ, List, slice_get, Option, option_map}
 use Rattle.std.specs.List.{All}
 use Rattle.hub_index.specs.Indexed as indexed
@@ -10,20 +10,20 @@ use Rattle.hub_database.specs.Filed.{FiledDocument, journal_of}
 abbrev pub latest_of : FiledDocument → List ℕ × ℕ
 latest_of filed = (filed.id, filed.latest)
 
--- those of the document of this number, if there is one
+-- the id and the latest sequence of the document of this number, if there is one
 abbrev pub latest_at : List FiledDocument → ℕ → Option (List ℕ × ℕ)
 latest_at documents k = option_map latest_of (slice_get documents k)
 
--- The rows are the current ones of the journal: a document's row lies at its latest edit, and each row is of
--- a document. Where a was edited, then b, then a again, and a is document 0 and b document 1, they are (2, 1)
--- and (3, 0).
+-- The rows are the journal's current rows: a document's row lies at its latest edit, and each row is of a
+-- document. Let a be document 0 and b document 1. Where a was edited, then b, then a again, the rows are
+-- (2, 1) and (3, 0).
 abbrev pub IsIndexed : List FiledDocument → List Entry → List (ℕ × ℕ) → Type 0
 IsIndexed documents entries index =
     indexed.IsIndexed (latest_at documents) (journal_of documents entries) index
 
--- The row of the document of this number may move to the end, at this sequence: it is at `latest` now, if
--- there is one, and each row lies below. Of rows (2, 1) and (3, 0) that of document 1 may move from 2 to 4,
--- and not to 3.
+-- The row of the document of this number may move to the end, to this sequence. The row is at `latest` now,
+-- or there is none, and each row lies below the sequence. Of rows (2, 1) and (3, 0) the row of document 1
+-- may move from 2 to 4, and not to 3.
 pub record IsMovable (number : ℕ) (latest : Option ℕ) (seq : ℕ) (rows : List (ℕ × ℕ)) : Type 0 where
   pub own : seq_of number rows ≡ latest
   pub above : All (λ (r : ℕ × ℕ). r.0 < seq) rows

@@ -14,7 +14,7 @@ use Rattle.hub_database.specs.declared.contents.Contents.TheInside.{Inside}
 use Rattle.hub_database.specs.Filed.{IsFiled, ids_of, journal_of}
 use Rattle.hub_database.specs.Indexed.{IsIndexed}
 
--- the journal
+-- the journal of the contents
 abbrev pub edits_inside : Inside → List Edit
 edits_inside inside = journal_of (files inside.documents.items) inside.journal.items
 
@@ -26,7 +26,7 @@ ids_in inside = ids_of (files inside.documents.items)
 abbrev pub number_by : Inside → List ℕ → Option ℕ
 number_by inside id = number_in (ids_in inside) inside.numbers id
 
--- the documents are filed by their numbers, which stand in the order of their ids
+-- the documents are filed by their numbers, and the numbers stand in the order of the ids
 pub record HasDocuments (inside : Inside) : Type 0 where
   pub filed : IsFiled inside.limits.journal (number_by inside) (files inside.documents.items)
       inside.journal.items
@@ -36,11 +36,11 @@ pub record HasDocuments (inside : Inside) : Type 0 where
 abbrev pub IsCounted : Inside → Type 0
 IsCounted inside = inside.deleted ≡ deleted_in (edits_inside inside)
 
--- the rows are the journal's current ones
+-- the rows are the journal's current rows
 abbrev pub HasRows : Inside → Type 0
 HasRows inside = IsIndexed (files inside.documents.items) inside.journal.items inside.index
 
--- what holds of the fields of all contents
+-- the invariant of a database's contents
 pub record IsWhole (inside : Inside) : Type 0 where
   pub documents : HasDocuments inside
   pub counted : IsCounted inside
@@ -54,8 +54,8 @@ pub record ShowsSame (old new : Inside) : Type 0 where
   pub deleted : new.deleted ≡ old.deleted
   pub index : new.index ≡ old.index
 
--- Where a write stores the first edit of a document: behind the other documents. Where there are three, with
--- the numbers 0, 1 and 2, it is document 3.
+-- The setting of a write of a document's first edit: the document comes after the others. After three
+-- documents, with the numbers 0, 1 and 2, it is document 3.
 abbrev pub first_setting : List ℕ → Inside → Setting
 first_setting id inside =
     record {
@@ -65,8 +65,8 @@ first_setting id inside =
       rows = inside.index;
     }
 
--- The first edit of a document was written: the write answers what the look says, and where the edit is
--- stored the document stands behind the others, is found by its id, and is counted if it is deleted.
+-- The first edit of a document was written. The write answers the look's outcome. Where the edit is stored,
+-- the document stands after the others, is found by its id, and is counted if it is deleted.
 pub record IsInserted (id : List ℕ) (look : Looked) (old new : Inside) (reply : Outcome Revision) : Type 0
   where
     pub answer : reply ≡ outcome_of look

@@ -1,4 +1,4 @@
--- What a look at a document's tree says of an edit, and what the write of that edit leaves (own).
+-- A look at a document's tree for an edit, and the state after the write of that edit (own).
 use Rattle.std.specs.Prelude.{◌≡◌, ◌+◌, ◌≤◌, ℕ, List, [], ◌∷◌, ◌++◌, length, Bool, true, if◌then◌else◌}
 use Rattle.std.specs.Prelude.{nat_le, Option, Some, Result, Ok, Err, IfOk, OnErr, unwrap_or}
 use Rattle.std.specs.Map.{update}
@@ -24,43 +24,43 @@ use Rattle.hub_database.specs.declared.document.Origin.TheVariants.{Elsewhere, H
 use Rattle.hub_database.specs.declared.document.Looked.{Looked}
 use Rattle.hub_database.specs.declared.document.Looked.TheVariants.{Known, Refused, Ready}
 
--- what storing an edit of the document answers, and the journal after it: an edit that comes with its history
--- is merged, and one that is made here gets its revision
+-- The outcome of storing an edit of the document, and the journal after it. An edit that comes with its
+-- history is merged, and an edit that is made here gets its revision.
 abbrev pub stores_from : ℕ → List Edit → List ℕ → Origin → Bool → List ℕ → Stores
 stores_from limit journal id (Elsewhere path) deleted body =
     merge_result limit journal (edit_with_id id (nameless path deleted body))
 stores_from limit journal id (Here rev) deleted body = draft_result limit journal (draft id rev deleted body)
 
--- what storing an incoming edit of the document answers, and the journal after it
+-- the outcome of storing an incoming edit of the document, and the journal after it
 abbrev pub stores_edit : ℕ → List Edit → List ℕ → Incoming → Stores
 stores_edit limit journal id edit = stores_from limit journal id edit.origin edit.deleted edit.body
 
 -- ---- looks
 
--- what is said of an edit with its history, by whether its head is known, and whether the edits may take it
+-- the look at an edit with its history, by whether its head is known, and whether the edits may take it
 abbrev pub look_by : Edit → Bool → Bool → Looked
 look_by edit known acceptable =
     if known then Known else if acceptable then Ready edit else Refused fault.Contradicts
 
--- what is said of an edit that is made here: what it becomes, or why it becomes none
+-- the look at an edit that is made here, by the made edit or the fault
 abbrev pub look_made : Result Edit EditFault → Looked
 look_made (Ok e) = Ready e
 look_made (Err edit_fault.GenerationLimit) = Refused fault.GenerationLimit
 look_made (Err _) = Refused fault.Conflict
 
--- what is said of an edit after these edits of its document, whose id is left out
+-- the look at an edit after these edits of its document, whose id is left out
 abbrev pub look_from : List ℕ → List Edit → Origin → Bool → List ℕ → Looked
 look_from id edits (Elsewhere path) deleted body =
     look_by (nameless path deleted body) (is_head_known edits [] path)
     (is_acceptable edits (nameless path deleted body))
 look_from id edits (Here rev) deleted body = look_made (edit_of_draft edits (draft id rev deleted body))
 
--- what is said of an incoming edit after these edits of its document
+-- the look at an incoming edit after these edits of its document
 abbrev pub look_at : List ℕ → List Edit → Incoming → Looked
 look_at id edits edit = look_from id edits edit.origin edit.deleted edit.body
 
--- what is said where the journal is full, or is not: a full one takes no edit, but what is known stays known,
--- and what is refused keeps its reason
+-- the look where the journal is full, or is not: a full journal takes no edit, but a known edit stays
+-- known, and a refused one keeps its fault
 abbrev pub unless_full : Bool → Looked → Looked
 unless_full true (Ready e) = Refused fault.SequenceFull
 unless_full full looked = looked
@@ -75,8 +75,8 @@ abbrev pub HasRoom : ℕ → Looked → Type 0
 HasRoom room (Ready e) = length e.path ≤ room
 HasRoom room looked = Unit {0}
 
--- storing an edit of the document takes memory: one with its history may be stored, and one that is made here
--- has a leaf to extend and a generation left
+-- Storing an edit of the document takes memory. An edit with its history may be stored, or an edit that is
+-- made here has a leaf to extend and a generation left.
 abbrev pub NeedsRoomFrom : List Edit → List ℕ → Origin → Bool → List ℕ → Type 0
 NeedsRoomFrom journal id (Elsewhere path) deleted body =
     IsAcceptable journal (edit_with_id id (nameless path deleted body))
@@ -86,10 +86,10 @@ NeedsRoomFrom journal id (Here rev) deleted body = HasNextRevision journal (draf
 abbrev pub NeedsRoomFor : List Edit → List ℕ → Incoming → Type 0
 NeedsRoomFor journal id edit = NeedsRoomFrom journal id edit.origin edit.deleted edit.body
 
--- What a look at a document's tree does for an incoming edit, where the journal is full or is not. It leaves
--- the tree's edits as they were, and says of the edit what `look_at` says. A tree has room then for an edit
--- that is to be stored. Memory runs out only where storing the edit takes some. So a look at an edit whose
--- revision is known never fails, and leaves the tree's edits.
+-- A look at a document's tree for an incoming edit, where the journal is full or is not. It leaves the
+-- tree's edits as they were, and its result is that of `look_at`, by `unless_full`. A tree has room then
+-- for an edit that is to be stored. Memory runs out only where storing the edit takes some. So a look at an
+-- edit whose revision is known never fails, and leaves the tree's edits.
 pub record IsLook (id : List ℕ) (full : Bool) (edit : Incoming) (before after : Tree)
     (result : Result Looked AllocError) : Type 0 where
   pub edits : after.edits ≡ before.edits
@@ -99,31 +99,31 @@ pub record IsLook (id : List ℕ) (full : Bool) (edit : Incoming) (before after 
   pub room : IfOk result (HasRoom after.room)
   pub memory : OnErr result (NeedsRoomFor before.edits [] edit)
 
--- what a write answers that was said this of
+-- the outcome of a write, by the look at its edit
 abbrev pub outcome_of : Looked → Outcome Revision
 outcome_of Known = outcome.Known
 outcome_of (Refused f) = outcome.Refused f
 outcome_of (Ready e) = outcome.Stored (unwrap_or (head_of e) (record { generation = 0; hash = [] }))
 
--- ---- what a write leaves
+-- ---- the state after a write
 
--- where a write stores its edit: the document and its number, the journal's entries, and the rows by sequence
+-- the parts that a write changes: the document with its number, the journal's entries, the rows by sequence
 pub record Setting : Type 0 where
   pub number : ℕ
   pub document : FiledDocument
   pub entries : List Entry
   pub rows : List (ℕ × ℕ)
 
--- what is said there of an incoming edit, where the journal takes so many edits
+-- the look at an incoming edit in a setting, with this limit of the journal
 abbrev pub look_in : ℕ → Setting → Incoming → Looked
 look_in limit setting edit =
     unless_full (nat_le limit (length setting.entries))
     (look_at setting.document.id setting.document.edits edit)
 
--- The definitions below say what a write leaves of each thing that it may change, by what was said of its
--- edit. Only Ready changes anything. Where document 3 has two edits and the journal seven entries, Ready
--- leaves a document of three edits with the latest sequence 8, an eighth entry, which names edit 2 of
--- document 3, and the row of document 3 at sequence 8 in place of the one that it had.
+-- The definitions below give the things that a write may change as they are after it, by the look at its
+-- edit. Only Ready changes anything. Let document 3 have two edits, and the journal seven entries. Ready
+-- leaves a document of three edits with the latest sequence 8, and an eighth entry, which names edit 2 of
+-- document 3. The row of document 3 is then at sequence 8 alone.
 
 -- the document: an edit that is stored is its latest
 abbrev pub document_after : Looked → Setting → FiledDocument
@@ -136,13 +136,13 @@ document_after (Ready e) setting =
     }
 document_after looked setting = setting.document
 
--- the entries: the last is that of the edit that is stored
+-- the entries: the last entry is that of the edit that is stored
 abbrev pub entries_after : Looked → Setting → List Entry
 entries_after (Ready e) setting =
     setting.entries ++ record { document = setting.number; revision = length setting.document.edits } ∷ []
 entries_after looked setting = setting.entries
 
--- the rows: the document's is the last, at the sequence of the edit that is stored
+-- the rows: the document's row is the last, at the sequence of the edit that is stored
 abbrev pub rows_after : Looked → Setting → List (ℕ × ℕ)
 rows_after (Ready e) setting = rows_after_move setting.rows setting.number (length setting.entries + 1)
 rows_after looked setting = setting.rows
@@ -152,18 +152,18 @@ abbrev pub journal_after : Looked → List ℕ → List Edit → List Edit
 journal_after (Ready e) id journal = journal ++ edit_with_id id e ∷ []
 journal_after looked id journal = journal
 
--- the documents: that of a first edit that is stored stands last
+-- the documents: the document of a first edit that is stored stands last
 abbrev pub documents_after : Looked → Setting → List FiledDocument → List FiledDocument
 documents_after (Ready e) setting documents = documents ++ document_after (Ready e) setting ∷ []
 documents_after looked setting documents = documents
 
--- the numbers by id: the document of a first edit that is stored has this one
+-- the numbers by id: the document of a first edit that is stored has this number
 abbrev pub numbers_after : Looked → List ℕ → ℕ → (List ℕ → Option ℕ) → List ℕ → Option ℕ
 numbers_after (Ready e) id number numbers = update bytes_eq numbers id (Some number)
 numbers_after looked id number numbers = numbers
 
--- An edit of a document that was there was written: the write answers what the look says, and leaves the
--- document, the entries and the rows that follow from it.
+-- An edit of a document that was there was written. The write answers the look's outcome, and leaves the
+-- document, the entries and the rows that follow from the look.
 pub record IsWritten (look : Looked) (before after : Setting) (reply : Outcome Revision) : Type 0 where
   pub answer : reply ≡ outcome_of look
   pub document : after.document ≡ document_after look before

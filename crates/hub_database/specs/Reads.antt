@@ -1,4 +1,4 @@
--- What a database shows of its documents (CouchDB API reference: documents, open_revs, GET /{db}).
+-- The answers of a database about its documents (CouchDB API reference: documents, open_revs, GET /{db}).
 use Rattle.std.specs.Prelude.{◌≡◌, ℕ, suc, zero, List, [], ◌∷◌, length, map, slice_get, count_by, Bool, true}
 use Rattle.std.specs.Prelude.{not, if◌then◌else◌, Option, Some, None, option_map, option_and_then}
 use Rattle.hub_model.specs.Revision.{Revision}
@@ -32,12 +32,12 @@ doc_shown revs edit =
 abbrev pub bare_doc : List ℕ → Revision → Bool → List ℕ → Doc
 bare_doc id rev deleted body = record { id = id; rev = Some rev; path = None; deleted = deleted; body = body }
 
--- what is shown of a revision, where it has a body
+-- the answer for a revision, by its edit where it has a body
 abbrev pub open_rev_of : Bool → Revision → Option Edit → OpenRev
 open_rev_of revs revision None = opened.Missing revision
 open_rev_of revs revision (Some edit) = opened.Found (doc_shown revs edit)
 
--- what is shown of a revision of a document
+-- the answer for a revision of a document
 abbrev pub open_rev : List Edit → List ℕ → Bool → Revision → OpenRev
 open_rev journal id revs revision = open_rev_of revs revision (shown_edit journal id revision)
 
@@ -46,11 +46,11 @@ abbrev pub asked_of : List Edit → List ℕ → OpenRevs → List Revision
 asked_of journal id All = revisions_of (leaves_of journal id)
 asked_of journal id (Listed revs) = revs
 
--- what is shown of each of them
+-- the answer for each of these revisions
 abbrev pub open_revs : List Edit → List ℕ → OpenRevs → Bool → List OpenRev
 open_revs journal id which revs = map (open_rev journal id revs) (asked_of journal id which)
 
--- what is shown of a document: its winner, unless that is deleted
+-- the answer for a document, by its leaves: its winner, unless that is deleted
 abbrev pub lookup_of : List Edit → List ℕ → Bool → List Leaf → Lookup
 lookup_of journal id revs [] = looked.Unknown
 lookup_of journal id revs (winner ∷ others) =
@@ -63,7 +63,7 @@ lookup_of journal id revs (winner ∷ others) =
       body = winner.edit.body;
     }))
 
--- the document of this id, as a journal has it
+-- the answer for the document of this id, by a journal
 abbrev pub lookup : List Edit → List ℕ → Bool → Lookup
 lookup journal id revs = lookup_of journal id revs (leaves_of journal id)
 
@@ -71,8 +71,8 @@ lookup journal id revs = lookup_of journal id revs (leaves_of journal id)
 abbrev pub HasDocument : List Edit → List ℕ → Bool → Type 0
 HasDocument journal id revs = (doc : Doc) × (lookup journal id revs ≡ looked.Found doc)
 
--- how many documents have a winner that is not deleted, how many have a deleted one, how many edits there
--- are, and of which life
+-- the numbers of documents whose winner is not deleted, of documents whose winner is deleted, and of edits,
+-- and the life
 abbrev pub info_of : List Edit → (life : ℕ) → Info
 info_of journal life = record {
   doc_count = count_by (λ c. not (is_deleted (leaves_of journal c.id))) (current journal);
@@ -81,15 +81,15 @@ info_of journal life = record {
   life = life;
 }
 
--- the edit of this sequence
+-- the edit of this sequence, where sequences count from 1
 abbrev pub entry_at : List Edit → ℕ → Option Edit
 entry_at journal zero = None
 entry_at journal (suc k) = slice_get journal k
 
--- its id and its revision
+-- the id and the revision of the edit of this sequence
 abbrev pub entry_of : List Edit → ℕ → Option (List ℕ × Revision)
 entry_of journal n = option_and_then (λ e. option_map (λ r. (e.id, r)) (head_of e)) (entry_at journal n)
 
--- the whole of it
+-- the edit of this sequence as a document, with its history
 abbrev pub entry_doc_of : List Edit → ℕ → Option Doc
 entry_doc_of journal n = option_map (doc_shown true) (entry_at journal n)

@@ -1,4 +1,4 @@
-//! What a database answers.
+//! The answers of a database.
 
 use hub_document::{Doc, RevId, Revisions};
 use std::marker::Model;
@@ -6,9 +6,9 @@ use std::marker::Model;
 /// A revision that was asked for (CouchDB API reference, documents, `open_revs`).
 #[derive(Debug, Drop)]
 pub enum OpenRev {
-    /// It, with its history where that was asked for.
+    /// The document at this revision, with its history where that was asked for.
     Found(Doc),
-    /// It is unknown, or has no body.
+    /// The revision is unknown, or has no body.
     Missing(RevId),
 }
 
@@ -17,34 +17,33 @@ pub enum OpenRev {
 pub enum Lookup {
     /// There is no document of this id.
     Unknown,
-    /// Its winner is deleted.
+    /// The document's winner is deleted.
     Deleted,
-    /// Its winner.
+    /// The document's winner.
     Found(Doc),
 }
 
-/// What a database says of itself (CouchDB API reference, `GET /{db}`).
+/// The counts of a database (CouchDB API reference, `GET /{db}`).
 #[derive(Clone, Copy, Debug, PartialEq, Eq)]
 pub struct Info {
-    /// How many documents have a winner that is not deleted. Design documents count too.
+    /// The number of documents whose winner is not deleted. Design documents count too.
     pub doc_count: u64,
-    /// How many documents have a deleted winner.
+    /// The number of documents whose winner is deleted.
     pub doc_del_count: u64,
-    /// How many edits were accepted.
+    /// The number of edits that were accepted.
     pub update_seq: u64,
-    /// The number of the life that they are of.
+    /// The number of the database's life.
     pub life: u64,
 }
 
-/// What a document misses of the revisions that were asked for (CouchDB API reference,
-/// `_revs_diff`).
+/// The missing revisions of a document, among those asked for (CouchDB API reference, `_revs_diff`).
 #[derive(Debug, Drop)]
 pub struct Diff {
     /// The document's id.
     pub id: String,
     /// The revisions that are not known, in the order asked.
     pub missing: Revisions,
-    /// The leaves of a generation below the greatest missing one, best first.
+    /// The leaves of a lower generation than the greatest missing one, best first.
     pub possible_ancestors: Revisions,
 }
 

@@ -1,4 +1,4 @@
-//! What a batch of writes answers.
+//! The result of a batch of writes.
 
 ghost use Rattle.std.specs.Prelude.{◌≡◌};
 
@@ -7,7 +7,7 @@ use hub_model::{Fault, Outcome};
 use std::alloc::AllocError;
 use std::marker::Model;
 
-/// Why a call on a database fails.
+/// The fault of a call on a database.
 #[derive(Clone, Copy, Debug, PartialEq, Eq)]
 pub enum DbFault {
     /// A growth was refused.
@@ -27,7 +27,7 @@ impl From<AllocError> for DbFault {
     }
 }
 
-/// What became of each document of a batch, in order.
+/// The outcome of each document of a batch, in order.
 #[derive(Debug, Drop)]
 pub struct Replies {
     list: Vec<Outcome<RevId>>,
@@ -59,11 +59,11 @@ impl Replies {
     }
 }
 
-/// What a batch of writes did.
+/// The result of a batch of writes.
 #[derive(Debug, Drop)]
 pub struct Batch {
-    /// What became of the documents, from the first on.
+    /// The outcomes of the documents, from the first on.
     pub replies: Replies,
-    /// Whether memory ran out at the document after those: it and the later ones are not stored.
+    /// Whether memory ran out at the document after these: this and the later documents are not stored.
     pub stopped: bool,
 }

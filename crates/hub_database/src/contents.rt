@@ -1,4 +1,4 @@
-//! What a database keeps: its documents with their journal, and its local documents.
+//! The contents of a database: its documents with their journal, and its local documents.
 
 ghost use Rattle.std.specs.Prelude.{[], ◌∷◌, ◌++◌, false, ◌≡◌, ◌+◌, ◌<◌, ◌≤◌, ◌^◌};
 ghost use Rattle.std.specs.Prelude.{length, vec_len, vec_capacity, None, IfOk, OnOk, OnErr};
@@ -27,9 +27,9 @@ use std::alloc::{AllocError, Global};
 use std::collections::BTreeMap;
 use std::marker::Model;
 
-/// What a database keeps: the journal of its accepted edits, the tree of each document, its local
-/// documents and the limits. `DbState::standing` lends it while the database stands, so that several
-/// calls ask once whether it was deleted. Its own calls don't ask.
+/// The contents of a database: the journal of its accepted edits, the tree of each document, its local
+/// documents and the limits. `DbState::standing` lends them while the database stands, so that several
+/// calls ask once whether it was deleted. The calls of `Contents` don't ask.
 #[derive(Debug, Drop)]
 pub struct Contents {
     /// The documents by number.
@@ -41,13 +41,13 @@ pub struct Contents {
     pub(crate) journal: Vec<Entry>,
     /// The documents' numbers by the sequences of their latest edits.
     pub(crate) index: PageIndex,
-    /// How many documents have a deleted winner.
+    /// The number of documents with a deleted winner.
     deleted: u64,
     pub(crate) limits: Limits,
     pub(crate) alloc: Global,
     /// The local documents by their ids.
     pub(crate) locals: BTreeMap<String, Local>,
-    /// The number of its life.
+    /// The number of the database's life.
     pub(crate) life: u64,
 }
 
@@ -69,8 +69,8 @@ impl Model for Contents {
     ghost invariant = { IsWhole };
 }
 
-// The count of documents with a deleted winner, after a document whose winner was one, or was not,
-// and is one now, or is not.
+// The count of documents with a deleted winner, after a write of one document. `was` and `is` say whether
+// its winner was deleted before the write, and is deleted now.
 fn recounted(count: u64, was: bool, is: bool) -> u64
     requires some { one_if was ≤ count }
     requires fits { count < 2 ^ 63 }
@@ -85,8 +85,8 @@ fn recounted(count: u64, was: bool, is: bool) -> u64
     count - 1
 }
 
-// Takes in the next document: room for it and for its edit, its number in the order of the ids, and
-// its row. An error leaves all as they were.
+// Takes in the next document: makes room for it and for its edit, and puts its row into the index and its
+// number into the order of ids. An error leaves all as they were.
 fn enter(
     documents: &mut Vec<Document>,
     journal: &mut Vec<Entry>,
@@ -127,7 +127,7 @@ fn enter(
 }
 
 impl Contents {
-    /// Those of a database with no document.
+    /// The contents of a database without documents.
     pub(crate) fn new(alloc: Global, limits: Limits, life: u64) -> Contents
         ensures { result ≡ record { journal = []; locals = []; limits = limits; life = life } }
     {
@@ -145,12 +145,12 @@ impl Contents {
         }
     }
 
-    /// Where they are kept.
+    /// The allocator of the contents.
     pub(crate) fn alloc(&self) -> Global {
         self.alloc
     }
 
-    /// How many documents there are, and how many edits. Constant time: the counts are kept.
+    /// The numbers of documents and of edits. Constant time: the counts are kept.
     pub fn info(&self) -> Info
         ensures { result ≡ info_of self.now.journal self.now.life }
     {
@@ -164,8 +164,8 @@ impl Contents {
         }
     }
 
-    // Stores the first edit of a document. It takes in the document last, and nothing behind that takes
-    // memory.
+    // Stores the first edit of a document. `enter` is the last step that fails without memory: the tree and
+    // the hints go on without any.
     fn insert(&mut self, id: DocId, edit: Incoming) -> Result<Outcome<RevId>, AllocError>
         requires new { edits_of self.old.journal id ≡ [] }
         ensures { IsStore (stores_edit self.old.limits.journal self.old.journal id edit)
@@ -193,9 +193,8 @@ impl Contents {
         }
     }
 
-    /// Stores an edit of the document with this id. It costs a search of the id, what
-    /// `RevTree::look_extend` or `RevTree::look_merge` does, what `SeqIndex::move_to` does, and what
-    /// `RevTree::best` does.
+    /// Stores an edit of the document with this id. The cost is a search of the id, and that of
+    /// `RevTree::look_extend` or `RevTree::look_merge`, of `SeqIndex::move_to` and of `RevTree::adopt`.
     pub(crate) fn store(&mut self, id: DocId, edit: Incoming) -> Result<Outcome<RevId>, AllocError>
         ensures { IsStore (stores_edit self.old.limits.journal self.old.journal id edit)
             (NeedsRoomFor self.old.journal id edit) self.old self.new result }
@@ -221,7 +220,7 @@ impl Contents {
         }
     }
 
-    // Stores one document: with `new_edits` its revision is made here. It costs what `store` does.
+    // Stores one document: with `new_edits` its revision is made here. The cost is that of `store`.
     fn write(&mut self, doc: Doc, new_edits: bool) -> Result<Outcome<RevId>, AllocError>
         ensures { IsStore (stores_doc new_edits self.old.limits.journal self.old.journal doc)
             (NeedsRoom new_edits self.old.journal doc) self.old self.new result }

@@ -1,4 +1,4 @@
-//! One database, and its calls but those of its feeds.
+//! One database, and its calls but for those of its feeds.
 
 ghost use Rattle.std.specs.Prelude.{◌≡◌, ◌⊎◌, ◌<◌, ◌≤◌, ◌^◌, [], false, true, length, option_map};
 ghost use Rattle.std.specs.Prelude.{replicate, Err, IfOk, IfErr, OnErr, OnOk};
@@ -32,11 +32,11 @@ use hub_params::FeedParams;
 use std::alloc::{AllocError, Global};
 use std::marker::Model;
 
-/// The state of one database: what it keeps, whether it was deleted, and its feeds.
+/// The state of one database: its contents, whether it was deleted, and its feeds.
 #[derive(Debug)]
 pub struct DbState {
     pub(crate) contents: Contents,
-    /// Whether it was deleted: then it takes and shows nothing, and its feeds come to their ends.
+    /// Whether the database was deleted: then it takes no write, answers no question, and its feeds end.
     pub(crate) deleted: bool,
     /// The feeds that are not finished.
     pub(crate) feeds: Feeds,
@@ -78,7 +78,7 @@ impl Model for DbState {
         × IsListing a.contents.journal a.feeds.feeds a.feeds.next a.listing };
 }
 
-// Refuses as many documents of a deleted database.
+// Refuses so many documents of a deleted database.
 fn refuse_all(alloc: Global, count: usize) -> Result<Batch, AllocError>
     ensures { IfOk result (λ batch. (batch.replies ≡ replicate count (Refused Deleted))
         × (batch.stopped ≡ false)) }
@@ -90,7 +90,7 @@ fn refuse_all(alloc: Global, count: usize) -> Result<Batch, AllocError>
     })
 }
 
-// What a call answers whose edit came so. No edit that is made here was known before.
+// The answer to an edit that is made here, by its outcome. No such edit was known before.
 fn reply(outcome: Outcome<RevId>) -> Result<RevId, DbFault>
     ensures { result ≡ reply_of outcome }
 {
@@ -102,7 +102,7 @@ fn reply(outcome: Outcome<RevId>) -> Result<RevId, DbFault>
 }
 
 impl DbState {
-    /// A database with no document, of the life of this number.
+    /// A database without documents, with this number as its life.
     pub fn new(alloc: Global, limits: Limits, life: u64) -> DbState
         ensures journal { result.journal ≡ [] }
         ensures stands { result.deleted ≡ false }
@@ -120,15 +120,15 @@ impl DbState {
         }
     }
 
-    /// Whether it was deleted.
+    /// Whether the database was deleted.
     pub fn is_deleted(&self) -> bool
         ensures { result ≡ self.now.deleted }
     {
         self.deleted
     }
 
-    /// What it keeps, where it was not deleted. Each call below that refuses a deleted database asks
-    /// this, once.
+    /// The contents, where the database was not deleted. Each call below that fails for a deleted database
+    /// asks this, once.
     pub fn standing(&self) -> Result<&Contents, DbFault>
         ensures { IsFreeRead self.now result (λ contents. contents.now ≡ contents_of self.now) }
     {
@@ -138,7 +138,7 @@ impl DbState {
         Ok(&self.contents)
     }
 
-    /// How many edits were accepted: the sequence of the last one.
+    /// The number of edits that were accepted: the sequence of the last one.
     pub fn update_seq(&self) -> u64
         ensures value { result ≡ length self.now.journal }
         ensures legal { IsLegal self.now.journal }
@@ -147,16 +147,16 @@ impl DbState {
         self.contents.journal.len() as u64
     }
 
-    /// How many documents there are, and how many edits (CouchDB API reference, `GET /{db}`).
-    /// Constant time: the counts are kept.
+    /// The numbers of documents and of edits (CouchDB API reference, `GET /{db}`). Constant time: the
+    /// counts are kept.
     pub fn info(&self) -> Result<Info, DbFault>
         ensures { IsFreeRead self.now result (λ info. info ≡ info_of self.now.journal self.now.life) }
     {
         Ok(self.standing()?.info())
     }
 
-    /// A document: its winner, with its history where `revs` asks for it. It costs what
-    /// `Contents::get` does.
+    /// A document: its winner, with its history where `revs` asks for it. The cost is that of
+    /// `Contents::get`.
     pub fn get(&self, id: &str, revs: bool) -> Result<Lookup, DbFault>
         ensures { IsRead self.now result (λ found. found ≡ lookup self.now.journal id.now revs)
             (HasDocument self.now.journal id.now revs) }
@@ -164,9 +164,9 @@ impl DbState {
         Ok(self.standing()?.get(id, revs)?)
     }
 
-    /// The revisions of a document that are asked for, each with its history where `revs` asks for
-    /// it. Of an unknown document there is no leaf, and each listed revision is missing. It costs
-    /// what `Contents::open_revs` does.
+    /// The revisions of a document that are asked for, each with its history where `revs` asks for it. An
+    /// unknown document has no leaf, and each listed revision of it is missing. The cost is that of
+    /// `Contents::open_revs`.
     pub fn open_revs(&self, id: &str, which: &OpenRevs, revs: bool) -> Result<Vec<OpenRev>, DbFault>
         ensures { let revisions = open_revs_of self.now.journal id.now which.now revs in
             IsRead self.now result (λ found. found.items ≡ revisions) (¬ (revisions ≡ [])) }
@@ -174,8 +174,8 @@ impl DbState {
         Ok(self.standing()?.open_revs(id, which, revs)?)
     }
 
-    /// Which of the revisions asked for are missing, of the documents alone of which some are, in
-    /// the order asked. It costs what `Contents::revs_diff` does.
+    /// The missing revisions among those asked for, in the order asked. A document that misses none is left
+    /// out. The cost is that of `Contents::revs_diff`.
     pub fn revs_diff(&self, asked: Vec<Asked>) -> Result<Vec<Diff>, DbFault>
         ensures { let missed = diffs self.now.journal asked.items in
             IsRead self.now result (λ found. found.items ≡ missed) (¬ (missed ≡ [])) }
@@ -183,9 +183,9 @@ impl DbState {
         Ok(self.standing()?.revs_diff(asked)?)
     }
 
-    /// The current rows that pass, the greatest sequence first, in one answer. Only `since`,
-    /// `limit`, `style`, `include_docs` and `filter` are looked at. It costs what
-    /// `Contents::changes_descending` does.
+    /// The current rows that pass, the greatest sequence first, in one answer. Only `since`, `limit`,
+    /// `style`, `include_docs` and `filter` are looked at. The cost is that of
+    /// `Contents::changes_descending`.
     pub fn changes_descending(&self, params: &FeedParams) -> Result<Descending, DbFault>
         ensures { let falling = descending self.now.journal self.now.life (params_of params.now) in
             IsRead self.now result (λ answer. answer ≡ falling) (¬ (falling.rows ≡ [])) }
@@ -193,7 +193,7 @@ impl DbState {
         Ok(self.standing()?.changes_descending(params)?)
     }
 
-    /// The local document of this id. A look in the map of local documents.
+    /// The local document of this id. The cost is a look in the map of local documents.
     pub fn local_get(&self, id: &str) -> Result<Option<&Local>, DbFault>
         ensures { IsFreeRead self.now result (λ found.
             option_map (λ l. local_named id.now l.now) found ≡ local_of self.now.locals id.now) }
@@ -201,9 +201,9 @@ impl DbState {
         Ok(self.standing()?.local_get(id))
     }
 
-    /// Stores a local document in place of the one of its id, and says how often it was written. At
-    /// the last count, 2^64 - 1, it is refused as a full sequence. Two looks in the map of local
-    /// documents.
+    /// Stores a local document in the place of the one with its id, and returns how often the id was
+    /// written. After the count 2^64 - 1 a write is refused as a full sequence. The cost is two looks in
+    /// the map of local documents.
     pub fn local_put(&mut self, doc: LocalDoc) -> Result<u64, DbFault>
         ensures ok { IfOk result (λ count. (self.old.deleted ≡ false)
             × (count ≡ (local_after_write self.old.locals doc).count)
@@ -221,15 +221,14 @@ impl DbState {
         self.contents.local_put(doc)
     }
 
-    /// Stores documents one after the other: with `new_edits` as edits whose revisions are made here,
-    /// without it as edits that another database made, with their histories, as a replicator sends
-    /// them (CouchDB API reference, `_bulk_docs`). There a document that has no history is refused as
-    /// one that contradicts. Once the database is deleted each is refused as that. The call fails
-    /// only where the list of replies finds no memory; where it runs out at a document, the batch
-    /// stops there, and the documents before it stay stored: only a document that is to be stored, or
-    /// whose revision is to be made, needs any. Each document costs a search
-    /// of its id, what `RevTree::look_extend` or `RevTree::look_merge` does, a move in the index of
-    /// rows, and what `RevTree::best` does.
+    /// Stores documents one after the other. With `new_edits` their revisions are made here. Without it
+    /// another database made them, and they come with their histories, as a replicator sends them (CouchDB
+    /// API reference, `_bulk_docs`). Such a document without a history is refused as one that contradicts.
+    /// A deleted database refuses each document as `Deleted`. The call fails only where the list of replies
+    /// finds no memory. Where memory runs out at a document, the batch stops there, and the documents
+    /// before it stay stored. Only a document that is to be stored, or whose revision is to be made, needs
+    /// memory. Each document costs a search of its id, a move in the index of rows, one
+    /// `RevTree::look_extend` or `RevTree::look_merge`, and one `RevTree::adopt`.
     pub fn write_edits(&mut self, docs: Vec<Doc>, new_edits: bool) -> Result<Batch, DbFault>
         ensures batch { IfOk result (IsBatch new_edits self.old.deleted self.old.limits.journal
             self.old.journal self.new.journal docs.items) }
@@ -250,12 +249,12 @@ impl DbState {
         Ok(self.contents.write_edits(docs, new_edits)?)
     }
 
-    /// Stores one edit whose revision is made here, and says that revision (CouchDB API reference,
-    /// PUT and DELETE of a document). Of these the first refuses it: the database was deleted
-    /// (`Deleted`), no leaf is named or chosen (`Conflict`), the leaf has the last generation
-    /// (`GenerationLimit`), the made revision is known (`Conflict`), the journal is full
-    /// (`SequenceFull`). It costs a search of the id, what `RevTree::look_extend` does, a move
-    /// in the index of rows, and what `RevTree::best` does.
+    /// Stores one edit whose revision is made here, and returns that revision (CouchDB API reference, PUT
+    /// and DELETE of a document). The first of these faults refuses it. `Deleted`: the database was
+    /// deleted. `Conflict`: no leaf is named or chosen. `GenerationLimit`: the leaf has the last
+    /// generation. `Conflict`: the made revision is known. `SequenceFull`: the journal is full. The cost is
+    /// a search of the id, a move in the index of rows, and that of `RevTree::look_extend` and
+    /// `RevTree::adopt`.
     pub fn write_one(&mut self, doc: Doc) -> Result<RevId, DbFault>
         ensures ok { IfOk result (λ rev.
             one_draft_result self.old.deleted self.old.limits.journal self.old.journal doc
@@ -286,8 +285,8 @@ impl DbState {
         reply(outcome)
     }
 
-    /// Deletes the database, and ends its open feeds: what is left of each is its end. It takes no
-    /// memory, and costs a step for each feed.
+    /// Deletes the database, and ends its open feeds: each has only its end left to hand. The call takes no
+    /// memory. The cost is a step for each feed.
     pub fn delete(&mut self) -> Result<(), DbFault>
         ensures ok { OnOk result ((self.old.deleted ≡ false) × (self.new ≡ deleted_database self.old)) }
         ensures err { IfErr result (λ e. (self.old.deleted ≡ true) × (e ≡ DbFault.Refused Deleted)

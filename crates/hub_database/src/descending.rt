@@ -20,11 +20,11 @@ use std::marker::Model;
 pub struct Descending {
     /// The greatest sequence first.
     pub rows: Vec<ChangeRow>,
-    /// The lowest sequence shown, or where the feed began.
+    /// The sequence of the last row; without rows the sequence at which the feed began.
     pub last_seq: u64,
-    /// How many current rows lie between where it began and that.
+    /// The number of current rows above the feed's beginning and below `last_seq`.
     pub pending: u64,
-    /// The number of the life that the sequences are of.
+    /// The number of the life of these sequences.
     pub life: u64,
 }
 
@@ -42,7 +42,7 @@ impl Model for Descending {
     } };
 }
 
-// How many rows are shown at most, of so many.
+// The most rows that are shown: the limit, where 0 acts as 1, or without a limit the length.
 fn most_of(limit: Option<u64>, length: u64) -> u64
     ensures { result ≡ most_of limit length }
 {
@@ -52,7 +52,7 @@ fn most_of(limit: Option<u64>, length: u64) -> u64
     }
 }
 
-// The last row's sequence, or where the feed began.
+// The sequence of the last row; without rows the sequence at which the feed began.
 fn lowest_row(rows: &[ChangeRow], since: u64) -> u64
     ensures { result ≡ lowest_row since rows.now }
 {
@@ -63,7 +63,7 @@ fn lowest_row(rows: &[ChangeRow], since: u64) -> u64
 }
 
 impl Contents {
-    // How many current rows lie above `since` and below `last_seq`, which is no lower.
+    // The number of current rows above `since` and below `last_seq`, which is no lower.
     fn count_between(&self, since: u64, last_seq: u64) -> u64
         requires { since ≤ last_seq }
         ensures { result
@@ -101,10 +101,10 @@ impl Contents {
         Ok(rows)
     }
 
-    /// The current rows that pass, the greatest sequence first, in one answer. Only `since`,
-    /// `limit`, `style`, `include_docs` and `filter` are looked at. It costs a step in the index for
-    /// each row from the end to the last that is shown, what each shown row costs, and two counts of
-    /// rows, of which each is a step for each page of the index above its place.
+    /// The current rows that pass, the greatest sequence first, in one answer. Only `since`, `limit`,
+    /// `style`, `include_docs` and `filter` are looked at. The index makes a step for each row from the end
+    /// to the last one shown, or to `since` with rows below the limit. The cost is these steps, the rows
+    /// shown, and two counts of rows: a step for each page of the index above a place.
     pub fn changes_descending(&self, params: &FeedParams) -> Result<Descending, AllocError>
         ensures ok { IfOk result (λ answer.
             answer ≡ descending self.now.journal self.now.life (params_of params.now)) }

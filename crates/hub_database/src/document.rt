@@ -19,7 +19,7 @@ use hub_model::{Fault, Outcome, Style, by_style};
 use hub_revtree::{EditFault, MergeFault, Ready, RevTree};
 use std::alloc::{AllocError, Global};
 
-/// A document: the sequence of its latest edit, and its tree.
+/// A document: its id, the sequence of its latest edit, and its tree.
 #[derive(Debug, Drop)]
 pub(crate) struct Document {
     pub(crate) id: DocId,
@@ -27,12 +27,12 @@ pub(crate) struct Document {
     pub(crate) tree: RevTree,
 }
 
-/// Where an edit's revision is made.
+/// The place where an edit's revision is made.
 #[derive(Drop)]
 pub(crate) enum Origin {
-    /// In another database: it comes with its history.
+    /// In another database: the edit comes with its history.
     Elsewhere(Path),
-    /// Here, on the leaf that is named, or without a name on one that is chosen.
+    /// Here, on the leaf that is named. Without a name the tree chooses the leaf.
     Here(Option<RevId>),
 }
 
@@ -44,19 +44,19 @@ pub(crate) struct Incoming {
     pub(crate) body: Body,
 }
 
-/// What a look at a tree gives.
+/// The result of a look at a tree.
 #[derive(Drop)]
 pub(crate) enum Looked {
     /// The revision is known.
     Known,
     /// The edit is refused.
     Refused(Fault),
-    /// This is to be stored.
+    /// The edit is to be stored.
     Ready(Ready),
 }
 
 impl Looked {
-    // The same, but that a full journal takes nothing.
+    // The same result, but that a full journal refuses an edit that is to be stored.
     fn unless_full(self, full: bool) -> Looked
         ensures { result ≡ unless_full full self }
     {
@@ -67,7 +67,7 @@ impl Looked {
     }
 }
 
-// What becomes of an edit that comes with its history.
+// Looks at an edit that comes with its history.
 fn look_merge(
     tree: &mut RevTree,
     path: Path,
@@ -85,7 +85,7 @@ fn look_merge(
     }
 }
 
-// What becomes of an edit that is made here.
+// Looks at an edit that is made here.
 fn look_extend(
     tree: &mut RevTree,
     id: &DocId,
@@ -104,8 +104,8 @@ fn look_extend(
     }
 }
 
-/// What becomes of an edit of the document with this id, where the journal is full or not: the tree
-/// decides first. It costs what `RevTree::look_merge` or `RevTree::look_extend` does.
+/// Looks at an edit of the document with this id, where the journal is full or not: the tree decides first.
+/// The cost is that of `RevTree::look_merge` or `RevTree::look_extend`.
 pub(crate) fn look(
     tree: &mut RevTree,
     id: &DocId,
@@ -143,8 +143,8 @@ impl Document {
         }
     }
 
-    /// Takes an edit that was looked at, and says its revision. The journal has room for it. It takes
-    /// no memory, and constant time.
+    /// Takes an edit that was looked at, and returns its revision. The tree and the journal have room for
+    /// the edit, so the call needs no memory. The cost is that of `RevTree::adopt`.
     pub(crate) fn take(&mut self, journal: &mut Vec<Entry>, number: u32, ready: Ready) -> RevId
         requires acceptable { IsAcceptable self.old.tree.edits ready }
         requires room { length ready.path ≤ self.old.tree.room }
@@ -171,8 +171,8 @@ impl Document {
         rev
     }
 
-    /// Stores one more edit of a document that is there, which has this number. It costs what `look`,
-    /// `reserve_one` and `SeqIndex::move_to` do.
+    /// Stores one more edit of this document, which has this number. The cost is that of `look`,
+    /// `reserve_one`, `SeqIndex::move_to` and `take`.
     pub(crate) fn extend(
         &mut self,
         journal: &mut Vec<Entry>,
@@ -205,7 +205,7 @@ impl Document {
         }
     }
 
-    // The members of the winner's document, where it is asked for.
+    // The members of the winner's document, where documents are asked for.
     fn row_doc(&self, alloc: Global, include_docs: bool) -> Result<Option<Body>, AllocError>
         ensures { IfOk result (λ body. body ≡ doc_of include_docs (leaves_of self.now.tree.edits [])) }
     {
@@ -218,8 +218,8 @@ impl Document {
         }
     }
 
-    /// The row of the document at this sequence, made while there are `seen` edits. It takes constant
-    /// time, with every leaf what `RevTree::leaves` does, and with its document a copy of the members.
+    /// The row of the document at this sequence, made while there are `seen` edits. The cost is constant;
+    /// with every leaf it is that of `RevTree::leaves`, and with the document a copy of its members.
     pub(crate) fn row(
         &self,
         alloc: Global,

@@ -11,7 +11,7 @@ use hub_document::{Doc, Path, RevId};
 use hub_revtree::StoredEdit;
 use std::alloc::AllocError;
 
-// The first of a path's revisions, so many.
+// The first `count` revisions of a path.
 fn front_of(path: Option<Path>, count: u16) -> Option<Path>
     requires { 1 ≤ count }
     ensures { result ≡ option_map (take count) path }
@@ -43,7 +43,7 @@ impl Contents {
 }
 
 impl DbState {
-    /// The id and the revision of the edit of this sequence; None of a sequence that no edit has.
+    /// The id and the revision of the edit of this sequence; None for a sequence that no edit has.
     /// Constant time.
     pub fn entry(&self, seq: u64) -> Option<(&str, RevId)>
         ensures { option_map (λ p. (p.0.now, p.1)) result ≡ entry_of self.now.journal seq }
@@ -54,8 +54,8 @@ impl DbState {
         Some((document.id.as_str(), edit.rev))
     }
 
-    /// The edit of this sequence, with the history that it came with; None of a sequence that no edit has.
-    /// It costs a look an edit of its document, and a copy of all that stands behind its revision by now.
+    /// The edit of this sequence, with the history of its arrival; None for a sequence that no edit has. The
+    /// cost is that of `RevTree::path`, of all that is behind its revision by now, and a copy of the members.
     pub fn entry_doc(&self, seq: u64) -> Result<Option<Doc>, AllocError>
         ensures doc { IfOk result (λ doc. doc ≡ entry_doc_of self.now.journal seq) }
         ensures memory { OnErr result (IsSome (entry_at self.now.journal seq)) }

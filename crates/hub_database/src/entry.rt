@@ -1,7 +1,7 @@
 //! The entries of a journal.
 
-/// Where an accepted edit stands: the number of its document, and which of that document's edits
-/// it is.
+/// The place of an accepted edit: the number of its document, and the number of the edit in the document's
+/// tree. Both count from 0.
 #[derive(Clone, Copy, Debug, PartialEq, Eq)]
 pub(crate) struct Entry {
     pub(crate) document: u32,

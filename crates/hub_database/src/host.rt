@@ -1,4 +1,4 @@
-//! A database as what keeps feeds.
+//! A database as a host of feeds.
 
 ghost use Rattle.std.specs.Prelude.{◌≡◌, Some, position, IfSome, IfOk, OnErr};
 ghost use Rattle.hub_model.specs.Current.{current};
@@ -88,7 +88,7 @@ impl FeedHost for DbState {
         None
     }
 
-    /// It costs what the list of feeds does that grows by one.
+    /// The cost is that of `Feeds::open`.
     fn open_feed(&mut self, params: FeedParams) -> Result<FeedId, OpenFault> {
         if let Some(fault) = self.refusal() {
             return Err(fault);
@@ -101,10 +101,10 @@ impl FeedHost for DbState {
         }
     }
 
-    /// It costs what `FeedState::first_of_open` and `Feeds::hand_at` do, and a binary search among the feeds
-    /// unless the last hand was to the same feed. A feed of listed documents that asks again with no
-    /// write between costs a look in the map of ids for each id and a sort of their rows, once until
-    /// the next write, and then a binary search among those rows and what the row costs.
+    /// The cost is that of `FeedState::first_of_open` and `Feeds::hand_at`, and a binary search among the
+    /// feeds unless the last hand was to the same feed. A feed of listed documents may ask again with no
+    /// write between. Then it costs a search for each id and a sort of the rows, once until the next write.
+    /// After that it costs a binary search among these rows, and the row.
     fn hand<K: Sink<Item<ChangeRow>>, H: Pushes<K, Item<ChangeRow>>>(
         &mut self,
         feed: FeedId,
@@ -119,7 +119,7 @@ impl FeedHost for DbState {
             .hand_at(&self.contents, feed, at, first, handle, sink)
     }
 
-    /// It costs a binary search among the feeds.
+    /// The cost is a binary search among the feeds.
     fn beat_due(&self, feed: FeedId) -> bool {
         match self.feeds.find(feed) {
             Some(state) => state.beat_due(),
@@ -127,21 +127,21 @@ impl FeedHost for DbState {
         }
     }
 
-    /// It costs a binary search among the feeds.
+    /// The cost is a binary search among the feeds.
     fn expire(&mut self, feed: FeedId) {
         self.feeds.expire(feed);
     }
 
-    /// It costs a look at each feed.
+    /// The cost is a look at each feed.
     fn finish(&mut self, feed: FeedId) {
         self.feeds.finish(feed);
     }
 }
 
 impl DbState {
-    /// The sequence of the first row in reach of the feed that stands here, if it is open. Where it shows
-    /// listed documents, its rows are kept, and more edits lie above its place than ids are listed, it costs
-    /// what `Listing::holds` and `Listing::first_between` do, and else what `FeedState::first_of_open` does.
+    /// The sequence of the first row in reach of the feed at this place of the list, if it is open. Where
+    /// it lists fewer documents than edits lie above its place, and its rows are kept, the cost is that of
+    /// `Listing::holds` and `Listing::first_between`. Else it is that of `FeedState::first_of_open`.
     pub(crate) fn first_at(&mut self, feed: FeedId, at: usize) -> Option<u64>
         requires placed { Some at ≡ position (is_of feed.number) self.old.feeds }
         ensures same { self.new ≡ self.old }
@@ -160,10 +160,10 @@ impl DbState {
         state.first_of_open(&self.contents)
     }
 
-    /// What a feed has to hand now. An item is made and nothing changes: `accept_item` goes on. A
-    /// feed that has nothing to hand goes to the journal's length. It costs what
-    /// `FeedState::next_item` does, and a binary search among the feeds unless the last call was for the
-    /// same feed. It keeps no rows of listed documents: `hand` does.
+    /// The item that a feed has to hand now, if any. An item is made and nothing changes: `accept_item`
+    /// goes on. A feed that has nothing to hand goes to the journal's length. The cost is that of
+    /// `FeedState::next_item`, and a binary search among the feeds unless the last call was for the same
+    /// feed. The call keeps no rows of listed documents: `hand` does.
     pub fn next_item(&mut self, feed: FeedId) -> Result<Next<ChangeRow>, AllocError>
         ensures ok { IfOk result (λ next. (next ≡ next_of_number (hosted_of self.old) feed.number)
             × (self.new ≡ with_hosted self.old (hosted_after_next (hosted_of self.old) feed.number next))) }
@@ -176,7 +176,7 @@ impl DbState {
         self.feeds.next_at(&self.contents, feed, at)
     }
 
-    /// Goes on behind the item that `next_item` gives now. It takes no memory, and constant time where
+    /// Moves a feed past the item that `next_item` gives now. It takes no memory, and constant time where
     /// the last call was for this feed.
     pub fn accept_item(&mut self, feed: FeedId, item: &Item<ChangeRow>)
         requires due { item_of_number (hosted_of self.old) feed.number ≡ Some item.now }

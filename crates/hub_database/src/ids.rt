@@ -8,7 +8,7 @@ ghost use Rattle.hub_database.specs.Filed.{HasNumbers, ids_of};
 use crate::document::Document;
 use hub_index::{IdHints, IdOrder, Named};
 
-/// Documents, of which each has an id.
+/// The documents of a database, each with its id.
 #[derive(Drop)]
 pub(crate) struct Ids<'a> {
     pub(crate) documents: &'a [Document],
@@ -26,8 +26,8 @@ impl<'a> Named for Ids<'a> {
 }
 
 impl Ids<'_> {
-    /// The number of the document with this id. It compares mostly one id, where the number is
-    /// remembered, and else ids logarithmically many times.
+    /// The number of the document with this id. Where the number is remembered, the call mostly compares
+    /// one id. Else it compares logarithmically many.
     pub(crate) fn number_of(&self, numbers: &IdOrder, hints: &IdHints, id: &str) -> Option<u32>
         requires order { IsOrder (ids_of (files self.now.documents.now)) numbers.now }
         requires own { HasNumbers (files self.now.documents.now) numbers.now }

@@ -11,20 +11,19 @@ use crate::contents::Contents;
 use hub_feed::{Source, is_ahead};
 use std::alloc::{AllocError, Global};
 
-/// The rows of one feed of listed documents: found by its ids once, they serve each of its steps
-/// until the next write.
+/// The rows of one feed of listed documents. They are found by the feed's ids once, and serve each of its
+/// steps until the next write.
 #[derive(Debug, Drop)]
 pub(crate) struct Listing {
-    /// The number of the feed that was asked last, of those whose rows may be kept, if nothing was
-    /// written since.
+    /// The number of the feed for which `holds` was asked last, if nothing was written since.
     asked: Option<u64>,
-    /// The number of the feed whose rows are kept, if those of one are.
+    /// The number of the feed whose rows are kept, if there is one.
     pub(crate) feed: Option<u64>,
     /// The sequences of the current rows that the feed's filter passes, rising.
     pub(crate) rows: Vec<u64>,
 }
 
-// Puts a sequence behind the others, if there is one.
+// Puts a sequence at the end of the list, if there is one.
 fn push_some(list: &mut Vec<u64>, seq: Option<u64>) -> Result<(), AllocError>
     ensures { OnOk result (list.new.items ≡ list.old.items ++ cons_option seq []) }
 {
@@ -34,8 +33,8 @@ fn push_some(list: &mut Vec<u64>, seq: Option<u64>) -> Result<(), AllocError>
     Ok(())
 }
 
-// The sequences of the current rows of the documents with these ids, in the order of the ids. A search
-// for each.
+// Finds the sequences of the current rows of the documents with these ids, in the order of the ids. The
+// cost is a search for each id.
 fn gather(list: &mut Vec<u64>, contents: &Contents, ids: &[String]) -> Result<(), AllocError>
     ensures { OnOk result (list.new.items
         ≡ filter_map (seq_of_row contents.now.journal) (map string_bytes ids.now)) }
@@ -47,7 +46,7 @@ fn gather(list: &mut Vec<u64>, contents: &Contents, ids: &[String]) -> Result<()
     Ok(())
 }
 
-// Brings sequences in order, each once. It takes no memory.
+// Sorts sequences, and leaves each once. It takes no memory.
 fn arrange(list: &mut Vec<u64>)
     ensures rises { AllPairs (λ m n. m < n) list.new.items }
     ensures keeps { (n : ℕ) → Contains list.old.items n → Contains list.new.items n }
@@ -58,7 +57,7 @@ fn arrange(list: &mut Vec<u64>)
 }
 
 impl Listing {
-    /// No rows are kept. It takes no memory yet.
+    /// A listing that keeps no rows. It takes no memory yet.
     pub(crate) fn new(alloc: Global) -> Listing
         ensures { result.feed ≡ None }
     {
@@ -69,8 +68,7 @@ impl Listing {
         }
     }
 
-    /// No rows are kept any more, as a write is to change them. The list keeps its memory. Constant
-    /// time.
+    /// Keeps no rows any more, as a write is to change them. The list keeps its memory. Constant time.
     pub(crate) fn forget(&mut self)
         ensures { self.new.feed ≡ None }
     {
@@ -91,10 +89,10 @@ impl Listing {
         Ok(())
     }
 
-    /// Whether the rows are kept of the feed of this number, which lists these ids. They are found
-    /// once the feed asks twice with no write and no other such feed between, so that feeds that ask
-    /// by turns don't find theirs for one step alone: a search for each id, and a sort of what is
-    /// found. Where memory is short they are not kept. Once they are: constant time.
+    /// Whether the rows of the feed of this number, which lists these ids, are kept. They are found where
+    /// the feed asks twice with no write and no other such feed between: else feeds that ask by turns would
+    /// find theirs for one step alone. To find them costs a search for each id, and a sort of the rows. Out
+    /// of memory they are not kept. Once they are kept, the time is constant.
     pub(crate) fn holds(&mut self, number: u64, contents: &Contents, ids: &[String]) -> bool
         requires kept { self.old.feed ≡ Some number
             → self.old.rows.items ≡ passing_sequences (DocIds (map string_bytes ids.now)) contents.now.journal }
@@ -111,8 +109,8 @@ impl Listing {
         again && self.list(number, contents, ids).is_ok()
     }
 
-    /// The first of the sequences above a place and not above a bound, if there is one. A binary
-    /// search.
+    /// The first of the sequences above a place and not above a bound, if there is one. The cost is a
+    /// binary search.
     pub(crate) fn first_between(&self, place: u64, bound: Option<u64>) -> Option<u64>
         requires { AllPairs (λ m n. m < n) self.now.rows.items }
         ensures { result ≡ find (λ n. nat_lt place n && is_within bound n) self.now.rows.items }

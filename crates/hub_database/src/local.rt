@@ -14,18 +14,18 @@ use hub_model::Fault;
 use std::alloc::{AllocError, Global};
 use std::collections::BTreeMap;
 
-/// A local document that is kept: no feed shows it, and no replication copies it (CouchDB API
+/// A local document as a database keeps it: no feed shows it, and no replication copies it (CouchDB API
 /// reference, local documents).
 #[derive(Debug, Drop)]
 pub struct Local {
-    /// How often it was written, from 1: its revision is `0-count`.
+    /// How often the document was written, from 1: its revision is `0-count`.
     pub count: u64,
-    /// Its members.
+    /// The document's members.
     pub body: Body,
 }
 
 impl Local {
-    /// The same once more. It costs a copy of its members.
+    /// A copy of the local document. The cost is a copy of its members.
     pub fn copy(&self, alloc: Global) -> Result<Local, AllocError>
         ensures { IfOk result (λ local. local ≡ self.now) }
     {
@@ -36,7 +36,7 @@ impl Local {
     }
 }
 
-// Puts a local document in the place of the one of its id, if there is one.
+// Puts a local document in the place of the one with its id, if there is one.
 fn put(locals: &mut BTreeMap<String, Local>, id: LocalId, local: Local) -> Result<(), AllocError>
     ensures ok { OnOk result (locals_of locals.new ≡ put_local (local_named id local) (locals_of locals.old)) }
     ensures err { OnErr result (locals_of locals.new ≡ locals_of locals.old) }
@@ -46,14 +46,14 @@ fn put(locals: &mut BTreeMap<String, Local>, id: LocalId, local: Local) -> Resul
 }
 
 impl Contents {
-    /// The local document of this id. A look in the map of local documents.
+    /// The local document of this id. The cost is a look in the map of local documents.
     pub fn local_get(&self, id: &str) -> Option<&Local>
         ensures { option_map (λ l. local_named id.now l.now) result ≡ local_of self.now.locals id.now }
     {
         self.locals.get(id)
     }
 
-    // How often the local document of this id will have been written, with one more; None past 2^64 - 1.
+    // The count of the local document of this id after one more write; None past 2^64 - 1.
     fn count_after(&self, id: &str) -> Option<u64>
         ensures some { IfSome result (λ count. count ≡ next_count (local_of self.now.locals id.now)) }
         ensures none { IfNone result (2 ^ 64 ≤ next_count (local_of self.now.locals id.now)) }

@@ -26,8 +26,8 @@ impl Document {
         }
     }
 
-    /// A revision, with its history where `revs` asks for it; None where it has no body. A look an
-    /// edit, and a copy.
+    /// A revision's document, with its history where `revs` asks for it; None where the revision has no
+    /// body. The cost is one find, a copy, and with the history that of `RevTree::path`.
     pub(crate) fn shown(
         &self,
         alloc: Global,
@@ -48,8 +48,8 @@ impl Document {
         }))
     }
 
-    /// The winner, which is this, with its history where `revs` asks for it. It is not looked for: it costs a
-    /// copy.
+    /// The document of this winner, with its history where `revs` asks for it. The winner is not looked
+    /// for: the cost is a copy, and with the history that of `RevTree::path`.
     pub(crate) fn winner_doc(
         &self,
         alloc: Global,
@@ -72,7 +72,7 @@ impl Document {
         }))
     }
 
-    // What is shown of a revision.
+    // The answer for one revision.
     fn open_rev(&self, alloc: Global, rev: &RevId, revs: bool) -> Result<OpenRev, AllocError>
         ensures { IfOk result (λ found. found ≡ open_rev_of revs rev.now (shown_in self.now rev.now)) }
     {
@@ -83,7 +83,7 @@ impl Document {
     }
 }
 
-// What is shown of each of these revisions of a document. Where there is no document each is missing.
+// The answer for each of these revisions of a document. Where there is no document each is missing.
 fn open_each(
     alloc: Global,
     document: Option<&Document>,
@@ -106,9 +106,9 @@ fn open_each(
 }
 
 impl Contents {
-    /// The revisions of a document that are asked for, each with its history where `revs` asks for
-    /// it. Of an unknown document there is no leaf, and each listed revision is missing. A search of
-    /// the id, and for each revision a look an edit and a copy.
+    /// The revisions of a document that are asked for, each with its history where `revs` asks for it. An
+    /// unknown document has no leaf, and each listed revision of it is missing. The cost is a search of the
+    /// id, that of `RevTree::leaves` for all leaves, and for each revision that of `Document::shown`.
     pub fn open_revs(
         &self,
         id: &str,

@@ -14,12 +14,12 @@ use hub_document::{Asked, OpenRevs};
 use hub_params::FeedParams;
 use hub_revtree::Winner;
 
-/// What may be asked of a database.
+/// A question to a database.
 #[derive(Debug, Drop)]
 pub enum Question {
-    /// How many documents there are, and how many edits.
+    /// The numbers of documents and of edits.
     Info,
-    /// A document, with its history where that is asked for.
+    /// A document, with its history where `revs` asks for it.
     Get {
         id: String,
         revs: bool,
@@ -28,13 +28,13 @@ pub enum Question {
     Winner {
         id: String,
     },
-    /// Revisions of a document.
+    /// Revisions of a document, each with its history where `revs` asks for it.
     OpenRevs {
         id: String,
         which: OpenRevs,
         revs: bool,
     },
-    /// Which revisions are missing.
+    /// The revisions among these that are missing.
     RevsDiff(Vec<Asked>),
     /// A feed that goes downwards.
     Descending(FeedParams),
@@ -44,7 +44,7 @@ pub enum Question {
     },
 }
 
-/// What it answers.
+/// The answer to a question.
 #[derive(Debug, Drop)]
 pub enum Answer {
     Info(Info),
@@ -58,8 +58,8 @@ pub enum Answer {
 }
 
 impl DbState {
-    /// A copy of the local document of this id. It costs a look in the map of local documents, and the
-    /// copy. Out of memory is told only where there is such a document.
+    /// A copy of the local document of this id. The cost is a look in the map of local documents, and the
+    /// copy. `NoMemory` comes only where there is such a document.
     pub fn local_copy(&self, id: &str) -> Result<Option<Local>, DbFault>
         ensures { let local = local_of self.now.locals id.now in
             IsRead self.now result (λ found. option_map (local_named id.now) found ≡ local) (IsSome local) }
@@ -70,9 +70,9 @@ impl DbState {
         }
     }
 
-    /// What the database answers to a question. It waits for nobody, and costs what the call of the
-    /// question's kind does, and for a local document a copy. Out of memory is told only where the answer
-    /// takes some.
+    /// The database's answer to a question. It waits for nobody. The cost is that of the call of the
+    /// question's kind, and for a local document a copy. `NoMemory` comes only where the answer takes
+    /// memory.
     pub fn answer(&self, question: Question) -> Result<Answer, DbFault>
         ensures { IsRead self.now result (IsAnswer self.now question) (TakesMemory self.now question) }
     {

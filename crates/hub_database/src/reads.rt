@@ -1,4 +1,4 @@
-//! What a database is asked.
+//! Questions to the contents of a database, and their answers.
 
 ghost use Rattle.std.specs.Prelude.{◌≡◌, [], None, IfOk, IfSome, IfNone, OnErr};
 ghost use Rattle.hub_model.specs.Journal.{IsLegal, edits_of};
@@ -18,7 +18,7 @@ use hub_revtree::Winner;
 use std::alloc::AllocError;
 
 impl Contents {
-    /// The document with this id. It compares ids logarithmically many times.
+    /// The document with this id. The cost is a search of the id, by `Ids::number_of`.
     pub(crate) fn document(&self, id: &str) -> Option<&Document>
         ensures found { IfSome result (λ d. IsFound self.now.journal id.now d.now) }
         ensures none { IfNone result (edits_of self.now.journal id.now ≡ []) }
@@ -32,8 +32,8 @@ impl Contents {
         Some(document)
     }
 
-    /// A document: its winner, with its history where `revs` asks for it. A search of the id,
-    /// what `RevTree::best` costs, and a copy of the document.
+    /// A document: its winner, with its history where `revs` asks for it. The cost is a search of the id,
+    /// that of `RevTree::best`, and a copy of the document.
     pub fn get(&self, id: &str, revs: bool) -> Result<Lookup, AllocError>
         ensures found { IfOk result (λ found. found ≡ lookup self.now.journal id.now revs) }
         ensures memory { OnErr result (HasDocument self.now.journal id.now revs) }
@@ -53,7 +53,7 @@ impl Contents {
         }
     }
 
-    // What a document misses of the revisions asked for; None where it misses nothing.
+    // The missing revisions of a document, among those asked for; None where it misses none.
     fn diff(&self, asked: Asked) -> Result<Option<Diff>, AllocError>
         ensures ok { IfOk result (λ diff. diff ≡ wanted_diff self.now.journal asked) }
         ensures memory { OnErr result (¬ (wanted_diff self.now.journal asked ≡ None)) }
@@ -82,9 +82,9 @@ impl Contents {
         }))
     }
 
-    /// Which of the revisions asked for are missing, of the documents alone of which some are, in
-    /// the order asked. It costs a search of the id for each document, and what
-    /// `RevTree::missing` and `RevTree::possible_ancestors` do.
+    /// The missing revisions among those asked for, in the order asked. A document that misses none is left
+    /// out. The cost is a search of the id for each document, and that of `RevTree::missing` and
+    /// `RevTree::possible_ancestors`.
     pub fn revs_diff(&self, asked: Vec<Asked>) -> Result<Vec<Diff>, AllocError>
         ensures ok { IfOk result (λ found. found.items ≡ diffs self.now.journal asked.items) }
         ensures memory { OnErr result (¬ (diffs self.now.journal asked.items ≡ [])) }
@@ -100,8 +100,8 @@ impl Contents {
 }
 
 impl DbState {
-    /// The winner of a document, with its mark; None where there is no such document. A
-    /// search of the id, and what `RevTree::best` costs.
+    /// The winner of a document, with its mark; None where there is no such document. A deleted database
+    /// answers too. The cost is a search of the id, and that of `RevTree::best`.
     pub fn winner(&self, id: &str) -> Option<Winner>
         ensures { result ≡ winner_of (leaves_of self.now.journal id.now) }
     {

@@ -10,10 +10,10 @@ use std::alloc::{AllocError, Global};
 use std::marker::Model;
 use thiserror::Error;
 
-/// What tells of an accepted edit: its sequence, its document, and its revision.
+/// The record of an accepted edit: its sequence, its document, and its revision.
 #[derive(Debug, Drop)]
 pub struct Receipt {
-    /// How many edits there were with it: the first edit has 1.
+    /// The edit's sequence: the first edit has 1.
     pub seq: u64,
     /// The document's id.
     pub id: DocId,
@@ -40,7 +40,7 @@ impl Model for ReceiptRoom {
 }
 
 impl ReceiptRoom {
-    /// The room for the receipts of these documents. It costs copies of their ids.
+    /// The room for the receipts of these documents. The cost is copies of their ids.
     pub fn of(alloc: Global, docs: &[Doc]) -> Result<ReceiptRoom, AllocError>
         ensures ok { IfOk result (λ room. room ≡ ids_of docs.now) }
         ensures memory { OnErr result (0 < length docs.now) }
@@ -54,8 +54,8 @@ impl ReceiptRoom {
         Ok(ReceiptRoom { ids, receipts })
     }
 
-    /// The receipts of the documents, which were answered so behind so many edits. It takes no memory,
-    /// and costs a step for each document.
+    /// The receipts of the documents, which got these replies where there were `before` edits. The call
+    /// takes no memory. The cost is a step for each document.
     pub fn fill(self, before: u64, replies: &[Outcome<RevId>]) -> Vec<Receipt>
         requires fits { before < 2 ^ 32 }
         ensures { result.items ≡ receipts_from before self replies.now }
@@ -77,18 +77,18 @@ impl ReceiptRoom {
     }
 }
 
-/// Why receipts are not all of a journal.
+/// The fault where receipts are not all of a journal.
 #[derive(Clone, Copy, Debug, PartialEq, Eq, Error)]
 pub enum AuditFault {
-    /// The first receipt whose edit is not in the journal at its number.
+    /// The first receipt whose edit is not in the journal at its sequence.
     #[error("the journal has no such edit as receipt {at} tells of")]
     WrongReceipt {
-        /// Its place among the receipts, from 0 on.
+        /// The receipt's place among the receipts, from 0 on.
         at: usize,
     },
 }
 
-// Whether the journal has the receipt's edit at its number.
+// Whether the journal has the receipt's edit at its sequence.
 fn has_edit(state: &DbState, receipt: &Receipt) -> bool
     ensures { result ≡ has_edit state.now.journal receipt.now }
 {
@@ -98,9 +98,9 @@ fn has_edit(state: &DbState, receipt: &Receipt) -> bool
     }
 }
 
-/// Compares receipts with the journal of a database: the edit of each is there at its number, with its
-/// document and its revision; or the first of which it is not is told. It takes no memory, and costs a
-/// look in the journal for each.
+/// Compares receipts with the journal of a database. The edit of each receipt has to be there at its
+/// sequence, with its document and its revision. The fault names the first receipt whose edit is not there.
+/// The call takes no memory. The cost is a look in the journal for each receipt.
 pub fn audit_of(state: &DbState, receipts: &[Receipt]) -> Result<(), AuditFault>
     ensures { IsAudit state.now.journal receipts.now result }
 {

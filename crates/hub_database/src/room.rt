@@ -4,12 +4,12 @@ ghost use Rattle.std.specs.Prelude.{◌≡◌, ◌+◌, ◌≤◌, vec_len, vec_
 
 use std::alloc::AllocError;
 
-/// From how many elements on a list grows by a part of it.
+/// From this number of elements on, a list grows by a part of it.
 const LARGE: usize = 1024;
 
-/// Memory for one more element. A list that is full takes memory for as many elements more as it
-/// has, but a large one for an eighth of them, so that no more than that is left unused. An element
-/// is moved some nine times at most on average: one more costs constant time on average.
+/// Makes room for one more element. A full list takes memory for as many more elements as it has. A large
+/// one takes it for an eighth of them, so that no more is left unused. An element is moved some nine times
+/// at most on average: one more costs constant time on average.
 pub(crate) fn reserve_one<T>(list: &mut Vec<T>) -> Result<(), AllocError>
     ensures items { list.new.items ≡ list.old.items }
     ensures len { vec_len list.new ≡ vec_len list.old }

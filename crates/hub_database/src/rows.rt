@@ -12,7 +12,7 @@ use hub_model::Style;
 use std::alloc::AllocError;
 
 impl Contents {
-    /// The last current row below a place: its sequence and its id. It takes no memory.
+    /// The last current row below a place, as its sequence and its document's id. It takes no memory.
     pub(crate) fn last_before(&self, place: u64) -> Option<(u64, &str)>
         ensures { option_map (λ p. record { seq = p.0; id = p.1.now }) result
             ≡ find (λ (c : Current). nat_lt c.seq place) (reverse (current self.now.journal)) }
@@ -59,14 +59,14 @@ impl Source for Contents {
         self.life
     }
 
-    /// It costs what `SeqIndex::next_after` does.
+    /// The cost is that of `SeqIndex::next_after`.
     fn next_after(&self, place: u64, bound: Option<u64>) -> Option<(u64, &str)> {
         let (seq, number) = self.index.next_after(place, bound)?;
         let document = &self.documents[number as usize];
         Some((seq, document.id.as_str()))
     }
 
-    /// It costs a search of the id.
+    /// The cost is a search of the id.
     fn next_of(&self, id: &str, place: u64, bound: Option<u64>) -> Option<u64> {
         let ids = Ids {
             documents: self.documents.as_slice(),
@@ -80,13 +80,12 @@ impl Source for Contents {
         None
     }
 
-    /// It costs what `SeqIndex::count_after` does.
+    /// The cost is that of `SeqIndex::count_after`.
     fn count_after(&self, place: u64) -> u64 {
         self.index.count_after(place)
     }
 
-    /// The document is found in constant time. It costs what `RevTree::best` does, with every leaf
-    /// what `RevTree::leaves` does, and with its document a copy of the members.
+    /// The document is found in constant time. The cost is that of `Document::row`.
     fn row(&self, seq: u64, style: Style, include_docs: bool) -> Result<ChangeRow, AllocError> {
         let entry = self.journal[seq as usize - 1];
         let document = &self.documents[entry.document as usize];

@@ -26,7 +26,7 @@ use Rattle.std.proofs.lemmas.Slice.Eq.{bytes_eq-Decides}
 use Rattle.hub_databases.specs.Kept.{AreKept, NamesState, most_databases, names_of, with_name, without_name}
 use Rattle.hub_databases.specs.Names.{is_name}
 
--- with an entry put in
+-- the names, once an entry is put in
 pub names_put : {Y V : Type 0} (es : List (String Y × V)) (key : String Y) (what : V)
     → names_of (insert_entry string_cmp es key what)
     ≡ insert_key (slice_cmp nat_cmp) (names_of es) (string_bytes key)
@@ -46,7 +46,7 @@ names_put (e ∷ es) key what =
     from Equal h = refl
     from Greater h = ap (λ ns. string_bytes e.0 ∷ ns) h
 
--- with an entry taken out
+-- the names, once an entry is taken out
 pub names_taken : {Y V : Type 0} (es : List (String Y × V)) (name : List ℕ)
     → names_of (remove_entry (is_at (λ k. slice_cmp nat_cmp name (string_bytes k))) es)
     ≡ remove_key (bytes_eq name) (names_of es)
@@ -65,7 +65,7 @@ names_taken (e ∷ es) name =
     from true h = refl
     from false h = ap (λ ns. string_bytes e.0 ∷ ns) h
 
--- a name that was put in where it was not, and taken out again
+-- a new name that is put in and taken out again leaves the names as they were
 out_again : (names : List (List ℕ)) (name : List ℕ) → ¬ Contains names name
     → remove_key (bytes_eq name) (insert_key (slice_cmp nat_cmp) names name) ≡ names
 out_again [] name absent = ap (λ b. cond b [] (name ∷ [])) ((bytes_eq-Decides name name).1 refl)
@@ -107,7 +107,7 @@ unfolding IsStrictlySortedBy
 names_sorted [] h = h
 names_sorted (k ∷ keys) h = (above k keys h.0, names_sorted keys h.1)
 
--- a look finds an entry just where its name is there
+-- a look finds an entry just where the name is among the names
 pub is_found : {Y V : Type 0} (es : List (String Y × V)) (name : List ℕ)
     → list_any (eq_by_cmp (slice_cmp nat_cmp) name) (names_of es)
     ≡ list_any (is_at (λ k. slice_cmp nat_cmp name (string_bytes k))) (keys_of es)
@@ -125,11 +125,11 @@ found_iff es name = (
 )
 
 module _ {Y : Type 0} where
-  -- a database has the name that it stands under
+  -- a database has the name under which it stands
   abbrev Own : (String Y × List ℕ) → Type 0
   Own e = e.1 ≡ string_bytes e.0
 
-  -- also once one is put in under its name
+  -- the same, once a database is put in under its name
   pub own_put : (es : List (String Y × List ℕ)) (key : String Y) (db : List ℕ) → All Own es
       → db ≡ string_bytes key → All Own (insert_entry string_cmp es key db)
   own_put [] key db all own = All-cons Own (key, db) [] own all
@@ -148,7 +148,7 @@ module _ {Y : Type 0} where
           (own ∙ exact_bytes (string_bytes key) (string_bytes e.0) is) (All-tail Own e es all)
       from Greater is h = All-cons Own e _ (All-head Own e es all) h
 
-  -- also once an entry is taken out
+  -- the same, once an entry is taken out
   pub own_taken : (test : String Y → Bool) (es : List (String Y × List ℕ)) → All Own es
       → All Own (remove_entry test es)
   own_taken test [] all = all
@@ -158,7 +158,7 @@ module _ {Y : Type 0} where
       from true h = All-tail Own e es all
       from false h = All-cons Own e _ (All-head Own e es all) h
 
-  -- what a look finds has the name that was asked for
+  -- a database that a look finds has the name that was asked for
   pub own_found : (es : List (String Y × List ℕ)) (name : List ℕ) → All Own es
       → IfSome (lookup (is_at (λ k. slice_cmp nat_cmp name (string_bytes k))) es)
       (λ db. db ≡ name)
@@ -176,9 +176,9 @@ module _ {Y : Type 0} where
       from Equal is h = All-head Own e es all ∙ sym (exact_bytes name (string_bytes e.0) is)
       from Greater is h = h
 
-  -- ---- what is kept of the entries
+  -- ---- the invariant of the entries
 
-  -- of none
+  -- it holds of no entries
   pub kept_none : (limit : ℕ) → limit ≤ most_databases → AreKept {Y = Y} limit []
   unfolding IsStrictlySortedBy
   kept_none limit few = record {
@@ -188,7 +188,7 @@ module _ {Y : Type 0} where
   }
 
   module _ (limit : ℕ) (es : List (String Y × List ℕ)) (kept : AreKept limit es) where
-    -- with one put in under its name
+    -- it holds once a database is put in under its name
     pub kept_put : (key : String Y) (db : List ℕ) (new : List (String Y × List ℕ))
         → is_name (string_bytes key) ≡ true
         → db ≡ string_bytes key
@@ -207,7 +207,7 @@ module _ {Y : Type 0} where
       own = subst (λ xs. All Own xs) (sym is) (own_put es key db kept.own own);
     }
 
-    -- with one taken out
+    -- it holds once a database is taken out
     pub kept_taken : (name : List ℕ) (new : List (String Y × List ℕ))
         → new ≡ remove_entry (is_at (λ k. slice_cmp nat_cmp name (string_bytes k))) es
         → IsStrictlySortedBy string_cmp (keys_of new)

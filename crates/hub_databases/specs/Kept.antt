@@ -13,36 +13,36 @@ use Rattle.hub_databases.specs.Names.{is_name}
 abbrev pub most_databases : ℕ
 most_databases = 256
 
--- Names of databases, each once, in the order of their bytes, and no more than there may be.
--- With a limit of 2 these are a and ab, but not ab and a, nor a, ab and b.
+-- Names of databases, each once, in the order of their bytes, and no more than the limit. With a limit of 2
+-- these are a and ab, but not ab and a, nor a, ab and b.
 pub record AreNames (limit : ℕ) (names : List (List ℕ)) : Type 0 where
   pub valid : All (λ name. is_name name ≡ true) names
   pub once : IsStrictlySortedBy (slice_cmp nat_cmp) names
   pub within : length names ≤ limit
 
--- what is seen of names and the databases under them
+-- the names of a hub's databases, as contracts see them
 pub record NamesState : Type 0 where
   pub names : List (List ℕ)  -- in the order of their bytes
-  pub limit : ℕ  -- how many there may be
-  pub made : ℕ  -- how many were made so far, those that were removed included: the life of the latest
+  pub limit : ℕ  -- the most databases that there may be
+  pub made : ℕ  -- the number of databases made so far, removed ones included: the life of the latest
 
--- with a name more, at its place in the order: a and c with b are a, b and c
+-- the state with one name more, at its place in the order: a and c with b are a, b and c
 abbrev pub with_name : List ℕ → NamesState → NamesState
 with_name name state = record state { names = insert_key (slice_cmp nat_cmp) state.names name }
 
--- with a database that was made under a name, and counted
+-- the state with a database that was made under this name, and counted
 abbrev pub with_made : List ℕ → NamesState → NamesState
 with_made name state = record (with_name name state) { made = state.made + 1 }
 
--- without a name
+-- the state without this name
 abbrev pub without_name : List ℕ → NamesState → NamesState
 without_name name state = record state { names = remove_key (bytes_eq name) state.names }
 
--- the names that the entries of a map stand under
+-- the names of a map's entries: its keys
 abbrev pub names_of : {Y V : Type 0} → List (String Y × V) → List (List ℕ)
 names_of entries = map string_bytes (keys_of entries)
 
--- what holds of these entries: under each name is the database that has it
+-- The invariant of a map's entries: the keys are such names, and each database has the name that is its key.
 pub record AreKept {Y : Type 0} (limit : ℕ) (entries : List (String Y × List ℕ)) : Type 0 where
   pub names : AreNames limit (names_of entries)
   pub few : limit ≤ most_databases

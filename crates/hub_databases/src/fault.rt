@@ -1,10 +1,10 @@
-//! Why a call on a hub's names fails.
+//! The faults of calls on a hub's names.
 
 use hub_updates::NoteFault;
 use std::alloc::AllocError;
 
-/// Why a call on a hub's names fails: the first of these that holds, in this order, but for
-/// `NoMemory`, which may come in the place of any behind `BadName`.
+/// The fault of a call on a hub's names. A call answers the first fault that holds, in the order from
+/// `BadName` on. `NoMemory` may come in the place of any fault after `BadName`.
 #[derive(Clone, Copy, Debug, PartialEq, Eq)]
 pub enum HubFault {
     /// A growth was refused.

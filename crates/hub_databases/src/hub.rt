@@ -26,17 +26,17 @@ use hub_updates::{NoteFault, Notice};
 use std::alloc::{AllocError, Global};
 use std::sync::{RwLock, Wait};
 
-/// The databases of a hub by their names, and the log of what happens to them. Threads share it, by
-/// reference or by an `Arc`.
+/// The databases of a hub by their names, and the log of updates. Threads share a hub by reference or by an
+/// `Arc`.
 pub struct Hub {
     alloc: Global,
     limits: Limits,
-    // The order of the locks: the names, and then the log. A database's own lock is taken while
-    // neither is held, and nothing is taken under it: whoever holds a database holds only those that
-    // ask for that database. So a write may be noted behind the deletion that it came before.
+    // The order of the locks: the names, and then the log. A database's own lock is taken while neither is
+    // held, and no lock is taken under it. So its holder delays only the callers of that database, and the
+    // note of a write may come after the note of a deletion that happened later.
     /// The databases by their names.
     names: RwLock<Names>,
-    /// What happened to them. Its lock is taken alone, or under that of the names.
+    /// The log of updates. Its lock is taken alone, or under the lock of the names.
     updates: Updates,
 }
 
@@ -62,7 +62,7 @@ impl Hub {
         })
     }
 
-    // Adds a notice at the end of the log, or lets it lapse and says why.
+    // Adds a notice at the end of the log. On a fault the notice lapses, and the fault is returned.
     fn note<R: Wait>(&self, rt: &R, notice: Notice) -> Result<(), NoteFault> {
         match self.updates.note(rt, notice) {
             Ok(()) => Ok(()),
@@ -73,8 +73,8 @@ impl Hub {
         }
     }
 
-    // Makes an empty database under a name and notes that, or does neither. It is counted once it is
-    // noted: lives are numbered as databases are made, from 1, and no number is left out or given twice.
+    // Makes an empty database under a name and notes the creation, or does neither. The database is counted
+    // after the note. So lives rise from 1 as databases are made, and no life is left out or given twice.
     fn put<R: Wait>(
         &self,
         rt: &R,
@@ -100,7 +100,7 @@ impl Hub {
     }
 
     /// Makes an empty database of this name, and notes that it was created. Its life is the number of
-    /// databases that were made so far, itself included. It costs the wait for the names and for the
+    /// databases that were made so far, itself included. The cost is the wait for the names and for the
     /// log, a search among the names, and a note. The names are held meanwhile.
     pub fn create<R: Wait>(&self, rt: &R, name: &str) -> Result<(), HubFault>
         ensures { IsCallByName name.now result (λ e. ¬ (e ≡ HubFault.Absent)) }
@@ -113,7 +113,7 @@ impl Hub {
         self.put(rt, &mut *names, name, notice)
     }
 
-    /// The database of this name. It costs the wait for the names, which readers share, and a search
+    /// The database of this name. The cost is the wait for the names, which readers share, and a search
     /// among them.
     pub fn find<R: Wait>(&self, rt: &R, name: &str) -> Result<HubDb, HubFault>
         ensures own { IfOk result (λ db. db ≡ name.now) }
@@ -130,8 +130,8 @@ impl Hub {
         }
     }
 
-    // Takes a database from under its name and notes that, or does neither. A handle on it is made
-    // first.
+    // Takes a database from under its name and notes the deletion, or does neither. A handle on the
+    // database is made first.
     fn take<R: Wait>(
         &self,
         rt: &R,
@@ -159,10 +159,10 @@ impl Hub {
         Ok(handle)
     }
 
-    /// Removes the database of this name, and notes that it was deleted. Once the names are free the
-    /// database is deleted under its own lock: its feeds come to their ends, and it is let go there
-    /// unless someone has it. It costs the wait for the names and for the log, a search among the
-    /// names, a note, and what `Handle::delete` does.
+    /// Removes the database of this name, and notes that it was deleted. Once the names are free, the
+    /// database is deleted under its own lock: its feeds come to their ends. The database is let go there
+    /// unless someone still has it. The cost is the wait for the names and for the log, a search among the
+    /// names, a note, and the cost of `Handle::delete`.
     pub fn remove<R: Wait>(&self, rt: &R, name: &str) -> Result<(), HubFault>
         ensures { IsCallByName name.now result
             (λ e. ¬ (e ≡ HubFault.Exists) × ¬ (e ≡ HubFault.TooMany)) }
@@ -173,12 +173,12 @@ impl Hub {
         let notice = Notice::new(self.alloc, UpdateKind::Deleted, name)?;
         let taken = self.take(rt, &mut *self.names.write(rt), name, notice);
         let handle = taken?;
-        // Who has the database may have deleted it before.
+        // Another holder of the database may have deleted it before.
         let _deleted = handle.delete(rt);
         Ok(())
     }
 
-    /// The names of the databases, in the order of their bytes. It costs the wait for the names, which
+    /// The names of the databases, in the order of their bytes. The cost is the wait for the names, which
     /// readers share, and copies of them.
     pub fn list<R: Wait>(&self, rt: &R) -> Result<Vec<String>, AllocError>
         ensures { IfOk result (λ names. AreNames most_databases (map string_bytes names.items)) }
@@ -187,10 +187,10 @@ impl Hub {
     }
 
     /// Stores one edit whose revision is made here, as `Handle::write_one`, and once the database is free
-    /// again notes that it was updated. Where the log is full, or finds no memory, the edit stands without
-    /// a note. A database that was removed refuses it. The notice is made before the edit: out of memory
-    /// is told where nothing was stored. It costs the notice, which is one allocation, the wait for the
-    /// database and for the log, and what `DbState::write_one` and `Updates::note` do.
+    /// again notes that it was updated. Where the log is full or out of memory, the edit stands without a
+    /// note. A removed database refuses the edit. The notice is made before the edit: so `NoMemory` comes
+    /// only where nothing was stored. The cost is the notice, which is one allocation, the wait for the
+    /// database and for the log, and the costs of `DbState::write_one` and `Updates::note`.
     pub fn write_one<R: Wait>(&self, rt: &R, db: &HubDb, doc: Doc) -> Result<Edited, DbFault>
         ensures edited { IfOk result (λ e.
             IsEditedBy false 0 (record { parts = 0; count = 0 }) doc (Ok e.rev)) }
@@ -211,7 +211,7 @@ impl Hub {
         }
     }
 
-    // Notes that a database was written to, where documents were stored, or lets the notice lapse.
+    // Notes that a database was updated, where a document was stored. Else the notice lapses.
     fn note_batch<R: Wait>(&self, rt: &R, notice: Notice, batch: Batch) -> Written
         ensures batch { result.batch ≡ batch }
         ensures lapsed { IsSome result.lapsed → HasStored batch.replies }
@@ -227,11 +227,11 @@ impl Hub {
         }
     }
 
-    /// Stores documents, as `Handle::store`, and once the database is free again notes that it was
-    /// updated, where at least one of them was stored. Where the log is full, or finds no memory, the
-    /// edits stand without a note. A database that was removed refuses each document. It costs the
-    /// notice, which is one allocation, the wait for the database and for the log, a step for each reply,
-    /// and what `DbState::write_edits` and `Updates::note` do.
+    /// Stores documents, as `Handle::store`. Once the database is free again, the call notes an update,
+    /// where at least one document was stored. Where the log is full or out of memory, the edits stand
+    /// without a note. A removed database refuses each document. The cost is the notice, which is one
+    /// allocation, the wait for the database and for the log, a step for each reply, and the costs of
+    /// `DbState::write_edits` and `Updates::note`.
     pub fn write<R: Wait>(
         &self,
         rt: &R,
@@ -255,9 +255,9 @@ impl Hub {
         }
     }
 
-    /// Opens a feed of the log of updates, which stays until it is finished: its connection is to call
-    /// `HostFeed::poll`, or something `pump` for it, and `HostFeed::take`. It shows every row of the
-    /// log, upwards (`Updates::open_feed`). It costs the wait for the log, and what that call does.
+    /// Opens a feed of the log of updates, which stays until it is finished. Its connection calls
+    /// `HostFeed::poll`, or takes by `HostFeed::take` while a `pump` hands. The feed shows every row of the
+    /// log, upwards. The cost is the wait for the log, and that of `Updates::open_feed`.
     pub fn updates<R: Wait>(&self, rt: &R, params: FeedParams) -> Result<UpdatesFeed, OpenFault>
         ensures new { IfOk result (IsNew (updates_asked (params_asked params)) 0) }
         ensures err { IfErr result (λ e. (e ≡ OpenFault.NoMemory) ⊎ (e ≡ OpenFault.TooManyFeeds)) }

@@ -9,8 +9,8 @@ use std::alloc::{AllocError, Global};
 use std::marker::Model;
 use std::sync::ArcStr;
 
-/// A database with its name, which stays with it while someone has it. It stays when it is removed from its
-/// hub, for those that have it: what they write is then refused. Contracts see its name.
+/// A database with its name. A database that is removed from its hub stays as long as someone has it, and
+/// refuses writes. Contracts see its name.
 pub struct HubDb {
     name: ArcStr,
     db: Db<Plain>,
@@ -32,7 +32,7 @@ impl Model for HubDb {
 }
 
 impl HubDb {
-    /// An empty database of this name, of the life of this number. Life 0 is that of the log.
+    /// An empty database of this name, with this number as its life. Life 0 is that of the log.
     pub(crate) fn new(
         alloc: Global,
         limits: Limits,
@@ -47,7 +47,7 @@ impl HubDb {
         Ok(HubDb { name, db })
     }
 
-    /// The same once more. Constant time.
+    /// A second value for the same database. Constant time.
     pub(crate) fn again(&self) -> Result<HubDb, AllocError>
         ensures { IfOk result (λ db. db ≡ self.now) }
     {
@@ -69,7 +69,7 @@ impl HubDb {
         self.db.handle()
     }
 
-    /// Its name. Constant time.
+    /// The database's name. Constant time.
     pub fn name(&self) -> &str
         ensures { result.now ≡ self.now }
     {

@@ -1,4 +1,4 @@
-//! The databases of a hub by their names, with the log of what happens to them.
+//! The databases of a hub by their names, with the log of their updates.
 #![tactic(auto)]
 
 mod fault;

@@ -13,14 +13,14 @@ use std::alloc::{AllocError, Global};
 use std::collections::BTreeMap;
 use std::marker::Model;
 
-/// The database under each name: it has that name. It is seen as its names, in the order of their bytes, how
-/// many there may be, and how many were made so far.
+/// The database under each name: it has that name. Contracts see the names, in the order of their bytes,
+/// their limit, and the number of databases that were made so far.
 #[derive(Drop)]
 pub(crate) struct Names {
-    /// How many there may be.
+    /// The most databases that there may be.
     limit: u64,
     list: BTreeMap<String, HubDb>,
-    /// How many were made so far: the life of the latest.
+    /// The number of databases that were made so far: the life of the latest.
     made: u64,
 }
 
@@ -35,7 +35,7 @@ impl Model for Names {
 }
 
 impl Names {
-    /// No names, of which there may be so many. It takes no memory.
+    /// No names, with a limit on their number. It takes no memory.
     pub(crate) fn new(alloc: Global, limit: u64) -> Names
         requires limit { limit ≤ most_databases }
         ensures { result ≡ record { names = []; limit = limit; made = 0 } }
@@ -47,7 +47,7 @@ impl Names {
         }
     }
 
-    /// The database under a name. It costs a search among the names.
+    /// The database under a name. The cost is a search among the names.
     pub(crate) fn find(&self, name: &str) -> Option<&HubDb>
         ensures some { IsSome result ↔ Contains self.now.names name.now }
         ensures own { IfSome result (λ db. db.now ≡ name.now) }
@@ -55,9 +55,9 @@ impl Names {
         self.list.get(name)
     }
 
-    /// Puts an empty database of the next life under a name, where it may come there. It is not counted yet.
-    /// Else all stays, and the fault is the first refusal that holds. The numbers of lives end at 2^64 - 1.
-    /// By then the log of updates, which has a note for each, is full. It costs a search among the names.
+    /// Puts an empty database of the next life under a free name, where there is room, and does not count
+    /// it yet. Else all stays, and the fault is the first that holds. Lives end at 2^64 - 1: by then the
+    /// log of updates, which has a note for each, is full. The cost is a search among the names.
     pub(crate) fn add(&mut self, alloc: Global, limits: Limits, name: &str) -> Result<(), HubFault>
         requires { is_database_name name.now ≡ true }
         ensures free { OnOk result (IsFree self.old name.now) }
@@ -82,7 +82,7 @@ impl Names {
         }
     }
 
-    /// Counts the one that was put last. Constant time.
+    /// Counts the database that was put last. Constant time.
     pub(crate) fn count(&mut self)
         requires { self.old.made < 2 ^ 64 - 1 }
         ensures { self.new ≡ record self.old { made = self.old.made + 1 } }
@@ -90,7 +90,7 @@ impl Names {
         self.made += 1;
     }
 
-    /// Takes out the database under a name. It takes no memory, and costs a search among the names.
+    /// Takes out the database under a name. It takes no memory. The cost is a search among the names.
     pub(crate) fn take(&mut self, name: &str) -> Option<HubDb>
         ensures some { IsSome result ↔ Contains self.old.names name.now }
         ensures names { self.new ≡ without_name name.now self.old }

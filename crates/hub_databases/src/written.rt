@@ -1,4 +1,4 @@
-//! What writes did, and whether they are to be noted.
+//! The results of writes, and the test whether a write is to be noted.
 
 ghost use Rattle.std.specs.Prelude.{◌≡◌};
 ghost use Rattle.std.specs.List.{list_any};
@@ -9,25 +9,25 @@ use hub_document::RevId;
 use hub_model::Outcome;
 use hub_updates::NoteFault;
 
-/// What storing a batch did.
+/// The result of a batch that was written.
 #[derive(Debug, Drop)]
 pub struct Written {
-    /// What became of the documents.
+    /// The reply to each document, and whether the batch stopped.
     pub batch: Batch,
-    /// Why the log of updates has no note of it, though edits were stored. They stand.
+    /// The fault for which the log of updates has no note, though edits were stored. The edits stand.
     pub lapsed: Option<NoteFault>,
 }
 
-/// What an edit did that was stored.
+/// The result of one edit that was stored.
 #[derive(Debug, Drop)]
 pub struct Edited {
-    /// The revision that it gave the document.
+    /// The revision that the edit gave the document.
     pub rev: RevId,
-    /// Why the log of updates has no note of it. The edit stands.
+    /// The fault for which the log of updates has no note. The edit stands.
     pub lapsed: Option<NoteFault>,
 }
 
-/// Whether one of the documents was stored. A step for each reply.
+/// Whether at least one document was stored. The cost is a step for each reply.
 pub(crate) fn has_stored(replies: &[Outcome<RevId>]) -> bool
     ensures { result ≡ list_any is_stored replies.now }
 {

@@ -1,4 +1,4 @@
--- Of the current rows of a journal one at most is of a document: what is found of one document alone.
+-- A document has at most one current row, so the first row of one listed document is this row or none.
 use Rattle.std.proofs.Common.{◌≡◌, ℕ, ◌+◌, List, [], ◌∷◌, map, true, false, ◌&&◌, nat_eq, nat_lt, inl, inr}
 use Rattle.std.proofs.Common.{refl, sym, ◌∙◌, ap, subst, Option, Some, None, find, option_map, Contains}
 use Rattle.std.specs.Str.{bytes_eq}
@@ -27,7 +27,7 @@ row_edited n (edit ∷ later) row h =
       | inr q ↦ or_right (bytes_eq row.id edit.id) (is_edited row.id later) (row_edited (n + 1) later row q)
     ]
 
--- and the only one of it
+-- a document has at most one current row
 once : (n : ℕ) (journal : List Edit) (row other : Current) → Contains (current_from n journal) row
     → Contains (current_from n journal) other → row.id ≡ other.id → row.seq ≡ other.seq
 once n [] row other h i same = absurd (contains_none row h)
@@ -56,7 +56,7 @@ edit_of_row journal row h =
     let i = any_at (λ (edit : Edit). bytes_eq row.id edit.id) journal (row_edited 1 journal row h) in
     (i.0, i.1, sym ((bytes_eq-Decides row.id i.0.id).0 i.2))
 
--- what a map gives of an element is in what it gives of the list
+-- the image of an element is in the image of its list
 pub contains_map : {X Y : Type 0} (f : X → Y) (xs : List X) (x : X) → Contains xs x
     → Contains (map f xs) (f x)
 contains_map f [] x h = absurd (contains_none x h)
@@ -66,7 +66,7 @@ contains_map f (y ∷ xs) x h =
       | inr i ↦ contains_there (f y) (f x) (map f xs) (contains_map f xs x i)
     ]
 
--- the row of a number, among rows that are shown with their ids
+-- the row of the document with this number, among rows that are shown with their ids
 pub row_there : (show : ℕ × ℕ → Current) (index : List (ℕ × ℕ)) (rows : List Current)
     (k seq : ℕ) (id : List ℕ)
     → map show index ≡ rows
@@ -89,7 +89,7 @@ row_there show index rows k seq id all at shown =
         subst (λ (cs : List Current). Contains cs (record { seq = seq; id = id })) all
         (subst (λ (row : Current). Contains (map show index) row) is (contains_map show index other_row i.1))
 
--- what is found of one document, of which there is a current row
+-- the first row of one listed document that has a current row
 module _ (journal : List Edit) (id : List ℕ) (seq place : ℕ) (bound : Option ℕ)
     (here : Contains (current journal) (record { seq = seq; id = id })) where
   same_row : (row : Current) → Contains (current journal) row → row.id ≡ id → row.seq ≡ seq
@@ -104,13 +104,13 @@ module _ (journal : List Edit) (id : List ℕ) (seq place : ℕ) (bound : Option
       → None ≡ option_map (λ (row : Current). row.seq) (first_listed place bound (id ∷ []) (current journal))
   next_apart t = row_apart place bound id seq (current journal) same_row t
 
--- and of one that has none
+-- a listed document without a current row has no first row
 pub next_unknown : (journal : List Edit) (id : List ℕ) (place : ℕ) (bound : Option ℕ)
     → ((row : Current) → Contains (current journal) row → row.id ≡ id → ⊥)
     → None ≡ option_map (λ (row : Current). row.seq) (first_listed place bound (id ∷ []) (current journal))
 next_unknown journal id place bound none = no_row place bound id (current journal) none
 
--- as one that was never edited
+-- a listed document without an edit has no first row
 pub next_unedited : (journal : List Edit) (id : List ℕ) (place : ℕ) (bound : Option ℕ)
     → edits_of journal id ≡ []
     → None ≡ option_map (λ (row : Current). row.seq) (first_listed place bound (id ∷ []) (current journal))

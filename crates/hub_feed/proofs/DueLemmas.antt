@@ -1,4 +1,4 @@
--- What follows where a row or an end is due.
+-- Facts about a feed to which a row or an end is due.
 use Rattle.std.proofs.Common.{◌≡◌, ◌∙◌, ℕ, ◌<◌, ◌≤◌, List, true, ap, refl, subst, sym}
 use Rattle.std.proofs.Common.{IfSome, Contains}
 use Rattle.hub_model.specs.Current.{Current, pending}
@@ -12,7 +12,7 @@ use Rattle.hub_feed.specs.Next.{next_of_due}
 use Rattle.hub_feed.specs.declared.next.Next.TheVariants.{Give}
 use Rattle.hub_feed.specs.declared.feed.DueSequence.TheVariants.{Row, End}
 
--- where a row is due by its sequence
+-- a row is due where its sequence is due
 row_due : (due : Due) (seq : ℕ) → Row seq ≡ due_sequence due
     → (row : Current) × (due ≡ DueRow row) × (row.seq ≡ seq)
 row_due (DueRow row) seq e = (row, refl, cc)
@@ -20,7 +20,7 @@ row_due (DueEnd last_seq) seq e = absurd (cc)
 row_due DueNothing seq e = absurd (cc)
 row_due DueGone seq e = absurd (cc)
 
--- it is a current one in reach
+-- a row that is due is a current row in reach
 pub row_here : (rows : List Current) (feed : Feed) (seq : ℕ) → Row seq ≡ due_sequence (next_due rows feed)
     → (row : Current) × (next_due rows feed ≡ DueRow row) × Contains rows row × (row.seq ≡ seq)
     × (is_in_reach feed row ≡ true)
@@ -29,7 +29,7 @@ row_here rows feed seq e =
     let here = find_is (is_in_reach feed) rows row (due_row rows feed row is).1 in
     (row, is, here.1, same, here.0)
 
--- and it lies above the place, and not above the bound or the length
+-- a row that is due lies above the place, and not above the bound or the length
 pub row_lies : (rows : List Current) (len : ℕ) (feed : Feed) (seq : ℕ)
     → ((row : Current) → Contains rows row → row.seq ≤ len)
     → Row seq ≡ due_sequence (next_due rows feed)
@@ -40,14 +40,14 @@ row_lies rows len feed seq within e =
     subst (λ n. (feed.place < n) × (n ≤ len) × IfSome feed.bound (λ b. n ≤ b)) same
     (parts.0, within row here, within_bound feed.bound row.seq parts.1)
 
--- an end that is due by its sequence
+-- an end is due where its sequence is due
 pub end_due : (due : Due) (last_seq : ℕ) → End last_seq ≡ due_sequence due → due ≡ DueEnd last_seq
 end_due (DueRow row) last_seq e = absurd (cc)
 end_due (DueEnd n) last_seq e = cc
 end_due DueNothing last_seq e = absurd (cc)
 end_due DueGone last_seq e = absurd (cc)
 
--- what a feed gives to which a row is due by its sequence, of which this is made
+-- the answer of a feed to which the row of this sequence is due, where `made` is that row as it is shown
 pub row_given : {R : Type 0} (show : Current → R) (rows : List Current) (feed : Feed) (seq : ℕ) (made : R)
     → Row seq ≡ due_sequence (next_due rows feed)
     → ((row : Current) → Contains rows row → row.seq ≡ seq → made ≡ show row)
@@ -56,7 +56,7 @@ row_given show rows feed seq made e shows =
     let (row, is, here, same, reached) = row_here rows feed seq e in
     ap (next_of_due show rows) is ∙ ap (λ r. Give (item.Row r)) (sym (shows row here same))
 
--- and to which an end is due
+-- the answer of a feed to which an end is due
 pub end_given : {R : Type 0} (show : Current → R) (rows : List Current) (feed : Feed) (last_seq : ℕ)
     → End last_seq ≡ due_sequence (next_due rows feed)
     → next_of_due show rows (next_due rows feed) ≡ Give (item.End last_seq (pending rows last_seq))

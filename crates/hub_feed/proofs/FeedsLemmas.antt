@@ -1,4 +1,4 @@
--- The feeds that something keeps: how they change, and that they stay behind the last edit.
+-- The feeds of a host: how they change, and that they stay behind the last edit (`AreBehind`).
 use Rattle.std.proofs.Common.{◌≡◌, ◌∙◌, sym, inl, inr, All, ℕ, suc, ◌<◌, ◌≤◌, List, [], ◌∷◌, ◌++◌, Bool, true}
 use Rattle.std.proofs.Common.{false, not, refl, subst, arith, find, map, nat_eq, Contains, AllPairs, IfSome}
 use Rattle.std.specs.Prelude.{IfOk, OnErr, Result, Ok, Err, Option, Some, None}
@@ -23,7 +23,7 @@ use Rattle.hub_feed.specs.Host.{feeds_behind}
 use Rattle.hub_feed.specs.Next.{feed_after_next, next_of_due}
 use Rattle.hub_feed.specs.declared.next.Next.{Next}
 
--- one feed goes
+-- the feeds without one feed
 pub numbered_left : (next id : ℕ) (feeds : List (ℕ × Feed)) → AreNumbered next feeds
     → AreNumbered next (without id feeds)
 numbered_left next id feeds x =
@@ -34,7 +34,7 @@ pub behind_left : (len id : ℕ) (feeds : List (ℕ × Feed)) → AreBehind len 
 behind_left len id feeds behind =
     All-filter (λ (p : ℕ × Feed). not (nat_eq p.0 id)) (λ (p : ℕ × Feed). IsBehind len p.1) feeds behind
 
--- a feed that is there has a number that was given
+-- the number of a feed in the list was given
 pub entry_given : (next id : ℕ) (feeds : List (ℕ × Feed)) (feed : Feed)
     → All (λ (p : ℕ × Feed). p.0 < next) feeds → entry_in id feeds ≡ Some feed → id < next
 entry_given next id feeds feed given there =
@@ -45,7 +45,7 @@ entry_given next id feeds feed given there =
           (sym (none_above id feeds (λ k d l. let h = given k d l in omega (arith, h, above))) ∙ there))
     ]
 
--- one feed changes
+-- the feeds with one feed changed
 module _ (id : ℕ) (change : Feed → Feed) where
   abbrev changed_one : ℕ × Feed → ℕ × Feed
   changed_one p = if nat_eq p.0 id then (p.0, change p.1) else p
@@ -84,7 +84,7 @@ behind_opened len life number params feeds behind =
     All-push (λ (p : ℕ × Feed). IsBehind len p.1) feeds (number, new_feed params len life) behind
     (since_within params.since len life, bound_behind params.mode len)
 
--- a feed that looks, or goes on, stays behind it
+-- a feed that is asked for its item, or hands it, stays behind the last edit
 behind_bound : (len m : ℕ) → len ≤ m → (mode : Mode) (bound : Option ℕ) → IfSome bound (λ b. b ≤ m)
     → IfSome (bound_after mode bound len) (λ b. b ≤ m)
 behind_bound len m le Normal bound h = h
@@ -119,7 +119,7 @@ goes_behind rows len m le within feed h = from feed.status
     from Ended = h
     from Finished = h
 
--- and so does one whose time is over, or that ends
+-- a feed whose time is over, or that ends, stays behind the last edit
 pub expired_behind : (len : ℕ) (feed : Feed) → IsBehind len feed → IsBehind len (expired_feed feed)
 expired_behind len feed h = from (is_open feed.status && is_waiting_mode feed.params.mode)
   where
@@ -134,7 +134,7 @@ ended_behind len feed h = from (is_open feed.status)
     from true = h
     from false = h
 
--- what holds of each element and a later one, of what a map gives
+-- a relation between the images of each element and each later element holds of the mapped list
 pub pairs_map : {A B : Type 0} (R : B → B → Type 0) (f : A → B) (xs : List A)
     → AllPairs (λ a b. R (f a) (f b)) xs → AllPairs R (map f xs)
 pairs_map R f [] pairs = λ i j d a b. absurd (omega arith)
@@ -155,11 +155,11 @@ behind_ended len feeds behind =
     All-map (λ (p : ℕ × Feed). IsBehind len p.1) ended_entry feeds
     (λ k d l. ended_behind len (get_or feeds k d).1 (behind k d l))
 
--- the feed of this number stands here
+-- the feed of this number stands at this place
 module _ {R : Type 0} (id : ℕ) (feeds : List (ℕ × Feed))
     (at : ℕ) (placed : Some at ≡ position (λ (p : ℕ × Feed). nat_eq p.0 id) feeds) (p : ℕ × Feed)
     (is : p ≡ get_or feeds at p) where
-  -- the feeds behind what the feed there answers
+  -- the feeds after the answer of the feed at this place
   pub behind_here : (show : Current → R) (rows : List Current) (len : ℕ) (new : Feed) → AreRising feeds
       → (next_due : Due) (next : Next R)
       → next ≡ next_of_due show rows next_due → new ≡ feed_after_next p.1 next_due len
@@ -171,19 +171,19 @@ module _ {R : Type 0} (id : ℕ) (feeds : List (ℕ × Feed))
       rw e (changed_here id feeds at placed p is (λ f. after_nothing f len) new rising h)
   behind_here show rows len new rising DueGone next e h = rw e (stays_here id feeds at placed p is new h)
 
--- of a result, what two facts give
+-- two facts about a result give a third
 pub both_ok : {T E : Type 0} {P Q R : T → Type 0} (r : Result T E) → ((x : T) → P x → Q x → R x)
     → IfOk r P → IfOk r Q → IfOk r R
 both_ok (Ok x) f p q = f x p q
 both_ok (Err e) f p q = tt
 
--- what holds in either case
+-- a fact that holds for a value and for an error holds
 pub ok_or_err : {T E P W : Type 0} {Q : T → Type 0} (r : Result T E) → ((x : T) → Q x → P) → (W → P)
     → IfOk r Q → OnErr r W → P
 ok_or_err (Ok x) f g q w = f x q
 ok_or_err (Err e) f g q w = g w
 
--- and what a refusal gives
+-- a fact that follows from an error
 pub err_then : {T E P W : Type 0} (r : Result T E) → (W → P) → OnErr r W → OnErr r P
 err_then (Ok x) f w = tt
 err_then (Err e) f w = f w

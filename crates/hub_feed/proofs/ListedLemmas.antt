@@ -1,4 +1,4 @@
--- The first row of several listed documents is the first of the first rows of each.
+-- The first row of several listed documents is the first of the first rows of each document.
 use Rattle.std.proofs.Common.{◌≡◌, ℕ, ◌+◌, ◌<◌, List, [], ◌∷◌, ◌++◌, length, map, take}
 use Rattle.std.proofs.Common.{get_or, min, Bool, true, false, ◌&&◌, ◌||◌, nat_lt, inl, inr}
 use Rattle.std.proofs.Common.{refl, sym, ◌∙◌, ap, subst, Option, Some, None, find, option_map}
@@ -19,7 +19,7 @@ use Rattle.hub_feed.proofs.ReachLemmas.{find_same, find_nothing, above_first, re
 abbrev seq_in : (Current → Bool) → List Current → Option ℕ
 seq_in p rows = option_map (λ (row : Current). row.seq) (find p rows)
 
--- a first row is before what is found behind it
+-- the first of rows that rise is lower than a row that a search finds after it
 first_low : (p : Current → Bool) (row : Current) (rows : List Current)
     → AllPairs (λ (other b : Current). other.seq < b.seq) (row ∷ rows)
     → lesser (Some row.seq) (seq_in p rows) ≡ Some row.seq
@@ -40,7 +40,7 @@ second_low p row rows rise = from (find p rows) refl
     from None e = refl
     from (Some c) e = let above = above_first row rows rise c (find_is p rows c e).1 in ap Some (omega arith)
 
--- what passes one of two tests first is the first of what passes each
+-- the first row that passes one of two tests is the first of the rows that each test finds
 either_first : (p q : Current → Bool) (rows : List Current)
     → AllPairs (λ (other b : Current). other.seq < b.seq) rows
     → lesser (seq_in p rows) (seq_in q rows) ≡ seq_in (λ c. p c || q c) rows
@@ -62,7 +62,7 @@ shared true true x y = refl
 shared true false x y = refl
 shared false b x y = refl
 
--- a row of listed documents is of the first ones, or of the last
+-- a row of listed documents is of all but the last document, or of the last
 listed_more : (place : ℕ) (bound : Option ℕ) (ids : List (List ℕ)) (id : List ℕ) (row : Current)
     → is_listed_within place bound (ids ++ id ∷ []) row
     ≡ (is_listed_within place bound ids row || is_listed_within place bound (id ∷ []) row)
@@ -72,7 +72,7 @@ listed_more place bound ids id row =
     ∙ shared (nat_lt place row.seq) (is_within bound row.seq) (list_any (bytes_eq row.id) ids)
     (list_any (bytes_eq row.id) (id ∷ []))
 
--- one more listed document
+-- the first row with one more listed document
 pub listed_step : (place : ℕ) (bound : Option ℕ) (rows : List Current)
     → AllPairs (λ (row other : Current). row.seq < other.seq) rows
     → (texts : List (String Global)) (i : ℕ) (d : String Global) → i < length texts
@@ -97,7 +97,7 @@ listed_step place bound rows rise texts i d low first second before here =
     rw (before, here, more, same)
     (either_first (is_listed_within place bound ids) (is_listed_within place bound (id ∷ [])) rows rise)
 
--- of no documents there is none
+-- no listed documents have no first row
 pub listed_none : (place : ℕ) (bound : Option ℕ) (rows : List Current)
     → None ≡ option_map (λ (row : Current). row.seq) (first_listed place bound [] rows)
 listed_none place bound rows =
@@ -109,7 +109,7 @@ listed_none place bound rows =
     never true false t = absurd (cc)
     never false b t = absurd (cc)
 
--- a row of one listed document lies in reach, and has its id
+-- a row of one listed document lies above the place and not above the bound, and has the document's id
 pub one_parts : (place : ℕ) (bound : Option ℕ) (id : List ℕ) (row : Current)
     → is_listed_within place bound (id ∷ []) row ≡ true
     → ((nat_lt place row.seq && is_within bound row.seq) ≡ true) × (row.id ≡ id)
@@ -148,7 +148,7 @@ only_row place bound id seq rows here one ahead = from (first_listed place bound
         let i = find_is (is_listed_within place bound (id ∷ [])) rows row e in
         ap Some (sym (one row i.1 (one_parts place bound id row i.0).1))
 
--- .. and where it does not
+-- .. and where it does not: then there is no first row
 pub row_apart : (place : ℕ) (bound : Option ℕ) (id : List ℕ) (seq : ℕ) (rows : List Current)
     → ((row : Current) → Contains rows row → row.id ≡ id → row.seq ≡ seq)
     → (nat_lt place seq && is_within bound seq) ≡ false
@@ -159,7 +159,7 @@ row_apart place bound id seq rows one apart =
     both_ways _ apart (subst (λ (n : ℕ). (nat_lt place n && is_within bound n) ≡ true) (one row h p.1) p.0)))
     refl
 
--- and of a document that is not there
+-- a document that has no row has no first row
 pub no_row : (place : ℕ) (bound : Option ℕ) (id : List ℕ) (rows : List Current)
     → ((row : Current) → Contains rows row → row.id ≡ id → ⊥)
     → None ≡ option_map (λ (row : Current). row.seq) (first_listed place bound (id ∷ []) rows)

@@ -1,4 +1,4 @@
--- The first row in reach, looked for a row at a time.
+-- The first row in reach, searched row by row.
 use Rattle.std.proofs.Common.{◌≡◌, ℕ, suc, ◌<◌, ◌≤◌, List, [], ◌∷◌, Bool, true, false, ◌&&◌, nat_lt, inl}
 use Rattle.std.proofs.Common.{inr, refl, sym, ◌∙◌, ap, subst, Some, None, find, Contains, AllPairs, arith}
 use Rattle.std.proofs.lemmas.Bool.{cases_Bool, both_ways, and_parts, ltb-true, lt-ltb}
@@ -10,7 +10,7 @@ use Rattle.hub_model.proofs.Lists.{contains_here, contains_there}
 use Rattle.hub_model.proofs.Shown.{find_is, find_not}
 use Rattle.hub_feed.specs.Reach.{first_within}
 
--- two tests that agree on each row find the same
+-- two tests that agree on each row find the same row
 pub find_same : (p q : Current → Bool) (rows : List Current)
     → ((other : Current) → Contains rows other → p other ≡ q other) → find p rows ≡ find q rows
 find_same p q [] same = refl
@@ -19,7 +19,7 @@ find_same p q (row ∷ rows) same =
     let later = find_same p q rows (λ other h. same other (contains_there row other rows h)) in
     cc
 
--- where nothing passes nothing is found
+-- a test that no row passes finds no row
 pub find_nothing : (p : Current → Bool) (rows : List Current)
     → ((other : Current) → Contains rows other → p other ≡ true → ⊥) → find p rows ≡ None
 find_nothing p [] none = refl
@@ -29,7 +29,7 @@ find_nothing p (row ∷ rows) none =
       | inr t ↦ rw t (find_nothing p rows (λ other h. none other (contains_there row other rows h)))
     ]
 
--- where rows rise, those behind the first are above it, and rise
+-- where rows rise, the rows after the first are above it, and rise
 pub above_first : (row : Current) (rows : List Current)
     → AllPairs (λ (a b : Current). a.seq < b.seq) (row ∷ rows)
     → (other : Current) → Contains rows other → row.seq < other.seq
@@ -41,7 +41,7 @@ pub rest_rises : (row : Current) (rows : List Current)
     → AllPairs (λ (other b : Current). other.seq < b.seq) rows
 rest_rises row rows rise i j x lt inside = rise (suc i) (suc j) x (omega arith) (omega arith)
 
--- above the place and not above the bound
+-- a row is ahead: above the feed's place and not above its bound
 abbrev is_ahead : Feed → Current → Bool
 is_ahead feed row = nat_lt feed.place row.seq && is_within feed.bound row.seq
 
@@ -49,20 +49,20 @@ and_assoc : (x y z : Bool) → (x && (y && z)) ≡ ((x && y) && z)
 and_assoc true y z = refl
 and_assoc false y z = refl
 
--- in reach is ahead and passing
+-- a row is in reach where it is ahead and passes the filter
 reach_is : (feed : Feed) (row : Current)
     → is_in_reach feed row ≡ (is_ahead feed row && is_passing feed.params.filter row.id)
 reach_is feed row =
     and_assoc (nat_lt feed.place row.seq) (is_within feed.bound row.seq) (is_passing feed.params.filter row.id)
 
--- where no row is ahead none is in reach
+-- where no row is ahead, no row is in reach
 pub none_in_reach : (feed : Feed) (rows : List Current) → None ≡ first_within feed.place feed.bound rows
     → find (is_in_reach feed) rows ≡ None
 none_in_reach feed rows e =
     find_nothing (is_in_reach feed) rows (λ c h t. find_not (is_ahead feed) rows (sym e) c h
     (and_parts (is_ahead feed c) (is_passing feed.params.filter c.id) (sym (reach_is feed c) ∙ t)).0)
 
--- the first row ahead is the first in reach, if it passes
+-- the first row ahead is the first row in reach, if it passes the filter
 pub found_in_reach : (feed : Feed) (rows : List Current) (row : Current)
     → Some row ≡ first_within feed.place feed.bound rows → is_passing feed.params.filter row.id ≡ true
     → find (is_in_reach feed) rows ≡ Some row
@@ -84,7 +84,7 @@ below_place feed row h = elim (cases_Bool (nat_lt feed.place row.seq)) [
   | inr t ↦ rw t refl
 ]
 
--- a row above two places is in reach of both or of neither
+-- a row above two places is in reach of both places, or of neither
 same_above : (feed : Feed) (seq : ℕ) (row : Current) → feed.place < row.seq → seq < row.seq
     → is_in_reach feed row ≡ is_in_reach (record feed { place = seq }) row
 same_above feed seq row low high =
@@ -92,7 +92,7 @@ same_above feed seq row low high =
     let b : nat_lt seq row.seq ≡ true = lt-ltb seq row.seq high in
     cc
 
--- going on behind a first row that does not pass finds the same
+-- a feed at a first row that does not pass has the same first row in reach
 behind_first : (feed : Feed) (row : Current) (rows : List Current)
     → AllPairs (λ (other b : Current). other.seq < b.seq) (row ∷ rows)
     → is_ahead feed row ≡ true → is_passing feed.params.filter row.id ≡ false
@@ -108,7 +108,7 @@ behind_first feed row rows rise y stays =
     (λ c h. let above = above_first row rows rise c h in same_above feed row.seq c (omega arith) above) in
     rw before (rw after later)
 
--- going on behind the first row ahead finds the same, if that row does not pass
+-- a feed at the first row ahead has the same first row in reach, if that row does not pass
 pub reach_behind : (feed : Feed) (rows : List Current) (row : Current)
     → AllPairs (λ (a b : Current). a.seq < b.seq) rows
     → Some row ≡ first_within feed.place feed.bound rows → is_passing feed.params.filter row.id ≡ false
@@ -140,7 +140,7 @@ ahead_above feed rows row e =
     (and_parts (nat_lt feed.place row.seq) (is_within feed.bound row.seq)
     (find_is (is_ahead feed) rows row (sym e)).0).0
 
--- nothing is in reach of a place that no row is above
+-- no row is in reach of a place that is at the length or above it
 pub none_above : (feed : Feed) (rows : List Current) (len : ℕ)
     → ((row : Current) → Contains rows row → row.seq ≤ len)
     → len ≤ feed.place → find (is_in_reach feed) rows ≡ None

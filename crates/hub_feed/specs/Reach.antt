@@ -7,8 +7,8 @@ use Rattle.hub_model.specs.Current.{Current}
 use Rattle.hub_model.specs.Feed.{Feed, Open, is_in_reach, is_within}
 use Rattle.hub_model.specs.Filter.{Filter, Everything, DocIds, Design}
 
--- the first row above a place and not above the bound, if there is one. Of rows at 2, 6 and 9, place 3 and
--- bound 8 it is that at 6; with bound 5 there is none, and above place 6 without a bound it is that at 9.
+-- The first row above a place and not above the bound, if there is one. Of rows at 2, 6 and 9, with place 3
+-- and bound 8, it is the row at 6. With bound 5 there is none. With place 6 and no bound it is the row at 9.
 abbrev pub first_within : ℕ → Option ℕ → List Current → Option Current
 first_within place bound rows = find (λ (row : Current). nat_lt place row.seq && is_within bound row.seq) rows
 
@@ -22,7 +22,7 @@ is_listed_within place bound ids row =
 abbrev pub first_listed : ℕ → Option ℕ → List (List ℕ) → List Current → Option Current
 first_listed place bound ids rows = find (is_listed_within place bound ids) rows
 
--- the lesser of two numbers, where there are two
+-- the lesser of two numbers; where there is one alone, that number
 abbrev pub lesser : Option ℕ → Option ℕ → Option ℕ
 lesser None other = other
 lesser (Some n) None = Some n
@@ -34,17 +34,17 @@ listed_in Everything = None
 listed_in (DocIds ids) = Some ids
 listed_in Design = None
 
--- `first` is the sequence of the first of these rows that is in reach of the feed, or None where no row is;
--- this counts only where the feed is there and open. Of rows at 2, 6 and 9 and an open feed at place 3
+-- `first` is the sequence of the first of these rows that is in reach of the feed, or None where no row is.
+-- This is asked only where there is a feed and it is open. Of rows at 2, 6 and 9 and an open feed at place 3
 -- without a bound or a filter it is 6.
 abbrev pub IsFirst : Option ℕ → List Current → Option Feed → Type 0
 IsFirst first rows feed =
     IfSome feed (λ f. f.status ≡ Open → first ≡ option_map (λ c. c.seq) (find (is_in_reach f) rows))
 
--- A feed is ready for a step while there are so many edits with these current rows: it has come no further
--- than the last edit, and where it is open the first row in reach has this sequence, or there is none. Of 9
--- edits with rows at 2, 6 and 9 an open feed at place 3 without a bound or a filter is so with 6; at place 12
--- no feed is.
+-- A feed is ready for a step while there are so many edits with these current rows. Its place is at most the
+-- number of edits. If the feed is open, `seq` is the sequence of its first row in reach, or None where no row
+-- is in reach. Take 9 edits with rows at 2, 6 and 9. An open feed at place 3 without a bound or a filter is
+-- ready with 6. At place 12 no feed is ready.
 pub record IsReady (length : ℕ) (rows : List Current) (feed : Feed) (seq : Option ℕ) : Type 0 where
   pub reached : feed.place ≤ length
   pub first : feed.status ≡ Open → seq ≡ option_map (λ c. c.seq) (find (is_in_reach feed) rows)

@@ -1,4 +1,4 @@
-//! A feed's state.
+//! The state of a feed.
 
 ghost use Rattle.std.specs.Prelude.{◌≡◌, ◌<◌, ◌≤◌, map, option_map, find};
 ghost use Rattle.std.specs.Prelude.{List, Some, string_bytes, IfSome, IfOk, OnErr};
@@ -26,18 +26,18 @@ use hub_params::FeedParams;
 use std::alloc::AllocError;
 use std::marker::Model;
 
-/// How far a feed is in its life. A finished feed has no state.
+/// The status of a feed. A finished feed has no state.
 #[derive(Clone, Copy, Debug, PartialEq, Eq)]
 pub(crate) enum Status {
-    /// It may hand rows.
+    /// The feed may hand rows.
     Open,
-    /// Its end is all that is left to hand.
+    /// The feed has only its end left to hand.
     Ending,
-    /// Its end was handed.
+    /// The feed has handed its end.
     Ended,
 }
 
-/// What is due to a feed, by its sequence: what a feed needs to know of an item to go on behind it.
+/// The step that is due to a feed, with the sequence of its item. A feed needs no more of an item to move.
 #[derive(Clone, Copy)]
 pub(crate) enum DueSequence {
     /// The row of this sequence.
@@ -50,17 +50,17 @@ pub(crate) enum DueSequence {
     Gone,
 }
 
-/// A feed that was opened, over whatever it follows (CouchDB API reference, `_changes`).
+/// A feed that was opened, over any source (CouchDB API reference, `_changes`).
 #[derive(Debug)]
 pub struct FeedState {
     params: FeedParams,
-    /// It shows what lies above this sequence.
+    /// The feed shows rows above this sequence.
     since: u64,
-    /// And, where there is one, not above this.
+    /// The feed shows no row above this sequence, if there is one.
     bound: Option<u64>,
-    /// It has shown what passes, up to this sequence.
+    /// The feed has shown the rows that pass, up to this sequence.
     place: u64,
-    /// How many rows it has handed.
+    /// The number of rows that the feed has handed.
     rows: u64,
     status: Status,
 }
@@ -99,7 +99,7 @@ impl Model for FeedState {
     ghost invariant = { λ f. (f.since + f.rows ≤ f.place) × IfSome f.bound (λ bound. f.place ≤ bound) };
 }
 
-// Where a feed stops, while there are `length` edits.
+// The bound of a feed that is opened while there are `length` edits.
 fn bound_of(mode: Mode, length: u64) -> Option<u64>
     ensures { result ≡ bound_of mode length }
 {
@@ -123,7 +123,7 @@ fn bound_after(mode: Mode, bound: Option<u64>, length: u64) -> Option<u64>
     )
 }
 
-// Whether a feed that has handed so many rows may hand more.
+// The status of an open feed that has handed so many rows: it is ending once they reach its limit.
 fn status_after(limit: Option<u64>, rows: u64) -> Status
     ensures { status_of result ≡ status_after limit rows }
 {
@@ -133,7 +133,7 @@ fn status_after(limit: Option<u64>, rows: u64) -> Status
     }
 }
 
-// The end of a feed at a place.
+// The end of a feed at a place. The cost is that of `Source::count_after`.
 fn end_at<S: Source>(source: &S, place: u64) -> Item<S::Row>
     ensures { result ≡ End place (pending (S.current source.now) place) }
 {
@@ -143,7 +143,7 @@ fn end_at<S: Source>(source: &S, place: u64) -> Item<S::Row>
     }
 }
 
-// The lesser of two sequences, where there are two.
+// The lesser of two sequences; where there is one alone, that sequence.
 fn lesser(first: Option<u64>, second: Option<u64>) -> Option<u64>
     ensures { result ≡ lesser first second }
 {
@@ -154,8 +154,8 @@ fn lesser(first: Option<u64>, second: Option<u64>) -> Option<u64>
     }
 }
 
-// The sequence of the first row above a place and not above the bound of the documents with these
-// ids. It costs what `Source::next_of` does for each.
+// The sequence of the first row above a place and not above the bound, among rows of the documents with these
+// ids. It costs a `Source::next_of` for each id.
 fn first_of<S: Source>(source: &S, ids: &[String], place: u64, bound: Option<u64>) -> Option<u64>
     ensures { result ≡ option_map (λ c. c.seq)
         (first_listed place bound (map string_bytes ids.now) (S.current source.now)) }
@@ -168,8 +168,8 @@ fn first_of<S: Source>(source: &S, ids: &[String], place: u64, bound: Option<u64
 }
 
 impl FeedState {
-    /// A feed that is opened while there are `length` edits of the life of this number. Where it is
-    /// asked to begin at a sequence of another life it begins at the first edit. Constant time.
+    /// A feed that is opened while there are `length` edits of the life of this number. If its parameters ask
+    /// for a sequence of another life, it begins at the first edit. Constant time.
     pub fn begin(params: FeedParams, length: u64, life: u64) -> FeedState
         ensures { result ≡ new_feed (params_of params) length life }
     {
@@ -185,8 +185,8 @@ impl FeedState {
         }
     }
 
-    // The sequence of the first row in reach, if it is found before a place of which no row is looked
-    // at behind. One step of the source for each row that does not pass, and one more.
+    // The sequence of the first row in reach, if it is among the first `until - place` rows ahead of the
+    // feed. It costs one step of the source for each row that does not pass, and one more.
     fn first_until<S: Source>(&self, source: &S, until: u64) -> Option<u64>
         ensures found { IfSome result
             (λ seq. Some seq ≡ option_map (λ c. c.seq) (find (is_in_reach self.now) (S.current source.now))) }
@@ -204,9 +204,9 @@ impl FeedState {
         None
     }
 
-    /// The sequence of the first row in reach of a feed that is open. It costs a step of the source for
-    /// each row that does not pass, and one more. With listed ids there are so many steps at most as
-    /// ids, and then a `Source::next_of` for each.
+    /// The sequence of the first row in reach of an open feed. It costs a step of the source for each row
+    /// that does not pass, and one more. With listed ids there are at most as many steps as ids, and then a
+    /// `Source::next_of` for each id.
     pub fn first_of_open<S: Source>(&self, source: &S) -> Option<u64>
         ensures { self.now.status ≡ Open
             → result ≡ option_map (λ c. c.seq) (find (is_in_reach self.now) (S.current source.now)) }
@@ -229,8 +229,8 @@ impl FeedState {
         }
     }
 
-    // What is due by its sequence, of rows of which the first in reach of an open feed has this one,
-    // if there is such a row. Constant time.
+    // The step that is due, where `first` is the sequence of the first row in reach, if there is one. A feed
+    // that is not open needs no `first`. Constant time.
     fn due(&self, first: Option<u64>) -> DueSequence
         ensures { (rows : List Current)
             → (self.now.status ≡ Open → first ≡ option_map (λ c. c.seq) (find (is_in_reach self.now) rows))
@@ -247,10 +247,10 @@ impl FeedState {
         }
     }
 
-    /// What the feed has to hand now, of the source that it was opened on. An item is made and
-    /// nothing changes: `accept_item` goes on. A feed that has nothing to hand goes to the source's
-    /// length. Only a row takes memory. It costs what `first_of_open` does, and what the row costs; an end
-    /// costs the count of the rows above it.
+    /// The item that the feed has to hand now, over the source that it was opened on. The item is made, and
+    /// the feed stays: `accept_item` moves it. A feed with nothing to hand moves its place to the source's
+    /// length. Only a row takes memory. The cost is that of `first_of_open` and of the row; an end costs the
+    /// count of the rows above it.
     pub fn next_item<S: Source>(&mut self, source: &S) -> Result<Next<S::Row>, AllocError>
         requires reached { self.old.place ≤ S.length source.now }
         ensures ok { IfOk result (λ next.
@@ -275,7 +275,7 @@ impl FeedState {
         }
     }
 
-    // The feed goes on behind a row.
+    // The feed moves to the row at `seq`, which was handed.
     fn accept_row(&mut self, seq: u64, length: u64)
         requires above { self.old.place < seq }
         requires within { seq ≤ length }
@@ -288,8 +288,8 @@ impl FeedState {
         self.status = status_after(self.params.limit, self.rows);
     }
 
-    // The feed goes on behind the item of which this is the sequence: a row's, or an end's. It takes no
-    // memory, and constant time.
+    // The feed moves to the row or the end of this sequence, which was handed. It takes no memory, and
+    // constant time.
     fn accept_due<S: Source>(&mut self, source: &S, sequence: DueSequence)
         requires due { sequence ≡ due_sequence (next_due (S.current source.now) self.old) }
         ensures { self.new ≡ after_sequence self.old sequence (S.length source.now) }
@@ -304,7 +304,7 @@ impl FeedState {
         }
     }
 
-    /// Goes on behind the item that `next_item` gives now. It takes no memory, and constant time.
+    /// The feed moves as if it handed the item of `next_item`. It takes no memory, and constant time.
     pub fn accept_item<S: Source>(&mut self, source: &S, item: &Item<S::Row>)
         requires due { item_of_due (S.shown source.now self.old.params.style self.old.params.include_docs)
             (S.current source.now) (next_due (S.current source.now) self.old)
@@ -319,8 +319,8 @@ impl FeedState {
         self.accept_due(source, sequence);
     }
 
-    // Gives the sink the item that is due, and goes on behind it. Where the sink gives it back nothing
-    // changes. It costs a push.
+    // Gives the sink the item that is due, and then the feed moves. Where the sink gives the item back
+    // nothing changes. It costs a push.
     #[inline(always)]
     fn give<S: Source, K: Sink<Item<S::Row>>, H: Pushes<K, Item<S::Row>>>(
         &mut self,
@@ -346,11 +346,11 @@ impl FeedState {
         handed
     }
 
-    /// Hands what is due, where the first row in reach of an open feed is known: it has this sequence,
-    /// if there is one. The item is made, then `sink` takes it, and only then the feed goes on. Where
-    /// `sink` gives it back nothing changes, and the next hand makes it again. A feed that has nothing
-    /// to hand goes to the source's length. Only a row takes memory, and without it nothing changes. It
-    /// costs the row, a look for the next one in reach, and a push.
+    /// Hands the item that is due. `first` is the sequence of the first row in reach of an open feed, if
+    /// there is one. The item is made, then `sink` takes it, and only then the feed moves. Where `sink` gives
+    /// it back nothing changes, and the next hand makes it again. A feed with nothing to hand moves its place
+    /// to the source's length. Only a row takes memory. Out of memory, nothing changes. It costs the row, or
+    /// the count of the rows above an end, and a push.
     pub fn hand<S: Source, K: Sink<Item<S::Row>>, H: Pushes<K, Item<S::Row>>>(
         &mut self,
         source: &S,
@@ -389,29 +389,29 @@ impl FeedState {
         }
     }
 
-    /// Whether it may hand rows. Constant time.
+    /// Whether the feed may hand rows. Constant time.
     pub fn is_open(&self) -> bool
         ensures { result ≡ is_open self.now.status }
     {
         self.status == Status::Open
     }
 
-    /// The sequence up to which it has shown what passes. Constant time.
+    /// The sequence up to which the feed has shown the rows that pass. Constant time.
     pub fn place(&self) -> u64
         ensures { result ≡ self.now.place }
     {
         self.place
     }
 
-    /// The sequence that it shows nothing above, if there is one. Constant time.
+    /// The sequence above which the feed shows no row, if there is one. Constant time.
     pub fn bound(&self) -> Option<u64>
         ensures { result ≡ self.now.bound }
     {
         self.bound
     }
 
-    /// The ids that it lists, in byte order, where it shows listed documents alone. One may stand
-    /// twice. Constant time.
+    /// The ids that the filter lists, in byte order, if the feed shows listed documents alone. An id may
+    /// stand twice. Constant time.
     pub fn listed(&self) -> Option<&[String]>
         ensures { option_map (λ ids. map string_bytes ids.now) result ≡ listed_in self.now.params.filter }
     {
@@ -421,14 +421,14 @@ impl FeedState {
         }
     }
 
-    /// Whether a heartbeat may be handed: one was asked for, and the feed is open and waits.
+    /// Whether the feed may hand a heartbeat: it asked for heartbeats, is open, and waits.
     pub fn beat_due(&self) -> bool
         ensures { result ≡ is_beat_allowed self.now }
     {
         self.status == Status::Open && self.params.mode.waits() && self.params.heartbeat.is_some()
     }
 
-    /// Its time without an item is over: an open feed that waits is ending.
+    /// The feed's time without an item is over: an open feed that waits is ending.
     pub fn expire(&mut self)
         ensures { self.new ≡ expired_feed self.old }
     {
@@ -437,7 +437,7 @@ impl FeedState {
         }
     }
 
-    /// What it follows is deleted: an open feed is ending.
+    /// The feed's source is deleted: an open feed is ending.
     pub fn end(&mut self)
         ensures { self.new ≡ end self.old }
     {

@@ -1,4 +1,4 @@
-//! The feeds that something keeps, by their numbers.
+//! The feeds of a host, by their numbers.
 
 ghost use Rattle.std.specs.Prelude.{◌≡◌, ◌<◌, ◌^◌, ◌+◌, ◌-◌, ◌||◌, ◌++◌, ◌∷◌, [], ℕ, length, map};
 ghost use Rattle.std.specs.Prelude.{nat_le, option_map, position, Some, None, IfSome, IfOk, OnOk, OnErr};
@@ -22,14 +22,14 @@ use hub_params::FeedParams;
 use std::alloc::{AllocError, Global};
 use std::marker::Model;
 
-/// The feeds of what keeps them that are not finished. A feed is found by its number, by binary search.
+/// The feeds of a host that are not finished. A feed is found by its number, by binary search.
 #[derive(Debug)]
 pub struct Feeds {
-    /// By their numbers, which rise.
+    /// The feeds by their numbers, which rise.
     list: Vec<(u64, FeedState)>,
-    /// The number of the next feed: only lower ones were given.
+    /// The number of the next feed: only lower numbers were given.
     next: u64,
-    /// Where the feed stood that was looked for last. A feed is looked for there first.
+    /// The place of the feed that was found last. The next search looks there first.
     near: usize,
 }
 
@@ -49,7 +49,7 @@ impl Model for Feeds {
     ghost invariant = { λ a. AreNumbered a.next a.list.items };
 }
 
-// Ends each feed that is open.
+// Ends each open feed.
 fn end_each(feeds: &mut Vec<(u64, FeedState)>)
     ensures { feeds.new.items ≡ map ended_entry feeds.old.items }
 {
@@ -59,7 +59,7 @@ fn end_each(feeds: &mut Vec<(u64, FeedState)>)
 }
 
 impl Feeds {
-    /// No feed. It takes no memory yet; `open` takes it from this allocator.
+    /// A list of no feeds. It takes no memory yet; `open` takes it from this allocator.
     pub fn new(alloc: Global) -> Feeds
         ensures { result ≡ record { feeds = []; next = 0 } }
     {
@@ -70,16 +70,15 @@ impl Feeds {
         }
     }
 
-    /// Whether there are as many feeds as there may be, or no number is left for one more. Constant
-    /// time.
+    /// Whether there are `limit` feeds or more, or no number is left for one more feed. Constant time.
     pub fn is_full(&self, limit: u64) -> bool
         ensures { result ≡ (nat_le limit (length self.now.feeds) || nat_le (2 ^ 64 - 1) self.now.next) }
     {
         self.list.len() as u64 >= limit || self.next == u64::MAX
     }
 
-    /// Opens a feed while there are `length` edits of the life of this number, under a number that no
-    /// feed had before. It costs what a list does that grows by one.
+    /// Opens a feed while there are `length` edits of the life of this number. The feed gets a number that no
+    /// feed had before. The cost is that of a list that grows by one.
     pub fn open(&mut self, params: FeedParams, length: u64, life: u64) -> Result<FeedId, AllocError>
         requires left { self.old.next < 2 ^ 64 - 1 }
         ensures number { IfOk result (λ id. id.number ≡ self.old.next) }
@@ -99,8 +98,8 @@ impl Feeds {
         Ok(FeedId { number })
     }
 
-    /// Where a feed stands, if there is one of this number. A binary search, unless the last call was
-    /// for the same feed. The next call for it finds it in constant time.
+    /// The place of the feed with this number, if there is one. Constant time if the last call found this
+    /// feed and none was finished since; else a binary search.
     pub fn place(&mut self, feed: FeedId) -> Option<usize>
         ensures { (self.new ≡ self.old) × (result ≡ position (is_of feed.number) self.old.feeds) }
     {
@@ -109,7 +108,7 @@ impl Feeds {
         Some(at)
     }
 
-    /// The feed that stands here. Constant time.
+    /// The feed at this place. Constant time.
     pub fn state_at(&self, feed: FeedId, at: usize) -> &FeedState
         requires placed { Some at ≡ position (is_of feed.number) self.now.feeds }
         ensures found { entry_in feed.number self.now.feeds ≡ Some result.now }
@@ -119,9 +118,9 @@ impl Feeds {
         &state.1
     }
 
-    /// What the feed that stands here has to hand now, of the source that they all follow. An item is
-    /// made and nothing changes: `accept_at` goes on. A feed that has nothing to hand goes to the
-    /// source's length. Only a row takes memory. It costs what `FeedState::next_item` does.
+    /// The item that the feed at this place has to hand now, over the source of all the feeds. The item is
+    /// made, and the feed stays: `accept_at` moves it. A feed with nothing to hand moves its place to the
+    /// source's length. Only a row takes memory. The cost is that of `FeedState::next_item`.
     pub fn next_at<S: Source>(
         &mut self,
         source: &S,
@@ -142,11 +141,11 @@ impl Feeds {
         state.1.next_item(source)
     }
 
-    /// Hands what is due to the feed that stands here, whose first row in reach, if it is open, has
-    /// this sequence: the item is made, then `sink` takes it, and only then the feed goes on. Where
-    /// `sink` gives it back nothing changes. A feed that has nothing to hand goes to the source's
-    /// length. Only a row takes memory, and without it nothing changes. It costs what
-    /// `FeedState::hand` does: no feed is looked for.
+    /// Hands the item that is due to the feed at `at`. `first` is the sequence of the feed's first row in
+    /// reach, if it is open and there is one. The item is made, then `sink` takes it, and only then the feed
+    /// moves. Where `sink` gives it back nothing changes. A feed with nothing to hand moves its place to the
+    /// source's length. Only a row takes memory. Out of memory, nothing changes. The cost is that of
+    /// `FeedState::hand`: no feed is searched for.
     pub fn hand_at<S: Source, K: Sink<Item<S::Row>>, H: Pushes<K, Item<S::Row>>>(
         &mut self,
         source: &S,
@@ -177,8 +176,7 @@ impl Feeds {
         state.1.hand(source, first, handle, sink)
     }
 
-    /// Goes on behind the item that `next_at` gives now to the feed that stands here. It takes no memory, and
-    /// constant time.
+    /// The feed at `at` moves as if it handed the item of `next_at`. It takes no memory, and constant time.
     pub fn accept_at<S: Source>(&mut self, source: &S, feed: FeedId, at: usize, item: &Item<S::Row>)
         requires placed { Some at ≡ position (is_of feed.number) self.old.feeds }
         requires due { item_of_number
@@ -191,7 +189,7 @@ impl Feeds {
         state.1.accept_item(source, item);
     }
 
-    /// The feed of this number, if there is one. It takes no memory, and costs a binary search.
+    /// The feed with this number, if there is one. It takes no memory, and costs a binary search.
     pub fn find(&self, feed: FeedId) -> Option<&FeedState>
         ensures { option_map (λ state. state.now) result ≡ entry_in feed.number self.now.feeds }
     {
@@ -223,8 +221,8 @@ impl Feeds {
         self.list.retain(|kept| kept.0 != number);
     }
 
-    /// What they follow is deleted: each feed that is open is ending. It takes no memory, and costs a
-    /// step for each feed.
+    /// The source of the feeds is deleted: each open feed is ending. It takes no memory, and costs a step for
+    /// each feed.
     pub fn end_all(&mut self)
         ensures { IsChangedTo (map ended_entry self.old.feeds) 0 self.old self.new }
     {

@@ -1,4 +1,4 @@
-//! What keeps feeds.
+//! Hosts of feeds.
 
 ghost use Rattle.std.specs.Prelude.{◌≡◌, ◌<◌, ◌≤◌, ◌++◌, ◌∷◌, [], ℕ, List, Bool, true, Some};
 ghost use Rattle.std.specs.Prelude.{None, Contains, IfOk, IfErr, IfSome, OnOk, OnErr};
@@ -23,8 +23,8 @@ use hub_model::Item;
 use hub_params::FeedParams;
 use std::alloc::AllocError;
 
-/// The number of a feed of what keeps it, from 0 on. None is given twice, and a number that no feed
-/// has is that of a finished feed.
+/// A feed's number in its host, from 0 on. No number is given twice. A number that was given and that no feed
+/// has is the number of a finished feed.
 #[derive(Clone, Copy, Debug, PartialEq, Eq)]
 pub struct FeedId {
     pub number: u64,
@@ -33,58 +33,57 @@ pub struct FeedId {
 /// Why no feed is opened.
 #[derive(Clone, Copy, Debug, PartialEq, Eq)]
 pub enum OpenFault {
-    /// A growth was refused.
+    /// Out of memory.
     NoMemory,
-    /// What the feed was to follow is deleted.
+    /// The source of the feed is deleted.
     Deleted,
-    /// There are as many feeds as there may be, or no number is left for one more.
+    /// There are as many feeds as the limit, or no number is left for one more feed.
     TooManyFeeds,
 }
 
-/// How a host of feeds is seen. Types that have to do with a host ask no more of it: each function that
-/// names such a type is proved with all that the type asks for.
+/// The view of a host of feeds. Types over hosts ask for this trait alone: each function that names such a
+/// type is proved with all that the type asks for.
 pub trait HostView {
     /// A row as it is handed.
     type Row: Drop;
 
-    /// What the feeds follow, and the feeds.
+    /// The source of the feeds, and the feeds.
     ghost hosted: { Self → Hosted Self.Row };
 
-    /// The lists of items that fit a feed while the host is so: what the feed has handed is one.
+    /// The lists of items that fit a feed in this state of the host. The items that the feed has handed fit.
     ghost fits: { Self → Feed → List (HandedItem Self.Row) → Type 0 };
 
-    /// The lists of items that a feed of these parameters, which shows what lies above this sequence,
-    /// may have handed by some time.
+    /// The lists of items that a feed with these parameters, which shows rows above this sequence, may have
+    /// handed by some time.
     ghost right: { Params → ℕ → List (HandedItem Self.Row) → Type 0 };
 }
 
-/// What keeps feeds that follow it, each from its opening until it is finished. Each step of a feed
-/// changes only the feeds and the number of the next one (`with_hosted`).
+/// A host of feeds. The feeds follow the host, and the host keeps each feed from its opening until it is
+/// finished. A step of a feed changes only the feeds and the number of the next feed (`with_hosted`).
 pub trait FeedHost: HostView {
-    /// The same with the feeds, and the number of the next one, of this picture.
+    /// The host with the feeds, and the number of the next feed, of this view.
     ghost with_hosted: { Self → Hosted Self.Row → Self };
 
     /// The sequence of a row that is handed.
     ghost seq_of: { Self.Row → ℕ };
 
-    /// How many edits there are. A feed that begins behind them has handed nothing, which fits it. It
-    /// takes no memory.
+    /// The number of edits. The empty list fits a feed that is opened now. It takes no memory.
     fn length(&self) -> u64
         ensures length { result ≡ (Self.hosted self.now).length }
         ensures begins { (params : Params)
             → Self.fits self.now
             (new_feed params (Self.hosted self.now).length (Self.hosted self.now).life) [] };
 
-    /// The number of the life that they are of. It takes no memory.
+    /// The number of the life of the edits. It takes no memory.
     fn life(&self) -> u64
         ensures { result ≡ (Self.hosted self.now).life };
 
-    /// Why no feed is opened now, where memory is not what is missing. It takes no memory.
+    /// The fault of an opening now, if it would fail even with memory. It takes no memory.
     fn refusal(&self) -> Option<OpenFault>
         ensures { result ≡ opening_refusal (Self.hosted self.now) };
 
-    /// Opens a feed, which stays until it is finished, under a number that no feed had before.
-    /// `descending` is not looked at. A refusal takes no memory.
+    /// Opens a feed, which stays until it is finished, with a number that no feed had before. `descending` is
+    /// not looked at. A refusal takes no memory.
     fn open_feed(&mut self, params: FeedParams) -> Result<FeedId, OpenFault>
         ensures free { OnOk result (opening_refusal (Self.hosted self.old) ≡ None) }
         ensures new { IfOk result (λ id. entry_in id.number (Self.hosted self.old).feeds ≡ None) }
@@ -94,9 +93,9 @@ pub trait FeedHost: HostView {
         ensures err { IfErr result (λ e. (self.new ≡ self.old)
             × (e ≡ opening_fault (Self.hosted self.old))) };
 
-    /// Hands what is due to a feed: the item is made, then `sink` takes it, and only then the feed goes
-    /// on. Where `sink` gives it back nothing changes, and the next hand makes it again. A feed that has
-    /// nothing to hand goes to the length of what it follows. Only a row takes memory, and without it
+    /// Hands the item that is due to a feed. The item is made, then `sink` takes it, and only then the feed
+    /// moves. Where `sink` gives it back nothing changes, and the next hand makes it again. A feed with
+    /// nothing to hand moves its place to the number of edits. Only a row takes memory. Out of memory,
     /// nothing changes.
     fn hand<K: Sink<Item<Self::Row>>, H: Pushes<K, Item<Self::Row>>>(
         &mut self,
@@ -113,8 +112,8 @@ pub trait FeedHost: HostView {
         ensures err { OnErr result ((self.new ≡ self.old) × (sink.new ≡ sink.old)
             × IsRowDue (due_of_number (Self.hosted self.old) feed.number)) };
 
-    /// Whether a heartbeat may be handed to a feed now: one was asked for, and the feed is open and
-    /// waits. It takes no memory.
+    /// Whether a feed may hand a heartbeat now: it asked for heartbeats, is open, and waits. It takes no
+    /// memory.
     fn beat_due(&self, feed: FeedId) -> bool
         ensures { result ≡ is_beat_allowed_if_any (entry_in feed.number (Self.hosted self.now).feeds) };
 
@@ -122,25 +121,25 @@ pub trait FeedHost: HostView {
     fn expire(&mut self, feed: FeedId)
         ensures { self.new ≡ with_hosted self.old (hosted_after_expiry (Self.hosted self.old) feed.number) };
 
-    /// Forgets a feed, if there is one of this number. It takes no memory.
+    /// Forgets the feed with this number, if there is one. It takes no memory.
     fn finish(&mut self, feed: FeedId)
         ensures { self.new ≡ with_hosted self.old (hosted_after_finish (Self.hosted self.old) feed.number) };
 
-    /// The current rows rise.
+    /// The sequences of the current rows rise.
     ghost rise: { (s : Self) → AllPairs (λ (c d : Current). c.seq < d.seq) (Self.hosted s).current };
 
-    /// Each is one of the edits.
+    /// The sequence of a current row is at most the number of edits.
     ghost within: { (s : Self) (c : Current) → Contains (Self.hosted s).current c
         → c.seq ≤ (Self.hosted s).length };
 
-    /// A row that is handed has the sequence of its own.
+    /// A row that is handed has the sequence of its current row.
     ghost keeps: { (s : Self) (style : Listing) (include_docs : Bool) (c : Current)
         → seq_of ((Self.hosted s).shown style include_docs c) ≡ c.seq };
 
-    /// With its own feeds it is the same.
+    /// A host with its own feeds is the same host.
     ghost same: { (s : Self) → with_hosted s (Self.hosted s) ≡ s };
 
-    /// With other feeds it is seen with just those.
+    /// A host with other feeds has the same view, but for these feeds.
     ghost hosts: { (s : Self) (feeds : List (ℕ × Feed)) (next : ℕ)
         → Self.hosted (with_hosted s (with_feeds (Self.hosted s) feeds next))
         ≡ with_feeds (Self.hosted s) feeds next };
@@ -149,25 +148,25 @@ pub trait FeedHost: HostView {
     ghost rightly: { (s : Self) (f : Feed) (items : List (HandedItem Self.Row)) → Self.fits s f items
         → Self.right f.params f.since items };
 
-    /// It fits whatever other feeds there are.
+    /// A list that fits a feed still fits with other feeds in the host.
     ghost stays: { (s : Self) (h : Hosted Self.Row) (f : Feed) (items : List (HandedItem Self.Row))
         → Self.fits s f items → Self.fits (with_hosted s h) f items };
 
-    /// With the item that is due it fits the feed that handed that.
+    /// A list that fits a feed, with the item that is due at its end, fits the feed that handed this item.
     ghost handed_fits: { (s : Self) (f : Feed) (items : List (HandedItem Self.Row))
         → (item : HandedItem Self.Row) → item_of_feed (Self.hosted s) f ≡ Some item → Self.fits s f items
         → Self.fits s (hosted_feed_after_due (Self.hosted s) f) (items ++ item ∷ []) };
 
-    /// It fits the feed that was found to have nothing to hand.
+    /// A list that fits a feed still fits after the feed found nothing to hand.
     ghost waiting_fits: { (s : Self) (f : Feed) (items : List (HandedItem Self.Row))
         → next_due (Self.hosted s).current f ≡ DueNothing → Self.fits s f items
         → Self.fits s (after_nothing f (Self.hosted s).length) items };
 
-    /// It fits with a heartbeat that may be handed.
+    /// A list that fits a feed still fits with a heartbeat at the end, if the feed may hand a heartbeat.
     ghost beat_fits: { (s : Self) (f : Feed) (items : List (HandedItem Self.Row)) → is_beat_allowed f ≡ true
         → Self.fits s f items → Self.fits s f (items ++ Beat ∷ []) };
 
-    /// It fits the feed whose time is over.
+    /// A list that fits a feed still fits once the feed's time without an item is over.
     ghost expired_fits: { (s : Self) (f : Feed) (items : List (HandedItem Self.Row)) → Self.fits s f items
         → Self.fits s (expired_feed f) items };
 }

@@ -1,4 +1,4 @@
-//! Feeds over any source: what a feed hands next, and the feed after it (CouchDB API reference,
+//! Feeds over any source: the item that a feed hands next, and the feed after it (CouchDB API reference,
 //! `_changes` and `_db_updates`).
 #![tactic(auto)]
 

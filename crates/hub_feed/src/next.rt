@@ -1,14 +1,14 @@
-//! What a feed answers.
+//! The next item of a feed.
 
 use hub_model::Item;
 
-/// What a feed has to hand.
+/// The item that a feed has to hand, or why there is none.
 #[derive(Debug, Drop)]
 pub enum Next<R> {
-    /// This item. The feed goes on once it is accepted.
+    /// This item is due. The feed moves once the item is accepted.
     Give(Item<R>),
-    /// Nothing now: there may be more once more edits came.
+    /// Nothing is due now. Later edits may bring an item.
     Nothing,
-    /// Nothing any more: its end was handed, or it is finished.
+    /// Nothing is due any more: the feed handed its end, or is finished.
     Gone,
 }

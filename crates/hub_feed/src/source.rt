@@ -1,4 +1,4 @@
-//! What feeds follow.
+//! The sources that feeds follow.
 
 ghost use Rattle.std.specs.Prelude.{◌≡◌, ◌<◌, ◌≤◌, ◌&&◌, ℕ, List, [], ◌∷◌};
 ghost use Rattle.std.specs.Prelude.{Bool, nat_lt, Contains, option_map, IfOk};
@@ -21,7 +21,7 @@ pub fn is_ahead(place: u64, bound: Option<u64>, seq: u64) -> bool
     }
 }
 
-/// What a feed follows: edits, numbered from 1, of which each current one has a row.
+/// The source of a feed: edits, numbered from 1. Each current edit has a row.
 pub trait Source {
     /// A row as it is handed.
     type Row: Drop;
@@ -29,7 +29,7 @@ pub trait Source {
     /// How many edits there are.
     ghost length: { Self → ℕ };
 
-    /// The number of the life that the edits are of: of what is made again under its name, another one.
+    /// The number of the life of the edits. A source that is made again under its name has another number.
     ghost life: { Self → ℕ };
 
     /// The current rows.
@@ -45,23 +45,23 @@ pub trait Source {
     fn length(&self) -> u64
         ensures { result ≡ length self.now };
 
-    /// The number of the life that they are of.
+    /// The number of the life of the edits.
     fn life(&self) -> u64
         ensures { result ≡ life self.now };
 
-    /// The first current row above a place and not above the bound, if there is one: its sequence
-    /// and its id. It takes no memory.
+    /// The sequence and the id of the first current row above a place and not above the bound, if there is
+    /// one. It takes no memory.
     fn next_after(&self, place: u64, bound: Option<u64>) -> Option<(u64, &str)>
         ensures { option_map (λ p. record { seq = p.0; id = p.1.now }) result
             ≡ first_within place bound (current self.now) };
 
-    /// The first current row above a place and not above the bound of the document with this id, if
-    /// there is one: its sequence. It takes no memory.
+    /// The sequence of the first current row of the document with this id above a place and not above the
+    /// bound, if there is one. It takes no memory.
     fn next_of(&self, id: &str, place: u64, bound: Option<u64>) -> Option<u64>
         ensures { result ≡ option_map (λ c. c.seq)
             (first_listed place bound (id.now ∷ []) (current self.now)) };
 
-    /// How many current rows lie above a place. It takes no memory.
+    /// The number of current rows above a place. It takes no memory.
     fn count_after(&self, place: u64) -> u64
         ensures { result ≡ pending (current self.now) place };
 
@@ -75,13 +75,13 @@ pub trait Source {
     fn seq(row: &Self::Row) -> u64
         ensures { result ≡ seq_of row.now };
 
-    /// The rows rise.
+    /// The sequences of the current rows rise.
     ghost rise: { (s : Self) → AllPairs (λ (c d : Current). c.seq < d.seq) (current s) };
 
-    /// Each is one of the edits.
+    /// The sequence of a current row is at most the number of edits.
     ghost within: { (s : Self) (c : Current) → Contains (current s) c → c.seq ≤ length s };
 
-    /// A row that is shown has the sequence of its own.
+    /// A row that is shown has the sequence of its current row.
     ghost keeps: { (s : Self) (style : Listing) (include_docs : Bool) (c : Current)
         → seq_of (shown s style include_docs c) ≡ c.seq };
 }

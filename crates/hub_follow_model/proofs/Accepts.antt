@@ -9,7 +9,7 @@ use Rattle.hub_model.proofs.Legal.{Holds, first_in, legal_sound}
 use Rattle.hub_follow_model.proofs.Paths.{behind_more}
 use Rattle.hub_model.proofs.Walks.{walk_history, legal_histories, walk_steps}
 
--- a copy whose head isn't known can be added to copies
+-- a copy whose head is not known may be added to a journal of copies
 pub copy_acceptable : (journal later_journal : List Edit) (edit : Edit) → IsLegal journal
     → AreCopies journal later_journal → IsCopy journal edit
     → ((revision : Revision) → IsHead edit revision → ¬ IsKnown later_journal edit.id revision)

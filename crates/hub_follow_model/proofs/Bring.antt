@@ -1,5 +1,5 @@
--- What the leaves of a document bring: each revision and each step behind one is on the path of a
--- leaf, and stays there.
+-- The leaves of a document bring the whole document: each revision, and each step behind a revision, is on
+-- the path of a leaf, and stays there.
 use Rattle.std.proofs.Common.{◌≡◌, ◌≢◌, ℕ, List, [], ◌∷◌, ◌++◌, Contains, ◌⊎◌, inl, inr}
 use Rattle.std.proofs.Common.{refl, sym, ap, ⊎_elim, ◌∙◌, subst, append_assoc, Bool}
 use Rattle.std.proofs.lemmas.List.Elements.{Contains-append_left, Contains-push, Contains-push_cases}
@@ -16,7 +16,7 @@ use Rattle.hub_model.proofs.Lists.{contains_none, contains_cases, same_text}
 use Rattle.hub_follow_model.proofs.Paths.{behind_more, first_same, first_or_next, legal_at, in_path, fronts}
 use Rattle.hub_model.proofs.Walks.{walk_steps}
 
--- r is revision or stands behind it, step by step
+-- the revision leads to itself, and to each revision that stands behind it, step by step
 pub data Leads (other_journal : List Edit) (id : List ℕ) (revision : Revision) : Revision → Type 0 where
   here : Leads other_journal id revision revision
   back : {s r : Revision} → Leads other_journal id revision s → IsBehind other_journal id r s
@@ -55,7 +55,7 @@ path_leads other_journal id (y ∷ z ∷ revisions) revision other f i c =
     both ih (inr d) =
         leads_join other_journal id revision z other (back here (f revision z (inl (i, refl)))) (ih d)
 
--- the edit whose head is the leaf that leads to revision: the last edit of all that lead there
+-- the edit whose head is the leaf that leads to the revision: the last edit of all that lead there
 pub record Climbed (journal : List Edit) (id : List ℕ) (edit : Edit) (revision : Revision) : Type 0 where
   pub before : List Edit
   pub later : List Edit
@@ -74,7 +74,7 @@ AllClimb journal =
     → Climbed journal id edit revision
 
 module _ (other_journal : List Edit) (edit : Edit) (a : IsAcceptable other_journal edit) (id : List ℕ) where
-  -- what e's path names, and all that this leads to, is led to by e's head
+  -- the head of the new edit leads to each revision that its path names, and on to all that these lead to
   by_new : (other : Edit) (revision x : Revision) → edit.id ≡ id → Contains (other_journal ++ edit ∷ []) other
       → Contains edit.path revision
       → Leads (other_journal ++ edit ∷ []) id revision x → Climbed (other_journal ++ edit ∷ []) id other x
@@ -147,7 +147,7 @@ climb journal h = legal_induct AllClimb
     (λ id f x p. absurd (contains_none f p.0))
     (λ K e a ih id f x p i. climb_more K e a id f x (λ c n. ih id f x (c, n) i) p i) journal h
 
--- walks
+-- facts about walks
 walk_known : (other_journal : List Edit) (id : List ℕ) (revisions : List Revision) (revision other : Revision)
     → IsWalk other_journal id revisions → IsFirst revisions revision
     → IsKnown other_journal id revision → Contains revisions other → IsKnown other_journal id other
@@ -189,7 +189,7 @@ walk_leads other_journal id revisions revision other t w c (back {s = s} l b) =
     (walk_whole other_journal id revisions s other t w
     (walk_leads other_journal id revisions revision s t w c l) b)
 
--- an edit that shows what a front of journal has of its head
+-- an edit that shows its head as a front of the journal has it
 pub record IsCopy (journal : List Edit) (edit : Edit) : Type 0 where
   pub front : List Edit
   pub rest : List Edit
@@ -214,12 +214,12 @@ front_holds : (journal : List Edit) (edit : Edit) (c : IsCopy journal edit) → 
 front_holds journal edit c f h =
     subst (λ (edits : List Edit). Contains edits f) c.split (Contains-append_left c.front c.rest f h)
 
--- each leaf of the document is known there
+-- each leaf of the document is known in the second journal
 abbrev pub IsBrought : List Edit → List Edit → List ℕ → Type 0
 IsBrought journal later_journal id =
     (revision : Revision) → IsLeaf journal id revision → IsKnown later_journal id revision
 
--- an edit of the second journal that names revision, and what edit has directly behind it
+-- an edit of the second journal names the revision, and all that this edit has directly behind it
 abbrev IsCarried : List Edit → List ℕ → Edit → Revision → Type 0
 IsCarried later_journal id edit revision =
     (other : Edit) × Edits later_journal id other × Contains other.path revision
@@ -349,7 +349,7 @@ module _ (journal later_journal : List Edit) (legal : IsLegal journal)
     mark_from : (r : Revision) (d : Bool) → IsMarked later_journal id r d → IsMarked journal id r d
     mark_from r d (f, p, i, q) = let o = doc_from r d f.body (f, p, i, q, refl) in (o.0, o.1, o.2, o.3)
 
-    -- where each leaf is known, all is copied
+    -- where each leaf is known, the document is copied
     pub brought_copied : IsCopied journal later_journal id
     brought_copied = record {
       known = λ r. (brought_known r, copied_known r);

@@ -1,4 +1,4 @@
--- The number up to which all was copied: how it stays one, and the numbers that logs agree on.
+-- The number up to which all was copied: it stays right as journals grow, and logs agree on right numbers.
 use Rattle.std.proofs.Common.{◌≡◌, ◌≢◌, ℕ, suc, ◌≤◌, min, cond, List, [], ◌∷◌, ◌++◌, length}
 use Rattle.std.proofs.Common.{map, take, drop, Contains, ◌⊎◌, inl, inr, refl, sym, ap, ⊎_elim}
 use Rattle.std.proofs.Common.{◌∙◌, subst, arith, Bool, true, false, nat_eq, if◌then◌else◌}
@@ -24,7 +24,7 @@ use Rattle.hub_model.proofs.Legal.{Holds, known_more}
 use Rattle.hub_model.proofs.Lists.{contains_none, contains_here, contains_there, contains_cases, same_text}
 use Rattle.hub_follow_model.proofs.Paths.{behind_more}
 
--- no entry after c has the document
+-- no edit after c is of the document
 abbrev pub IsUnmoved : List Edit → ℕ → List ℕ → Type 0
 IsUnmoved journal c id = (edit : Edit) → Contains (drop c journal) edit → edit.id ≢ id
 
@@ -39,7 +39,7 @@ pub record IsDone (journal later_journal : List Edit) (c : ℕ) : Type 0 where
   pub within : c ≤ length journal
   pub brought : (id : List ℕ) → IsUnmoved journal c id → IsBrought journal later_journal id
 
--- both ends may have grown
+-- the source and the target may have grown
 pub record Grows (journal later_journal other_journal edits : List Edit) : Type 0 where
   pub more : List Edit
   pub source : other_journal ≡ journal ++ more
@@ -101,7 +101,7 @@ pub done_zero : (journal later_journal : List Edit) → IsDone journal later_jou
 done_zero journal later_journal =
     record { within = omega arith; brought = λ id u h l. absurd (u l.0.0 l.0.1.0 l.0.1.1) }
 
--- logs
+-- all was copied up to each number that a log records
 abbrev pub LogDone : List Edit → List Edit → Option ReplicationLog → Type 0
 LogDone journal later_journal log = (c : ℕ) → IsRecordedIn log c → IsDone journal later_journal c
 
@@ -121,7 +121,7 @@ module _ (journal later_journal : List Edit) where
       ⊎_elim (λ (e : min m n ≡ m). subst (λ z. IsDone journal later_journal z) (sym e) p)
       (λ (e : min m n ≡ n). subst (λ z. IsDone journal later_journal z) (sym e) q) (grind arith)
 
-  -- a number that counts as another, or as 0
+  -- a number that counts in another life is the same number, or 0
   pub done_counted : (life : ℕ) (seq : Seq) → IsDone journal later_journal seq.n
       → IsDone journal later_journal (seq_in life seq)
   done_counted life seq p = by_life seq.life
@@ -172,7 +172,7 @@ module _ (journal later_journal : List Edit) where
       done_recorded x.session_id source x.recorded_seq (common_session_sequence source target) h
       (k x (contains_here x target)) (done_past source target h (λ y c. k y (contains_there x y target c)))
 
-  -- whichever number two logs agree on
+  -- all was copied up to the number on which two logs agree
   pub done_common : (source target : Option ReplicationLog) → LogDone journal later_journal source
       → LogDone journal later_journal target → IsDone journal later_journal (common_sequence source target).n
   done_common None target h k = done_zero journal later_journal

@@ -1,4 +1,4 @@
--- What the answers of a peer leave in hand.
+-- The revisions that are in hand after the answers of a peer.
 use Rattle.std.proofs.Common.{◌≡◌, ◌≢◌, ℕ, ◌+◌, ◌-◌, ◌<◌, ◌≤◌, List, [], ◌∷◌, ◌++◌, length}
 use Rattle.std.proofs.Common.{map, take, drop, Contains, ◌⊎◌, inl, inr, refl, sym, ap, ⊎_elim}
 use Rattle.std.proofs.Common.{◌∙◌, subst, arith, append_assoc, append-nil, false, Option}
@@ -30,7 +30,7 @@ use Rattle.std.proofs.lemmas.Bool.{cases_Bool, lt-ltb}
 use Rattle.hub_follow_model.proofs.Done.{IsUnmoved, IsDoneBut, IsDone, drop_in, last_of}
 use Rattle.hub_follow_model.proofs.Done.{contains_map, map_contains, rows_of-items}
 
--- what is in hand
+-- a revision is in hand: asked for, or the head of a fetched document
 abbrev pub InAsked : List RevisionsOfDoc → List ℕ → Revision → Type 0
 InAsked asked id revision = (a : RevisionsOfDoc) × Contains asked a × (a.id ≡ id) × Contains a.revs revision
 
@@ -168,7 +168,7 @@ module _ (journal later_journal : List Edit) (since last : ℕ) (rows : List Cha
           inr (in_row n edit id revision current q leaf w.0 w.1 w.2 (shown_row w.0 w.1)))
           (grind arith)
 
--- an answer of `revs_diff` leaves out what is known
+-- an answer of `revs_diff` leaves out the known revisions
 pub missing_in : (later_journal : List Edit) (id : List ℕ) (revs : List Revision) (revision : Revision)
     → Contains revs revision
     → IsKnown later_journal id revision ⊎ Contains (unknown_revisions later_journal id revs) revision
@@ -217,7 +217,7 @@ wanted_in later_journal (x ∷ asked) id revision (a, c, q, i) =
         (λ k. inr (asked_rest x.id (unknown_revisions later_journal x.id x.revs)
         (missing_by_document later_journal asked) id revision k)) (ih (a, d, q, i))
 
--- the differences are what is wanted
+-- the differences list the wanted documents: those with missing revisions
 lacking_first : (diff : Diff) (rest : List Diff) (lost : List Revision) → diff.missing ≡ lost
     → map missing_revisions (if is_wanted diff then (diff ∷ rest) else rest)
     ≡ with_missing diff.id lost (map missing_revisions rest)
@@ -234,7 +234,7 @@ lacking_diffs journal (a ∷ asked) =
     lacking_first (diff_of journal a) (diffs journal asked) (unknown_revisions journal a.id a.revs) refl
     ∙ ap (with_missing a.id (unknown_revisions journal a.id a.revs)) (lacking_diffs journal asked)
 
--- an answer of `open_revs` is of copies
+-- an answer of `open_revs` has copies
 pub opened_in : (journal : List Edit) (id : List ℕ) (revs : List Revision) (got : List Edit)
     → IsLegal journal → all_documents id revs (map (shown_edit journal id) revs) ≡ Ok got
     → AreCopies journal got × ((revision : Revision) → Contains revs revision → InGot got id revision)

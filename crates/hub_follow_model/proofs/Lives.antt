@@ -13,7 +13,7 @@ use Rattle.hub_model.specs.RightlyHanded.{ChangeItem}
 abbrev life_of : World → ℕ
 life_of world = world.life
 
--- an answered call keeps it
+-- an answered call keeps the source's life
 answered : (world : World) (call : Call) (answer : Answer) (mid : World) → IsAnswered world call answer mid
     → mid.life ≡ world.life
 answered world (LocalGet side) (LogAnswer log) mid h = ap life_of h.1
@@ -25,7 +25,7 @@ answered world (LocalPut Source log) PutAnswer mid h = ap life_of h
 answered world (LocalPut Target log) PutAnswer mid h = ap life_of h
 answered world call answer mid h = absurd h
 
--- whatever becomes of its answer
+-- the owed call keeps the source's life, whatever becomes of its answer
 behind : (world : World) (next : Option Call) (after : Answer → Follower) (new : World)
     → MatchOption next (new ≡ world)
     (λ call. (answer : Answer) × (mid : World) × IsAnswered world call answer mid
@@ -34,7 +34,7 @@ behind : (world : World) (next : Option Call) (after : Answer → Follower) (new
 behind world None after new h = ap life_of h
 behind world (Some call) after new (answer, mid, h, e) = ap life_of e ∙ answered world call answer mid h
 
--- and so does a merge that stops
+-- a merge that stops keeps the source's life
 stopped : (world : World) (next : Option Call) (count : ℕ) (new : World) → IsPartialMerge world next count new
     → new.life ≡ world.life
 stopped world (Some (Merge docs)) count new h = ap life_of h
@@ -45,7 +45,7 @@ stopped world (Some (RevsDiff asked)) count new h = ap life_of h
 stopped world (Some (OpenRevs id revs)) count new h = ap life_of h
 stopped world (Some (LocalPut side log)) count new h = ap life_of h
 
--- and items that come for changes
+-- items that answer a call for changes keep the source's life
 handed : (world : World) (next : Option Call) (items : List ChangeItem) (new : World)
     → IsChangesReply world next items new → new.life ≡ world.life
 handed world (Some (Changes since)) items new (inl (rows, last, right, e)) = ap life_of e

@@ -1,4 +1,4 @@
--- Paths, rows and the fronts of a journal: what the proofs of this crate need beside those of hub_model.
+-- Paths, rows and the fronts of a journal: the lemmas of this crate beside those of hub_model.
 use Rattle.std.proofs.Common.{◌≡◌, ◌≢◌, ℕ, List, [], ◌∷◌, ◌++◌, Contains, ◌⊎◌, inl, inr, refl, sym, ap, ap₂}
 use Rattle.std.proofs.Common.{⊎_elim, subst, arith, append_assoc, append-nil, Bool}
 use Rattle.hub_model.specs.Current.{IsCurrent}
@@ -13,7 +13,7 @@ use Rattle.hub_model.proofs.Legal.{Holds}
 use Rattle.hub_model.proofs.Lists.{contains_none, contains_there, contains_cases, same_number, same_text}
 use Rattle.hub_model.proofs.Shown.{current_is}
 
--- each entry was acceptable
+-- each entry of a legal journal was acceptable after those before it
 pub legal_at : (before others edits : List Edit) (edit : Edit) → IsLegalAfter before (others ++ edit ∷ edits)
     → IsAcceptable (before ++ others) edit
 legal_at before [] edits edit h = subst (λ K. IsAcceptable K edit) (sym (append-nil before)) h.0
@@ -21,7 +21,7 @@ legal_at before (other ∷ others) edits edit h =
     subst (λ K. IsAcceptable K edit) (append_assoc before (other ∷ []) others)
     (legal_at (before ++ other ∷ []) others edits edit h.1)
 
--- what stands behind a revision stays there
+-- a revision that stands behind another stays behind it as the journal grows
 pub behind_more : (journal other_journal : List Edit) (id : List ℕ) (revision other : Revision)
     → Holds journal other_journal → IsBehind other_journal id revision other
     → IsBehind journal id revision other
@@ -33,7 +33,7 @@ pub first_same : (revisions : List Revision) (revision other : Revision) → IsF
 first_same [] revision other h k = absurd h
 first_same (x ∷ revisions) revision other h k = cc
 
--- what isn't the first one stands behind another
+-- a revision of a path that is not its first stands behind another
 pub first_or_next : (revisions : List Revision) (revision : Revision) → Contains revisions revision
     → IsFirst revisions revision ⊎ ((s : Revision) × IsNext revisions s revision)
 first_or_next [] revision c = absurd (contains_none revision c)
@@ -62,7 +62,7 @@ same_revision revision other =
     both (inl p) (inr q) = inr (λ e. q (ap (λ (x : Revision). x.hash) e))
     both (inr p) q = inr (λ e. p (ap (λ (x : Revision). x.generation) e))
 
--- a path names a revision or doesn't
+-- a path names a revision, or does not
 pub in_path : (revisions : List Revision) (revision : Revision) → Contains revisions revision
     ⊎ ¬ Contains revisions revision
 in_path [] revision = inr (contains_none revision)

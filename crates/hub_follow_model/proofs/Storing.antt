@@ -1,4 +1,4 @@
--- What storing documents brings.
+-- The effects of storing documents.
 use Rattle.std.proofs.Common.{◌≡◌, ℕ, List, [], ◌∷◌, ◌++◌, Contains, ◌⊎◌, inl, inr, sym}
 use Rattle.std.proofs.Common.{ap, ⊎_elim, ◌∙◌, subst, append_assoc, append-nil, None}
 use Rattle.std.proofs.lemmas.List.Elements.{Contains-append_left, Contains-push, Contains-push_cases}
@@ -15,7 +15,7 @@ use Rattle.hub_model.proofs.Lists.{contains_none, contains_here, contains_there,
 use Rattle.hub_follow_model.proofs.Paths.{first_same}
 use Rattle.hub_follow_model.proofs.Hand.{InGot}
 
--- storing
+-- storing documents adds edits to a journal
 pub stored_holds : (limit : ℕ) (journal : List Edit) (docs : List Edit)
     (outcomes : List (Outcome Revision)) (other_journal : List Edit)
     → TakesAll limit journal docs outcomes other_journal → (edits : List Edit)

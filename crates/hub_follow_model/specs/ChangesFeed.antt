@@ -1,5 +1,5 @@
--- What a source answers to a follower that asks for changes: all that a normal feed of every leaf has handed,
--- its end included (CouchDB Replication Protocol, listen to changes feed).
+-- The answer of a source to a follower that asks for changes: all items that a normal feed of every leaf has
+-- handed, its end included. (CouchDB Replication Protocol, listen to changes feed.)
 use Rattle.std.specs.List.{list_any}
 use Rattle.std.specs.Prelude.{◌≡◌, true, ℕ, List, [], ◌∷◌, ◌++◌, length, map, false, Some}
 use Rattle.hub_model.specs.declared.feeds.Item.TheVariants.{Row, End}
@@ -14,8 +14,8 @@ use Rattle.hub_model.specs.RightlyHanded.{ChangeItem, is_end, RightlyHanded}
 use Rattle.hub_model.specs.RowKind.{change_rows}
 use Rattle.hub_model.specs.Row.{ChangeRow}
 
--- what a follower asks for: every leaf of the documents above a sequence, 100 rows at most (the number is
--- own)
+-- the parameters of a follower's feed: every leaf of the documents above a sequence, 100 rows at most (the
+-- number is own)
 abbrev pub params_from : Since → Params
 params_from since =
     record {
@@ -28,11 +28,11 @@ params_from since =
       heartbeat = false;
     }
 
--- above a sequence as its source counts it
+-- these parameters, above a sequence as its source counts it
 abbrev pub params_after : ℕ → Params
 params_after since = params_from (Plain since)
 
--- such a feed behind its End, which names `last`
+-- a feed with these parameters after its End, which names `last`
 abbrev pub ended_feed : (since last rows : ℕ) → Feed
 ended_feed since last rows =
     record {
@@ -48,9 +48,10 @@ ended_feed since last rows =
 abbrev pub items_of : List ChangeRow → (last pending : ℕ) → List ChangeItem
 items_of rows last pending = map (λ row. Row row) rows ++ End last pending ∷ []
 
--- The items are an answer of these rows: rows and their End, rightly handed while this is the journal.
--- So a row is each current document's between `since` and `last`, none is left out, and it lists every
--- leaf. After a, b, c and then a again, since 1 has the rows of b, c and a, and 4 as its last sequence.
+-- The items are an answer of these rows: the rows and their End are rightly handed while this is the journal.
+-- So each row is that of a current document between `since` and `last`, none is left out, and each lists
+-- every leaf. After a, b, c and then a again, the answer since 1 has the rows of b, c and a, and 4 as its
+-- last sequence.
 abbrev pub IsChangesAnswer : List Edit → ℕ → List ChangeItem → List ChangeRow → ℕ → Type 0
 IsChangesAnswer journal since items rows last =
     (pending : ℕ) × (items ≡ items_of rows last pending)
@@ -62,7 +63,7 @@ HasChangesAnswer journal since rows last =
     (pending : ℕ)
     × RightlyHanded change_rows journal (ended_feed since last (length rows)) (items_of rows last pending)
 
--- the law: whatever a feed that a follower asked for has handed once it ended is an answer
+-- the law: the items that a feed with a follower's parameters has handed once it ended are an answer
 abbrev pub EndedFeedIsAnswer : Type 0
 EndedFeedIsAnswer =
     (journal : List Edit) (feed : Feed) (since : Since) (items : List ChangeItem)

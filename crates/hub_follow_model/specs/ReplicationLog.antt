@@ -4,43 +4,44 @@ use Rattle.std.specs.Prelude.{◌≡◌, ℕ, cond, List, [], ◌∷◌, Contain
 use Rattle.hub_follow_model.specs.Sequence.{beginning, lesser_seq}
 use Rattle.hub_follow_model.specs.declared.seq.Seq.{Seq}
 
--- what a log's history says of one replication session
+-- the entry of one replication session in a log's history
 pub record HistoryEntry : Type 0 where
   pub session_id : List ℕ
-  pub start_last_seq : Seq  -- the source's sequence that the session began after
-  pub end_last_seq : Seq  -- the last one that it came to
-  pub recorded_seq : Seq  -- the one that it recorded
+  pub start_last_seq : Seq  -- the source's sequence after which the session began
+  pub end_last_seq : Seq  -- the last sequence to which the session came
+  pub recorded_seq : Seq  -- the sequence that the session recorded
 
 -- the members of a replication log that a follower reads and writes
 pub record ReplicationLog : Type 0 where
-  pub session_id : List ℕ  -- of the last session
-  pub source_last_seq : Seq  -- the sequence that it recorded
+  pub session_id : List ℕ  -- the id of the last session
+  pub source_last_seq : Seq  -- the sequence that the last session recorded
   pub history : List HistoryEntry  -- newest first
 
--- what the first entry of that session records, if there is one
+-- the sequence that the first entry of this session records, if there is one
 abbrev pub recorded_seq_of : List ℕ → List HistoryEntry → Option Seq
 recorded_seq_of session [] = None
 recorded_seq_of session (entry ∷ history) =
     cond (bytes_eq session entry.session_id) (Some entry.recorded_seq) (recorded_seq_of session history)
 
--- the lesser of two recorded sequences, or another one where only one is there
+-- the lesser of two recorded sequences, or another sequence where the second one is missing
 abbrev pub lesser_sequence : Seq → Option Seq → Seq → Seq
 lesser_sequence seq None otherwise = otherwise
 lesser_sequence seq (Some other) otherwise = lesser_seq other seq
 
--- of the newest session of the target's history that the source's has too, the lesser of what the two
--- record; the beginning where there is none. Where s1 is the newest common session, and recorded 5 at the
--- source and 4 at the target, it is 4 (proved: `ByTheLesser`).
+-- the sequence of the newest session in the target's history that the source's history has too: the lesser of
+-- the two that they record for it. Without a common session it is the beginning. Where s1 is the newest
+-- common session, and recorded 5 at the source and 4 at the target, it is 4 (proved: `ByTheLesser`).
 abbrev pub common_session_sequence : List HistoryEntry → List HistoryEntry → Seq
 common_session_sequence source [] = beginning
 common_session_sequence source (entry ∷ target) =
     lesser_sequence entry.recorded_seq (recorded_seq_of entry.session_id source)
     (common_session_sequence source target)
 
--- The sequence that a session begins after: the lesser of the two logs' last ones where both are of one
--- session, else by a session that both histories have, else the beginning; so it is where a log is absent.
--- Where both logs are of s3, with 9 at the source and 7 at the target, it is 7 (proved: `ByTheLastSession`).
--- Where they are of s3 and s2, and both have recorded 4 by s1, it is 4 (proved: `ByAnOlderSession`).
+-- The sequence after which a session begins. Where both logs are of one last session, it is the lesser of
+-- their last sequences. Else it is that of the newest session that both histories have, and without one it is
+-- the beginning. Where a log is absent it is the beginning too. Where both logs are of s3, with 9 at the
+-- source and 7 at the target, it is 7 (proved: `ByTheLastSession`). Where they are of s3 and s2, and both
+-- have recorded 4 by s1, it is 4 (proved: `ByAnOlderSession`).
 abbrev pub common_sequence : Option ReplicationLog → Option ReplicationLog → Seq
 common_sequence None target = beginning
 common_sequence (Some source) None = beginning
@@ -49,14 +50,13 @@ common_sequence (Some source) (Some target) =
     (lesser_seq source.source_last_seq target.source_last_seq)
     (common_session_sequence source.history target.history)
 
--- the entries of a log, where there is one
+-- the entries of a log; none where there is no log
 abbrev pub history_of : Option ReplicationLog → List HistoryEntry
 history_of None = []
 history_of (Some log) = log.history
 
--- c stands in the log as the number of a sequence up to which all was copied: of its last one, or of one
--- that an entry records. In a log whose last sequence is 9, and whose entries record 9 and 4, both 9 and 4
--- stand so.
+-- the log records the number c of a sequence up to which all was copied: the log's last sequence, or that of
+-- an entry. A log whose last sequence is 9, and whose entries record 9 and 4, records 9 and 4.
 abbrev pub IsRecordedIn : Option ReplicationLog → ℕ → Type 0
 IsRecordedIn None c = ⊥
 IsRecordedIn (Some log) c =

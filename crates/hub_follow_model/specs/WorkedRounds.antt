@@ -1,5 +1,5 @@
--- Worked rounds: the calls that a follower makes, and what becomes of it, where source and target answer as
--- their journals say (own, over the CouchDB Replication Protocol, replicate changes).
+-- Worked rounds: the calls that a follower makes, and the follower after them, where source and target answer
+-- by their journals (own, over the CouchDB Replication Protocol, replicate changes).
 use Rattle.std.specs.Prelude.{◌≡◌, ℕ, List, [], ◌∷◌, ◌++◌, map, filter, false, nat_lt, Option, Some, None}
 use Rattle.std.specs.Prelude.{Err, codes}
 use Rattle.hub_model.specs.declared.feeds.Style.TheVariants.{AllDocs}
@@ -28,22 +28,22 @@ abbrev pub calls_of : Follower → List Answer → List (Option Call)
 calls_of follower [] = []
 calls_of follower (answer ∷ answers) = next_call follower ∷ calls_of (after_answer follower answer) answers
 
--- the follower behind all these answers
+-- the follower after all these answers
 abbrev pub after_answers : Follower → List Answer → Follower
 after_answers follower [] = follower
 after_answers follower (answer ∷ answers) = after_answers (after_answer follower answer) answers
 
--- a, b and c at the source
+-- the edits of a, b and c at the source
 abbrev pub three_edits : List Edit
 three_edits =
     doc (codes "a") (rev 1 (codes "a") ∷ []) ∷ doc (codes "b") (rev 1 (codes "b") ∷ [])
     ∷ doc (codes "c") (rev 1 (codes "c") ∷ []) ∷ []
 
--- a at its second revision
+-- the second edit of a
 abbrev pub second_edit : Edit
 second_edit = doc (codes "a") (rev 2 (codes "d") ∷ rev 1 (codes "a") ∷ [])
 
--- a, b, c, then a again
+-- the edits of a, b, c, then a again
 abbrev pub four_edits : List Edit
 four_edits = three_edits ++ second_edit ∷ []
 
@@ -60,7 +60,7 @@ one_of id revision = record { id = id; revs = revision ∷ [] }
 abbrev pub seq : ℕ → Seq
 seq n = seq_of 1 n
 
--- a session that began at the beginning, at this place
+-- a session that began at the beginning, and is at this place
 abbrev pub session_at : Seq → Session
 session_at place =
     record {
@@ -71,7 +71,7 @@ session_at place =
       target_history = [];
     }
 
--- what source and target answer in the first round: the target is empty
+-- the answers of source and target in the first round: the target is empty
 abbrev pub first_answers : List Answer
 first_answers =
     ChangesAnswer (rows_above three_edits 0) 3 1
@@ -81,7 +81,7 @@ first_answers =
     ∷ OpenRevsAnswer (map (shown_edit three_edits (codes "c")) (rev 1 (codes "c") ∷ []))
     ∷ MergeAnswer (merges_all 10 [] three_edits).outcomes ∷ []
 
--- the changes after 0, all that is missing, each document, and then they are stored
+-- the calls of the first round: the changes, the comparison, each document, and the merge of all three
 abbrev pub FirstRoundCalls : Type 0
 FirstRoundCalls =
     calls_of (Busy (session_at beginning) Listing) first_answers
@@ -92,12 +92,12 @@ FirstRoundCalls =
     ∷ Some (OpenRevs (codes "b") (rev 1 (codes "b") ∷ []))
     ∷ Some (OpenRevs (codes "c") (rev 1 (codes "c") ∷ [])) ∷ Some (Merge three_edits) ∷ []
 
--- the place is the last sequence
+-- the place after the first round is its last sequence
 abbrev pub FirstRoundEnds : Type 0
 FirstRoundEnds =
     after_answers (Busy (session_at beginning) Listing) first_answers ≡ Ready (session_at (seq 3))
 
--- what they answer in the second round: the target has a, b and c, and a was edited again
+-- the answers in the second round: the target has a, b and c, and a was edited again
 abbrev pub second_answers : List Answer
 second_answers =
     ChangesAnswer (rows_above four_edits 3) 4 1
@@ -105,40 +105,41 @@ second_answers =
     ∷ OpenRevsAnswer (map (shown_edit four_edits (codes "a")) (rev 2 (codes "d") ∷ []))
     ∷ MergeAnswer (merges_all 10 three_edits (second_edit ∷ [])).outcomes ∷ []
 
--- the changes after 3, what is missing of a, and then that is stored with its history
+-- the calls of the second round: the changes after 3, the comparison of a, its new revision, and the merge of
+-- that
 abbrev pub SecondRoundCalls : Type 0
 SecondRoundCalls =
     calls_of (Busy (session_at (seq 3)) Listing) second_answers
     ≡ Some (Changes (seq 3)) ∷ Some (RevsDiff (one_of (codes "a") (rev 2 (codes "d")) ∷ []))
     ∷ Some (OpenRevs (codes "a") (rev 2 (codes "d") ∷ [])) ∷ Some (Merge (second_edit ∷ [])) ∷ []
 
--- the place is the last sequence
+-- the place after the second round is its last sequence
 abbrev pub SecondRoundEnds : Type 0
 SecondRoundEnds =
     after_answers (Busy (session_at (seq 3)) Listing) second_answers ≡ Ready (session_at (seq 4))
 
--- what this session records at 4
+-- the entry that this session records at 4
 abbrev pub first_entry : HistoryEntry
 first_entry =
     record { session_id = codes "s1"; start_last_seq = beginning; end_last_seq = seq 4; recorded_seq = seq 4 }
 
--- in this log
+-- the log with that entry
 abbrev pub first_log : ReplicationLog
 first_log = record { session_id = codes "s1"; source_last_seq = seq 4; history = first_entry ∷ [] }
 
--- the log is stored at the source, then at the target
+-- the calls of the checkpoint: the log is stored at the source, then at the target
 abbrev pub CheckpointCalls : Type 0
 CheckpointCalls =
     calls_of (Busy (session_at (seq 4)) SourceCheckpoint) (PutAnswer ∷ PutAnswer ∷ [])
     ≡ Some (LocalPut Source first_log) ∷ Some (LocalPut Target first_log) ∷ []
 
--- and the place stays
+-- the place after the checkpoint is the same
 abbrev pub CheckpointEnds : Type 0
 CheckpointEnds =
     after_answers (Busy (session_at (seq 4)) SourceCheckpoint) (PutAnswer ∷ PutAnswer ∷ [])
     ≡ Ready (session_at (seq 4))
 
--- a later session that finds both logs begins after 4, and keeps what they hold
+-- a later session that finds both logs begins after 4, and keeps the entries of both
 abbrev pub ResumesAtCheckpoint : Type 0
 ResumesAtCheckpoint =
     after_answers (SourceStart (codes "s2")) (LogAnswer (Some first_log) ∷ LogAnswer (Some first_log) ∷ [])
@@ -150,7 +151,7 @@ ResumesAtCheckpoint =
       target_history = first_entry ∷ [];
     })
 
--- the second round, where it fetches a
+-- the follower in the second round, as it fetches a
 abbrev pub at_retrieval : Follower
 at_retrieval = Busy (session_at (seq 3)) (Retrieval (one_of (codes "a") (rev 2 (codes "d"))) [] [] (seq 4))
 
@@ -161,11 +162,11 @@ MissingLeavesPlace =
     ≡ Err (MissingRevision (codes "a") (rev 2 (codes "d"))))
     × (after_answer at_retrieval (OpenRevsAnswer (None ∷ [])) ≡ Ready (session_at (seq 3)))
 
--- the second round, where it stores a
+-- the follower in the second round, as it stores a
 abbrev pub at_storage : Follower
 at_storage = Busy (session_at (seq 3)) (Storage (second_edit ∷ []) (seq 4))
 
--- what a target of three edits at most answers
+-- the answer of a target that has three edits, and may have no more
 abbrev pub full_answer : Answer
 full_answer = MergeAnswer (merges_all 3 three_edits (second_edit ∷ [])).outcomes
 

@@ -10,7 +10,7 @@ use Rattle.hub_follow_model.specs.declared.seq.Seq.{Seq}
 use Rattle.hub_follow_model.specs.World.{World, Event, Write, Start, Round, Checkpoint, Reply, ChangesReply}
 use Rattle.hub_follow_model.specs.World.{Run, empty_world}
 
--- 1-a
+-- the revision 1-a
 abbrev pub one_revision : Revision
 one_revision = record { generation = 1; hash = 97 ∷ [] }
 
@@ -18,12 +18,12 @@ one_revision = record { generation = 1; hash = 97 ∷ [] }
 abbrev pub one_edit : Edit
 one_edit = record { id = 98 ∷ []; path = one_revision ∷ []; deleted = false; body = [] }
 
--- its row
+-- the row of that document
 abbrev pub one_row : ChangeRow
 one_row =
     record { seq = 1; id = 98 ∷ []; changes = one_revision ∷ []; deleted = false; doc = None; seen = 1 }
 
--- the write, a session c, its round and its checkpoint
+-- the events: the write of the document, the start of the session c, its round and its checkpoint
 abbrev pub one_round : List Event
 one_round =
     Write (one_edit ∷ []) ∷ Start (99 ∷ []) ∷ Reply ∷ Reply ∷ Round
@@ -41,7 +41,7 @@ one_session place =
       target_history = [];
     }
 
--- both databases have the document, and both logs record 1
+-- the world after the events: both databases have the document, and both logs record 1
 abbrev pub one_end : World
 one_end =
     record {
@@ -55,6 +55,6 @@ one_end =
       follower = Ready (one_session (seq_of 1 1));
     }
 
--- the events lead there
+-- the events lead from two empty databases to that world
 abbrev pub OneIsCopied : Type 0
 OneIsCopied = Run (empty_world 10) one_round one_end

@@ -1,5 +1,5 @@
--- Two databases, a replication log at each, and a follower: what may happen to them, and whole runs of that.
--- Any call may fail (own, over the CouchDB Replication Protocol).
+-- Two databases, a replication log at each, and a follower; the events that may happen to them, and whole
+-- runs of events. Any call may fail (own, over the CouchDB Replication Protocol).
 use Rattle.std.specs.Prelude.{◌≡◌, ℕ, List, [], ◌∷◌, map, take, Contains, Bool, true, false, IsTrue, Option}
 use Rattle.std.specs.Prelude.{Some, None, MatchOption, ◌⊎◌, option_map}
 use Rattle.hub_model.specs.Draft.{Draft, draft_result}
@@ -22,8 +22,8 @@ use Rattle.hub_follow_model.specs.declared.seq.Seq.{Seq}
 
 -- the two databases' journals, the log at each, and the follower
 pub record World : Type 0 where
-  pub limit : ℕ  -- how many edits each journal takes
-  pub life : ℕ  -- the number of the source's life: it has one, which no event changes
+  pub limit : ℕ  -- the greatest number of edits in each journal
+  pub life : ℕ  -- the number of the source's life, which no event changes
   pub source : List Edit
   pub target : List Edit
   pub source_log : Option ReplicationLog
@@ -55,10 +55,11 @@ abbrev pub with_log : Side → ReplicationLog → World → World
 with_log Source log world = record world { source_log = Some log }
 with_log Target log world = record world { target_log = Some log }
 
--- From world the call may be answered so, and leaves the world so: the log that stands there; changes rightly
--- handed by the source, above the sequence as it counts in the source's life, and that life; what the target
--- misses; what the source shows of each revision; what storing the documents at the target comes to; the log
--- stored. Nothing but the merge and the log changes the world.
+-- From world the call may have this answer, and lead to the world new. LocalGet has the log that stands at
+-- the side. Changes has changes that the source rightly hands above the sequence, as it counts in the
+-- source's life, and that life. RevsDiff has the revisions that the target misses, and OpenRevs the edit that
+-- the source shows of each revision. Merge has the outcomes of storing the documents at the target. Only
+-- Merge and LocalPut change the world: LocalPut stores its log.
 abbrev pub IsAnswered : World → Call → Answer → World → Type 0
 IsAnswered world (LocalGet side) (LogAnswer log) new = (log ≡ log_at side world) × (new ≡ world)
 IsAnswered world (Changes since) (ChangesAnswer rows last life) new =
@@ -73,21 +74,21 @@ IsAnswered world (Merge docs) (MergeAnswer outcomes) new =
 IsAnswered world (LocalPut side log) PutAnswer new = new ≡ with_log side log world
 IsAnswered world call answer new = ⊥
 
--- what may happen next
+-- an event that may happen next
 pub data Event : Type 0 where
   Write : (docs : List Edit) → Event  -- documents are stored at the source, with their histories
-  InteractiveWrite : (drafts : List Draft) → Event  -- or drafts, whose revisions the source makes
+  InteractiveWrite : (drafts : List Draft) → Event  -- drafts, whose revisions the source makes
   Start : (session_id : List ℕ) → Event
   Round : Event
   Checkpoint : Event
   Reply : Event  -- the next call is answered
-  ChangesReply : (items : List ChangeItem) → Event  -- the next call asks for changes, and is answered so
+  ChangesReply : (items : List ChangeItem) → Event  -- the next call asks for changes, and gets these
   LossBefore : Event  -- the next call fails, and had no effect
-  LossAfter : Event  -- it had its effect, and its answer is lost
-  PartialMerge : (count : ℕ) → Event  -- it is a merge, and fails behind so many documents
-  Restart : Event  -- all that the follower holds is dropped
+  LossAfter : Event  -- the next call has its effect, and its answer is lost
+  PartialMerge : (count : ℕ) → Event  -- the next call is a merge, and fails after `count` documents
+  Restart : Event  -- the follower loses all that it holds
 
--- whether no call is to be made
+-- whether the follower has no call to make
 abbrev pub is_free : Follower → Bool
 is_free Down = true
 is_free (SourceStart session_id) = false
@@ -95,7 +96,7 @@ is_free (TargetStart session_id source) = false
 is_free (Ready s) = true
 is_free (Busy s phase) = false
 
--- a round begins with the changes, where no phase is on and a session is
+-- the follower as a round begins: with a session and no phase it asks for changes, and else it stays as it is
 abbrev pub round_start : Follower → Follower
 round_start Down = Down
 round_start (SourceStart session_id) = SourceStart session_id
@@ -103,7 +104,7 @@ round_start (TargetStart session_id source) = TargetStart session_id source
 round_start (Ready s) = Busy s Listing
 round_start (Busy s phase) = Busy s phase
 
--- a checkpoint begins at the source, where no phase is on and a session is
+-- the follower as a checkpoint begins: with a session and no phase it writes to the source, and else it stays
 abbrev pub checkpoint_start : Follower → Follower
 checkpoint_start Down = Down
 checkpoint_start (SourceStart session_id) = SourceStart session_id
@@ -111,11 +112,11 @@ checkpoint_start (TargetStart session_id source) = TargetStart session_id source
 checkpoint_start (Ready s) = Busy s SourceCheckpoint
 checkpoint_start (Busy s phase) = Busy s phase
 
--- a session of this id may begin: no call is to be made, and no earlier session had the id
+-- a session of this id may begin: the follower has no call to make, and no earlier session had the id
 abbrev pub IsFreeFor : World → List ℕ → Type 0
 IsFreeFor world session_id = IsTrue (is_free world.follower) × (¬ Contains world.sessions session_id)
 
--- the next call is a merge, and leaves this world where it fails behind `count` documents; another call
+-- the next call is a merge, and new is the world where the merge fails after `count` documents; another call
 -- changes nothing
 abbrev pub IsPartialMerge : World → Option Call → ℕ → World → Type 0
 IsPartialMerge world (Some (Merge docs)) count new =
@@ -125,7 +126,7 @@ IsPartialMerge world (Some (Merge docs)) count new =
     }
 IsPartialMerge world call count new = new ≡ world
 
--- the next call asks for changes, and leaves this world where the items are an answer to it; other items
+-- the next call asks for changes, and new is the world where these items answer it; items that are no answer
 -- change nothing, and nor does another call
 abbrev pub IsChangesReply : World → Option Call → List ChangeItem → World → Type 0
 IsChangesReply world (Some (Changes since)) items new =
@@ -136,7 +137,7 @@ IsChangesReply world (Some (Changes since)) items new =
     → ¬ IsChangesAnswer world.source (seq_in world.life since) items rows last) × (new ≡ world))
 IsChangesReply world call items new = new ≡ world
 
--- From world the event may lead to new. An event that has no place there changes nothing.
+-- From world the event may lead to new. An event that does not fit the follower's state changes nothing.
 abbrev pub Step : World → Event → World → Type 0
 Step world (Write docs) new =
     new ≡ record world { source = (merges_all world.limit world.source docs).journal }
@@ -174,8 +175,8 @@ place_of (TargetStart session_id source) = None
 place_of (Ready s) = Some s.place
 place_of (Busy s phase) = Some s.place
 
--- c is the number of a sequence up to which all is said to be copied: by one of the two logs, or by the
--- follower's place
+-- c is the number of a sequence up to which all is said to be copied: a log records the sequence, or it is
+-- the follower's place
 abbrev pub IsCheckpointOf : World → ℕ → Type 0
 IsCheckpointOf world c =
     IsRecordedIn world.source_log c

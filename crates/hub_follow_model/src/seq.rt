@@ -3,13 +3,13 @@
 ghost use Rattle.std.specs.Prelude.{◌≡◌};
 ghost use Rattle.hub_follow_model.specs.Sequence.{beginning, lesser_seq, seq_in, seq_of};
 
-/// A sequence of a source, with the number of its life where that is known: a replication log may have
-/// a number alone.
+/// A sequence of a source, with the number of its life where the life is known. A replication log may have a
+/// sequence without a life.
 #[derive(Clone, Copy, Debug, PartialEq, Eq)]
 pub struct Seq {
     /// The number of the edit.
     pub n: u64,
-    /// The number of the life that it is of.
+    /// The number of the source's life to which the sequence belongs.
     pub life: Option<u64>,
 }
 
@@ -31,8 +31,8 @@ impl Seq {
         }
     }
 
-    /// Its number as it counts in the life of this number: 0 where it is of another, and as it is where
-    /// its life is not known.
+    /// The number `n` as it counts in this life: 0 where the sequence is of another life, and `n` where its
+    /// life is not known.
     pub fn counted_in(self, life: u64) -> u64
         ensures { result ≡ seq_in life self }
     {
@@ -43,7 +43,7 @@ impl Seq {
         }
     }
 
-    /// The lesser of two, with the life that one of them has; the beginning where they are of two lives.
+    /// The lesser of two sequences, with the life that either has; the beginning where they are of two lives.
     pub fn lesser(self, other: Seq) -> Seq
         ensures { result ≡ lesser_seq self other }
     {

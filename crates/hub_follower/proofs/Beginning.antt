@@ -1,4 +1,4 @@
--- How a session does not begin.
+-- The faults for which a session does not begin.
 use Rattle.std.proofs.Common.{inl, inr, Result, Ok, Err}
 use Rattle.std.specs.Prelude.{IfErr}
 use Rattle.hub_follower.specs.Peers.{Gives, Fails, FollowState, Breaks, BeginsNot}

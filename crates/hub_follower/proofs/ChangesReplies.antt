@@ -10,7 +10,7 @@ use Rattle.hub_follow_model.specs.World as world
 use Rattle.hub_follow_model.specs.declared.seq.Seq.{Seq}
 use Rattle.hub_follower.specs.Worlds.{changes_asked}
 
--- the call that asks so
+-- the call that asks for changes above this sequence
 pub asked_since : (next : Option follow.Call) (since : Seq) → Some since ≡ changes_asked next
     → next ≡ Some (follow.Changes since)
 asked_since None since h = absurd (none-some since (sym h))

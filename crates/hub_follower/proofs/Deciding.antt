@@ -1,4 +1,4 @@
--- What is decided of items is whether they are an answer to a follower that asks for changes.
+-- The tests of items decide whether these are an answer to a follower that asks for changes.
 use Rattle.std.proofs.Common.{◌≡◌, ◌∙◌, ℕ, zero, suc, ◌+◌, ◌<◌, ◌≤◌, List, [], ◌∷◌, length}
 use Rattle.std.proofs.Common.{drop, map, take, get_or, Contains, inl, inr, ⊎_elim, Bool}
 use Rattle.std.proofs.Common.{true, false, refl, sym, ap, subst, arith, Option, Some, None}
@@ -31,7 +31,7 @@ use Rattle.hub_follower.specs.Handed.{numbered_end, same_revs, same_doc, same_ma
 use Rattle.hub_follower.specs.Handed.{same_row, is_shown, has_sequence, are_listed}
 use Rattle.hub_follower.specs.Listing.{rows_above, all_above}
 
--- ---- rows that are one
+-- ---- rows that are the same
 
 revs_are : (others revisions : List Revision) → same_revs others revisions ≡ true → others ≡ revisions
 revs_are [] [] h = refl
@@ -47,7 +47,7 @@ revs_self (revision ∷ revisions) =
     and_from (is_same revision revision) (same_revs revisions revisions) (same_self revision)
     (revs_self revisions)
 
--- lists of other lengths are two
+-- lists of different lengths are not the same
 pub lengths_differ : (revisions others : List Revision) → (length revisions ≡ length others → ⊥)
     → false ≡ same_revs revisions others
 lengths_differ revisions others h =
@@ -56,7 +56,7 @@ lengths_differ revisions others h =
       | inr t ↦ sym t
     ]
 
--- where each of two lists has one at a place, what is left is compared so
+-- where each of two lists has a revision at a place, the comparison goes on after it
 pub same_step : (revisions others : List Revision) (k : ℕ) (revision other : Revision)
     → slice_get revisions k ≡ Some revision → slice_get others k ≡ Some other
     → same_revs (drop k revisions) (drop k others) ≡
@@ -75,7 +75,7 @@ same_step revisions others k revision other a b =
     from (x ∷ revisions) (y ∷ others) zero a b = rw (same_Some x revision a, same_Some y other b) refl
     from (x ∷ revisions) (y ∷ others) (suc k) a b = from revisions others k a b
 
--- and each has one below its length
+-- a list has a revision at each place below its length
 pub none_below : (revisions : List Revision) (k : ℕ) → k < length revisions → slice_get revisions k ≡ None → ⊥
 none_below [] k low e = absurd (omega (arith, low))
 none_below (revision ∷ revisions) zero low e = absurd (cc)
@@ -409,7 +409,7 @@ module _ (journal : List Edit) (since : ℕ) (items : List ChangeItem) where
             is_listed_from journal since last (rows_of items) (λ c now up low. right.whole c now refl up low);
       }
 
-  -- where a test fails there is none
+  -- where a test fails the items are no answer
   pub not_numbered : None ≡ numbered_end (length journal) since items → (rows : List ChangeRow) (last : ℕ)
       → ¬ IsChangesAnswer journal since items rows last
   not_numbered h rows last a = none-some last (h ∙ (answered rows last a).numbers)

@@ -1,4 +1,4 @@
--- A follower over two peers that answer exactly is a run of its world.
+-- The calls of a follower over two peers that answer exactly are a run of its world.
 use Rattle.std.proofs.Common.{◌≡◌, ◌∙◌, ◌⊎◌, inl, inr, ℕ, List, [], ◌∷◌, ◌++◌}
 use Rattle.std.proofs.Common.{sym, ap, subst, Option, Some, MatchOption}
 use Rattle.hub_follow_model.specs.Follower as follow
@@ -13,7 +13,7 @@ use Rattle.hub_follower.specs.Peers.{LosesAt, FailsSo, Steps, Walks}
 use Rattle.hub_follower.specs.declared.fault.FollowFault.{FollowFault}
 use Rattle.hub_follower.proofs.Happening.{run_more}
 
--- one run behind another
+-- one run after another is a run
 run_on : (events more : List Event) (world mid new : World) → Run world events mid → Run mid more new
     → Run world (events ++ more) new
 run_on [] more world mid new e r = subst (λ (other : World). Run other more new) e r
@@ -78,7 +78,7 @@ module _ (limit : ℕ) (sessions : List (List ℕ)) where
 
   -- ---- a call that fails
 
-  -- a part of the documents was stored, by the database at this side
+  -- a part of the documents was stored by the database at this side
   abbrev IsPartAt : follow.Side → follow.Call → (held other s' t' : PeerContents) → Type 0
   IsPartAt follow.Source call held other s' t' = IsStoredInPart limit held call s' × (t' ≡ other)
   IsPartAt follow.Target call held other s' t' = (s' ≡ held) × IsStoredInPart limit other call t'
@@ -103,7 +103,7 @@ module _ (limit : ℕ) (sessions : List (List ℕ)) where
   lost follow.Target call held other s' t' (q, inr (inr (inl (answer, a)))) = inr (inl (answer, (q, a)))
   lost follow.Target call held other s' t' (q, inr (inr (inr p))) = inr (inr (q, p))
 
-  -- some event leads to what is left
+  -- some event leads from the old state to the new one
   abbrev Happens : (old new : FollowState PeerContents PeerContents) → Type 0
   Happens old new = (event : Event) × Step (world_at limit sessions old) event (world_at limit sessions new)
 

@@ -1,4 +1,4 @@
--- What may happen to two databases and a follower, step by step.
+-- The events of two databases and a follower, step by step.
 use Rattle.std.proofs.Common.{◌≡◌, ◌∙◌, ℕ, ◌≤◌, List, [], ◌∷◌, ◌++◌, refl, sym, ap, subst, inr}
 use Rattle.std.proofs.Common.{⊎_elim, Contains, true, false, Option, Some, None, option_map}
 use Rattle.std.proofs.lemmas.Map.Views.{Contains-from_any}
@@ -16,20 +16,20 @@ use Rattle.hub_follower.specs.Views.{answer_of}
 use Rattle.hub_follower.specs.Worlds.{IsWithinNext, HasPlace, HasAnswered}
 use Rattle.hub_follower.specs.declared.call.Answer.{Answer}
 
--- one event more
+-- a run with one event more is a run
 pub run_more : (events : List world.Event) (event : world.Event) (w mid new : world.World)
     → world.Run w events mid → world.Step mid event new → world.Run w (events ++ event ∷ []) new
 run_more [] event w mid new r s = (new, subst (λ (z : world.World). world.Step z event new) r s, refl)
 run_more (other ∷ events) event w mid new (m, step, rest) s =
     (m, step, run_more events event m mid new rest s)
 
--- behind every run the place is a sequence that the source has
+-- after every run the place is a sequence that the source has
 pub place_within : (limit : ℕ) (events : List world.Event) (w : world.World)
     → world.Run (world.empty_world limit) events w → HasPlace w
 place_within limit events w r c e =
     claimed_within limit events w r c.n (inr (inr (ap (option_map (λ (place : Seq). place.n)) e)))
 
--- so changes are asked for within
+-- so a call for changes asks above a sequence that the source has
 pub within_next : (follower : follow.Follower) (len : ℕ)
     → ((seq : Seq) → world.place_of follower ≡ Some seq → seq.n ≤ len)
     → IsWithinNext len (follow.next_call follower)
@@ -44,7 +44,7 @@ within_next (follow.Busy s (follow.Storage got last)) len h = tt
 within_next (follow.Busy s follow.SourceCheckpoint) len h = tt
 within_next (follow.Busy s follow.TargetCheckpoint) len h = tt
 
--- an answer to the next call is one that the follower takes
+-- an answer to the next call fits the call
 pub answered_fits : (w mid : world.World) (next : Option follow.Call) (answer : Answer)
     → HasAnswered w next (Some answer) mid → follow.IsAnswerToNext next (answer_of answer)
 answered_fits w mid None answer h = absurd h
@@ -62,7 +62,7 @@ in_any q (x ∷ xs) h =
     or_left (bytes_eq q x) (list_any (bytes_eq q) xs) ((bytes_eq-Decides q x).1 (sym e)))
     (λ m. or_right (bytes_eq q x) (list_any (bytes_eq q) xs) (in_any q xs m)) (contains_cases x q xs h)
 
--- a session begins where no call is due and none had its id
+-- a session may begin where no call is owed and no earlier session had its id
 pub free_for : (w : world.World) (id : List ℕ) → world.is_free w.follower ≡ true
     → list_any (bytes_eq id) w.sessions ≡ false → world.IsFreeFor w id
 free_for w id f u =

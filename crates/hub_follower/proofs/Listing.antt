@@ -71,7 +71,7 @@ rise_take zero rows r = tt
 rise_take (suc k) [] r = tt
 rise_take (suc k) (row ∷ rows) r = (above_take row.seq k rows r.0, rise_take k rows r.1)
 
--- what is not above the one at k is among the first k + 1
+-- a row that is not above the row at k is among the first k + 1
 pub in_take : (k : ℕ) (rows : List Current) (row other : Current) → Rise rows → k < length rows
     → Contains rows row → row.seq ≤ (get_or rows k other).seq → Contains (take (suc k) rows) row
 in_take k [] row other r l h low = absurd (contains_none row h)
@@ -131,7 +131,7 @@ module _ (journal : List Edit) where
   length_mapped [] = refl
   length_mapped (row ∷ rows) = ap suc (length_mapped rows)
 
-  -- what is shown of each of these rows is an answer, where they are all between the two sequences
+  -- these rows, as they are shown, are an answer, where they are all between the two sequences
   pub listed : (since last : ℕ) (cs : List Current) → Rise cs → length cs ≤ 100 → since ≤ last
       → last ≤ length journal
       → ((c : Current) → Contains cs c → Contains (current journal) c × (since < c.seq) × (c.seq ≤ last))
@@ -184,7 +184,7 @@ above_test since n h = grind (arith, nat_tests)
 test_above : (since n : ℕ) → (nat_lt since n && true) ≡ true → since < n
 test_above since n h = grind (arith, nat_tests)
 
--- what is among the first k + 1 is not above the one at k
+-- a row among the first k + 1 is not above the row at k
 under_last : (k : ℕ) (rows : List Current) (row other : Current) → Rise rows → k < length rows
     → Contains (take (suc k) rows) row → row.seq ≤ (get_or rows k other).seq
 under_last k [] row other r l h = absurd (omega (arith, l))
@@ -223,7 +223,7 @@ module _ (journal : List Edit) (since : ℕ) (from : since ≤ length journal) w
       in_filter (λ (row : Current). nat_lt since row.seq && is_passing Everything row.id) (current journal) row m
       (above_test since row.seq up)
 
-  -- what goes downwards is this list from its end
+  -- the descending answer is this list from its end
   pub turned : (life : ℕ) → reverse (descending journal life (listing_params since)).rows ≡ every
   turned life =
       let same : min since (length journal) ≡ since = omega (arith, from) in
@@ -257,7 +257,7 @@ module _ (journal : List Edit) (since : ℕ) (from : since ≤ length journal) w
       few (suc k) [] = omega arith
       few (suc k) (x ∷ xs) = let h = few k xs in omega (arith, h)
 
-  -- all rows where they are few, and else the first ones
+  -- all rows are an answer where they are 100 at most, and else the first 100 are one
   pub first_answered : (rows : List ChangeRow) (last : ℕ) → AreFirst every (length journal) rows last
       → HasChangesAnswer journal since rows last
   first_answered rows last h = by (cases_lt 100 (length every))

@@ -1,4 +1,4 @@
--- What the answers of open_revs bring, one after the other.
+-- The documents that the answers of open_revs bring, one after the other.
 use Rattle.std.proofs.Common.{◌≡◌, ◌∙◌, ℕ, ◌+◌, ◌<◌, List, [], ◌∷◌, ◌++◌, length, map, drop, get_or, refl}
 use Rattle.std.proofs.Common.{sym, ap, arith, Result, Ok, Err, Some, None, append_assoc, append-nil}
 use Rattle.hub_model.specs.Journal.{Edit}
@@ -18,14 +18,14 @@ pub map_push : {X Y : Type 0} (f : X → Y) (xs : List X) (x : X) → map f (xs 
 map_push f [] x = refl
 map_push f (y ∷ xs) x = ap (λ z. f y ∷ z) (map_push f xs x)
 
--- the documents that are there behind those in hand, or the first revision that is missing
+-- the documents in hand, and then those that the answer has, or the first revision that is missing
 abbrev pub opens : List ℕ → List Revision → List OpenRev → List Doc → Result (List Doc) follow.Fault
 opens id revs [] got = Ok got
 opens id [] (rev ∷ found) got = Err follow.PeerFault
 opens id (revision ∷ revs) (Found doc ∷ found) got = opens id revs found (got ++ doc ∷ [])
 opens id (revision ∷ revs) (Missing x ∷ found) got = Err (follow.MissingRevision id revision)
 
--- where they are there, they are what the answer brings
+-- where no revision is missing, these documents are those in hand and then those of the answer
 pub opens_ok : (id : List ℕ) (revs : List Revision) (found : List OpenRev) (got docs : List Doc)
     → length found ≡ length revs → opens id revs found got ≡ Ok docs
     → (edits : List Edit) × (follow.all_documents id revs (map found_edit found) ≡ Ok edits)
@@ -45,7 +45,7 @@ opens_ok id (revision ∷ revs) (Found doc ∷ found) got docs n e =
           ∙ append_assoc (map edit_of got) (edit_of doc ∷ []) edits),
     )
 
--- where one is missing, it is what the answer misses
+-- where a revision is missing, the fault is that of the answer
 pub opens_err : (id : List ℕ) (revs : List Revision) (found : List OpenRev)
     (got : List Doc) (fault : follow.Fault)
     → length found ≡ length revs → opens id revs found got ≡ Err fault
@@ -64,7 +64,7 @@ opens_err id (revision ∷ revs) (Found doc ∷ found) got fault n e =
     ap (follow.with_document id revision (Some (edit_of doc)))
     (opens_err id revs found (got ++ doc ∷ []) fault (omega arith) e)
 
--- nothing is left
+-- at the end of the answer the documents are those in hand
 pub opens_end : (id : List ℕ) (revs : List Revision) (found : List OpenRev) (got : List Doc) → found ≡ []
     → opens id revs found got ≡ Ok got
 opens_end id revs found got e = ap (λ z. opens id revs z got) e

@@ -24,7 +24,7 @@ use Rattle.hub_follower.specs.Laws.{AreWritableEntries, IsWritableLog, LogsReadB
 
 -- ---- a sequence
 
--- as a string with its life, and else as a number
+-- the data of a sequence: a string with its life, or a number where the life is not known
 abbrev seq_data : ℕ → Option ℕ → Data
 seq_data n None = number (unsigned n)
 seq_data n (Some life) = string (decimal n ++ 45 ∷ decimal life)
@@ -81,9 +81,9 @@ log_data log =
     (member (codes "session_id") (string log.session_id)
     (member (codes "source_last_seq") (data_of log.source_last_seq) no_members))))
 
--- ---- its text
+-- ---- the text of the object
 
--- with these texts of its sequences
+-- the text of an entry that has these texts of its sequences
 abbrev entry_with : HistoryEntry → (a b c : List ℕ) → List ℕ
 entry_with entry a b c =
     codes "{\"end_last_seq\":" ++ (a ++ (codes ",\"recorded_seq\":" ++ (b ++ (codes ",\"session_id\":"
@@ -125,14 +125,14 @@ entries_compact (entry ∷ history) h =
     ∙ ap (λ s. entry_text entry ++ s) (later_compact history h.1)
     ∙ sym (append_assoc (entry_text entry) (later_entries_text history) (93 ∷ []))
 
--- what stands behind the history
+-- the text after the history
 abbrev rest_text : ReplicationLog → List ℕ
 rest_text log =
     members_text true (member (codes "replication_id_version") (number (unsigned 3))
     (member (codes "session_id") (string log.session_id)
     (member (codes "source_last_seq") (data_of log.source_last_seq) no_members)))
 
--- with this text of its sequence
+-- the text after the history, with this text of its sequence
 abbrev rest_with : ReplicationLog → List ℕ → List ℕ
 rest_with log a =
     codes ",\"replication_id_version\":" ++ (decimal 3 ++ (codes ",\"session_id\":" ++ (quoted log.session_id
@@ -152,7 +152,7 @@ log_compact log h =
     ∙ ap (λ s. codes "{\"history\":[" ++ (entries_text log.history ++ (93 ∷ s)))
     (rest_parts log ∙ ap (rest_with log) (compact_of log.source_last_seq h.last)))
 
--- ---- it can be read
+-- ---- the text can be read
 
 entry_writable : (entry : HistoryEntry) → IsWritableEntry entry → IsWritable (entry_data entry)
 entry_writable entry h = (
@@ -236,7 +236,7 @@ log_shallow log =
     let rest = entries_shallow log.history in
     omega (arith, rest, seq_shallow log.source_last_seq.n log.source_last_seq.life)
 
--- ---- and reads as the log
+-- ---- the text reads as the log
 
 entries_back : (history : List HistoryEntry) → AreWritableEntries history
     → entries_in (entries_data history) ≡ Some history

@@ -28,7 +28,7 @@ chosen_no : {X : Type 0} (b : Bool) (x y : X) → b ≡ false → (if b then x e
 chosen_no true x y e = absurd (cc)
 chosen_no false x y e = refl
 
--- the next edit of a legal journal may be stored behind those before it
+-- the next edit of a legal journal is acceptable after those before it
 next_acceptable : (before journal : List Edit) (n : ℕ) (edit : Edit) → IsLegalAfter before journal
     → slice_get journal n ≡ Some edit → IsAcceptable (before ++ take n journal) edit
 next_acceptable before [] n edit h s = absurd (none-some edit s)
@@ -46,7 +46,7 @@ head_is_new other_journal edit a =
     not_true (is_head_known other_journal edit.id edit.path)
     (and_parts (not (is_head_known other_journal edit.id edit.path)) _ p.1).0
 
--- and is stored where there is room
+-- an acceptable edit is stored where there is room
 merged_next : (limit : ℕ) (other_journal : List Edit) (edit : Edit) → IsAcceptable other_journal edit
     → length other_journal < limit → (merge_result limit other_journal edit).journal ≡ other_journal ++ edit ∷ []
 merged_next limit other_journal edit a room =
@@ -66,7 +66,7 @@ shown_edit : (maybe_edit : Option Edit) (doc : Doc) → Some doc ≡ option_map 
 shown_edit None doc h = absurd (none-some doc (sym h))
 shown_edit (Some edit) doc h = ap (λ z. Some (edit_of z)) (sym (same_Some doc (doc_shown true edit) h))
 
--- the edit of a sequence, from the document that is shown of it
+-- the edit of a sequence is that of the document that is shown of it
 entry_edit : (journal : List Edit) (n seq : ℕ) (doc : Doc) → n + 1 ≡ seq → Some doc ≡ entry_doc_of journal seq
     → slice_get journal n ≡ Some (edit_of doc)
 entry_edit journal n zero doc q h = absurd (omega (arith, q))
@@ -89,7 +89,7 @@ none_rebuilt journal copy limits legal few none stands same p =
       first = none ∙ ap (λ (z : List Edit). take (length z) journal) (sym none);
     }
 
--- one more edit is stored in a copy of those before it
+-- the next edit is stored in a copy of the edits before it
 pub added : (journal : List Edit) (copy new : Database) (doc : Doc) (seq : ℕ)
     (outcomes : List (Outcome Revision))
     → IsRebuilt journal copy → length copy.journal + 1 ≡ seq → seq ≤ length journal
@@ -119,6 +119,6 @@ added journal copy new doc seq outcomes r q l h w s =
       omega (arith, len, q),
     )
 
--- up to the last edit it is the whole journal
+-- a front of the journal with as many edits as it has is the whole journal
 pub whole_rebuilt : (journal : List Edit) (n : ℕ) → n ≡ length journal → take n journal ≡ journal
 whole_rebuilt journal n e = take_all n journal (omega (arith, e))

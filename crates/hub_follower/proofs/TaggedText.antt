@@ -1,4 +1,4 @@
--- The text of a sequence with its life reads as both.
+-- The text of a sequence reads as its number and its life.
 use Rattle.std.proofs.Common.{◌≡◌, ◌≢◌, ◌∙◌, ◌<◌, ◌^◌, ◌≤◌, ℕ, List, [], ◌∷◌, ◌++◌}
 use Rattle.std.proofs.Common.{length, take, true, false, nat_lt, Some, decimal, refl}
 use Rattle.std.proofs.Common.{ap, sym, arith, rules, append_assoc, append-nil, subst}
@@ -20,7 +20,7 @@ use Rattle.hub_params.specs.FeedValues.{is_digit, is_hyphen, number_in, tagged_i
 own : IsNumeralModel (λ ds. list_all is_digit ds ≡ true) (digits_value 10)
 own = numerals_by_value _ (search rules)
 
--- a number
+-- the decimal text of a number has digits alone
 digits_of : (n : ℕ) → n < 2 ^ 64 → list_all is_digit (decimal n) ≡ true
 digits_of n h = digits_decimal own n h
 
@@ -31,7 +31,7 @@ number_back n h =
     let value : digits_value 10 (decimal n) ≡ n = digits_value-decimal own n h in
     rw (some, digits_of n h, value, lt-ltb n (2 ^ 64) h) refl
 
--- the hyphen is the first one
+-- a digit is no hyphen, so the hyphen is the first one
 digit_no_hyphen : (b : ℕ) → is_digit b ≡ true → is_hyphen b ≡ false
 digit_no_hyphen b h = ne_eqb b 45 (λ e. let at : false ≡ true = ap is_digit (sym e) ∙ h in absurd (cc))
 
@@ -64,7 +64,7 @@ tagged_back n life h k =
 
 -- ---- its JSON string
 
--- no byte of it is escaped
+-- no byte of the text is escaped in its JSON string
 abbrev IsPlainText : List ℕ → Type 0
 IsPlainText [] = ⊤
 IsPlainText (b ∷ text) = (b ≢ 34) × (b ≢ 92) × (32 ≤ b) × IsPlainText text
@@ -97,7 +97,7 @@ tagged_quoted n life h k =
     (subst (λ l. escape (decimal n ++ 45 ∷ l) ≡ decimal n ++ 45 ∷ l) all plain)
     ∙ ap (λ s. 34 ∷ s) (append_assoc (decimal n) (45 ∷ decimal life) (34 ∷ []))
 
--- it is ASCII
+-- digits in front of an ASCII text are ASCII too
 ascii_digits : (xs ys : List ℕ) → list_all is_digit xs ≡ true → are_ascii ys ≡ true
     → are_ascii (xs ++ ys) ≡ true
 ascii_digits [] ys h a = a

@@ -1,4 +1,4 @@
--- How a fault goes on to be told.
+-- The faults of calls, as a follower tells them.
 use Rattle.std.proofs.Common.{Result, Ok, Err}
 use Rattle.std.specs.Prelude.{IfErr}
 use Rattle.hub_follow_model.specs.Follower as follow

@@ -1,4 +1,4 @@
--- How a follower goes from call to call.
+-- The steps of a follower from call to call.
 use Rattle.std.proofs.Common.{◌≡◌, ◌∙◌, ◌+◌, ◌≤◌, ◌⊎◌, inl, inr, refl, sym, subst}
 use Rattle.std.proofs.Common.{⊎_elim, arith, List, [], ◌∷◌, ◌++◌, length, map, Bool}
 use Rattle.std.proofs.Common.{true, false, Option, Some, None, Result, Ok, Err}
@@ -23,7 +23,7 @@ round_fails (follow.TargetStart name source) f = absurd (cc)
 round_fails (follow.Ready s) f = refl
 round_fails (follow.Busy s work) f = absurd (cc)
 
--- and so does a checkpoint
+-- a checkpoint that fails leaves a follower that owes nothing as it was
 pub checkpoint_fails : (core : follow.Follower) → world.is_free core ≡ true
     → follow.after_failure (world.checkpoint_start core) ≡ core
 checkpoint_fails follow.Down f = refl
@@ -32,7 +32,7 @@ checkpoint_fails (follow.TargetStart name source) f = absurd (cc)
 checkpoint_fails (follow.Ready s) f = refl
 checkpoint_fails (follow.Busy s work) f = absurd (cc)
 
--- what an answer leads to
+-- the facts after an answer: the follower owes no call, or a failure leaves the same follower as before
 abbrev pub Leads : follow.Follower → follow.Follower → Type 0
 Leads core core' =
     ((follow.next_call core' ≡ None) ⊎ (follow.after_failure core' ≡ follow.after_failure core))
@@ -160,7 +160,7 @@ module _ {S T : Type 0} (gives_s : Gives S) (gives_t : Gives T) where
   pub reach_none : (old : FollowState S T) → Reaches gives_s gives_t old old
   reach_none old = record { walk = ([], refl); left = inr refl }
 
-  -- a call was made, or none was owed
+  -- a step leaves a follower that is past the call for changes
   pub past_asking : (made : Bool) (old new : FollowState S T) → Idles made old new
       → (made ≡ true → Steps gives_s gives_t old new) → IsPastAsking new.follower
   past_asking false old new idle ok =
@@ -185,7 +185,7 @@ module _ {S T : Type 0} (gives_s : Gives S) (gives_t : Gives T) where
   fewer_left old new p c = (leads old.follower p.1 new.follower p.4).3 c
 
   module _ (old mid : FollowState S T) (r : Reaches gives_s gives_t old mid) where
-    -- while a call is owed, a failure leaves what it leaves of the first follower
+    -- while a call is owed, a failure leaves the same follower as a failure of the first call
     owing_left : (call : follow.Call) → follow.next_call mid.follower ≡ Some call
         → follow.after_failure mid.follower ≡ follow.after_failure old.follower
     owing_left call o =
@@ -213,12 +213,12 @@ module _ {S T : Type 0} (gives_s : Gives S) (gives_t : Gives T) where
       pub reach_fails : new.follower ≡ follow.after_failure old.follower
       reach_fails = p.2 ∙ owing_left p.0 p.1
 
--- what holds in every case holds where it failed
+-- a fact that holds in every case holds where a call failed
 pub on_err : {T E : Type 0} (r : Result T E) (P : Type 0) → P → OnErr r P
 on_err (Ok x) P p = tt
 on_err (Err e) P p = p
 
--- a fault goes on as it is
+-- a fault that is passed on as it is keeps its facts
 pub if_err_on : {T E : Type 0} (r : Result T E) (P : E → Type 0) (fault : E)
     → IsErrAnd r (λ e. e ≡ fault) → P fault → IfErr r P
 if_err_on (Ok x) P fault same p = tt

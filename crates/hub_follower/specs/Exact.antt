@@ -1,4 +1,5 @@
--- A follower over two peers that answer exactly is a run of its world, also where a call fails (own).
+-- The calls of a follower over two peers that answer exactly are a run of its world, also where one fails
+-- (own).
 use Rattle.std.specs.Prelude.{◌≡◌, ◌⊎◌, ℕ, List, map, take, Option, Some}
 use Rattle.hub_model.specs.Journal.{Edit}
 use Rattle.hub_model.specs.Missing.{diffs}
@@ -13,13 +14,13 @@ use Rattle.hub_follow_model.specs.ReplicationLog.{ReplicationLog}
 use Rattle.hub_follower.specs.Peers.{FollowState, IsWalk, Breaks}
 use Rattle.hub_follower.specs.declared.fault.FollowFault.{FollowFault}
 
--- what a peer holds
+-- the contents of a peer
 pub record PeerContents : Type 0 where
   pub journal : List Edit
   pub life : ℕ  -- the number of its life
   pub log : Option ReplicationLog
 
--- what a database that nobody else writes answers, with a journal of at most so many edits
+-- the answer, and the contents after it, of a database with at most `limit` edits that nobody else writes
 abbrev pub IsExact : ℕ → PeerContents → follow.Call → follow.Answer → PeerContents → Type 0
 IsExact limit held (follow.LocalGet side) (follow.LogAnswer log) new = (log ≡ held.log) × (new ≡ held)
 IsExact limit held (follow.Changes since) (follow.ChangesAnswer rows last life) new =
@@ -34,20 +35,21 @@ IsExact limit held (follow.Merge docs) (follow.MergeAnswer outcomes) new =
 IsExact limit held (follow.LocalPut side log) follow.PutAnswer new = new ≡ record held { log = Some log }
 IsExact limit held call answer new = ⊥
 
--- a merge of which so many documents were stored, the first ones
+-- a merge of which a front of the documents was stored
 abbrev pub IsStoredInPart : ℕ → PeerContents → follow.Call → PeerContents → Type 0
 IsStoredInPart limit held (follow.Merge docs) new =
     (count : ℕ) × (new ≡ record held { journal = (merges_all limit held.journal (take count docs)).journal })
 IsStoredInPart limit held call new = ⊥
 
--- How a call of such a database fails: it has no effect; or its whole effect, and the answer is lost; or it
--- is a merge that stops. So of a merge of a and b the journal gets nothing, a, or both.
+-- The failure of a call of a database that nobody else writes. The call has no effect; or it has its whole
+-- effect, and the answer is lost; or it is a merge that stops. So of a merge of a and b the journal gets
+-- nothing, a, or both.
 abbrev pub IsExactLoss : ℕ → PeerContents → follow.Call → PeerContents → Type 0
 IsExactLoss limit held call new =
     (new ≡ held)
     ⊎ (((answer : follow.Answer) × IsExact limit held call answer new) ⊎ IsStoredInPart limit held call new)
 
--- the world of a follower over such peers, in which these sessions have begun
+-- the world of a follower over exact peers, in which these sessions have begun
 abbrev pub world_at : ℕ → List (List ℕ) → FollowState PeerContents PeerContents → World
 world_at limit sessions at =
     record {
@@ -61,33 +63,33 @@ world_at limit sessions at =
       follower = at.follower;
     }
 
--- over such peers the follower makes its calls until it owes none
+-- over exact peers the follower makes its calls until it owes none
 abbrev pub IsExactWalk : ℕ → FollowState PeerContents PeerContents → FollowState PeerContents PeerContents → Type 0
 IsExactWalk limit old new = IsWalk (IsExact limit) (IsExact limit) old new
 
--- or up to a call that fails, for this fault
+-- over exact peers the follower makes its calls up to a call that fails for this fault
 abbrev pub BreaksExactly : ℕ → FollowFault → FollowState PeerContents PeerContents → FollowState PeerContents PeerContents → Type 0
 BreaksExactly limit fault old new =
     Breaks (IsExact limit) (IsExact limit) (IsExactLoss limit) (IsExactLoss limit) fault old new
 
--- some events lead from one such standing to another
+-- some events lead from the old state of a follower and its peers to the new one
 abbrev pub HasRun : ℕ → List (List ℕ) → FollowState PeerContents PeerContents → FollowState PeerContents PeerContents → Type 0
 HasRun limit sessions old new =
     (events : List Event) × Run (world_at limit sessions old) events (world_at limit sessions new)
 
--- the law: whatever the follower does over such peers is a run of that world
+-- the law: a walk of a follower over exact peers is a run of its world
 abbrev pub ExactWalksRun : Type 0
 ExactWalksRun =
     (limit : ℕ) (sessions : List (List ℕ)) (old new : FollowState PeerContents PeerContents) → IsExactWalk limit old new
     → HasRun limit sessions old new
 
--- and so it is where a call fails
+-- the law: the calls up to a failure, and the failure, are a run of its world
 abbrev pub ExactBreaksRun : Type 0
 ExactBreaksRun =
     (limit : ℕ) (sessions : List (List ℕ)) (fault : FollowFault) (old new : FollowState PeerContents PeerContents)
     → BreaksExactly limit fault old new → HasRun limit sessions old new
 
--- So what a run from two empty databases has copied stays copied: behind a walk, and behind a failure.
+-- So after a run from two empty databases a walk, or calls up to a failure, leave the copy faithful.
 abbrev pub ExactPeersCopy : Type 0
 ExactPeersCopy =
     (limit : ℕ) (sessions : List (List ℕ)) (events : List Event) (fault : FollowFault)

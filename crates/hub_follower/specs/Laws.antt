@@ -1,4 +1,4 @@
--- A log that is written is read again (own).
+-- A log that is written reads back as the log (own).
 use Rattle.std.specs.Prelude.{◌≡◌, ◌≤◌, ◌<◌, ◌^◌, List, [], ◌∷◌, ⊤, length, Some, IsUtf8, IfSome}
 use Rattle.hub_follow_model.specs.declared.seq.Seq.{Seq}
 use Rattle.hub_follow_model.specs.ReplicationLog.{ReplicationLog, HistoryEntry}
@@ -8,7 +8,7 @@ use Rattle.hub_follower.specs.LogText.{log_in, log_text}
 abbrev pub IsWritableSeq : Seq → Type 0
 IsWritableSeq seq = (seq.n < 2 ^ 64) × IfSome seq.life (λ life. life < 2 ^ 64)
 
--- the session's id is UTF-8, and the numbers are of 64 bits
+-- an entry whose session id is UTF-8, and whose numbers have 64 bits
 pub record IsWritableEntry (entry : HistoryEntry) : Type 0 where
   pub utf8 : IsUtf8 entry.session_id
   pub start : IsWritableSeq entry.start_last_seq
@@ -19,13 +19,13 @@ abbrev pub AreWritableEntries : List HistoryEntry → Type 0
 AreWritableEntries [] = ⊤
 AreWritableEntries (entry ∷ history) = IsWritableEntry entry × AreWritableEntries history
 
--- so it is of a log, whose history has 50 entries at most
+-- a log whose session ids are UTF-8, whose numbers have 64 bits, and whose history has 50 entries at most
 pub record IsWritableLog (log : ReplicationLog) : Type 0 where
   pub utf8 : IsUtf8 log.session_id
   pub last : IsWritableSeq log.source_last_seq
   pub entries : AreWritableEntries log.history
   pub short : length log.history ≤ 50
 
--- the text of such a log reads as it
+-- the text of such a log reads as the log
 abbrev pub LogsReadBack : Type 0
 LogsReadBack = (log : ReplicationLog) → IsWritableLog log → log_in (log_text log) ≡ Some log

@@ -15,11 +15,11 @@ use Rattle.hub_model.specs.declared.feeds.Style.TheVariants.{AllDocs}
 abbrev pub rows_above : List Edit → ℕ → List Current
 rows_above journal since = filter (λ c. nat_lt since c.seq && is_passing Everything c.id) (current journal)
 
--- as they are shown with every leaf
+-- these rows, as they are shown with every leaf
 abbrev pub all_above : List Edit → ℕ → List ChangeRow
 all_above journal since = map (row_of journal AllDocs false) (rows_above journal since)
 
--- what is asked for them all
+-- the parameters of a feed of all these rows
 abbrev pub listing_params : ℕ → Params
 listing_params since =
     record {
@@ -32,8 +32,8 @@ listing_params since =
       heartbeat = false;
     }
 
--- these are all rows of the list, and the other sequence, where it has 100 at most; else the first 100, and
--- the sequence of the last of them
+-- The first rows of the list `all`, and their last sequence. Where the list has 100 rows at most, these are
+-- all rows, and `len`. Else they are the first 100 rows, and the sequence of the last of them.
 pub record AreFirst (all : List ChangeRow) (len : ℕ) (rows : List ChangeRow) (last : ℕ) : Type 0 where
   pub short : length all ≤ 100 → (rows ≡ all) × (last ≡ len)
   pub long : 100 < length all → (rows ≡ take 100 all) × ((row : ChangeRow) → last ≡ (get_or all 99 row).seq)

@@ -1,5 +1,5 @@
--- The replication log that a local document's members are (CouchDB Replication Protocol; that one bad member
--- makes all of it absent, and the bound of 50 entries, is own).
+-- The replication log in the members of a local document (CouchDB Replication Protocol; that one bad member
+-- makes the whole log absent, and the bound of 50 entries, is own).
 use Rattle.std.specs.Prelude.{ℕ, ◌++◌, List, [], ◌∷◌, length, codes, decimal, nat_le, nat_eq, if◌then◌else◌}
 use Rattle.std.specs.Prelude.{Option, Some, None, option_map, option_and_then}
 use Rattle.json.specs.Print.{quoted}
@@ -21,12 +21,12 @@ text_at k content = option_and_then as_str (get k content)
 abbrev pub count_at : List ℕ → Data → Option ℕ
 count_at k content = option_and_then as_u64 (option_and_then as_number (get k content))
 
--- the sequence of a text, as 12-3, where there is one; else of a number, whose life is not known
+-- the sequence of a text such as 12-3, where there is a text; else of a number, whose life is not known
 abbrev pub seq_or_number : Option (List ℕ) → Option ℕ → Option Seq
 seq_or_number None number = option_map (λ n. record { n = n; life = None }) number
 seq_or_number (Some text) number = option_map (λ p. seq_of p.1 p.0) (tagged_in text)
 
--- the sequence that a value is: "12-3", or 12 alone
+-- the sequence of a value: "12-3", or 12 alone
 abbrev pub seq_value : Data → Option Seq
 seq_value content = seq_or_number (as_str content) (option_and_then as_u64 (as_number content))
 
@@ -34,7 +34,7 @@ seq_value content = seq_or_number (as_str content) (option_and_then as_u64 (as_n
 abbrev pub seq_at : List ℕ → Data → Option Seq
 seq_at k content = option_and_then seq_value (get k content)
 
--- the entry of a history that a value is
+-- the history entry of a value
 abbrev pub entry_in : Data → Option HistoryEntry
 entry_in content =
     option_and_then (λ session. option_and_then (λ first. option_and_then (λ last. option_map (λ recorded.
@@ -47,12 +47,12 @@ entry_in content =
     (seq_at (codes "recorded_seq") content)) (seq_at (codes "end_last_seq") content))
     (seq_at (codes "start_last_seq") content)) (text_at (codes "session_id") content)
 
--- the entries
+-- the history entries of an array's items, where each item is an entry
 abbrev pub entries_in : Items → Option (List HistoryEntry)
 entries_in no_items = Some []
 entries_in (item d ds) = option_and_then (λ entry. in_front entry (entries_in ds)) (entry_in d)
 
--- a history: 50 entries at most
+-- a history, where it has 50 entries at most
 abbrev pub short_history : List HistoryEntry → Option (List HistoryEntry)
 short_history history = if nat_le (length history) 50 then Some history else None
 
@@ -61,7 +61,7 @@ history_in content =
     option_and_then short_history
     (option_and_then entries_in (option_and_then as_array (get (codes "history") content)))
 
--- the log of this version: 3 alone is known
+-- the log of a value that has this version: 3 alone is known
 abbrev pub log_of_version : Data → ℕ → Option ReplicationLog
 log_of_version content version =
     if nat_eq version 3
@@ -70,15 +70,15 @@ log_of_version content version =
     (history_in content)) (seq_at (codes "source_last_seq") content)) (text_at (codes "session_id") content)
     else None
 
--- the log that a value is
+-- the log of a value
 abbrev pub log_of : Data → Option ReplicationLog
 log_of content = option_and_then (log_of_version content) (count_at (codes "replication_id_version") content)
 
--- the log that the members' text is
+-- the log in the text of the members
 abbrev pub log_in : List ℕ → Option ReplicationLog
 log_in text = option_and_then log_of (json_of text)
 
--- a number with such a life: as a JSON string, or alone where the life is not known
+-- the text of a number with its life: a JSON string, or the digits alone where the life is not known
 abbrev pub seq_text_of : ℕ → Option ℕ → List ℕ
 seq_text_of n None = decimal n
 seq_text_of n (Some life) = sequence_text n life
@@ -94,12 +94,12 @@ entry_text entry =
     ++ (seq_text entry.recorded_seq ++ (codes ",\"session_id\":" ++ (quoted entry.session_id
     ++ (codes ",\"start_last_seq\":" ++ (seq_text entry.start_last_seq ++ codes "}")))))))
 
--- of the entries behind one, each with a comma in front
+-- the texts of the entries after the first one, each with a comma in front
 abbrev pub later_entries_text : List HistoryEntry → List ℕ
 later_entries_text [] = []
 later_entries_text (entry ∷ history) = codes "," ++ (entry_text entry ++ later_entries_text history)
 
--- of all
+-- the texts of all entries, with commas between them
 abbrev pub entries_text : List HistoryEntry → List ℕ
 entries_text [] = []
 entries_text (entry ∷ history) = entry_text entry ++ later_entries_text history

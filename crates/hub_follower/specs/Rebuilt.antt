@@ -3,22 +3,22 @@ use Rattle.std.specs.Prelude.{◌≡◌, ◌≤◌, ◌<◌, ℕ, List, length, 
 use Rattle.hub_model.specs.Journal.{Edit, IsLegal}
 use Rattle.hub_database.specs.Database.{Database}
 
--- The database holds the first edits of a legal journal, and may hold all of them. After a, b and a again it
--- may hold none, a, a and b, or all three.
+-- The copy holds the first edits of a legal journal, and may hold all of them. Where the journal has edits of
+-- a, b and a again, it may hold none, a, a and b, or all three.
 pub record IsRebuilt (journal : List Edit) (copy : Database) : Type 0 where
   pub legal : IsLegal journal
   pub fits : length journal ≤ copy.limits.journal
   pub stands : copy.deleted ≡ false
   pub first : copy.journal ≡ take (length copy.journal) journal
 
--- The copy can be made the database as it was when it had so many edits: it is a copy, and the journal has so
--- many.
+-- The copy can be made the database as it was when it had so many edits: it is a copy, and the journal has at
+-- least so many.
 pub record IsRebuildable (edits : ℕ) (journal : List Edit) (db : Database) : Type 0 where
   pub copy : IsRebuilt journal db
   pub within : edits ≤ length journal
 
--- A question about the rows of a journal is answered by the help of a copy, which stays a copy. Memory runs
--- out only where the journal has an edit.
+-- The answer to a question about the rows of a journal, by the help of a copy, which stays a copy. Memory
+-- runs out only where the journal has an edit.
 pub record IsJudged {E : Type 0} (journal : List Edit) (answer : Bool) (result : Result Bool E)
     (db : Database) : Type 0 where
   pub ok : IfOk result (λ judged. judged ≡ answer)

@@ -1,4 +1,4 @@
--- What a call on a database shows that others write too (own).
+-- The answers of a call on a database that others write too (own).
 use Rattle.std.specs.Prelude.{◌≡◌, ◌⊎◌, ℕ, List, map}
 use Rattle.hub_model.specs.Journal.{Edit, IsLegal}
 use Rattle.hub_model.specs.Missing.{diffs}
@@ -10,12 +10,12 @@ use Rattle.hub_model.specs.declared.outcomes.Outcome.{Outcome}
 use Rattle.hub_model.specs.declared.outcomes.Outcome.TheVariants.{Refused}
 use Rattle.hub_follow_model.specs.Follower as follow
 
--- what became of documents that a deleted database was to store
+-- the outcomes of documents that a deleted database was to store
 abbrev pub all_deleted : List Edit → List (Outcome Revision)
 all_deleted docs = map (λ _. Refused Deleted) docs
 
--- The answer is the one that some database with a legal journal gives: what a call shows that takes the lock
--- once. Of the changes and of the logs nothing is said here.
+-- The answer is one that some database with a legal journal gives: a call that takes the lock once shows no
+-- more. Of the changes and of the logs nothing is said here.
 abbrev pub IsShared : follow.Call → follow.Answer → Type 0
 IsShared (follow.RevsDiff asked) (follow.RevsDiffAnswer answered) =
     (journal : List Edit) × IsLegal journal × (answered ≡ diffs journal asked)

@@ -1,4 +1,4 @@
--- What the follower's values stand for (own).
+-- The values of the follower's code, as values of the model (own).
 use Rattle.std.specs.Prelude.{◌≡◌, map, Option, Some, None, Result, Err, string_bytes}
 use Rattle.hub_model.specs.Journal.{Edit, head_of}
 use Rattle.hub_database.specs.Edits.{edit_of}
@@ -19,7 +19,7 @@ use Rattle.hub_follower.specs.declared.call.Call.TheVariants as asks
 use Rattle.hub_follower.specs.declared.call.Answer.{Answer}
 use Rattle.hub_follower.specs.declared.call.Answer.TheVariants as says
 
--- what a round or a checkpoint is at
+-- the phase of a round or a checkpoint
 abbrev pub phase_of : Phase → follow.Phase
 phase_of Listing = follow.Listing
 phase_of (Comparison asked last) = follow.Comparison asked.items last
@@ -28,7 +28,7 @@ phase_of (Storage got last) = follow.Storage (map edit_of got) last
 phase_of SourceCheckpoint = follow.SourceCheckpoint
 phase_of TargetCheckpoint = follow.TargetCheckpoint
 
--- how far the follower is
+-- the follower of a machine's state
 abbrev pub follower_of : State → follow.Follower
 follower_of Down = follow.Down
 follower_of (SourceStart session_id) = follow.SourceStart (string_bytes session_id)
@@ -36,18 +36,18 @@ follower_of (TargetStart session_id source) = follow.TargetStart (string_bytes s
 follower_of (Ready session) = follow.Ready session
 follower_of (Busy session phase) = follow.Busy session (phase_of phase)
 
--- the follower of a session that goes on so
+-- the follower of a session and its next state
 abbrev pub follower_behind : follow.Session → Next → follow.Follower
 follower_behind session goes.Ready = follow.Ready session
 follower_behind session (goes.ReadyAt last) = follow.ready_at session last
 follower_behind session (goes.Busy phase) = follow.Busy session (phase_of phase)
 
--- a revision that was asked for, as an edit where it is there
+-- the edit of a revision that was asked for, where the revision is there
 abbrev pub found_edit : OpenRev → Option Edit
 found_edit (Found doc) = Some (edit_of doc)
 found_edit (Missing r) = None
 
--- what a peer answers
+-- the answer of a peer
 abbrev pub answer_of : Answer → follow.Answer
 answer_of (says.Log log) = follow.LogAnswer log
 answer_of (says.Changes c) = follow.ChangesAnswer c.rows.items c.last_seq c.life
@@ -56,7 +56,7 @@ answer_of (says.OpenRevs found) = follow.OpenRevsAnswer (map found_edit found)
 answer_of (says.Merge replies) = follow.MergeAnswer replies
 answer_of says.Put = follow.PutAnswer
 
--- what a peer is asked
+-- the call on a peer
 abbrev pub call_of : Call → follow.Call
 call_of asks.GetSource = follow.LocalGet follow.Source
 call_of asks.GetTarget = follow.LocalGet follow.Target
@@ -69,7 +69,7 @@ call_of (asks.PutSource s) =
 call_of (asks.PutTarget s) =
     follow.LocalPut follow.Target (follow.checkpoint_log s.now s.now.target_history)
 
--- the fault is the one of this outcome, the document by its id and head; memory may run out in any
+-- the fault is that of this outcome, with the document told by its id and head; memory may run out in any
 abbrev pub IsFaultOf : {A : Type 0} → FollowFault → Result A follow.Fault → Type 0
 IsFaultOf told.NoMemory outcome = Unit {0}
 IsFaultOf told.BadLogId outcome = ⊥

@@ -1,4 +1,4 @@
--- The world of two databases in one thread's hands (own).
+-- The world of two databases that one thread holds (own).
 use Rattle.std.specs.Prelude.{◌≡◌, ◌≤◌, ℕ, List, length, map, Option, Some, None}
 use Rattle.hub_model.specs.Journal.{Edit}
 use Rattle.hub_model.specs.RightlyHanded.{ChangeItem}
@@ -17,14 +17,14 @@ use Rattle.hub_follower.specs.declared.world.FollowEvent.TheVariants as event
 
 -- two databases' journals, and the replication log at each
 pub record Pair : Type 0 where
-  pub limit : ℕ  -- how many edits each journal takes
+  pub limit : ℕ  -- the greatest number of edits in each journal
   pub life : ℕ  -- the number of the source's life
   pub source : List Edit
   pub target : List Edit
   pub source_log : Option ReplicationLog
   pub target_log : Option ReplicationLog
 
--- with these sessions and this follower they are a world
+-- the world of a pair, with these sessions and this follower
 abbrev pub world_of : Pair → List (List ℕ) → follow.Follower → world.World
 world_of pair sessions follower =
     record {
@@ -38,19 +38,19 @@ world_of pair sessions follower =
       follower = follower;
     }
 
--- the call is answered so, whichever sessions and follower the world has
+-- the call has this answer, whichever sessions and follower the world has
 abbrev pub Answers : Pair → follow.Call → Answer → Pair → Type 0
 Answers old call answer new =
     (sessions : List (List ℕ)) (follower : follow.Follower)
     → world.IsAnswered (world_of old sessions follower) call (answer_of answer)
     (world_of new sessions follower)
 
--- changes are asked for above a sequence that the source has
+-- a call for changes asks above a sequence that the source has
 abbrev pub IsWithin : ℕ → follow.Call → Type 0
 IsWithin len (follow.Changes since) = since.n ≤ len
 IsWithin len call = Unit {0}
 
--- so it is of the next call
+-- the next call, if it asks for changes, asks above a sequence that the source has
 abbrev pub IsWithinNext : ℕ → Option follow.Call → Type 0
 IsWithinNext len None = Unit {0}
 IsWithinNext len (Some call) = IsWithin len call
@@ -59,7 +59,7 @@ IsWithinNext len (Some call) = IsWithin len call
 abbrev pub HasPlace : world.World → Type 0
 HasPlace w = (seq : Seq) → world.place_of w.follower ≡ Some seq → seq.n ≤ length w.source
 
--- the next call was answered so; without one nothing changed
+-- the next call had this answer; without a next call nothing changed
 abbrev pub HasAnswered : world.World → Option follow.Call → Option Answer → world.World → Type 0
 HasAnswered w None None new = new ≡ w
 HasAnswered w None (Some answer) new = ⊥
@@ -67,19 +67,19 @@ HasAnswered w (Some call) None new = ⊥
 HasAnswered w (Some call) (Some answer) new =
     world.IsAnswered w call (answer_of answer) new
 
--- the sequence above which changes are asked for next, where they are
+-- the sequence above which the next call asks for changes, where it does
 abbrev pub changes_asked : Option follow.Call → Option Seq
 changes_asked None = None
 changes_asked (Some (follow.Changes since)) = Some since
 changes_asked (Some call) = None
 
--- these items are such an answer of a source of this life
+-- these items are an answer above `since` of a source of this life, and this is that answer
 abbrev pub IsAnswerOf : List Edit → (life since : ℕ) → List ChangeItem → Answer → Type 0
 IsAnswerOf journal life since items answer =
     (rows : List ChangeRow) × (last : ℕ) × IsChangesAnswer journal since items rows last
     × (answer_of answer ≡ follow.ChangesAnswer rows last life)
 
--- an event
+-- an event, as an event of the model
 abbrev pub event_of : FollowEvent → world.Event
 event_of (event.Write docs) = world.Write (map edit_of docs.items)
 event_of (event.Start session_id) = world.Start (string_bytes session_id)

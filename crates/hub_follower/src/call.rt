@@ -1,4 +1,4 @@
-//! What a follower asks of its peers, and what they answer.
+//! The calls of a follower to its peers, and the answers of peers.
 
 use crate::fetched::FetchedRevs;
 use crate::log::Log;
@@ -8,39 +8,39 @@ use hub_database::{Diff, Replies};
 use hub_document::{Asked, Doc};
 use hub_follow_model::Seq;
 
-/// What a follower asks of a peer.
+/// A call of a follower to a peer.
 #[derive(Drop)]
 pub enum Call<'a> {
-    /// The replication log of the source.
+    /// Asks for the replication log of the source.
     GetSource,
-    /// The replication log of the target.
+    /// Asks for the replication log of the target.
     GetTarget,
-    /// The changes of the source above this sequence, which counts as 0 where it is of another life.
+    /// Asks for the source's changes above this sequence, which counts as 0 where it is of another life.
     Changes(Seq),
-    /// Which of these revisions the target misses.
+    /// Asks which of these revisions the target misses.
     RevsDiff(&'a [Asked]),
-    /// These revisions of a document of the source, with their histories.
+    /// Asks for these revisions of a document of the source, with their histories.
     OpenRevs(&'a Asked),
-    /// That the target stores these documents with their histories.
+    /// Stores these documents at the target, with their histories.
     Merge(&'a [Doc]),
-    /// That the source keeps the log of this session.
+    /// Keeps the log of this session at the source.
     PutSource(&'a Session),
-    /// That the target does.
+    /// Keeps the log of this session at the target.
     PutTarget(&'a Session),
 }
 
-/// What a peer answers.
+/// The answer of a peer.
 #[derive(Debug, Drop)]
 pub enum Answer {
     /// The replication log, if there is one.
     Log(Option<Log>),
     /// The changes.
     Changes(Changes),
-    /// What is missing.
+    /// The revisions that are missing.
     RevsDiff(Vec<Diff>),
     /// The revisions, in the order asked.
     OpenRevs(FetchedRevs),
-    /// What became of each document.
+    /// The outcome of each document.
     Merge(Replies),
     /// The log is kept.
     Put,

@@ -1,11 +1,11 @@
-//! Copies of what a follower lends to its peers.
+//! Copies of the questions and documents that a follower lends to its peers.
 
 ghost use Rattle.std.specs.Prelude.{◌≡◌, IfOk};
 
 use hub_document::{Asked, Doc};
 use std::alloc::{AllocError, Global};
 
-/// A copy of the questions. It costs their lengths.
+/// A copy of the questions. The cost is their lengths.
 pub(crate) fn copy_asked(alloc: Global, asked: &[Asked]) -> Result<Vec<Asked>, AllocError>
     ensures { IfOk result (λ copies. copies.items ≡ asked.now) }
 {
@@ -16,7 +16,7 @@ pub(crate) fn copy_asked(alloc: Global, asked: &[Asked]) -> Result<Vec<Asked>, A
     Ok(copies)
 }
 
-/// A copy of the documents. It costs their lengths.
+/// A copy of the documents. The cost is their lengths.
 pub(crate) fn copy_docs(alloc: Global, docs: &[Doc]) -> Result<Vec<Doc>, AllocError>
     ensures { IfOk result (λ copies. copies.items ≡ docs.now) }
 {

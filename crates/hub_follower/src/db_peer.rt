@@ -23,7 +23,7 @@ use hub_shared::{Feed, Gate, Handle, Plain, Point, Turn};
 use std::alloc::{AllocError, Global};
 use std::sync::Wait;
 
-// How many rows a follower asks for.
+// The greatest number of rows that a follower asks for.
 const ROWS: u64 = 100;
 
 // A gate that holds nobody.
@@ -34,7 +34,7 @@ impl Gate for Open {
     fn pass(&self, _point: Point) {}
 }
 
-// What a follower asks of a feed: the first 100 changes above a sequence, rising, with every leaf.
+// The parameters of a follower's feed: the first 100 changes above a sequence, rising, with every leaf.
 fn params_after(since: Seq) -> FeedParams {
     let since = match since.life {
         None => Since::Plain(since.n),
@@ -49,7 +49,7 @@ fn params_after(since: Seq) -> FeedParams {
     }
 }
 
-// Takes what a feed has handed, and says the sequence of its end where that came.
+// Takes the items that a feed has handed, and gives the sequence of its end where the end came.
 fn take_rows<R: Wait>(
     rt: &R,
     feed: &mut Feed<Plain>,
@@ -66,8 +66,8 @@ fn take_rows<R: Wait>(
     Ok(None)
 }
 
-// Hands a feed on and takes its rows by turns, up to its end. Each turn hands an item at least, so that
-// there are no more turns than rows and an end.
+// Hands a feed on and takes its rows by turns, up to its end. Each turn hands one item at least. So there are
+// no more turns than rows and an end.
 fn rows_by_turns<R: Wait>(
     rt: &R,
     alloc: Global,
@@ -105,7 +105,7 @@ fn changes_after<R: Wait>(
     changes
 }
 
-// What is missing of these revisions.
+// The revisions of `asked` that the database misses.
 fn diffs_of<R: Wait>(
     rt: &R,
     alloc: Global,
@@ -165,7 +165,7 @@ fn log_of<R: Wait>(
     Ok(Log::read(alloc, local.body.as_bytes())?)
 }
 
-// The local document of a log.
+// The local document that holds a log.
 fn document_of(alloc: Global, log_id: &str, log: &Log) -> Result<LocalDoc, CallFault> {
     let text = log.text(alloc)?;
     match LocalDoc::read(alloc, log_id, text.as_slice()) {
@@ -175,7 +175,7 @@ fn document_of(alloc: Global, log_id: &str, log: &Log) -> Result<LocalDoc, CallF
     }
 }
 
-// Keeps the replication log of this id.
+// Keeps a log as the replication log of this id.
 fn keep_log<R: Wait>(
     rt: &R,
     alloc: Global,
@@ -188,9 +188,9 @@ fn keep_log<R: Wait>(
     Ok(())
 }
 
-/// A database that threads share, as a follower's peer, by a handle of its own. A call that the database
-/// refuses as a whole, because it was deleted, a local document was written too often or there are too
-/// many feeds, is a fault of the peer, and counted.
+/// A database that threads share, as a follower's peer, by a handle of its own. The database may refuse a
+/// call as a whole: it was deleted, a local document was written too often, or there are too many feeds. Such
+/// a refusal is a fault of the peer, and counted.
 #[derive(Drop)]
 pub struct DbPeer<'a, R: Wait> {
     rt: &'a R,
@@ -213,7 +213,7 @@ impl<'a, R: Wait> DbPeer<'a, R> {
         }
     }
 
-    // The outcome of a call, whose fault is counted.
+    // Gives a call's outcome back, and counts its fault of the peer.
     fn counted<A>(&mut self, outcome: Result<A, CallFault>) -> Result<A, CallFault>
         ensures same { result ≡ outcome }
         ensures counts { CallCounts result self.old.faults self.new.faults }
@@ -228,7 +228,7 @@ impl<'a, R: Wait> DbPeer<'a, R> {
 impl<'a, R: Wait> Peer for DbPeer<'a, R> {
     ghost use Rattle.hub_follower.specs.Shared.{IsShared};
 
-    // what one holding of the lock shows
+    // an answer is one that a holding of the lock shows
     ghost gives = { λ s call answer new. IsShared call answer };
 
     ghost loses = { λ s call new. Unit };

@@ -12,7 +12,7 @@ use crate::machine::FollowCore;
 use crate::peer::Peer;
 use std::alloc::Global;
 
-// Makes a call of the peer that it names.
+// Makes a call on the peer that the call names.
 fn made<S: Peer, T: Peer>(
     alloc: Global,
     call: Call<'_>,
@@ -41,7 +41,7 @@ fn made<S: Peer, T: Peer>(
     }
 }
 
-/// Makes the next call, where there is one, and takes its answer: true where it was made. After an error
+/// Makes the next call, where there is one, and takes its answer: true where a call was made. After an error
 /// the phase is dropped, and the place stays.
 pub(crate) fn step<S: Peer, T: Peer>(
     alloc: Global,
@@ -69,7 +69,7 @@ pub(crate) fn step<S: Peer, T: Peer>(
     }
 }
 
-/// Makes calls until there is no next one, or one fails. The phase is then dropped, and the place stays.
+/// Makes calls until none is owed, or one fails. After a failure the phase is dropped, and the place stays.
 pub(crate) fn drive<S: Peer, T: Peer>(
     alloc: Global,
     core: &mut FollowCore,

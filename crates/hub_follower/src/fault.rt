@@ -1,17 +1,17 @@
-//! Why a follower's call fails.
+//! The faults of a follower.
 
 use hub_document::{DocId, RevId};
 use hub_model::Fault;
 use std::alloc::AllocError;
 use thiserror::Error;
 
-/// Why a session, a round or a checkpoint fails.
+/// The reason for which a session, a round or a checkpoint fails.
 #[derive(Debug, Drop, Error)]
 pub enum FollowFault {
-    /// A call on a peer failed, and its count of faults rose.
+    /// A call on a peer failed, and the peer's count of faults rose, or stands at its last value.
     #[error("a peer failed")]
     Peer,
-    /// A growth was refused.
+    /// Memory ran out.
     #[error("out of memory")]
     NoMemory,
     /// No local document may have the id of the replication logs.
@@ -21,7 +21,7 @@ pub enum FollowFault {
     #[error("the target refused a document")]
     Refused { id: DocId, rev: RevId, fault: Fault },
     /// The source says that it misses this revision, which it listed. The id is the text that the target
-    /// named in its answer, which may be no id of a document.
+    /// named in its answer. This text may be no id of a document.
     #[error("the source misses a revision that it listed")]
     Lost { id: String, rev: RevId },
 }

@@ -1,4 +1,4 @@
-//! Peers that fail, for tests of what goes on behind a failure.
+//! Peers that fail, for tests of a follower after a failure.
 
 ghost use Rattle.std.specs.Prelude.{◌≡◌, ◌≢◌, ◌⊎◌, ◌≤◌, min, ◌+◌, ◌-◌, ◌^◌, IfSome, IfNone};
 ghost use Rattle.hub_follow_model.specs.Follower as follow;
@@ -11,23 +11,23 @@ use hub_database::{Diff, Replies};
 use hub_document::{Asked, Doc};
 use hub_follow_model::Seq;
 
-/// What is lost of a call that fails.
+/// The part of a failing call that is lost.
 #[derive(Clone, Copy, Debug, PartialEq, Eq)]
 pub enum Loss {
-    /// The call: it has no effect.
+    /// The call is lost: it has no effect.
     Before,
-    /// Its answer: it has its effect.
+    /// The answer is lost: the call has its effect.
     After,
 }
 
-/// A peer over another one, some of whose calls fail. It goes on behind such a call as the other one does,
-/// and counts it as a fault.
+/// A peer over another peer, some of whose calls fail. Such a call is counted as a fault. After it the peer
+/// goes on as the other peer does.
 #[derive(Debug, Drop)]
 pub struct FaultPeer<P> {
     peer: P,
-    /// How many calls are made up to the next one that fails; 0: none fails.
+    /// The number of the next call that fails, counted from 1 at the next call; 0: no call fails.
     left: u64,
-    /// How many calls are made from there on up to the next one; 0: none fails.
+    /// The same number, counted from 1 after the call that fails; 0: no later call fails.
     again: u64,
     loss: Loss,
     faults: u64,
@@ -47,7 +47,7 @@ fn lose_log<P: Peer>(peer: &mut P, log_id: &str)
 }
 
 impl<P: Peer> FaultPeer<P> {
-    /// A peer that fails at its call of this number, counted from 1; at 0 at none. It takes no memory.
+    /// A peer that fails at its call of this number, counted from 1; at 0 no call fails. It takes no memory.
     pub fn new(peer: P, call: u64, loss: Loss) -> FaultPeer<P>
         ensures { result ≡ record { peer = peer; left = call; again = 0; loss = loss; faults = 0 } }
     {
@@ -60,7 +60,7 @@ impl<P: Peer> FaultPeer<P> {
         }
     }
 
-    /// A peer that fails at each call whose number this one divides; at 0 at none. It takes no memory.
+    /// A peer that fails at each call whose number this one divides; at 0 no call fails. It takes no memory.
     pub fn repeating(peer: P, calls: u64, loss: Loss) -> FaultPeer<P>
         ensures { result ≡ record { peer = peer; left = calls; again = calls; loss = loss; faults = 0 } }
     {
@@ -76,7 +76,7 @@ impl<P: Peer> FaultPeer<P> {
         self.peer
     }
 
-    // Counts a call, and says what is lost of it; None: nothing.
+    // Counts a call, and says which part of it is lost; None: no part.
     fn next_loss(&mut self) -> Option<Loss>
         ensures rest { self.new ≡ record self.old { left = self.new.left } }
         ensures left { IsCountedDown self.old.again self.old.left self.new.left }
@@ -111,12 +111,12 @@ impl<P: Peer> Peer for FaultPeer<P> {
     ghost use Rattle.std.specs.Prelude.{◌≡◌, ◌≢◌, ◌⊎◌, min, ◌+◌, ◌-◌, ◌^◌};
     ghost use Rattle.hub_follower.specs.Faults.{IsCountedDown, IsLost};
 
-    // nothing is lost of the call, and the other peer answers it
+    // no part of the call is lost, and the other peer answers it
     ghost gives = { λ s call answer new. (s.left ≢ 1) × P.gives s.peer call answer new.peer
         × IsCountedDown s.again s.left new.left × (new.again ≡ s.again) × (new.loss ≡ s.loss)
         × (new.faults ≡ s.faults) };
 
-    // the call is the one that is lost, which is counted, or the other peer fails
+    // the call is lost, and counted as a fault, or the other peer fails
     ghost loses = { λ s call new.
         (((s.left ≡ 1) × IsLost P.gives P.loses s.loss call s.peer new.peer
         × (new.faults ≡ min (s.faults + 1) (2 ^ 64 - 1)))

@@ -1,4 +1,4 @@
-//! What a round fetched: revisions and documents that have their histories.
+//! Revisions and documents that a round fetched, with their histories.
 
 ghost use Rattle.std.specs.Prelude.{◌≡◌, ◌++◌, ◌∷◌, [], All, OnOk, OnErr};
 ghost use Rattle.hub_follower.specs.Fetched.{HasPath, FoundHasPath};
@@ -8,8 +8,8 @@ use hub_document::Doc;
 use std::alloc::AllocError;
 use std::marker::Model;
 
-/// The answer of a peer that is asked for revisions of a document, in the order asked (CouchDB API
-/// reference, `open_revs` with `revs=true`). Each that was found has its history. Contracts see their list.
+/// The answer of a peer that is asked for revisions of a document, in the order asked (CouchDB API reference,
+/// `open_revs` with `revs=true`). Each revision that was found has its history. Contracts see their list.
 #[derive(Debug, Drop)]
 pub struct FetchedRevs {
     list: Vec<OpenRev>,
@@ -64,7 +64,7 @@ impl Model for FetchedDocs {
 }
 
 impl FetchedDocs {
-    /// One document more, behind the others. Out of memory, it is dropped, and the others stay.
+    /// Appends a document. Out of memory, the document is dropped, and the others stay.
     pub(crate) fn push(&mut self, doc: Doc) -> Result<(), AllocError>
         requires { HasPath doc }
         ensures items { OnOk result (self.new ≡ self.old ++ doc ∷ []) }

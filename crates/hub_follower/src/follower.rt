@@ -16,12 +16,12 @@ use hub_document::LocalId;
 use hub_follow_model::Seq;
 use std::alloc::Global;
 
-/// What a round did.
+/// The result of a round.
 #[derive(Clone, Copy, Debug, PartialEq, Eq)]
 pub enum Round {
     /// The place moved.
     Moved,
-    /// There was nothing after the place.
+    /// The source had no changes after the place.
     Idle,
 }
 
@@ -40,13 +40,13 @@ pub struct Follower<S, T> {
 /// A session that did not begin, with the two peers.
 #[derive(Debug, Drop)]
 pub struct FailedStart<S, T> {
-    /// Why.
+    /// The fault for which the session did not begin.
     pub fault: FollowFault,
     pub source: S,
     pub target: T,
 }
 
-// The id of the logs, where a local document may have it.
+// The id of the logs; `BadLogId` where no local document may have it.
 fn log_id_of(alloc: Global, text: &str) -> Result<LocalId, FollowFault>
     ensures ok { IfOk result (λ id. (id ≡ text.now) × IsLocalId text.now) }
     ensures bad { IfErr result (λ e. e ≡ FollowFault.BadLogId → ¬ IsLocalId text.now) }
@@ -60,7 +60,7 @@ fn log_id_of(alloc: Global, text: &str) -> Result<LocalId, FollowFault>
     }
 }
 
-// Whether a place is the one before it, as that one counts in its life.
+// Whether the new place is the old one, as the old one counts in the new one's life.
 fn is_same_place(old: Option<Seq>, new: Option<Seq>) -> bool
     ensures { result ≡ is_same_place old new }
 {
@@ -75,7 +75,7 @@ fn is_same_place(old: Option<Seq>, new: Option<Seq>) -> bool
     }
 }
 
-// Begins a session. Where none begins, the follower has none.
+// Begins a session. After an error the follower has none.
 fn begin<S: Peer, T: Peer>(
     alloc: Global,
     core: &mut FollowCore,
@@ -104,10 +104,10 @@ fn begin<S: Peer, T: Peer>(
 }
 
 impl<S: Peer + Drop, T: Peer + Drop> Follower<S, T> {
-    /// A session begins where the logs of both peers agree, under an id that no session had before. The
-    /// logs are the local documents of the id `log_id`; where no local document may have it, the session
-    /// is refused as `BadLogId`, and no call is made. After an error the peers come back, as the calls left
-    /// them that were made: a session only reads.
+    /// Begins a session after the sequence up to which the logs of both peers agree. No session may have had
+    /// its id before. The logs are the local documents of the id `log_id`. Where no local document may have
+    /// that id, the session is refused as `BadLogId`, and no call is made. After an error the peers come back
+    /// as the calls left them: to begin a session only reads.
     pub fn start(
         alloc: Global,
         source: S,
@@ -166,19 +166,19 @@ impl<S: Peer + Drop, T: Peer + Drop> Follower<S, T> {
         }
     }
 
-    /// How far it is: `place` tells the source's sequence up to which it has copied. Constant time.
+    /// The follower's machine. Its `place` is the source's sequence up to which it has copied. Constant time.
     pub fn core(&self) -> &FollowCore
         ensures { result.now ≡ self.now.core }
     {
         &self.core
     }
 
-    /// Copies the changes above the place, 100 documents at most: it asks the target which of the listed
-    /// leaves it misses, fetches these with their histories, and stores them. A place of another life than
-    /// the source's counts as 0, and one of no known life as it is; the round gives it the source's life.
-    /// `Idle` where there were no changes: the place is the sequence that they end at; else it moves there,
-    /// once each fetched document was stored or known. After an error the session stays as it was, with its
-    /// place; the source was only read, and the target may have some of the fetched revisions.
+    /// Copies the changes above the place, 100 documents at most. The round asks the target which of the
+    /// listed leaves it misses, fetches these with their histories, and stores them. A place of another life
+    /// than the source's counts as 0, and a place of no known life as it is; the round gives it the source's
+    /// life. Without changes the result is `Idle`: the changes end at the place. Else the place moves to
+    /// their end, once each fetched document was stored or known. After an error the session and its place
+    /// are as before. The source was only read, and the target may have some of the fetched revisions.
     #[tactic(auto, using(crate::proofs::Walking::round_fails))]
     pub fn round(&mut self) -> Result<Round, FollowFault>
         ensures done { IsCarriedOut S.gives T.gives S.loses T.loses S.fault_count T.fault_count

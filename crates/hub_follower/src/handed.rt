@@ -21,10 +21,10 @@ use hub_feed::FeedHost;
 use hub_model::Item;
 use std::alloc::{AllocError, Global};
 
-// How many items are 100 rows and their end.
+// The number of items of 100 rows and their end.
 const ITEMS: usize = 101;
 
-// The sequence that the end names, of items that are rows and then their one end.
+// The sequence that the end names, where the items are rows and then one end.
 fn end_of(items: &[Item<ChangeRow>]) -> Option<u64>
     ensures { result ≡ end_of items.now }
 {
@@ -62,8 +62,8 @@ fn are_rising(items: &[Item<ChangeRow>], since: u64, last: u64) -> bool
     true
 }
 
-// The sequence that the end names, where the items have the shape of an answer of a database of so many
-// edits, and its numbers rise.
+// The sequence that the end names, where the items have the shape of an answer of a database with so many
+// edits, and their numbers rise.
 fn numbered_end(items: &[Item<ChangeRow>], since: u64, edits: u64) -> Option<u64>
     ensures { result ≡ numbered_end edits since items.now }
 {
@@ -74,7 +74,7 @@ fn numbered_end(items: &[Item<ChangeRow>], since: u64, edits: u64) -> Option<u64
     None
 }
 
-// Whether each row was a current one when it was made. The copy is taken to these places.
+// Whether each row was current when it was made. The copy is rebuilt to each of these moments.
 fn are_shown(
     alloc: Global,
     db: &DbState,
@@ -125,8 +125,8 @@ fn are_listed(rows: &[ChangeRow], last: u64, items: &[Item<ChangeRow>]) -> bool
     true
 }
 
-// The sequence that these items end at, where they are an answer to a follower that asks for the
-// changes above `since`.
+// The sequence at which these items end, where they are an answer to a follower that asks for the changes
+// above `since`.
 fn answer_end(
     alloc: Global,
     db: &DbState,
@@ -151,11 +151,11 @@ fn answer_end(
     Ok(None)
 }
 
-/// Whether these items are an answer to a follower that asks for the changes above `since`: all
-/// that a normal feed of every leaf, with a limit of 100, may have handed by now, its end included.
-/// How many rows are pending is not looked at. Of a deleted database it is the journal that it had
-/// which decides. It costs the storing of each edit in a copy, and for each row a list of all
-/// current rows: it is meant for tests and for `FollowWorld`, not for serving.
+/// Whether these items are an answer to a follower that asks for the changes above `since`. An answer has all
+/// items that a normal feed of every leaf, with a limit of 100, may have handed by now, its end included. The
+/// number of pending rows is not looked at. Of a deleted database the journal that it had decides. The cost
+/// is the storing of each edit in a copy, and for each row a list of all current rows. The function is meant
+/// for tests and for `FollowWorld`, not for serving.
 pub fn rightly_handed(
     alloc: Global,
     db: &DbState,
@@ -186,8 +186,8 @@ fn rows_of(alloc: Global, items: Vec<Item<ChangeRow>>) -> Result<Vec<ChangeRow>,
     Ok(rows)
 }
 
-/// The answer that these items are, where the database may answer so for the changes above `since`. It costs
-/// what `rightly_handed` does.
+/// These items as the answer to a call for the changes above `since`; None where the database may not answer
+/// so. The cost is that of `rightly_handed`.
 pub(crate) fn changes_in(
     alloc: Global,
     db: &DbState,

@@ -7,16 +7,16 @@ use hub_follow_model::Seq;
 use std::alloc::{AllocError, Global};
 use std::marker::Model;
 
-/// What a replication log's history says of one session.
+/// The entry of one session in the history of a replication log.
 #[derive(Debug, Drop)]
 pub struct HistoryEntry {
-    /// The session.
+    /// The id of the session.
     pub session_id: String,
-    /// The source's sequence that the session began after.
+    /// The source's sequence after which the session began.
     pub start_last_seq: Seq,
-    /// The last one that it came to.
+    /// The last sequence to which the session came.
     pub end_last_seq: Seq,
-    /// The one that it recorded.
+    /// The sequence that the session recorded.
     pub recorded_seq: Seq,
 }
 
@@ -35,7 +35,7 @@ impl Model for HistoryEntry {
 }
 
 impl HistoryEntry {
-    /// A copy. It costs the length of the session's id.
+    /// A copy of the entry. The cost is the length of the session's id.
     pub fn copy(&self, alloc: Global) -> Result<HistoryEntry, AllocError>
         ensures { IfOk result (λ entry. entry ≡ self.now) }
     {
@@ -52,11 +52,11 @@ impl HistoryEntry {
 /// A replication log (CouchDB Replication Protocol, retrieve replication logs).
 #[derive(Debug, Drop)]
 pub struct Log {
-    /// The last session.
+    /// The id of the last session.
     pub session_id: String,
-    /// The source's sequence that it recorded.
+    /// The source's sequence that the last session recorded.
     pub source_last_seq: Seq,
-    /// The sessions, newest first.
+    /// The entries of the sessions, newest first.
     pub history: Vec<HistoryEntry>,
 }
 
@@ -74,7 +74,7 @@ impl Model for Log {
 }
 
 impl Log {
-    /// A copy. It costs the log's length.
+    /// A copy of the log. The cost is the log's length.
     pub fn copy(&self, alloc: Global) -> Result<Log, AllocError>
         ensures { IfOk result (λ log. log ≡ self.now) }
     {
@@ -91,7 +91,7 @@ impl Log {
     }
 }
 
-// What the first entry of a session records, if there is one.
+// The sequence that the first entry of a session records, if there is one.
 fn recorded_seq_of(session: &str, history: &[HistoryEntry]) -> Option<Seq>
     ensures { result ≡ model.recorded_seq_of session.now history.now }
 {
@@ -103,8 +103,8 @@ fn recorded_seq_of(session: &str, history: &[HistoryEntry]) -> Option<Seq>
     None
 }
 
-// Of the newest session of the target's history that the source's has too, the lesser of what the two
-// record; 0 where there is none.
+// The sequence of the newest session in the target's history that the source's history has too: the lesser of
+// the two that they record for it. Without a common session it is the beginning.
 fn common_session_sequence(source: &[HistoryEntry], target: &[HistoryEntry]) -> Seq
     ensures { result ≡ model.common_session_sequence source.now target.now }
 {
@@ -116,10 +116,10 @@ fn common_session_sequence(source: &[HistoryEntry], target: &[HistoryEntry]) -> 
     Seq::beginning()
 }
 
-/// The sequence up to which the logs of source and target agree: the beginning where no session is in
-/// both, one log is absent, or the two sequences are of two lives (CouchDB Replication Protocol, compare
-/// replication logs; that the lesser of two numbers is taken is own). It takes no memory, and compares
-/// each entry of one history with each of the other.
+/// The sequence up to which the logs of source and target agree. It is the beginning where no session is in
+/// both, one log is absent, or the two sequences are of two lives. (CouchDB Replication Protocol, compare
+/// replication logs; that the lesser of two numbers is taken is own.) The function takes no memory. It
+/// compares each entry of one history with each of the other.
 pub fn common_sequence(source: Option<&Log>, target: Option<&Log>) -> Seq
     ensures { result ≡ model.common_sequence (option_copied source.entry) (option_copied target.entry) }
 {

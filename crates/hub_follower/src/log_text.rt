@@ -17,7 +17,7 @@ use std::alloc::{AllocError, Global};
 // The version of replication logs that is known.
 const VERSION: u64 = 3;
 
-// How many entries a log's history has at most.
+// The greatest number of entries in a log's history.
 const ENTRIES: usize = 50;
 
 // The sequence that a value writes: as "12-3", or as a number alone, whose life is not known.
@@ -126,8 +126,8 @@ fn put_number(out: &mut Vec<u8>, number: u64) -> Result<(), AllocError>
     out.extend_from_slice(digits.format(number).as_bytes())
 }
 
-// Appends what stands in front of a sequence, and its text: a JSON string, or a number alone where its life
-// is not known.
+// Appends the bytes in front of a sequence, and the sequence's text: a JSON string, or a number alone where
+// its life is not known.
 fn put_seq(out: &mut Vec<u8>, front: &[u8], seq: Seq) -> Result<(), AllocError>
     ensures { OnOk result (out.new.items ≡ out.old.items ++ (front.now ++ seq_text seq)) }
 {
@@ -190,9 +190,9 @@ fn put_log(out: &mut Vec<u8>, log: &Log) -> Result<(), AllocError>
 }
 
 impl Log {
-    /// The log that a local document's members are. None where a member is absent or of another kind, the
-    /// version is not 3, or the history has more than 50 entries. A sequence is a JSON string, as `"12-3"`,
-    /// or a whole number, which has no life. It costs the text's length.
+    /// The log in the members of a local document. None where the text is no JSON, a member is absent or of
+    /// another kind, the version is not 3, or the history has more than 50 entries. A sequence is a JSON
+    /// string, as `"12-3"`, or a whole number, which has no life. The cost is the text's length.
     pub fn read(alloc: Global, members: &[u8]) -> Result<Option<Log>, AllocError>
         ensures { IfOk result (λ o. o ≡ log_in members.now) }
     {
@@ -203,8 +203,8 @@ impl Log {
         }
     }
 
-    /// The members of its local document, in the byte order of the keys; a sequence without a life is a
-    /// whole number. It costs the text's length.
+    /// The members of the log's local document, in the byte order of the keys. A sequence without a life is a
+    /// whole number. The cost is the text's length.
     pub fn text(&self, alloc: Global) -> Result<Vec<u8>, AllocError>
         ensures { IfOk result (λ text. text.items ≡ log_text self.now) }
     {

@@ -17,18 +17,18 @@ use std::alloc::Global;
 use std::marker::Model;
 use std::mem;
 
-/// How far a follower is.
+/// The state of a follower.
 #[derive(Debug, Drop)]
 pub(crate) enum State {
-    /// It has no session.
+    /// The follower has no session.
     Down,
-    /// A session of this id begins: it asks for the source's log.
+    /// A session of this id begins: the follower asks for the source's log.
     SourceStart(String),
-    /// It asks for the target's log; the source's is this.
+    /// The follower asks for the target's log; this is the source's log.
     TargetStart(String, Option<Log>),
-    /// It has a session, and no phase is on.
+    /// The follower has a session, and no phase is on.
     Ready(Session),
-    /// It has a session, and is at this phase.
+    /// The follower has a session, and is at this phase.
     Busy(Session, Phase),
 }
 
@@ -48,7 +48,7 @@ impl Model for FollowCore {
     ghost view = { λ c. follower_of c.state };
 }
 
-// The answer to the call that such phase owes. The phase is spent.
+// The next state of a session, by the answer to the call that its phase owes. The phase is spent.
 fn answered(
     alloc: Global,
     session: &Session,
@@ -89,7 +89,7 @@ fn answered(
     }
 }
 
-// The session that goes on so.
+// The machine's state for a session and its next state.
 fn gone_on(session: Session, next: Next) -> State
     ensures value { follower_of result ≡ follower_behind session next }
 {
@@ -100,7 +100,7 @@ fn gone_on(session: Session, next: Next) -> State
     }
 }
 
-// The state after an answer, with the fault of one that fails.
+// The state after an answer, and the fault where the answer brings one.
 fn after(alloc: Global, state: State, answer: Answer) -> (State, Result<(), FollowFault>)
     requires fits { follow.IsAnswerToNext (follow.next_call (follower_of state)) (answer_of answer) }
     ensures ok { OnOk result.1 (follow.answer_result (follower_of state) (answer_of answer)
@@ -140,7 +140,7 @@ impl FollowCore {
         FollowCore { state: State::Down }
     }
 
-    /// Whether it owes no call. Constant time.
+    /// Whether the follower owes no call. Constant time.
     pub fn is_free(&self) -> bool
         ensures { result ≡ world.is_free self.now }
     {
@@ -150,7 +150,7 @@ impl FollowCore {
         }
     }
 
-    /// The source's sequence up to which it has copied, where it has a session. Constant time.
+    /// The source's sequence up to which the follower has copied, where it has a session. Constant time.
     pub fn place(&self) -> Option<Seq>
         ensures { result ≡ world.place_of self.now }
     {
@@ -160,7 +160,7 @@ impl FollowCore {
         }
     }
 
-    /// How many calls it owes at most, where the changes were asked for and compared.
+    /// The greatest number of calls that the follower owes, once the changes were asked for and compared.
     pub(crate) fn calls_left(&self) -> u64
         ensures { result ≡ calls_left self.now }
     {
@@ -175,21 +175,21 @@ impl FollowCore {
         }
     }
 
-    // This state stands from here on.
+    // Puts the follower into this state.
     fn put(&mut self, state: State)
         ensures { self.new ≡ follower_of state }
     {
         self.state = state;
     }
 
-    /// All that it holds is dropped, its session too.
+    /// Drops all that the follower holds, its session too.
     pub(crate) fn restart(&mut self)
         ensures { self.new ≡ follow.Down }
     {
         self.put(State::Down);
     }
 
-    /// A session of this id begins: the logs are to be read.
+    /// Begins a session of this id: the logs are to be read.
     pub fn start(&mut self, session_id: String)
         requires { world.is_free self.old ≡ true }
         ensures { self.new ≡ follow.SourceStart (string_bytes session_id) }
@@ -197,7 +197,7 @@ impl FollowCore {
         self.put(State::SourceStart(session_id));
     }
 
-    /// A round begins, where there is a session and no call is owed.
+    /// Begins a round, where there is a session and no call is owed. Else nothing changes.
     pub fn begin_round(&mut self)
         ensures { self.new ≡ world.round_start self.old }
     {
@@ -208,7 +208,7 @@ impl FollowCore {
         self.put(state);
     }
 
-    /// A checkpoint begins, where there is a session and no call is owed.
+    /// Begins a checkpoint, where there is a session and no call is owed. Else nothing changes.
     pub fn begin_checkpoint(&mut self)
         ensures { self.new ≡ world.checkpoint_start self.old }
     {
@@ -219,7 +219,7 @@ impl FollowCore {
         self.put(state);
     }
 
-    /// The call that it owes, to be made of the peer that the call names.
+    /// The call that the follower owes, to be made on the peer that the call names.
     pub fn next_call(&self) -> Option<Call<'_>>
         ensures { option_map call_of result ≡ follow.next_call self.now }
     {
@@ -239,8 +239,8 @@ impl FollowCore {
         }
     }
 
-    /// Takes the answer to the owed call, which fits it. `Refused` comes only of an answer that
-    /// refuses that document, `Lost` only of one that misses that revision, and no other but
+    /// Takes the answer to the owed call, which has to fit it. The fault `Refused` comes only of an answer
+    /// that refuses that document, and `Lost` only of one that misses that revision. Every other fault is
     /// `NoMemory`. After an error the phase is dropped, and the place stays.
     pub fn accept(&mut self, alloc: Global, answer: Answer) -> Result<(), FollowFault>
         requires fits { follow.IsAnswerToNext (follow.next_call self.old) (answer_of answer) }

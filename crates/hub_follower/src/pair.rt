@@ -66,8 +66,8 @@ fn copied(alloc: Global, log: &Option<Log>) -> Result<Option<Log>, AllocError>
 }
 
 impl Pair {
-    /// Two empty databases without logs, each in its first life, whose journals take as many edits as those
-    /// of a hub.
+    /// Two empty databases without logs, each in its first life. Their journals take as many edits as the
+    /// journals of a hub.
     pub(crate) fn new(alloc: Global) -> Pair
         ensures { result ≡ record {
           limit = 4294967295;
@@ -97,8 +97,8 @@ impl Pair {
         Ok(())
     }
 
-    /// The answer that these items are, where the source may answer so for the changes above `since`, as
-    /// that counts in its life.
+    /// These items as the answer to a call for the changes above `since`, as that counts in the source's
+    /// life; None where the source may not answer so.
     pub(crate) fn changes_in(
         &self,
         since: Seq,
@@ -113,7 +113,7 @@ impl Pair {
         changes_in(self.alloc, &self.source, since, items)
     }
 
-    /// What the database answers that the call names. Changes cost the rows of all documents above the
+    /// The answer of the database that the call names. Changes cost the rows of all documents above the
     /// sequence.
     pub(crate) fn answer(&mut self, call: Call<'_>) -> Result<Answer, AllocError>
         requires { IsWithin (length self.old.source) (call_of call) }

@@ -1,4 +1,4 @@
-//! What a round or a checkpoint is at.
+//! The point of a round or a checkpoint.
 
 ghost use Rattle.std.specs.Prelude.{◌≡◌, ◌++◌, ℕ, List, [], length, map, Ok, Err};
 ghost use Rattle.std.specs.Prelude.{IfOk, IfErr, IfSome, IfNone, Some, None};
@@ -17,29 +17,29 @@ use hub_model::{Fault, Outcome};
 use std::alloc::{AllocError, Global};
 use std::collections::VecDeque;
 
-/// What a round or a checkpoint is at, by the call that comes next. Each sequence is the one that the
-/// round's changes end at.
+/// The point of a round or a checkpoint, by its next call. Each sequence is the one at which the round's
+/// changes end.
 #[derive(Debug, Drop)]
 pub(crate) enum Phase {
     Listing,
     /// The documents that the target is asked about.
     Comparison(Vec<Asked>, Seq),
-    /// The document that is fetched, those that come later, and what was fetched.
+    /// The document that is fetched, the documents that come later, and those that were fetched.
     Retrieval(Asked, VecDeque<Asked>, FetchedDocs, Seq),
-    /// What was fetched.
+    /// The documents that were fetched.
     Storage(FetchedDocs, Seq),
     SourceCheckpoint,
     TargetCheckpoint,
 }
 
-/// How a session goes on.
+/// The next state of a session, after an answer.
 #[derive(Drop)]
 pub(crate) enum Next {
-    /// Its checkpoint is done.
+    /// The checkpoint is done.
     Ready,
-    /// Its round is done, and this is its place.
+    /// The round is done, and this is the session's place.
     ReadyAt(Seq),
-    /// It goes on with this phase.
+    /// The session goes on with this phase.
     Busy(Phase),
 }
 
@@ -57,8 +57,8 @@ fn revisions_of_rows(alloc: Global, rows: Vec<ChangeRow>) -> Result<Vec<Asked>, 
     Ok(asked)
 }
 
-/// Behind the changes: their revisions are compared, or the round is over where there are none. It takes
-/// memory for the list.
+/// The next state after the changes: their revisions are compared, or the round is over where there are none.
+/// It takes memory for the list.
 pub(crate) fn comparison_or_ready(
     alloc: Global,
     rows: Vec<ChangeRow>,
@@ -75,7 +75,7 @@ pub(crate) fn comparison_or_ready(
     Ok(Next::Busy(Phase::Comparison(asked, last)))
 }
 
-// The documents that the target misses revisions of, with these.
+// The documents of which the target misses revisions, with these revisions.
 fn missing_revisions(alloc: Global, diffs: Vec<Diff>) -> Result<VecDeque<Asked>, AllocError>
     ensures { IfOk result (λ asked. asked.items ≡ map follow.missing_revisions diffs.items) }
 {
@@ -89,8 +89,8 @@ fn missing_revisions(alloc: Global, diffs: Vec<Diff>) -> Result<VecDeque<Asked>,
     Ok(asked)
 }
 
-/// The next document that the target misses is fetched. Where there is none, all that were fetched are
-/// stored, or the round is over. It takes no memory.
+/// The next state after a fetch: the next document that the target misses is fetched. Where none is left, all
+/// fetched documents are stored; where none was fetched, the round is over. It takes no memory.
 pub(crate) fn retrieval_or_storage(later: VecDeque<Asked>, got: FetchedDocs, last: Seq) -> Next
     ensures value { (s : follow.Session)
         → follower_behind s result ≡ follow.retrieval_or_storage s later.items (map edit_of got) last }
@@ -103,7 +103,7 @@ pub(crate) fn retrieval_or_storage(later: VecDeque<Asked>, got: FetchedDocs, las
     }
 }
 
-/// Behind the comparison: what is missing is fetched. It takes memory for the list.
+/// The next state after the comparison: the missing revisions are fetched. It takes memory for the list.
 pub(crate) fn first_retrieval(
     alloc: Global,
     diffs: Vec<Diff>,
@@ -117,7 +117,7 @@ pub(crate) fn first_retrieval(
     Ok(retrieval_or_storage(later, FetchedDocs { list }, last))
 }
 
-/// The documents that an answer of `open_revs` brings, behind those that were fetched before.
+/// The documents that were fetched before, and then those that an answer of `open_revs` brings.
 pub(crate) fn documents_behind(
     asked: Asked,
     found: FetchedRevs,
@@ -147,7 +147,7 @@ pub(crate) fn documents_behind(
     Ok(got)
 }
 
-/// Why the first document was refused that the target refused; one that it knew is no refusal.
+/// The fault of the first document that the target refused; a document that it knew is no refusal.
 pub(crate) fn first_refusal(docs: FetchedDocs, outcomes: &[Outcome<RevId>]) -> Option<FollowFault>
     requires many { length outcomes.now ≡ length docs }
     ensures some { IfSome result (λ e. (f : follow.Fault)

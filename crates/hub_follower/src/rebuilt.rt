@@ -10,7 +10,7 @@ use hub_database::DbState;
 use hub_document::{ChangeRow, Limits};
 use std::alloc::{AllocError, Global};
 
-// Stores the next edit of a database in a copy of those before it.
+// Stores the edit of this sequence in a copy that has the edits before it.
 fn add_edit(alloc: Global, db: &DbState, copy: &mut DbState, seq: u64) -> Result<(), AllocError>
     requires copy { IsRebuildable seq db.now.journal copy.old }
     requires next { length copy.old.journal + 1 ≡ seq }
@@ -25,7 +25,7 @@ fn add_edit(alloc: Global, db: &DbState, copy: &mut DbState, seq: u64) -> Result
     Ok(())
 }
 
-/// A copy that holds no edit yet, of any legal journal. It takes no memory.
+/// A copy without edits, of any legal journal that a hub's limit allows. It takes no memory.
 pub(crate) fn no_edits(alloc: Global) -> DbState
     ensures copy { (J : List Edit) → IsLegal J → length J ≤ 4294967295 → IsRebuilt J result }
     ensures journal { result.journal ≡ [] }
@@ -33,8 +33,8 @@ pub(crate) fn no_edits(alloc: Global) -> DbState
     DbState::new(alloc, Limits::full(), 1)
 }
 
-/// Makes of a copy the database as it was when it had so many edits. It costs the storing of the edits that
-/// the copy has not yet, and of all so many where it has more.
+/// Makes a copy the database as it was when it had `edits` edits. The cost is the storing of the edits that
+/// the copy lacks, and of all of them where the copy has more.
 pub(crate) fn rebuild(
     alloc: Global,
     db: &DbState,
@@ -53,7 +53,7 @@ pub(crate) fn rebuild(
     Ok(())
 }
 
-/// All current rows above a sequence, with every leaf, rising. It costs these rows.
+/// All current rows above a sequence, with every leaf, rising. The cost is that of making these rows.
 pub(crate) fn rows_above(db: &DbState, since: u64) -> Result<Vec<ChangeRow>, AllocError>
     requires { IsListable db.now since }
     ensures ok { IfOk result (λ rows. rows.items ≡ all_above db.now.journal since) }

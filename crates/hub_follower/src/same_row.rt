@@ -1,4 +1,4 @@
-//! Whether two rows of changes are one.
+//! Whether two rows of changes are the same.
 
 ghost use Rattle.std.specs.Prelude.{◌≡◌};
 ghost use Rattle.std.specs.List.{list_any};
@@ -6,7 +6,7 @@ ghost use Rattle.hub_follower.specs.Handed.{same_doc, same_revs, same_row};
 
 use hub_document::{Body, ChangeRow, Changes};
 
-// Whether two lists of revisions are one.
+// Whether two lists of revisions are the same.
 fn same_revs(revs: &Changes, others: &Changes) -> bool
     ensures { result ≡ same_revs revs.now others.now }
 {
@@ -24,7 +24,7 @@ fn same_revs(revs: &Changes, others: &Changes) -> bool
     true
 }
 
-// Whether the members of two rows are one.
+// Whether the members of two rows are the same.
 fn same_doc(doc: &Option<Body>, other: &Option<Body>) -> bool
     ensures { result ≡ same_doc doc.now other.now }
 {
@@ -36,7 +36,7 @@ fn same_doc(doc: &Option<Body>, other: &Option<Body>) -> bool
     }
 }
 
-// Whether two rows are one, in each member.
+// Whether two rows are the same, in each member.
 fn same_row(row: &ChangeRow, other: &ChangeRow) -> bool
     ensures { result ≡ same_row row.now other.now }
 {
@@ -48,7 +48,7 @@ fn same_row(row: &ChangeRow, other: &ChangeRow) -> bool
         && same_doc(&row.doc, &other.doc)
 }
 
-/// Whether a row is one of these.
+/// Whether a row is the same as one of these.
 pub(crate) fn has_row(rows: &[ChangeRow], row: &ChangeRow) -> bool
     ensures { result ≡ list_any (same_row row.now) rows.now }
 {

@@ -13,13 +13,13 @@ use std::marker::Model;
 #[derive(Debug, Drop)]
 pub struct Session {
     session_id: String,
-    /// The source's sequence that it began after.
+    /// The source's sequence after which the session began.
     start: Seq,
-    /// The source's sequence up to which its rounds have copied.
+    /// The source's sequence up to which the session's rounds have copied.
     place: Seq,
-    /// What the source's log held when it began.
+    /// The entries of the source's log as the session began.
     source_history: Vec<HistoryEntry>,
-    /// And the target's.
+    /// The entries of the target's log as the session began.
     target_history: Vec<HistoryEntry>,
 }
 
@@ -38,7 +38,7 @@ impl Model for Session {
     } };
 }
 
-// The entries of a log, where there is one.
+// The entries of a log; none where there is no log.
 fn history_of(alloc: Global, log: Option<Log>) -> Vec<HistoryEntry>
     ensures { result.items ≡ logs.history_of log }
 {
@@ -48,7 +48,7 @@ fn history_of(alloc: Global, log: Option<Log>) -> Vec<HistoryEntry>
     }
 }
 
-/// Copies entries behind what the vector holds, so many at most.
+/// Copies the first of these older entries to the end of the vector, at most `most` of them.
 pub(crate) fn copy_history(
     history: &mut Vec<HistoryEntry>,
     alloc: Global,
@@ -83,7 +83,7 @@ impl Session {
         }
     }
 
-    /// The source's sequence up to which its rounds have copied. Constant time.
+    /// The source's sequence up to which the session's rounds have copied. Constant time.
     pub fn place(&self) -> Seq
         ensures { result ≡ self.now.place }
     {
@@ -97,7 +97,7 @@ impl Session {
         Session { place, ..self }
     }
 
-    // The log that records the place before these older entries.
+    // The log that records the place in front of these older entries: 50 entries at most.
     fn checkpoint_log(&self, alloc: Global, older: &[HistoryEntry]) -> Result<Log, AllocError>
         ensures { IfOk result (λ log. log ≡ follow.checkpoint_log self.now older.now) }
     {
@@ -116,14 +116,14 @@ impl Session {
         })
     }
 
-    /// The log that a checkpoint writes at the source: 50 entries at most. It costs its length.
+    /// The log that a checkpoint writes at the source: 50 entries at most. The cost is the log's length.
     pub fn source_log(&self, alloc: Global) -> Result<Log, AllocError>
         ensures { IfOk result (λ log. log ≡ follow.checkpoint_log self.now self.now.source_history) }
     {
         self.checkpoint_log(alloc, &self.source_history)
     }
 
-    /// The log that a checkpoint writes at the target: 50 entries at most. It costs its length.
+    /// The log that a checkpoint writes at the target: 50 entries at most. The cost is the log's length.
     pub fn target_log(&self, alloc: Global) -> Result<Log, AllocError>
         ensures { IfOk result (λ log. log ≡ follow.checkpoint_log self.now self.now.target_history) }
     {

@@ -1,4 +1,4 @@
-//! Two databases, the replication log at each, and a follower: whole runs of what may happen to them.
+//! Two databases, the replication log at each, and a follower: whole runs of events.
 
 ghost use Rattle.std.specs.Prelude.{◌≡◌, [], map, option_map, true, string_bytes, IfOk, OnOk};
 ghost use Rattle.std.specs.List.{list_any};
@@ -20,7 +20,7 @@ use hub_model::Item;
 use std::alloc::{AllocError, Global};
 use std::marker::Model;
 
-/// What may happen next. An event that has no place there changes nothing.
+/// An event. An event that does not fit the follower's state changes nothing.
 #[derive(Debug, Drop)]
 pub enum FollowEvent {
     /// Documents are stored at the source, with their histories.
@@ -33,14 +33,14 @@ pub enum FollowEvent {
     Checkpoint,
     /// The next call is answered.
     Answer,
-    /// The next call asks for changes, and is answered by these items, where the source may answer so. Else
+    /// The next call asks for changes, and these items are an answer that the source may give to it. Else
     /// nothing changes.
     Changes(Vec<Item<ChangeRow>>),
     /// The next call fails, and had no effect.
     LostBefore,
     /// The next call has its effect, and its answer is lost.
     LostAfter,
-    /// All that the follower holds is dropped.
+    /// The follower loses all that it holds.
     Restart,
 }
 
@@ -49,7 +49,7 @@ pub enum FollowEvent {
 pub struct FollowWorld {
     alloc: Global,
     pair: Pair,
-    /// The sessions that have begun, the latest first.
+    /// The ids of the sessions that have begun, the latest first.
     sessions: Vec<String>,
     core: FollowCore,
 }
@@ -76,7 +76,7 @@ fn is_used(sessions: &[String], session_id: &str) -> bool
     false
 }
 
-// The sequence above which a call asks for changes, where it does.
+// The sequence above which a call asks for changes; None for another call.
 fn changes_asked(call: Option<Call<'_>>) -> Option<Seq>
     ensures { result ≡ changes_asked (option_map call_of call.entry) }
 {
@@ -106,7 +106,7 @@ impl FollowWorld {
         &self.core
     }
 
-    // A session begins, where it may.
+    // Begins a session, where one of this id may begin.
     fn start(&mut self, session_id: String) -> Result<(), AllocError>
         ensures { OnOk result (world.Step self.old (world.Start (string_bytes session_id)) self.new) }
     {
@@ -122,7 +122,7 @@ impl FollowWorld {
         Ok(())
     }
 
-    // The answer to the next call, where there is one.
+    // The answer to the next call, where there is a next call.
     fn answered(&mut self) -> Result<Option<Answer>, AllocError>
         requires { HasPlace self.old }
         ensures answered { IfOk result (λ answer.
@@ -135,7 +135,7 @@ impl FollowWorld {
         }
     }
 
-    // The follower takes an answer to its call.
+    // Gives the follower the answer to its call.
     fn take(&mut self, answer: Answer) -> Result<(), AllocError>
         requires { follow.IsAnswerToNext (follow.next_call self.old.follower) (answer_of answer) }
         ensures { OnOk result (self.new ≡ record self.old {
@@ -149,7 +149,7 @@ impl FollowWorld {
         }
     }
 
-    // The next call is answered, and its answer taken.
+    // Answers the next call, and gives the follower the answer.
     fn reply(&mut self) -> Result<(), AllocError>
         requires { HasPlace self.old }
         ensures { OnOk result (world.Step self.old world.Reply self.new) }
@@ -162,7 +162,7 @@ impl FollowWorld {
         self.take(answer)
     }
 
-    // The next call asks for changes, and is answered by these items, where the source may answer so.
+    // Answers the next call by these items, where it asks for changes and the source may answer so.
     fn reply_changes(&mut self, items: Vec<Item<ChangeRow>>) -> Result<(), AllocError>
         ensures { OnOk result (world.Step self.old (world.ChangesReply items.items) self.new) }
     {
@@ -177,7 +177,7 @@ impl FollowWorld {
         self.take(answer)
     }
 
-    /// An event happens. Out of memory, it may leave its effect or a part of it.
+    /// Makes an event happen. Out of memory, the event may leave its effect or a part of it.
     pub fn step(&mut self, event: FollowEvent) -> Result<(), AllocError>
         requires { HasPlace self.old }
         ensures { OnOk result (world.Step self.old (event_of event) self.new) }
@@ -213,10 +213,10 @@ impl FollowWorld {
         }
     }
 
-    /// Runs a list of events on two empty databases, up to the first that finds no memory. Over every list
-    /// the copy is faithful: up to each sequence that a log records or that is the follower's place, each
-    /// document has at the target the source's known revisions, leaves, winner, marks and bodies; where
-    /// that is the source's last sequence, every document has.
+    /// Runs a list of events on two empty databases. An event that finds no memory is an error. Over every
+    /// list the copy is faithful. Up to each sequence that a log records, and up to the follower's place, the
+    /// target has each document's known revisions, leaves, winner, and the leaves' marks and bodies. Where
+    /// such a sequence is the last one of the source, every document is copied.
     pub fn run(alloc: Global, events: Vec<FollowEvent>) -> Result<FollowWorld, AllocError>
         ensures run { IfOk result
             (λ w. world.Run (world.empty_world 4294967295) (map event_of events.items) w) }

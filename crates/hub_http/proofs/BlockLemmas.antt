@@ -1,4 +1,4 @@
--- What moving bytes from a block keeps.
+-- Bytes that move from a block to the held ones.
 use Rattle.std.proofs.Common.{◌≡◌, ℕ, sym, List, ◌++◌, take, drop}
 use Rattle.std.proofs.Common.{Option, Some, None, ap, ◌∙◌, append_assoc, take-append-drop}
 use Rattle.std.specs.Io.KnownBytes.{Keeps, prepend_known}

@@ -1,4 +1,4 @@
--- What leaves an outbox.
+-- The bytes that leave an outbox.
 use Rattle.std.proofs.Common.{◌≡◌, ℕ, ◌+◌, ◌-◌, ◌≤◌, List, [], ◌++◌, length}
 use Rattle.std.proofs.Common.{drop, sym, ap, subst, ◌∙◌, append-nil, arith}
 use lib.Seq.{drop-append-add, drop-append_seam}
@@ -6,7 +6,7 @@ use lib.Seq.{drop-append-add, drop-append_seam}
 drop_whole : (x : List ℕ) → drop (length x) x ≡ []
 drop_whole x = subst (λ l. drop (length x) l ≡ []) (append-nil x) (drop-append_seam x [])
 
--- the first part went, and a front of the second one
+-- the whole first part went, and a front of the second part
 pub drop_second : (x y z w : List ℕ) (n m : ℕ) → m ≡ length x → m ≤ n → z ≡ drop m x → w ≡ drop (n - m) y
     → z ++ w ≡ drop n (x ++ y)
 drop_second x y z w n m all low first second =

@@ -10,7 +10,7 @@ use Rattle.hub_document.specs.SequenceText.{sequence_text}
 use Rattle.hub_http.specs.ChangeTexts.{revision_text, revisions_text, row_mark, doc_member, row_end}
 use Rattle.hub_http.specs.ChangeTexts.{id_member, row_head, plain_front}
 
--- the later ones have a comma before each
+-- in the joined text each revision but the first has a comma before it
 joined : (p : List ℕ) (revisions : List Revision)
     → join_with_byte 44 (p ∷ map revision_text revisions) ≡ p
     ++ flat_map (λ revision. 44 ∷ revision_text revision) revisions
@@ -34,7 +34,7 @@ unfolding revisions_text
 no_revisions held [] e = sym (append-nil held)
 no_revisions held (r ∷ rs) e = absurd (omega (arith, e))
 
--- the first one, and then all the others
+-- the first revision is written, and then all the others
 pub revisions_written : (held mid new : List ℕ) (revision : Revision) (revisions all : List Revision) (i : ℕ)
     → all ≡ revision ∷ revisions → mid ≡ held ++ revision_text revision
     → new ≡ mid ++ flat_map (λ s. 44 ∷ revision_text s) (take i revisions) → length revisions ≤ i

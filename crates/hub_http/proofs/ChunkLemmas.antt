@@ -12,7 +12,7 @@ use Rattle.hub_document.proofs.WriteLemmas.{three_parts}
 use Rattle.hub_http.specs.Texts.{chunk_text}
 use Rattle.hub_http.specs.Chunks.{text_chunks}
 
--- what follows the digits
+-- digits onto a text with more bytes behind it are the digits onto the text, and then these bytes
 onto_more : (k n : ℕ) (acc more : List ℕ)
     → digits_onto k 16 false n (acc ++ more) ≡ digits_onto k 16 false n acc ++ more
 onto_more zero n acc more = refl
@@ -23,7 +23,7 @@ onto_more (suc k) n acc more =
     by_test true x y z more e = refl
     by_test false x y z more e = e
 
--- no digit is written yet
+-- digits onto a rest are the digits, and then the rest
 none_written : (n : ℕ) (rest : List ℕ) → digits_onto 64 16 false n rest ≡ digits 16 false n ++ rest
 unfolding digits
 none_written n rest = onto_more 64 n [] rest
@@ -43,7 +43,7 @@ last_one k n acc small =
     (digits_onto k 16 false (n / 16) (digit_glyph false (n % 16) ∷ acc))) e
     ∙ ap (λ d. digit_glyph false d ∷ acc) m
 
--- the digits of what is left stand before those that are written behind `at`
+-- the digits of the number that is left, and then those that are written behind `at`, are the whole
 pub record SizeLeft (at left : ℕ) (bytes whole : List ℕ) : Type 0 where
   pub place : at < 16
   pub room : 16 ≤ length bytes
@@ -98,7 +98,7 @@ last_digit at left bytes whole small h =
     ∙ ap (λ k. digits_onto k 16 false left (drop (at + 1) bytes)) (sym e)
     ∙ h.written
 
--- CR and LF, and then what stands behind the room
+-- CR and LF, and then the bytes behind the room
 two_set : (bytes : List ℕ) → 18 ≤ length bytes
     → drop 16 (set (set bytes 17 10) 16 13) ≡ 13 ∷ 10 ∷ drop 18 bytes
 two_set bytes room =
@@ -139,7 +139,7 @@ chunk_made held ext new start size room e long h =
     ∙ ended (drop 18 held) (size - 18) n
     ∙ sym (some_text (drop 18 held) (omega (arith, length-drop 18 held)))
 
--- a part that was lent is all that is held
+-- the first n bytes are the whole front, where the front has n bytes
 pub lent_whole : (ys rest text : List ℕ) (n start : ℕ) → length ys ≡ n → drop start ys ≡ text
     → drop start (take n (ys ++ rest)) ≡ text
 lent_whole ys rest text n start long e =

@@ -1,9 +1,9 @@
--- What counts that never fall keep.
+-- Facts of counts that never fall.
 use Rattle.std.proofs.Common.{ℕ, ◌≤◌, inl, inr, arith}
 use Rattle.std.proofs.lemmas.Grind.{common_steps}
 use Rattle.hub_http.specs.Counts.{CallCounts, HasGivenUp, HasGrown}
 
--- calls that gave up behind others gave up
+-- calls that gave up after other calls gave up
 pub gave_up_since : (a b c x y z : ℕ) → a ≤ b → x ≤ y → HasGivenUp b c y z → HasGivenUp a c x z
 gave_up_since a b c x y z p q (inl r) = inl (grind (arith, common_steps))
 gave_up_since a b c x y z p q (inr r) = inr (grind (arith, common_steps))
@@ -11,7 +11,7 @@ gave_up_since a b c x y z p q (inr r) = inr (grind (arith, common_steps))
 rose_since : (a b c : ℕ) → a ≤ b → HasGrown b c → HasGrown a c
 rose_since a b c p r = grind (arith, common_steps)
 
--- what a call counts, and calls before it, at which no count fell
+-- the counts of a call, from the counts before earlier calls on, at which no count fell
 pub counts_since : {W : Type 0} {B : Type 0} {f g : W → ℕ} {x y z : W} → f x ≤ f y → g x ≤ g y
     → CallCounts B f g y z → CallCounts B f g x z
 counts_since {f = f} {x = x} {y = y} {z = z} p q more = record {
@@ -21,12 +21,12 @@ counts_since {f = f} {x = x} {y = y} {z = z} p q more = record {
   gave_up = λ fault. gave_up_since _ _ _ _ _ _ q p (more.gave_up fault);
 }
 
--- what a call counts, and another before it
+-- the counts of a call and of another before it
 pub counts_after : {W : Type 0} {A B : Type 0} {f g : W → ℕ} {x y z : W} → CallCounts A f g x y
     → CallCounts B f g y z → CallCounts B f g x z
 counts_after p q = counts_since p.faults p.failures q
 
--- what calls count is also told of another fault, which is theirs
+-- the counts of calls for another fault, which is theirs too
 pub counts_for : {W : Type 0} {A B : Type 0} {f g : W → ℕ} {x y : W} → (B → A) → CallCounts A f g x y
     → CallCounts B f g x y
 counts_for same p = record {
@@ -36,7 +36,7 @@ counts_for same p = record {
   gave_up = λ fault. p.gave_up (same fault);
 }
 
--- calls of which none falls, where there is no fault to tell
+-- counts that do not fall, where there is no fault
 pub counts_only : {W : Type 0} {B : Type 0} {f g : W → ℕ} {x y : W} → f x ≤ f y → g x ≤ g y → ¬ B
     → CallCounts B f g x y
 counts_only p q none = record {

@@ -1,4 +1,4 @@
--- What the same bytes cannot be at once.
+-- Verdicts on the same bytes that exclude each other.
 use Rattle.std.proofs.Common.{◌≡◌, ℕ, zero, suc, ◌<◌, ◌≤◌, ◌⊎◌, inl, inr, List, []}
 use Rattle.std.proofs.Common.{◌++◌, length, Option, Some, Result, Ok, Err, unwrap_or}
 use Rattle.std.proofs.Common.{refl, sym, ap, subst, ◌∙◌, append-nil, codes, arith}
@@ -24,11 +24,11 @@ record IsWithinLimits (head : RequestHead) : Type 0 where
   len : length (print_request head) ≤ 16384
   fields : length head.fields ≤ 64
 
--- the body that a head asks for is not there
+-- the rest is shorter than the body that a head asks for
 abbrev Lacks : RequestHead → List ℕ → Type 0
 Lacks head rest = (n : ℕ) × (length_by head ≡ Ok (Some n)) × (length rest < n)
 
--- what a fault says of the head head that the bytes begin with, and of the rest
+-- the meaning of a fault for the head at the front of the bytes, and for the rest
 abbrev Says : RequestHead → List ℕ → HttpFault → Type 0
 Says head rest fault =
     IsOutside fault
@@ -56,7 +56,7 @@ cut bytes head rest r x =
       inr (refl, (x.2, sym (ap length_by same.0) ∙ x.4, rw same.1 at x.5)),
     ))
 
--- bytes are themselves and then nothing
+-- bytes with the empty text behind them begin with the same head
 itself : (bytes : List ℕ) (head : RequestHead) (rest : List ℕ) → ReadsRequest bytes head rest
     → ReadsRequest (bytes ++ []) head rest
 itself bytes head rest r = subst (λ (l : List ℕ). ReadsRequest l head rest) (sym (append-nil bytes)) r
@@ -146,7 +146,7 @@ spelled_no_fault bytes asked rest fault x f =
     (record { len = b.len; fields = b.fields }) x.1.length_is x.1.body
     (says bytes x.0 (asked.body ++ rest) fault b.reads f)
 
--- the shortest of heads
+-- the shortest head
 short_head : RequestHead
 short_head = record {
   blank = [];
@@ -180,7 +180,7 @@ short_head_begins = record {
   fields = omega arith;
 }
 
--- no bytes are no head
+-- the empty text begins with no head
 no_head : (head : RequestHead) (rest : List ℕ) → ReadsRequest [] head rest → ⊥
 no_head head rest r = let n = head_has_bytes [] head rest r in omega (arith, n)
 

@@ -1,4 +1,4 @@
--- What the writes of parts have written of the whole.
+-- The bytes of a whole that the writes of its parts have written.
 use Rattle.std.proofs.Common.{◌≡◌, ℕ, ◌-◌, List, ◌++◌, length, take, drop, Option, sym}
 use Rattle.std.proofs.Common.{subst, ap, ◌∙◌, append_assoc, take-append-drop, arith}
 use Rattle.std.proofs.lemmas.Grind.{common_steps}

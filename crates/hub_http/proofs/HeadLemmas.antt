@@ -1,4 +1,4 @@
--- What the parser's answers say of the heads within the limits.
+-- From the parser's answers to the heads within the limits.
 use Rattle.std.proofs.Common.{◌≡◌, ℕ, ◌<◌, ◌≤◌, ◌⊎◌, inl, inr, Bool, true, false, ◌&&◌}
 use Rattle.std.proofs.Common.{cond, List, [], ◌∷◌, length, map, take, drop, Option, Some}
 use Rattle.std.proofs.Common.{Result, Ok, Err, sym, ap, ◌∙◌, arith, nat_le, bytes_eq, codes}
@@ -18,13 +18,13 @@ use Rattle.hub_http.specs.Heads.{Begins, BeginsFaulty, BeginsTooLong, NeverHasHe
 use Rattle.hub_http.specs.Exclusions.{IsHeadFault}
 use Rattle.hub_http.specs.Looking.{LookFaults, LooksWithin}
 
--- a head has bytes
+-- bytes that begin with a head are not empty
 pub head_has_bytes : (buf : List ℕ) (head : RequestHead) (rest : List ℕ) → ReadsRequest buf head rest
     → 0 < length buf
 unfolding print_request
 head_has_bytes buf h rest r = let n = ap length r.1 in grind (arith, common_steps)
 
--- a head past the limit is the only one
+-- bytes that begin with a head past the limit begin with no other head
 never_shorter : (buf : List ℕ) (headers : List HeaderSpan) (spans : RequestSpans)
     → IsRequestOf buf headers spans → 16384 < spans.len → NeverHasHead buf
 never_shorter buf headers spans x far more k q b =
@@ -125,7 +125,7 @@ look_faults buf IoFault a b =
       | inr x ↦ elim x [ inl y ↦ cc | inr y ↦ cc ]
     ])
 
--- a fault is one whatever the room is
+-- a fault of a look is a fault of a look with any room
 pub faults_within : (room : ℕ) (buf : List ℕ) (fault : HttpFault) → LookFaults buf fault
     → LooksWithin room buf (Err fault)
 faults_within room buf NoMemory f = f

@@ -21,7 +21,7 @@ all_snoc : (p : List ℕ → Bool) (xs : List (List ℕ)) (w : List ℕ) → lis
     → list_all p (xs ++ w ∷ []) ≡ true
 all_snoc p xs w a b = list_all-append p xs (w ∷ []) ∙ and_from _ _ a (and_from _ _ b refl)
 
--- one more value that is the same
+-- one more value, the same as those before
 pub keeps_one : (v w : List ℕ) (all rest : List (List ℕ)) → bytes_eq w v ≡ true
     → SoFar (Some v) all (w ∷ rest) → SoFar (Some v) all rest
 keeps_one v w all rest e x = (
@@ -43,7 +43,7 @@ pub no_value : (all : List (List ℕ)) → SoFar None all [] → Ok None ≡ len
 unfolding length_of
 no_value all e = sym (ap length_of e)
 
--- the length of one value as that of all
+-- the length of one value as the length of all values
 abbrev pub in_some : Result ℕ HttpFault → Result (Option ℕ) HttpFault
 in_some (Ok n) = Ok (Some n)
 in_some (Err e) = Err e
@@ -68,7 +68,7 @@ one_length v all x =
     (digits_value 10 v) same
     ∙ sym (ap length_of x.1)
 
--- the values from an index on
+-- a field of another name adds no value
 pub values_skip : (name buf : List ℕ) (spans : List HeaderSpan) (i : ℕ) (span : HeaderSpan) → i < length spans
     → is_named name (header_bytes buf (get_or spans i span)) ≡ false
     → values_named name (map (header_bytes buf) (drop i spans))

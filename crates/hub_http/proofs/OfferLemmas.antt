@@ -1,4 +1,4 @@
--- What the bytes that came so far spell, and what more bytes behind them change.
+-- The requests of the bytes that came so far, and more bytes behind them.
 use Rattle.std.proofs.Common.{◌≡◌, ℕ, ◌+◌, ◌<◌, ◌≤◌, List, [], ◌∷◌, ◌++◌, length}
 use Rattle.std.proofs.Common.{take, drop, Option, Some, None, Ok, is_some, unwrap_or}
 use Rattle.std.proofs.Common.{sym, ap, subst, ◌∙◌, append_assoc, append-nil, arith}
@@ -44,7 +44,7 @@ all_more [] bytes rest more s = ap (λ l. l ++ more) s
 all_more (asked ∷ all) bytes rest more s =
     (s.0 ++ more, spells_more bytes asked s.0 more s.1, all_more all s.0 rest more s.2)
 
--- a head has its bytes
+-- a head lies within the bytes that it begins
 head_within : (bytes : List ℕ) (head : Head) (other : RequestHead) → IsHeadAt bytes head other
     → head.len ≤ length bytes
 head_within bytes head other at =

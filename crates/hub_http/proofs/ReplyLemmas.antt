@@ -1,4 +1,4 @@
--- The heads of answers.
+-- The heads of replies.
 use Rattle.std.proofs.Common.{◌≡◌, ℕ, List, ◌++◌, ◌∙◌, ap, sym, append_assoc}
 
 -- a head that is written in three parts

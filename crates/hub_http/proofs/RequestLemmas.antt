@@ -1,4 +1,4 @@
--- From what is held to the bytes that are told.
+-- From the held bytes to the known ones.
 use Rattle.std.proofs.Common.{◌≡◌, ℕ, ◌+◌, ◌<◌, ◌≤◌, ◌⊎◌, Bool, true, false, ◌&&◌, cond, List, [], ◌∷◌}
 use Rattle.std.proofs.Common.{◌++◌, length, take, drop, Option, Some, None, Result, Ok, Err, IfSome}
 use Rattle.std.proofs.Common.{is_some, unwrap_or, refl, sym, ap, subst, ◌∙◌, arith, nat_le, append_assoc}
@@ -23,7 +23,7 @@ use Rattle.hub_http.proofs.HeadLemmas.{head_has_bytes}
 use Rattle.hub_http.specs.Stream.{Spells, asked_by, Leaves}
 use Rattle.hub_http.specs.Looking.{IsHeadAt, FindFaults, LookFaults}
 
--- where a text ends in its front
+-- of two fronts of one text the shorter is a front of the longer
 splits : (p r a m : List ℕ) → p ++ r ≡ a ++ m → length p ≤ length a → (q : List ℕ) × (a ≡ p ++ q)
 splits [] r a m e l = (a, refl)
 splits (x ∷ p) r [] m e l = absurd (omega arith)
@@ -37,7 +37,7 @@ keeps_some None b P k p = tt
 keeps_some (Some x) None P k p = absurd k
 keeps_some (Some x) (Some y) P k p = subst P k p
 
--- a part with no head in it, as long as a head may be
+-- bytes without a head, as many as a head may have, begin with no head whatever follows
 never_after_part : (held : List ℕ) → 16384 ≤ length held → HasNoRequest held → NeverHasHead held
 never_after_part held long none more h rest b =
     let cut = splits (print_request h) rest held more (sym b.reads.1) (omega (arith, b.len)) in
@@ -48,7 +48,7 @@ pub goes_on_too_long : (held : List ℕ) → 16384 ≤ length held → GoesOn he
 goes_on_too_long held long on =
     (never_after_part held long on.0, inr (inr (held, [], sym (append-nil held), long, on)))
 
--- what is said of a front of the bytes is said of the bytes
+-- bytes begin with no head, whatever follows, where a front of them does
 never_more : (held y : List ℕ) → NeverHasHead held → NeverHasHead (held ++ y)
 never_more held y never more h rest b =
     never (y ++ more) h rest (subst (λ (l : List ℕ). Begins l h rest) (append_assoc held y more) b)
@@ -96,7 +96,7 @@ faults_more held y Ended f =
 faults_more held y IoFault f = tt
 faults_more held y fault f = head_fault_more held y fault f
 
--- a fault of looking for a head is one of the bytes
+-- a fault of the search for a head is a fault of the bytes
 pub told_fault : (a0 left : Option (List ℕ)) (held : List ℕ) (fault : HttpFault)
     → Keeps a0 (prepend_known held left) → FindFaults held left fault
     → IfSome a0 (λ bytes. Leaves bytes (Err fault) (prepend_known held left))
@@ -121,7 +121,7 @@ some_known : (held block : List ℕ) (left : Option (List ℕ)) → 0 < length b
 some_known held block None some = tt
 some_known held block (Some more) some = block_bytes held block more some
 
--- a fault of looking for a head in what is held is one of finding a head
+-- a fault of a look into the held bytes is a fault of the search for a head
 pub looked_fault : (held : List ℕ) (left : Option (List ℕ)) (fault : HttpFault) → LookFaults held fault
     → FindFaults held left fault
 looked_fault held left NoMemory f = some_held held left f
@@ -133,13 +133,13 @@ looked_fault held left Coding f = f
 looked_fault held left Ended f = absurd f
 looked_fault held left IoFault f = absurd f
 
--- and none of the reader's
+-- and it is no fault of the reader
 pub looked_not_read : {T : Type 0} (held : List ℕ) (fault : HttpFault) (r : Result T HttpFault)
     → LookFaults held fault → r ≡ Err fault → r ≡ Err IoFault → ⊥
 looked_not_read held fault r f is e =
     let same : fault ≡ IoFault = cc in subst (λ (other : HttpFault). LookFaults held other) same f
 
--- a fault of reading more is one of finding a head
+-- a fault of reading more is a fault of the search for a head
 pub read_fault : (held block : List ℕ) (left : Option (List ℕ)) (fault : HttpFault)
     → (fault ≡ NoMemory) ⊎ (fault ≡ IoFault) → (fault ≡ NoMemory → 0 < length block)
     → FindFaults held (prepend_known block left) fault
@@ -149,7 +149,7 @@ read_fault held block left fault (inl p) memory =
 read_fault held block left fault (inr p) memory =
     subst (λ (other : HttpFault). FindFaults held (prepend_known block left) other) (sym p) tt
 
--- what keeps known bytes, and then again
+-- two steps, one after the other, keep the known bytes that each of them keeps
 pub keeps_behind : (a b d : Option (List ℕ)) → Keeps a b → Keeps b d → Keeps a d
 keeps_behind None b d p q = tt
 keeps_behind (Some x) None d p q = absurd p
@@ -220,7 +220,7 @@ told_request a0 left1
     (Some (held2 ++ y)) (λ bytes. Leaves bytes (Ok (Some request)) (Some (held3 ++ y))) k2
     (spelled held1 held2 held3 y head request n x grown room size body left method target has close))
 
--- behind a head that was found no memory was found, or the reader failed
+-- where a head was found, the bytes are not empty
 some_bytes : (held1 held2 y : List ℕ) (head : Head) → ((other : RequestHead) × IsHeadAt held1 head other)
     → ((more : List ℕ) × (held2 ≡ held1 ++ more)) → 0 < length (held2 ++ y)
 some_bytes held1 held2 y head x grown =

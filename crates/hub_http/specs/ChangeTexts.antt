@@ -1,4 +1,4 @@
--- The texts of rows of changes, and what ends a feed of them (CouchDB API reference, _changes).
+-- The texts of rows of changes, and the end of a feed of such rows (CouchDB API reference, _changes).
 use Rattle.std.specs.Prelude.{ℕ, List, [], ◌++◌, Bool, true, false, Option, Some, None, map, codes, decimal}
 use Rattle.std.specs.List.{join_with_byte}
 use Rattle.json.specs.Print.{quoted}
@@ -20,7 +20,7 @@ unfoldable pub row_mark : Bool → List ℕ
 row_mark false = codes "]"
 row_mark true = codes "],\"deleted\":true"
 
--- the member of the document, where the row brings its members
+-- the member `doc`, where the row brings the document's members
 unfoldable pub doc_member : ChangeRow → Option (List ℕ) → List ℕ
 doc_member row None = []
 doc_member row (Some body) = codes ",\"doc\":" ++ doc_text (row_doc row body)
@@ -37,15 +37,15 @@ id_member id = codes ",\"id\":" ++ (quoted id ++ codes ",\"changes\":[")
 unfoldable pub row_head : (life seq : ℕ) → List ℕ → List ℕ
 row_head life seq id = codes "{\"seq\":" ++ (sequence_text seq life ++ id_member id)
 
--- The front of a row whose id needs no escape, as far as the id. In life 1 it is `{"seq":"3-1","id":"a` of
--- the row of a at 3.
+-- The front of a row whose id needs no escape, up to the end of the id. In life 1 the front of the row of a
+-- at 3 is `{"seq":"3-1","id":"a`.
 unfoldable pub plain_front : (life seq : ℕ) → List ℕ → List ℕ
 plain_front life seq id =
     codes "{\"seq\":\"" ++ (decimal seq ++ (codes "-" ++ (decimal life ++ (codes "\",\"id\":\"" ++ id))))
 
--- a row as a JSON object, in a feed of this life: its sequence is written with the number of the life. In
--- life 1 the row of a at 3 with 2-b is `{"seq":"3-1","id":"a","changes":[{"rev":"2-b"}]}`, and where it is
--- deleted `],"deleted":true}` stands at its end.
+-- A row as a JSON object. Its sequence is written with the number of the feed's life. In life 1 the row of a
+-- at 3 with 2-b is `{"seq":"3-1","id":"a","changes":[{"rev":"2-b"}]}`. A deleted row without a document ends
+-- with `],"deleted":true}`.
 unfoldable pub change_row_text : (life : ℕ) → ChangeRow → List ℕ
 change_row_text life row = row_head life row.seq row.id ++ (revisions_text row.changes ++ row_end row)
 

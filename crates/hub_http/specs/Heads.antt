@@ -1,5 +1,4 @@
--- RFC 9112 (heads, Content-Length) and RFC 9110, section 7.6.1 (Connection): what the head of a request asks
--- for.
+-- RFC 9112 (heads, Content-Length) and RFC 9110, section 7.6.1 (Connection): the meaning of a request's head.
 use Rattle.std.specs.Prelude.{◌≡◌, ℕ, ◌<◌, ◌≤◌, ◌⊎◌, Bool, false, ◌&&◌, ◌==◌, List, [], ◌∷◌, ◌++◌, length}
 use Rattle.std.specs.Prelude.{map, Option, Some, None, Result, Ok, Err, if◌then◌else◌, nat_lt, nat_le, codes}
 use Rattle.std.specs.Prelude.{bytes_eq}
@@ -13,15 +12,15 @@ use Rattle.hub_http.specs.declared.fault.HttpFault.{HttpFault}
 use Rattle.hub_http.specs.declared.fault.HttpFault.TheVariants.{NoMemory, BadHead, HeadTooLong, BodyTooLong}
 use Rattle.hub_http.specs.declared.fault.HttpFault.TheVariants.{Version, Coding, Ended, IoFault}
 
--- a head of at most so many bytes
+-- the most bytes of a head
 abbrev pub head_limit : ℕ
 head_limit = 16384
 
--- and fields
+-- the most fields of a head
 abbrev pub field_limit : ℕ
 field_limit = 64
 
--- a body of at most so many bytes
+-- the most bytes of a body
 abbrev pub body_limit : ℕ
 body_limit = 8388608
 
@@ -29,11 +28,11 @@ body_limit = 8388608
 abbrev pub Pair : Type 0
 Pair = List ℕ × List ℕ
 
--- the same letters, in any case
+-- two words are the same but for the case of their letters
 unfoldable pub same_word : List ℕ → List ℕ → Bool
 same_word a b = bytes_eq (map to_ascii_lowercase a) (map to_ascii_lowercase b)
 
--- the field has this name
+-- the field has this name, in any case
 abbrev pub is_named : List ℕ → Pair → Bool
 is_named name pair = same_word pair.0 name
 
@@ -41,12 +40,12 @@ is_named name pair = same_word pair.0 name
 abbrev pub comma : ℕ
 comma = 44
 
--- the options that a Connection field lists: the parts between its commas, without the spaces and tabs
--- around each. Of `keep-alive, Close` they are keep-alive and Close.
+-- The options that a Connection field lists: the parts between its commas, without the spaces and tabs around
+-- each. The options of `keep-alive, Close` are keep-alive and Close.
 abbrev pub options : List ℕ → List (List ℕ)
 options value = map trim_ows (slice_split (λ b. b == comma) value)
 
--- `close` is one of them, in any case
+-- `close`, in any case, is an option that the value lists
 abbrev pub lists_close : List ℕ → Bool
 lists_close value = list_any (λ o. same_word o (codes "close")) (options value)
 
@@ -60,12 +59,12 @@ values_named name [] = []
 values_named name (pair ∷ pairs) =
     if is_named name pair then pair.1 ∷ values_named name pairs else values_named name pairs
 
--- decimal digits, at least one
+-- the text has decimal digits alone, and at least one
 abbrev pub is_digits : List ℕ → Bool
 is_digits v = nat_lt 0 (length v) && list_all is_ascii_digit v
 
--- the length that the values of Content-Length give: they are one text, of digits, and the number is within
--- the limit. 3 and 3 give 3, and no value gives none. 3 and 03 are BadHead, as -1 is, and 8388609 is
+-- The length that the values of Content-Length give. The values have to be one text of digits, and its number
+-- within the limit. 3 and 3 give 3, and no value gives None. 3 and 03 are BadHead, as -1 is, and 8388609 is
 -- BodyTooLong.
 unfoldable pub length_of : List (List ℕ) → Result (Option ℕ) HttpFault
 length_of [] = Ok None
@@ -83,13 +82,13 @@ abbrev pub is_target : List ℕ → Bool
 is_target [] = false
 is_target (b ∷ bs) = b == slash
 
--- the length of the body that the fields ask for, where the target is one
+-- the length of the body that the fields ask for, and BadHead where the target does not begin with a slash
 abbrev pub length_asked : Bool → List Pair → Result (Option ℕ) HttpFault
 length_asked target pairs =
     if target then length_of (values_named (codes "content-length") pairs) else Err BadHead
 
--- the length that a head asks for, or the first of its faults: the version, a transfer coding, its target or
--- length. So with a version of 1.0 and a transfer coding the fault is Version.
+-- The length that a head asks for, or its first fault: the version, a transfer coding, the target or the
+-- length. A version of 1.0 with a transfer coding has the fault Version.
 unfoldable pub length_or_fault : ℕ → List ℕ → List Pair → Result (Option ℕ) HttpFault
 length_or_fault minor target pairs =
     if minor == 1
@@ -106,26 +105,26 @@ pairs_of head = map name_and_value head.fields
 abbrev pub length_by : RequestHead → Result (Option ℕ) HttpFault
 length_by head = length_or_fault head.minor head.target (pairs_of head)
 
--- the connection closes after the answer
+-- the connection closes after the reply
 abbrev pub close_by : RequestHead → Bool
 close_by head = list_any asks_close (pairs_of head)
 
--- bytes begin with this head, within the limits, and then rest
+-- the bytes are this head, within the limits, and then rest
 pub record Begins (bytes : List ℕ) (head : RequestHead) (rest : List ℕ) : Type 0 where
   pub reads : ReadsRequest bytes head rest
   pub len : length (print_request head) ≤ head_limit
   pub fields : length head.fields ≤ field_limit
 
--- bytes begin with no such head
+-- the bytes begin with no head within the limits
 abbrev pub HasNoHead : List ℕ → Type 0
 HasNoHead bytes = (head : RequestHead) (rest : List ℕ) → ¬ (Begins bytes head rest)
 
--- no head ends in the bytes, and more bytes can end one. `GET / HT` does so; `GET / XX` does not, and
--- neither does a whole head.
+-- No head ends in the bytes, and more bytes can end one. `GET / HT` goes on. `GET / XX` does not, and neither
+-- does a whole head.
 abbrev pub GoesOn : List ℕ → Type 0
 GoesOn bytes = HasNoRequest bytes × MayBecomeRequest bytes
 
--- a front of the bytes, as long as a head may be, is one that goes on
+-- a front of the bytes goes on, and is as long as a head may be or longer
 abbrev pub GoesOnTooLong : List ℕ → Type 0
 GoesOnTooLong bytes =
     (front : List ℕ) × (rest : List ℕ) × (bytes ≡ front ++ rest) × (head_limit ≤ length front) × GoesOn front
@@ -140,7 +139,7 @@ BeginsLong bytes =
 abbrev pub BeginsTooLong : List ℕ → Type 0
 BeginsTooLong bytes = RequestExceeds field_limit bytes ⊎ (BeginsLong bytes ⊎ GoesOnTooLong bytes)
 
--- they begin with no head within the limits, whatever follows
+-- the bytes begin with no head within the limits, whatever follows
 abbrev pub NeverHasHead : List ℕ → Type 0
 NeverHasHead bytes = (more : List ℕ) → HasNoHead (bytes ++ more)
 
@@ -150,8 +149,8 @@ abbrev pub BeginsFaulty : List ℕ → HttpFault → Type 0
 BeginsFaulty bytes fault =
     (head : RequestHead) × (rest : List ℕ) × Begins bytes head rest × (length_by head ≡ Err fault)
 
--- the table of head faults: what bytes are that have this fault, whatever follows them. The last three do not
--- lie in the bytes: each way to read them says when those come.
+-- The table of head faults: for each fault the bytes that have it, whatever follows them. The last three
+-- faults do not lie in the bytes: each way to read the bytes has its own rule for them.
 abbrev pub HasHeadFault : List ℕ → HttpFault → Type 0
 HasHeadFault bytes BadHead = NeverHasRequest bytes ⊎ BeginsFaulty bytes BadHead
 HasHeadFault bytes HeadTooLong = NeverHasHead bytes × BeginsTooLong bytes
@@ -162,6 +161,6 @@ HasHeadFault bytes NoMemory = ⊥
 HasHeadFault bytes Ended = ⊥
 HasHeadFault bytes IoFault = ⊥
 
--- there are bytes, fewer than a head may have, and a head goes on behind them
+-- some bytes, fewer than the most of a head, that go on
 abbrev pub IsPartOfHead : List ℕ → Type 0
 IsPartOfHead bytes = (0 < length bytes) × GoesOn bytes × (length bytes < head_limit)

@@ -1,36 +1,36 @@
--- The texts of a feed's items, whatever rows it has (CouchDB API reference, _changes and _db_updates; own for
--- what stands between the rows).
+-- The texts of a feed's items, for rows of any kind (CouchDB API reference, _changes and _db_updates; own for
+-- the separators of rows).
 use Rattle.std.specs.Prelude.{ℕ, zero, suc, List, [], ◌++◌, codes}
 use Rattle.hub_model.specs.declared.feeds.Mode.{Mode}
 use Rattle.hub_model.specs.declared.feeds.Mode.TheVariants.{Normal, Longpoll, Continuous}
 use Rattle.hub_model.specs.declared.feeds.Item.{Item}
 use Rattle.hub_model.specs.declared.feeds.Item.TheVariants.{Row, Beat, End}
 
--- what stands in a list between a row and those before it, of which there are so many
+-- the text in a list before a row, where so many rows stand before it
 unfoldable pub separator : ℕ → List ℕ
 separator zero = []
 separator (suc n) = codes ",\n"
 
--- what stands before a row, before which so many came: a continuous feed is no list
+-- the text before a row, where so many rows came before: a continuous feed is no list
 unfoldable pub before_row : Mode → ℕ → List ℕ
 before_row Normal n = separator n
 before_row Longpoll n = separator n
 before_row Continuous n = []
 
--- what stands after a row: each row of a continuous feed is a line
+-- the text after a row: each row of a continuous feed is a line
 unfoldable pub after_row : Mode → List ℕ
 after_row Normal = []
 after_row Longpoll = []
 after_row Continuous = codes "\n"
 
--- what stands before the members that end a feed: it closes the list of the rows, where there is one
+-- the text before the members that end a feed: the end of the list of rows, or without a list a brace
 unfoldable pub before_end : Mode → List ℕ
 before_end Normal = codes "\n],\n"
 before_end Longpoll = codes "\n],\n"
 before_end Continuous = codes "{"
 
--- the text of an item in a feed of the life of this number, before which so many rows came, where rows and
--- what ends a feed have these texts in a life
+-- The text of an item, before which the feed wrote `rows_before` rows. `row_text` and `end_text` have the
+-- texts of a row and of a feed's end, in the life of a number.
 abbrev pub item_text : {R : Type 0} → (ℕ → R → List ℕ) → (ℕ → ℕ → ℕ → List ℕ) → Mode
     → (rows_before life : ℕ) → Item R → List ℕ
 item_text row_text end_text mode rows_before life (Row row) =

@@ -1,4 +1,4 @@
--- own: what the steps that read a request answer.
+-- own: the answers of the steps that read a request.
 use Rattle.std.specs.Prelude.{◌≡◌, ℕ, ◌<◌, true, List, [], ◌∷◌, ◌++◌, length, drop, Option, Some, None}
 use Rattle.std.specs.Prelude.{Result, Ok, Err, IfSome, if◌then◌else◌, nat_le, bytes_eq, ⊤}
 use Rattle.std.specs.List.{list_all}
@@ -13,7 +13,8 @@ use Rattle.hub_http.specs.Heads.{body_limit, field_limit, is_digits, length_by, 
 use Rattle.hub_http.specs.Heads.{HasHeadFault}
 use Rattle.hub_http.specs.Heads.{IsPartOfHead}
 
--- the values seen so far, the first of them if there is one, of all of which these are left
+-- Of the values `all`, `rest` are left to look at. With None no value was seen. With Some v at least one
+-- value was seen, and each that was seen is v.
 abbrev pub SoFar : Option (List ℕ) → List (List ℕ) → List (List ℕ) → Type 0
 SoFar None all rest = all ≡ rest
 SoFar (Some v) all rest =
@@ -26,7 +27,7 @@ length_in v =
     then (if nat_le (digits_value 10 v) body_limit then Ok (digits_value 10 v) else Err BodyTooLong)
     else Err BadHead
 
--- the first head.len bytes of buf are the head other, and head has what it asks for
+-- the first head.len bytes of buf are the head `other`, and the parts of `head` are those of `other`
 pub record IsHeadAt (buf : List ℕ) (head : Head) (other : RequestHead) : Type 0 where
   pub begins : Begins buf other (drop head.len buf)
   pub len : head.len ≡ length (print_request other)
@@ -35,33 +36,34 @@ pub record IsHeadAt (buf : List ℕ) (head : Head) (other : RequestHead) : Type 
   pub length : length_by other ≡ Ok head.length
   pub close : head.close ≡ close_by other
 
--- what a fault says of the bytes in which a head was looked for: that of the table, or out of memory
+-- The meaning of a fault for the bytes in which a head was looked for. Out of memory needs a byte, and each
+-- other fault is by the table.
 abbrev pub LookFaults : List ℕ → HttpFault → Type 0
 LookFaults buf NoMemory = 0 < length buf
 LookFaults buf fault = HasHeadFault buf fault
 
--- what looking for a head in buf answers
+-- the answer of a look for a head in buf
 abbrev pub Looks : List ℕ → Result (Option Head) HttpFault → Type 0
 Looks buf (Ok None) = GoesOn buf
 Looks buf (Ok (Some f)) = (head : RequestHead) × IsHeadAt buf f head
 Looks buf (Err e) = LookFaults buf e
 
--- what looking for a head with room for so many fields answers: the same, but that with less room than the
--- limit a head may also be found to be too long for the room alone. With room for 16 a head of 20 fields is
--- HeadTooLong, and one of 3 fields is found.
+-- The answer of a look for a head with room for so many fields. It is that of `Looks`, with one exception:
+-- with less room than the limit, a head may also be too long for the room alone. With room for 16 a head of
+-- 20 fields is HeadTooLong, and a head of 3 fields is found.
 abbrev pub LooksWithin : ℕ → List ℕ → Result (Option Head) HttpFault → Type 0
 LooksWithin room buf (Err HeadTooLong) = room ≡ field_limit → LookFaults buf HeadTooLong
 LooksWithin room buf looked = Looks buf looked
 
--- what a fault of looking for a head says of the bytes that are held and those that are left: that of the
--- table, or out of memory, an end in the middle or the reader's failure
+-- The meaning of a fault of the search for a head, for the held bytes and the bytes that are left. It is by
+-- the table, or out of memory, an end in the middle or the reader's failure.
 abbrev pub FindFaults : List ℕ → Option (List ℕ) → HttpFault → Type 0
 FindFaults held left NoMemory = IfSome left (λ more. 0 < length (held ++ more))
 FindFaults held left Ended = IsPartOfHead held × IsAtEnd left
 FindFaults held left IoFault = ⊤
 FindFaults held left fault = HasHeadFault held fault
 
--- what looking for a head answers over a reader
+-- the answer of a search for a head over a reader
 abbrev pub Finds : List ℕ → Option (List ℕ) → Result (Option Head) HttpFault → Type 0
 Finds held left (Ok (Some f)) = (head : RequestHead) × IsHeadAt held f head
 Finds held left (Ok None) = (held ≡ []) × IsAtEnd left

@@ -1,4 +1,4 @@
--- own: what reading from where requests come says.
+-- own: the contracts of the steps that read requests from a reader.
 use Rattle.std.specs.Prelude.{◌≡◌, ◌++◌, ◌<◌, ◌≤◌, ◌⊎◌, ℕ, List, Bool, Option, Result, length}
 use Rattle.std.specs.Prelude.{IfOk, IfErr, IfSome, IsTrue, IsFalse, IsErrOf}
 use Rattle.std.specs.Io.KnownBytes.{Keeps, IsAtEnd}
@@ -12,16 +12,15 @@ use Rattle.hub_http.specs.Looking.{Finds}
 use Rattle.hub_http.specs.Stream.{Leaves, to_read}
 use Rattle.hub_http.specs.Words.{to_come}
 
--- A request was read, or there is none, or a fault came; the counts of the reader tell of a fault that is its
--- own. Whether a fault ended the requests is not noted yet.
+-- A request was read, or there is none, or a fault came. The reader's counts tell of an IoFault. The step
+-- does not note that a fault ended the requests.
 pub record RequestReading {R : Type 0} (left : R → Option (List ℕ)) (faults failures : R → ℕ)
     (result : Result (Option Request) HttpFault) (old new : Requests R) : Type 0 where
   pub told : IfSome (to_come left old) (λ bytes. Leaves bytes result (to_come left new))
   pub ended : new.ended ≡ old.ended
   pub counts : CallCounts (IsErrOf result IoFault) faults failures old.reader new.reader
 
--- A head was found at the front of the bytes that are held, or there is none, or a fault came. No byte is
--- lost.
+-- A head was found at the front of the held bytes, or there is none, or a fault came. No byte is lost.
 pub record HeadReading {R : Type 0} (left : R → Option (List ℕ)) (faults failures : R → ℕ)
     (result : Result (Option Head) HttpFault) (old new : Requests R) : Type 0 where
   pub kept : Keeps (to_come left old) (to_come left new)
@@ -29,9 +28,9 @@ pub record HeadReading {R : Type 0} (left : R → Option (List ℕ)) (faults fai
   pub ended : new.ended ≡ old.ended
   pub counts : CallCounts (IsErrOf result IoFault) faults failures old.reader new.reader
 
--- Bytes came behind those that are held, from those that were left, and none is lost. The answer is whether
--- so many are held; where they are not, none are left. Where 5 are wanted, ab is held and cdef is left, abcde
--- may be held and f be left, and the answer is true; where cd is left, abcd is held and the answer is false.
+-- Bytes that were left came behind the held ones, and no byte is lost. The answer is whether `wanted` bytes
+-- are held. If not, no byte is left. Where 5 are wanted, ab is held and cdef is left, abcde may be held and f
+-- be left, and the answer is true. Where cd is left, abcd is held and the answer is false.
 pub record Filling {R : Type 0} (left : R → Option (List ℕ)) (faults failures : R → ℕ) (wanted : ℕ)
     (result : Result Bool HttpFault) (old new : Requests R) : Type 0 where
   pub kept : Keeps (to_come left old) (to_come left new)

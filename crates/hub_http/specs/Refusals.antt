@@ -16,7 +16,7 @@ use Rattle.hub_document.specs.declared.doc.DocFault.TheVariants as doc
 use Rattle.hub_model.specs.declared.outcomes.Fault.{Fault}
 use Rattle.hub_model.specs.declared.outcomes.Fault.TheVariants as stored
 
--- the status of the answer
+-- the status of the reply
 abbrev pub status_of : Refusal → ℕ
 status_of NoMemory = 503
 status_of Conflict = 409
@@ -36,7 +36,7 @@ status_of DocDeleted = 404
 status_of MethodNotAllowed = 405
 status_of _ = 400
 
--- the member `error` of the answer
+-- the member `error` of the reply
 abbrev pub error_of : Refusal → List ℕ
 error_of NoMemory = codes "out_of_memory"
 error_of Conflict = codes "conflict"
@@ -57,7 +57,7 @@ error_of DocDeleted = codes "not_found"
 error_of MethodNotAllowed = codes "method_not_allowed"
 error_of _ = codes "bad_request"
 
--- the member `reason` of the answer
+-- the member `reason` of the reply
 abbrev pub reason_of : Refusal → List ℕ
 reason_of NoMemory = codes "out of memory"
 reason_of NotJson = codes "not JSON"

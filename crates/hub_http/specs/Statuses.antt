@@ -1,8 +1,8 @@
--- The phrases of the statuses that the hub answers (RFC 9110, section 15; of 431 RFC 6585, section 5). That
--- of 413 is the older one, of RFC 7231.
+-- The phrases of the hub's statuses (RFC 9110, section 15; for 431 RFC 6585, section 5). The phrase of 413 is
+-- the older one, of RFC 7231.
 use Rattle.std.specs.Prelude.{ℕ, List, [], codes, if◌then◌else◌, ◌==◌}
 
--- the phrase of a status, and of another number none
+-- the phrase of a status; another number has the empty text
 abbrev pub reason_phrase : ℕ → List ℕ
 reason_phrase n =
     if n == 200 then codes "OK" else (

@@ -1,4 +1,5 @@
--- The texts of rows of the log of updates, and what ends a feed of them (CouchDB API reference, _db_updates).
+-- The texts of rows of the log of updates, and the end of a feed of such rows (CouchDB API reference,
+-- _db_updates).
 use Rattle.std.specs.Prelude.{ℕ, List, ◌++◌, codes}
 use Rattle.json.specs.Print.{quoted}
 use Rattle.hub_document.specs.SequenceText.{sequence_text}
@@ -6,7 +7,7 @@ use Rattle.hub_model.specs.Updates.{UpdateRow}
 use Rattle.hub_model.specs.declared.updates.UpdateKind.{UpdateKind}
 use Rattle.hub_model.specs.declared.updates.UpdateKind.TheVariants.{Created, Updated, Deleted}
 
--- what happened to a database, as a JSON string
+-- the kind of a change to a database, as a JSON string
 unfoldable pub kind_text : UpdateKind → List ℕ
 kind_text Created = codes "\"created\""
 kind_text Updated = codes "\"updated\""
@@ -20,6 +21,6 @@ update_row_text life row =
     ++ (codes ",\"type\":"
     ++ (kind_text row.kind ++ (codes ",\"seq\":" ++ (sequence_text row.seq life ++ codes "}")))))
 
--- the members that end a feed, and the brace that closes it: how many rows lie above is not said
+-- the member that ends a feed, and the brace that closes it; the number of rows above is not written
 unfoldable pub update_end_text : (life last_seq pending : ℕ) → List ℕ
 update_end_text life last_seq pending = codes "\"last_seq\":" ++ (sequence_text last_seq life ++ codes "}\n")

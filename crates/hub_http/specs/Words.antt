@@ -1,10 +1,10 @@
--- own: what is said of requests that are read.
+-- own: words for requests that are read, and for counts.
 use Rattle.std.specs.Prelude.{◌≡◌, ℕ, List, Option, true, false}
 use Rattle.hub_http.specs.declared.requests.Requests.{Requests}
 use Rattle.hub_http.specs.declared.tally.Tally.{Tally}
 use Rattle.hub_http.specs.Stream.{known, to_read}
 
--- the bytes that no request took yet, where they are told
+-- the bytes that no request took yet, where they are known
 abbrev pub to_come : {R : Type 0} → (R → Option (List ℕ)) → Requests R → Option (List ℕ)
 to_come left q = known q.held (to_read q.block (left q.reader))
 
@@ -16,15 +16,15 @@ IsOpen q = q.ended ≡ false
 abbrev pub HasEnded : {R : Type 0} → Requests R → Type 0
 HasEnded q = q.ended ≡ true
 
--- where the requests come from
+-- the reader of the requests
 abbrev pub reader_of : {R : Type 0} → Requests R → R
 reader_of q = q.reader
 
--- how many reads faulted
+-- the number of reads that faulted
 abbrev pub faults_of : {R : Type 0} → (R → ℕ) → Requests R → ℕ
 faults_of count q = count q.reader
 
--- how many reads failed, other than by an interruption
+-- the number of reads that failed, other than by an interruption
 abbrev pub failures_of : {R : Type 0} → (R → ℕ) → Requests R → ℕ
 failures_of count q = count q.reader
 
@@ -32,14 +32,14 @@ failures_of count q = count q.reader
 abbrev pub inner_of : {T : Type 0} → Tally T → T
 inner_of t = t.inner
 
--- how many of its calls faulted
+-- the number of calls that faulted
 abbrev pub faults_counted : {T : Type 0} → Tally T → ℕ
 faults_counted t = t.faults
 
--- how many of these were no interruptions
+-- the number of those calls that were no interruptions
 abbrev pub failures_counted : {T : Type 0} → Tally T → ℕ
 failures_counted t = t.failures
 
--- how many reads there were
+-- the number of reads
 abbrev pub reads_counted : {T : Type 0} → Tally T → ℕ
 reads_counted t = t.reads

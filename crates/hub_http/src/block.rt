@@ -15,15 +15,14 @@ use std::marker::Model;
 /// The most bytes of one read.
 pub(crate) const BLOCK: usize = 4096;
 
-/// How often a read is made, where each is interrupted.
+/// The most reads in a row, where each is interrupted.
 const TRIES: u32 = 1_000_000;
 
-/// The bytes of the last read that were not taken yet. They lie in the block itself, so a read takes
-/// no memory.
+/// The bytes of the last read that were not taken yet. They lie in the block, so a read takes no memory.
 #[derive(Drop)]
 pub(crate) struct Block {
     bytes: [u8; BLOCK],
-    /// How many of the bytes, from the front, came by a read and were not taken.
+    /// The number of bytes, from the front, that came by a read and were not taken yet.
     len: usize,
 }
 
@@ -38,7 +37,7 @@ impl Model for Block {
 }
 
 impl Block {
-    /// Nothing was read.
+    /// An empty block.
     pub(crate) fn new() -> Block
         ensures { result ≡ [] }
     {
@@ -48,7 +47,8 @@ impl Block {
         }
     }
 
-    /// Reads some bytes into the block where it is empty, at most so many, none only at the end of the input.
+    /// Reads at most `most` bytes into the block where it is empty, and no byte only at the end of the input.
+    /// A block that has bytes stays as it is.
     pub(crate) fn refill<R: Input>(&mut self, reader: &mut R, most: usize) -> Result<(), HttpFault>
         requires { 0 < most }
         ensures kept { Keeps (to_read self.old (R.left reader.old)) (to_read self.new (R.left reader.new)) }
@@ -73,8 +73,8 @@ impl Block {
         Err(HttpFault::IoFault)
     }
 
-    /// Moves at most so many bytes from the block's front to the end of those that are held. An
-    /// error changes nothing, and comes only where there are some.
+    /// Moves at most `most` bytes from the block's front to the end of the held bytes. An error changes
+    /// nothing, and comes only where the block has bytes.
     pub(crate) fn give(&mut self, held: &mut Pending, most: usize) -> Result<usize, AllocError>
         ensures count { IfOk result (λ n. n ≡ min most (length self.old)) }
         ensures held { IfOk result (λ n. held.new ≡ held.old ++ take n self.old) }

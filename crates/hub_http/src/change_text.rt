@@ -96,8 +96,8 @@ fn put_row_end(out: &mut Vec<u8>, row: &ChangeRow) -> Result<(), AllocError>
     Ok(())
 }
 
-// Room for the 20 digits of a sequence, and behind it what stands between the sequence and an id, where the
-// number of the life has one digit.
+// Room for the 20 digits of a sequence, and behind it the text between a row's sequence and its id: `-`, the
+// digit of the life and `","id":"`.
 fn sequence_room(life: u64) -> [u8; 30]
     requires { life < 10 }
     ensures { drop 20 result ≡ 45 ∷ (decimal life ++ codes "\",\"id\":\"") }
@@ -107,7 +107,7 @@ fn sequence_room(life: u64) -> [u8; 30]
     room
 }
 
-// Appends what a text has from this place on.
+// Appends the bytes of a text from a place on.
 fn put_from(out: &mut Vec<u8>, text: &[u8], at: usize) -> Result<(), AllocError>
     requires { at ≤ length text.now }
     ensures { Appends (drop at text.now) result out.old.items out.new.items }
@@ -115,7 +115,7 @@ fn put_from(out: &mut Vec<u8>, text: &[u8], at: usize) -> Result<(), AllocError>
     out.extend_from_slice(&text[at..])
 }
 
-// Appends what stands behind the only revision of a row that brings no document.
+// Appends the end of a row that brings no document, behind the JSON string of its only revision.
 #[tactic(auto, unfolding(crate::specs::ChangeTexts::row_mark))]
 fn put_short_end(out: &mut Vec<u8>, deleted: bool) -> Result<(), AllocError>
     ensures { Appends (125 ∷ (row_mark deleted ++ 125 ∷ [])) result out.old.items out.new.items }
@@ -127,7 +127,7 @@ fn put_short_end(out: &mut Vec<u8>, deleted: bool) -> Result<(), AllocError>
     }
 }
 
-// What stands between the only revision of a row and its document.
+// The text between the only revision of a row and its document.
 #[tactic(auto, unfolding(crate::specs::ChangeTexts::row_mark))]
 fn doc_front(deleted: bool) -> &'static str
     ensures { result.now ≡ 125 ∷ (row_mark deleted ++ codes ",\"doc\":") }
@@ -139,8 +139,8 @@ fn doc_front(deleted: bool) -> &'static str
     }
 }
 
-// A row of one revision whose id needs no escape, in a life whose number has one digit. It is written in few
-// parts.
+// A row of one revision whose id needs no escape, in a life whose number has one digit. Its text is written
+// in few parts.
 #[derive(Drop)]
 struct PlainRow<'r, 's> {
     row: &'r ChangeRow,
@@ -155,7 +155,7 @@ struct PlainRow<'r, 's> {
 }
 
 impl PlainRow<'_, '_> {
-    // Appends its front, as far as the id.
+    // Appends the row's front, up to the end of its id.
     fn put_front(&self, out: &mut Vec<u8>) -> Result<(), AllocError>
         ensures { Appends (plain_front self.now.life self.now.row.now.seq self.now.row.now.id) result
             out.old.items out.new.items }
@@ -169,7 +169,7 @@ impl PlainRow<'_, '_> {
         Ok(())
     }
 
-    // Appends its revision, and what stands between the id and it.
+    // Appends the text between the row's id and its revision, and then the revision.
     fn put_revision(&self, out: &mut Vec<u8>) -> Result<(), AllocError>
         ensures { Appends (codes "\",\"changes\":[{\"rev\":" ++ quoted (text_of self.now.rev.now)) result
             out.old.items out.new.items }
@@ -181,7 +181,7 @@ impl PlainRow<'_, '_> {
         }
     }
 
-    // Appends its document.
+    // Appends the row's document.
     fn put_doc(&self, out: &mut Vec<u8>, body: &Body) -> Result<(), AllocError>
         ensures { Appends (doc_text (row_doc self.now.row.now body.now)) result out.old.items out.new.items }
     {
@@ -191,7 +191,7 @@ impl PlainRow<'_, '_> {
         }
     }
 
-    // Appends its end, behind the revision.
+    // Appends the row's end, behind the revision.
     fn put_end(&self, out: &mut Vec<u8>) -> Result<(), AllocError>
         ensures { Appends (125 ∷ row_end self.now.row.now) result out.old.items out.new.items }
     {
@@ -205,7 +205,7 @@ impl PlainRow<'_, '_> {
         Ok(())
     }
 
-    // Appends all of it.
+    // Appends the whole row.
     fn put(&self, out: &mut Vec<u8>) -> Result<(), AllocError>
         ensures { Appends (change_row_text self.now.life self.now.row.now) result
             out.old.items out.new.items }

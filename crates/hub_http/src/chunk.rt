@@ -1,4 +1,4 @@
-//! Chunks to a writer.
+//! Chunks that are written to a writer.
 
 ghost use Rattle.std.specs.Prelude.{◌≡◌, ◌<◌, ◌≤◌, [], ◌∷◌, ◌++◌, drop};
 ghost use Rattle.std.specs.Prelude.{false, length, IfOk, IsErrOf};
@@ -16,7 +16,7 @@ pub enum ChunkFault {
     /// Out of memory: the writer was not called.
     #[error("out of memory")]
     NoMemory,
-    /// The writer failed behind a front of the chunk, or 1,000,000 calls in a row were interrupted.
+    /// The writer failed after a front of the chunk, or 1,000,000 writes in a row were interrupted.
     #[error("the other side can't be written to")]
     IoFault,
 }
@@ -29,13 +29,13 @@ fn digit(number: usize) -> u8
     b"0123456789abcdef"[number]
 }
 
-/// How many digits a size has at most.
+/// The most hexadecimal digits of a size.
 const SIZE: usize = 16;
 
 /// The room for the head of a chunk: its size, CR and LF.
 const ROOM: usize = SIZE + 2;
 
-// Writes the head of a chunk of so many bytes at the end of the room for it, and answers where it begins.
+// Writes the head of a chunk of `size` bytes to the end of its room, and answers the place where it begins.
 fn put_head(bytes: &mut [u8], size: usize) -> usize
     requires { 18 ≤ length bytes.old }
     ensures written { drop result bytes.new ≡ digits 16 false size ++ (13 ∷ 10 ∷ drop 18 bytes.old) }
@@ -54,8 +54,8 @@ fn put_head(bytes: &mut [u8], size: usize) -> usize
     at
 }
 
-/// Writes texts as chunks (RFC 9112, section 7.1), each by one call of the writer where that takes
-/// all of it. A text is made where its chunk is written from, and is not copied.
+/// Writes texts as chunks (RFC 9112, section 7.1), each by one write where the writer takes all of it. A text
+/// is made in the buffer from which its chunk is written, and is not copied.
 #[derive(Debug, Drop)]
 pub struct ChunkWriter {
     /// Room for the head of a chunk, and behind it the text and the end of the chunk.
@@ -63,20 +63,20 @@ pub struct ChunkWriter {
 }
 
 impl ChunkWriter {
-    /// A writer of chunks. It costs nothing: the first chunk allocates.
+    /// A writer of chunks. It costs nothing: the first text allocates.
     pub fn new(alloc: Global) -> ChunkWriter {
         ChunkWriter {
             buffer: Vec::new(alloc),
         }
     }
 
-    /// Whether it has memory of its own, as behind its first chunk. Constant time.
+    /// Whether the writer of chunks has memory of its own, as after its first text. Constant time.
     pub fn has_room(&self) -> bool {
         self.buffer.capacity() > 0
     }
 
-    /// Makes the chunk of a text behind the room for its head, and answers where it begins: at the end
-    /// where the text is empty. An append of two bytes costs more than two pushes.
+    /// Makes the chunk of a text behind the room for its head, and answers the place where the chunk begins.
+    /// For an empty text that is the buffer's end. Two pushes cost less than an append of two bytes.
     fn put<T: Text>(&mut self, text: &T) -> Result<usize, AllocError>
         ensures { IfOk result (λ start. (start ≤ length self.new.buffer.items)
             × (drop start self.new.buffer.items ≡ text_chunks (T.bytes text.now))) }
@@ -92,9 +92,9 @@ impl ChunkWriter {
         Ok(put_head(self.buffer.as_mut_slice(), size))
     }
 
-    /// Writes a text as one chunk, and an empty one not at all: then the writer is not called. Nothing
-    /// is flushed. It costs the text's length, and memory for the first chunk and where one is longer
-    /// than each before. Where no memory is found the writer is not called either.
+    /// Writes a text as one chunk. For an empty text, and out of memory, the writer is not called. Nothing is
+    /// flushed. The cost is the text's length. The first text takes memory, and so does a text that is longer
+    /// than each before.
     pub fn write<T: Text, W: Output>(&mut self, writer: &mut W, text: &T) -> Result<(), ChunkFault>
         ensures sent { WritesTo W.written W.fault_count W.failure_count result writer.old writer.new
             (text_chunks (T.bytes text.now)) }

@@ -3,7 +3,7 @@
 use httparse::spans::HeaderSpan;
 use std::marker::Model;
 
-/// The fields of a head, in the bytes that they lie in. A contract sees the name and the value of each.
+/// The fields of a head, in the bytes that they lie in. A contract sees the name and the value of each field.
 #[derive(Drop)]
 pub(crate) struct Fields<'a> {
     pub(crate) buf: &'a [u8],

@@ -3,7 +3,7 @@
 ghost use Rattle.std.specs.Prelude.{◌≡◌};
 ghost use Rattle.hub_http.specs.Texts.{head_text, chunked_line};
 
-/// The head of a feed's answer, which is sent in chunks (RFC 9112, section 7.1). It costs nothing.
+/// The head of a feed's reply, which is sent in chunks (RFC 9112, section 7.1). It costs nothing.
 pub fn stream_head_text(close: bool) -> &'static str
     ensures { result.now ≡ head_text 200 chunked_line close }
 {

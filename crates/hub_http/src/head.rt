@@ -14,14 +14,14 @@ use httparse::spans::{EMPTY_HEADER_SPAN, HeaderSpan, parse_request};
 use httparse::{Error, Status};
 use std::alloc::Global;
 
-/// What a head asks for.
+/// The parts of a request's head that the hub uses.
 #[derive(Debug, Drop)]
 pub(crate) struct Head {
     pub method: MethodName,
     pub target: Vec<u8>,
     pub length: Option<u64>,
     pub close: bool,
-    /// The length of the head.
+    /// The length of the head, in bytes.
     pub len: usize,
 }
 
@@ -52,10 +52,10 @@ pub(crate) const HEAD_LIMIT: usize = 16_384;
 /// The greatest number of a head's fields.
 const FIELD_LIMIT: usize = 64;
 
-/// As many fields as nearly every head has at most: fewer spans are cleared in less time.
+/// Room for the fields of nearly every head. A look with fewer spans clears them in less time.
 const FEW_FIELDS: usize = 16;
 
-/// Whether the words are the same but for the case of their letters.
+/// Whether two words are the same but for the case of their letters.
 #[tactic(auto, unfolding(crate::specs::Heads::same_word))]
 pub(crate) fn same_word(a: &[u8], b: &[u8]) -> bool
     ensures { result ≡ same_word a.now b.now }
@@ -75,7 +75,7 @@ fn has_coding(fields: &Fields) -> bool
     false
 }
 
-/// The length that a head asks for, or its first fault.
+/// The length of the body that a head asks for, or the head's first fault.
 #[tactic(auto, unfolding(crate::specs::Heads::length_or_fault))]
 fn asked(minor: u8, target: &[u8], fields: &Fields) -> Result<Option<u64>, HttpFault>
     ensures { result ≡ length_or_fault minor target.now fields.now }
@@ -92,8 +92,8 @@ fn asked(minor: u8, target: &[u8], fields: &Fields) -> Result<Option<u64>, HttpF
     }
 }
 
-/// Looks for a head at the front of the bytes, `None` where more bytes have to come. A head with more fields
-/// than there are spans is one that is too long.
+/// Looks for a head at the front of the bytes, and answers `None` where more bytes have to come. A head with
+/// more fields than spans is `HeadTooLong`.
 fn look_within(
     alloc: Global,
     buf: &[u8],
@@ -127,8 +127,8 @@ fn look_within(
     }
 }
 
-/// Looks for a head at the front of the bytes, `None` where more bytes have to come. It costs their length,
-/// and twice that where the head has more than 16 fields.
+/// Looks for a head at the front of the bytes, and answers `None` where more bytes have to come. The cost is
+/// the bytes' length, and twice that for a head of more than 16 fields or 16,384 bytes.
 pub(crate) fn look(alloc: Global, buf: &[u8]) -> Result<Option<Head>, HttpFault>
     ensures { Looks buf.now result }
 {

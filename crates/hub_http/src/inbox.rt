@@ -11,18 +11,18 @@ use crate::next::Next;
 use crate::pending::Pending;
 use std::alloc::{AllocError, Global};
 
-/// The bytes of a connection that came and that no request took yet. They are offered as they come, in
-/// any cut, and give requests one after the other, as on a persistent connection (RFC 9112,
-/// section 9.3.2). Nothing here waits: where a request is not whole, that is an outcome.
+/// The bytes of a connection that came and that no request took yet. They are offered as they come, in any
+/// cut. They give requests one after the other, as on a persistent connection (RFC 9112, section 9.3.2). No
+/// call waits: a request that is not whole has the outcome `NotYet`.
 #[derive(Drop)]
 pub struct Inbox {
     alloc: Global,
     pending: Pending,
-    /// No more bytes come.
+    /// Whether no more bytes come.
     is_over: bool,
 }
 
-/// The request of this head, which stands at the front of these bytes, if all of its body came.
+/// The request of a head that stands at the front of the bytes, if all of its body came.
 fn take_request(
     alloc: Global,
     pending: &mut Pending,
@@ -47,7 +47,7 @@ fn take_request(
 }
 
 impl Inbox {
-    /// Nothing came.
+    /// An inbox to which no byte came.
     pub fn new(alloc: Global) -> Inbox
         ensures empty { arrived_bytes result ≡ [] }
         ensures open { is_over result ≡ false }
@@ -66,8 +66,7 @@ impl Inbox {
         self.is_over
     }
 
-    /// Offers bytes that came behind those that were offered before. An error changes nothing: they may
-    /// be offered again.
+    /// Offers the bytes that came next. An error changes nothing: the same bytes may be offered again.
     pub fn offer(&mut self, bytes: &[u8]) -> Result<(), AllocError>
         requires { is_over self.old ≡ false }
         ensures ok { OnOk result (arrived_bytes self.new ≡ arrived_bytes self.old ++ bytes.now) }
@@ -85,13 +84,13 @@ impl Inbox {
         self.is_over = true;
     }
 
-    /// The next request, if all of its bytes came. An error changes nothing: the same call made again
-    /// answers the same, or goes on where memory was missing.
+    /// The next request, if all of its bytes came. An error changes nothing. The same call made again has the
+    /// same answer, or goes on after it was out of memory.
     ///
-    /// Cost: the head is parsed from its front at each call, over at most all bytes that came. A body
-    /// of more than 4,096 bytes is moved and not copied. Room for a body is made as its bytes come,
-    /// whatever `Content-Length` says: for 65,536 bytes at first, then for as many again as came, and
-    /// never for more than the request has.
+    /// Cost: each call parses the head from its front, over at most all bytes that came. A body of more than
+    /// 4,096 bytes is moved and not copied. Room for a body is made as its bytes come, whatever
+    /// `Content-Length` says. At first it is made for 65,536 bytes, then for as many again as came, and never
+    /// for more than the request has.
     pub fn next(&mut self) -> Result<Next, HttpFault>
         ensures told { LeavesSoFar (is_over self.old) (arrived_bytes self.old) result (arrived_bytes self.new) }
         ensures over { is_over self.new ≡ is_over self.old }

@@ -1,4 +1,4 @@
-//! Where requests come from.
+//! The readers that requests come from.
 ghost use Rattle.std.specs.Prelude.{◌≡◌, ℕ, List, Option, is_err};
 ghost use Rattle.std.specs.Io.{ReadsAtMost};
 ghost use Rattle.std.specs.Io.KnownBytes.{ReadConsumes};
@@ -6,22 +6,22 @@ ghost use Rattle.hub_http.specs.Counts.{one_more, one_more_if, call_failed};
 
 use std::io;
 
-/// Where requests come from: a reader that counts its reads and faults, so that a caller can tell
-/// a fault that came from one that is made up.
+/// The source of requests: a reader that counts its reads and faults. So a caller can tell a fault of the
+/// reader from a fault that is made up.
 pub trait Input {
-    /// The bytes that are left to read, where they are told.
+    /// The bytes that are left to read, or `None` where they are unknown.
     ghost left: { Self → Option (List ℕ) };
 
-    /// How many reads answered an error.
+    /// The number of reads that answered an error.
     ghost fault_count: { Self → ℕ };
 
-    /// How many of these were no interruptions.
+    /// The number of these reads whose error was no interruption.
     ghost failure_count: { Self → ℕ };
 
-    /// How many reads there were.
+    /// The number of reads.
     ghost read_count: { Self → ℕ };
 
-    /// Reads some bytes to the front of `buf`, none only at the end, and counts the read.
+    /// Reads bytes to the front of `buf`, and counts the read. No byte comes only at the end of the input.
     fn read(&mut self, buf: &mut [u8]) -> io::Result<usize>
         ensures bound { ReadsAtMost result buf.new }
         ensures bytes { ReadConsumes (left self.old) (left self.new) result buf.new }
@@ -29,11 +29,11 @@ pub trait Input {
         ensures failures { failure_count self.new ≡ one_more_if (call_failed result) (failure_count self.old) }
         ensures reads { read_count self.new ≡ one_more (read_count self.old) };
 
-    /// How many reads answered an error. The count stays at 2^64 - 1.
+    /// The number of reads that answered an error, at most 2^64 - 1.
     fn faults(&self) -> u64
         ensures { result ≡ fault_count self.now };
 
-    /// How many reads there were. The count stays at 2^64 - 1.
+    /// The number of reads, at most 2^64 - 1.
     fn reads(&self) -> u64
         ensures { result ≡ read_count self.now };
 }

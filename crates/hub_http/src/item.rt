@@ -56,10 +56,9 @@ fn before_end(mode: Mode) -> &'static str
     )
 }
 
-/// Appends the text of an item of a feed of the life of this number, before which the feed wrote so
-/// many rows. After an error what was held still stands in front, and a part of the text may stand
-/// behind it. It costs the text's length, and as much again as is held, up to 16 KiB: hand it a short
-/// buffer, and use that again.
+/// Appends the text of an item of a feed in the life of this number, where the feed wrote `rows_before` rows
+/// before. After an error the vector keeps its old bytes, and a part of the text may follow them. The cost is
+/// the text's length, and up to 16 KiB of the old bytes again. So hand it a short buffer, and use that again.
 pub fn item_text<R: RowText>(
     out: &mut Vec<u8>,
     mode: Mode,

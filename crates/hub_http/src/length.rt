@@ -10,7 +10,7 @@ use crate::head::same_word;
 /// The greatest length of a body, in bytes.
 const BODY_LIMIT: u64 = 8_388_608;
 
-/// The one value that was seen, after one more.
+/// The one value of the fields so far, with one more value. A value that differs is `BadHead`.
 fn and_value<'b>(seen: Option<&'b [u8]>, value: &'b [u8]) -> Result<Option<&'b [u8]>, HttpFault>
     ensures { (all rest : List (List ℕ)) → SoFar (option_copied seen.entry) all (value.now ∷ rest)
         → MatchResult result (λ both. SoFar (option_copied both) all rest) (λ e. length_of all ≡ Err e) }
@@ -27,7 +27,7 @@ fn and_value<'b>(seen: Option<&'b [u8]>, value: &'b [u8]) -> Result<Option<&'b [
     }
 }
 
-/// The value that each field of this name has, if there is one.
+/// The one value that all `Content-Length` fields have, if there is such a field.
 fn one_value<'b>(fields: &Fields<'b>) -> Result<Option<&'b [u8]>, HttpFault>
     ensures { let values = values_named (codes "content-length") fields.now in
         MatchResult result (λ seen. SoFar (option_copied seen) values []) (λ e. length_of values ≡ Err e) }
@@ -42,7 +42,7 @@ fn one_value<'b>(fields: &Fields<'b>) -> Result<Option<&'b [u8]>, HttpFault>
     Ok(seen)
 }
 
-/// The length that the digits write.
+/// The length of a body that the digits write in decimal.
 fn length_in(digits: &[u8]) -> Result<u64, HttpFault>
     ensures { result ≡ length_in digits.now }
 {
@@ -63,7 +63,7 @@ fn length_in(digits: &[u8]) -> Result<u64, HttpFault>
     }
 }
 
-/// The length that the fields give.
+/// The length of the body that the fields give, `None` without a `Content-Length`.
 pub(crate) fn length_of(fields: &Fields) -> Result<Option<u64>, HttpFault>
     ensures { result ≡ length_of (values_named (codes "content-length") fields.now) }
 {

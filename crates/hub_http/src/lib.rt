@@ -1,4 +1,4 @@
-//! Requests and the texts of answers.
+//! Requests, and the texts of replies.
 #![tactic(auto)]
 
 mod block;

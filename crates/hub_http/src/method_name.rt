@@ -5,7 +5,7 @@ ghost use Rattle.std.specs.Prelude.{◌≡◌, IfOk};
 use std::alloc::{AllocError, Global};
 use std::marker::Model;
 
-// How a name is kept.
+// The form in which a name is kept.
 #[derive(Debug, Drop)]
 enum MethodRepr {
     Get,
@@ -16,8 +16,8 @@ enum MethodRepr {
     Other(Vec<u8>),
 }
 
-/// The name of a request's method, as `GET` (RFC 9110, section 9.1). One of the five that the hub takes needs
-/// no memory.
+/// The name of a request's method, as `GET` (RFC 9110, section 9.1). The names of the five methods that the
+/// hub takes need no memory.
 #[derive(Debug, Drop)]
 pub struct MethodName {
     kept: MethodRepr,
@@ -33,7 +33,7 @@ impl Model for MethodName {
 }
 
 impl MethodName {
-    /// The name of these bytes. It takes memory where it is none of GET, HEAD, PUT, POST and DELETE.
+    /// The name of these bytes. It takes memory for a name that is none of GET, HEAD, PUT, POST and DELETE.
     pub fn new(alloc: Global, name: &[u8]) -> Result<MethodName, AllocError>
         ensures { IfOk result (λ made. made ≡ name.now) }
     {
@@ -48,7 +48,7 @@ impl MethodName {
         Ok(MethodName { kept })
     }
 
-    /// Its bytes. Constant time.
+    /// The bytes of the name. Constant time.
     pub fn as_slice(&self) -> &[u8]
         ensures { result.now ≡ self.now }
     {

@@ -1,4 +1,4 @@
-//! Texts that are to go.
+//! Texts that wait to be sent.
 ghost use Rattle.std.specs.Prelude.{◌≡◌, ◌<◌, ◌≤◌, ◌++◌, ℕ, List, [], length, drop};
 ghost use Rattle.std.specs.Prelude.{Some, IfOk, IsTrue, IsFalse};
 ghost use Rattle.hub_document.specs.Appends.{AppendsWhole};
@@ -11,36 +11,35 @@ use std::alloc::{AllocError, Global};
 use std::io;
 use std::io::{ErrorKind, Write};
 
-/// The room that an outbox keeps: for the head of an answer, and for each text of hub_http that needs no
-/// memory.
+/// The room that an outbox keeps, enough for a reply's head and each text of hub_http that needs no memory.
 const ROOM: usize = 256;
 
-/// What came of handing bytes to a writer.
+/// The outcome of handing bytes to a writer.
 #[derive(Clone, Copy, Debug, PartialEq, Eq)]
 pub enum Transfer {
-    /// So many were taken.
+    /// The writer took this many bytes.
     Took(usize),
-    /// None, and the same call may be made again: at once, or when the writer has room.
+    /// The writer took no byte. The same call may be made again: at once, or when the writer has room.
     Again,
-    /// None, and the other side can't be written to.
+    /// The writer took no byte, and the other side can't be written to.
     Refused,
 }
 
-/// Texts that are to go, in order. As a writer it never waits, and faults only where it finds no memory:
-/// then it takes nothing. While it is empty it takes `ROOM` bytes without memory, and any one vector.
+/// Texts that wait to be sent, in order. As a writer an outbox never waits, and faults only out of memory:
+/// then it takes nothing. An empty outbox takes `ROOM` bytes without memory, and any one vector.
 #[derive(Drop)]
 pub struct Outbox {
     alloc: Global,
-    /// What was copied here.
+    /// The bytes that were copied here.
     texts: Pending,
-    /// A vector that was moved here, and what came behind it.
+    /// The vector that was moved here, and the bytes that were put behind it.
     moved: Pending,
-    /// How many writes found no memory.
+    /// The number of writes that found no memory.
     faults: u64,
 }
 
 impl Outbox {
-    /// Nothing is to go.
+    /// An empty outbox.
     pub fn new(alloc: Global) -> Result<Outbox, AllocError>
         ensures empty { IfOk result (λ outbox. pending_in outbox ≡ []) }
         ensures faults { IfOk result (λ outbox. faults_in outbox ≡ 0) }
@@ -53,7 +52,7 @@ impl Outbox {
         })
     }
 
-    /// Whether nothing is to go.
+    /// Whether no byte waits to be sent.
     pub fn is_empty(&self) -> bool
         ensures empty { IsTrue result → pending_in self.now ≡ [] }
         ensures some { IsFalse result → 0 < length (pending_in self.now) }
@@ -61,7 +60,7 @@ impl Outbox {
         !self.holds(1)
     }
 
-    /// Whether at least so many bytes are to go.
+    /// Whether at least `count` bytes wait to be sent.
     pub fn holds(&self, count: usize) -> bool
         ensures many { IsTrue result → count ≤ length (pending_in self.now) }
         ensures few { IsFalse result → length (pending_in self.now) < count }
@@ -70,7 +69,7 @@ impl Outbox {
         texts >= count || self.moved.len() >= count - texts
     }
 
-    /// A front of what is to go, which is empty only where nothing is.
+    /// A front of the waiting bytes. It is empty only where no byte waits.
     pub fn front(&self) -> &[u8]
         ensures front { (behind : List ℕ) × (pending_in self.now ≡ result.now ++ behind) }
         ensures some { 0 < length (pending_in self.now) → 0 < length result.now }
@@ -82,7 +81,7 @@ impl Outbox {
         }
     }
 
-    /// So many bytes went, from the front.
+    /// Takes `count` bytes, which were sent, from the front.
     pub fn sent(&mut self, count: usize)
         requires { count ≤ length (pending_in self.old) }
         ensures { HasLeft (drop count (pending_in self.old)) self.old self.new }
@@ -96,8 +95,8 @@ impl Outbox {
         }
     }
 
-    /// Gives back the room that is not needed, where nothing is to go. A sender of many texts calls it behind
-    /// the last of them. Constant time.
+    /// Gives back unneeded room where no byte waits. A sender of many texts calls it after the last. Constant
+    /// time.
     pub fn release(&mut self)
         ensures { HasLeft (pending_in self.old) self.old self.new }
     {
@@ -107,7 +106,8 @@ impl Outbox {
         }
     }
 
-    /// Hands a front of what is to go to a writer, by one write, and keeps what it did not take.
+    /// Hands a front of the waiting bytes to a writer, by one write, and keeps the bytes that it did not
+    /// take.
     pub fn send_to<W: Write>(&mut self, writer: &mut W) -> Transfer
         ensures handed { Transfers result (pending_in self.old) (pending_in self.new)
             (W.contents writer.old) (W.contents writer.new) }
@@ -130,7 +130,7 @@ impl Outbox {
         }
     }
 
-    /// Puts bytes behind those that are to go. An error changes nothing.
+    /// Puts bytes behind the waiting ones. An error changes nothing.
     fn put(&mut self, bytes: &[u8]) -> Result<(), AllocError>
         ensures put { AppendsWhole bytes.now result (pending_in self.old) (pending_in self.new) }
         ensures faults { self.new.faults ≡ self.old.faults }

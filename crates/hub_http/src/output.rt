@@ -1,4 +1,4 @@
-//! Where replies go.
+//! The writers that replies go to.
 ghost use Rattle.std.specs.Prelude.{◌≡◌, ℕ, List, [], Option, is_err};
 ghost use Rattle.std.specs.Prelude.{IfNone, IfSome, OnOk, IsErr};
 ghost use Rattle.std.specs.Io.{WritesAtMost};
@@ -11,18 +11,18 @@ use std::io;
 use std::io::ErrorKind;
 use thiserror::Error;
 
-/// Where replies go: a writer that counts its faults.
+/// The destination of replies: a writer that counts its faults.
 pub trait Output {
-    /// The bytes that were written, where they are told.
+    /// The bytes that were written, or `None` where they are unknown.
     ghost written: { Self → Option (List ℕ) };
 
-    /// How many calls answered an error or, asked to write something, took no byte.
+    /// The number of calls that answered an error, or took no byte of a text that is not empty.
     ghost fault_count: { Self → ℕ };
 
-    /// How many of these were no interruptions.
+    /// The number of these calls that were no interruptions.
     ghost failure_count: { Self → ℕ };
 
-    /// Writes a front of the bytes, and answers how many.
+    /// Writes a front of the bytes, and answers its length.
     fn write(&mut self, buf: &[u8]) -> io::Result<usize>
         ensures bound { WritesAtMost result buf.now }
         ensures bytes { WriteAppends (written self.old) (written self.new) result buf.now }
@@ -31,8 +31,8 @@ pub trait Output {
         ensures failures { failure_count self.new
             ≡ one_more_if (write_failed result buf.now) (failure_count self.old) };
 
-    /// Takes all of the bytes as written and keeps their memory, or gives them back. A writer that has
-    /// no use for it gives them back, as this body does.
+    /// Takes all of the bytes as written and keeps their vector, or gives the vector back. A writer without a
+    /// use for its memory gives it back, as this body does.
     fn keep(&mut self, bytes: Vec<u8>) -> Option<Vec<u8>>
         ensures kept { IfNone result (Appends (written self.old) (written self.new) bytes.items) }
         ensures back { IfSome result (λ given. given.items ≡ bytes.items) }
@@ -43,13 +43,13 @@ pub trait Output {
         Some(bytes)
     }
 
-    /// Hands on what was written and not handed on yet.
+    /// Hands on the bytes that were written and not handed on yet.
     fn flush(&mut self) -> io::Result<()>
         ensures bytes { Keeps (written self.old) (written self.new) }
         ensures faults { fault_count self.new ≡ one_more_if (is_err result) (fault_count self.old) }
         ensures failures { failure_count self.new ≡ one_more_if (call_failed result) (failure_count self.old) };
 
-    /// How many calls faulted. The count stays at 2^64 - 1.
+    /// The number of calls that faulted, at most 2^64 - 1.
     fn faults(&self) -> u64
         ensures { result ≡ fault_count self.now };
 }
@@ -59,7 +59,7 @@ pub trait Output {
 #[error("the other side can't be written to")]
 pub struct IoFault;
 
-/// How often a write or a flush is made, where each is interrupted.
+/// The most writes or flushes in a row, where each is interrupted.
 const TRIES: u32 = 1_000_000;
 
 /// Whether the call that answered this error may be made again.
@@ -72,7 +72,7 @@ pub(crate) fn is_interrupted(error: &io::Error) -> bool
     }
 }
 
-/// Flushes, again where a flush is interrupted.
+/// Flushes the writer. A flush that is interrupted is made again; 1,000,000 in a row are a fault.
 fn flush<W: Output>(writer: &mut W) -> Result<(), IoFault>
     ensures { SendsTo W.written W.fault_count W.failure_count result writer.old writer.new [] }
 {
@@ -117,7 +117,7 @@ pub fn send<W: Output>(writer: &mut W, bytes: &[u8]) -> Result<(), IoFault>
     flush(writer)
 }
 
-/// Sends all of a vector, as `send` does. The writer may keep its memory.
+/// Sends all of a vector, as `send` does. The writer may keep the vector's memory.
 pub fn send_vec<W: Output>(writer: &mut W, bytes: Vec<u8>) -> Result<(), IoFault>
     ensures { SendsTo W.written W.fault_count W.failure_count result writer.old writer.new bytes.items }
 {

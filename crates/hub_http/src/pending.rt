@@ -1,4 +1,4 @@
-//! Bytes that are taken from their front.
+//! A queue of bytes.
 ghost use Rattle.std.specs.Prelude.{◌≡◌, ◌<◌, ◌≤◌, ◌+◌, [], length, take, drop};
 ghost use Rattle.std.specs.Prelude.{min, max, IfOk, IsTrue, IsFalse, OnErr};
 ghost use Rattle.hub_document.specs.Appends.{AppendsWhole};
@@ -8,13 +8,13 @@ use std::alloc::{AllocError, Global};
 use std::marker::Model;
 use std::mem;
 
-/// The most room that is kept where no byte is left.
+/// The most room, in bytes, that is kept where no byte is left.
 const KEPT: usize = 1_024;
 
-/// The room that is made at once for bytes that did not come yet.
+/// The room, in bytes, that is made at once for bytes that did not come yet.
 const FIRST_ROOM: usize = 65_536;
 
-/// A copy of the bytes. It takes memory where there are some.
+/// A copy of the bytes. An empty copy takes no memory.
 fn copy_of(alloc: Global, bytes: &[u8]) -> Result<Vec<u8>, AllocError>
     ensures ok { IfOk result (λ copy. copy.items ≡ bytes.now) }
     ensures err { OnErr result (0 < length bytes.now) }
@@ -25,8 +25,8 @@ fn copy_of(alloc: Global, bytes: &[u8]) -> Result<Vec<u8>, AllocError>
     Vec::from_slice(alloc, bytes)
 }
 
-/// Makes the held bytes the body, and holds on to those behind it. An error changes nothing.
-/// It moves the body once and copies the bytes behind it.
+/// Gives a body out of the held bytes, in their memory, and keeps a copy of the bytes behind it. The body is
+/// moved once. An error changes nothing.
 fn split_body(
     alloc: Global,
     held: &mut Vec<u8>,
@@ -47,11 +47,11 @@ fn split_body(
     Ok(bytes)
 }
 
-/// Bytes that are taken from their front, in order, and come at their end.
+/// A queue of bytes. They come at its end, and are taken from its front.
 #[derive(Drop)]
 pub(crate) struct Pending {
     bytes: Vec<u8>,
-    /// How many of them, from the front, are taken.
+    /// The number of bytes, from the front, that are taken.
     start: usize,
 }
 
@@ -66,7 +66,7 @@ impl Model for Pending {
 }
 
 impl Pending {
-    /// These are left. They are moved, which takes no memory.
+    /// A queue of these bytes. Their vector is moved, which takes no memory.
     pub(crate) fn new(bytes: Vec<u8>) -> Pending
         ensures { result ≡ bytes.items }
     {
@@ -80,14 +80,14 @@ impl Pending {
         &self.bytes[self.start..]
     }
 
-    /// How many are left.
+    /// The number of bytes that are left.
     pub(crate) fn len(&self) -> usize
         ensures { result ≡ length self.now }
     {
         self.bytes.len() - self.start
     }
 
-    /// Whether none is left.
+    /// Whether no byte is left.
     pub(crate) fn is_empty(&self) -> bool
         ensures empty { IsTrue result → self.now ≡ [] }
         ensures full { IsFalse result → 0 < length self.now }
@@ -95,8 +95,8 @@ impl Pending {
         self.len() == 0
     }
 
-    /// Moves the bytes that are left over those that are taken, where these are at least as many, and answers
-    /// how many are left.
+    /// Moves the bytes that are left over the taken ones, where the taken ones are at least as many. Answers
+    /// the number of bytes that are left.
     fn compact(&mut self) -> usize
         ensures { (self.new ≡ self.old) × (result ≡ length self.old) }
     {
@@ -109,7 +109,7 @@ impl Pending {
         len
     }
 
-    /// Puts bytes behind those that are left. An error changes nothing.
+    /// Puts bytes behind the bytes that are left. An error changes nothing.
     pub(crate) fn put(&mut self, bytes: &[u8]) -> Result<(), AllocError>
         ensures { AppendsWhole bytes.now result self.old self.new }
     {
@@ -117,8 +117,8 @@ impl Pending {
         self.bytes.extend_from_slice(bytes)
     }
 
-    /// Makes room for bytes of which so many are wanted, and answers how many may then be left: as many again
-    /// as are left, 65,536 more at least, and never more than are wanted. It changes none.
+    /// Makes room on the way to `wanted` bytes, and answers how many bytes may then be left. It is twice the
+    /// present count, at least 65,536 above that count, and at most `wanted`. The bytes stay as they are.
     pub(crate) fn make_room(&mut self, wanted: usize) -> Result<usize, AllocError>
         ensures { (self.new ≡ self.old) × IfOk result (λ room. room
             ≡ min wanted (length self.old + max (length self.old) 65536)) }
@@ -129,7 +129,7 @@ impl Pending {
         Ok(room)
     }
 
-    /// Takes so many bytes from the front.
+    /// Takes `count` bytes from the front.
     pub(crate) fn take(&mut self, count: usize)
         requires { count ≤ length self.old }
         ensures { self.new ≡ drop count self.old }
@@ -137,8 +137,8 @@ impl Pending {
         self.start += count;
     }
 
-    /// Takes so many bytes from the front, and gives those behind them, so many. An error changes
-    /// nothing. A few are copied; many keep the memory that they came into, and those behind them
+    /// Takes `before` and then `count` bytes from the front, and gives the latter. An error changes nothing.
+    /// At most 4,096 bytes are copied. More keep the memory into which they came, and the bytes behind them
     /// are copied.
     pub(crate) fn take_body(
         &mut self,
@@ -163,7 +163,7 @@ impl Pending {
         Ok(body)
     }
 
-    /// Where no byte is left, keeps little more room than for so many.
+    /// Where no byte is left and the room is above 1,024 bytes, makes it a room of `room` bytes.
     pub(crate) fn release(&mut self, alloc: Global, room: usize)
         ensures { self.new ≡ self.old }
     {

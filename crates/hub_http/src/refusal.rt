@@ -78,7 +78,7 @@ pub enum Refusal {
     Coding,
     /// A request with a body has no `Content-Length`.
     LengthMissing,
-    /// Nothing has this path, or no such document is there.
+    /// No route has this path, or no such document is there.
     Missing,
     /// The document was deleted.
     DocDeleted,
@@ -87,7 +87,7 @@ pub enum Refusal {
 }
 
 impl Refusal {
-    /// The status of the answer.
+    /// The status of the reply.
     pub fn status(self) -> StatusCode
         ensures { result ≡ status_of self }
     {
@@ -109,7 +109,7 @@ impl Refusal {
         }
     }
 
-    /// The member `error` of the answer.
+    /// The member `error` of the reply.
     pub fn error(self) -> &'static str
         ensures { result.now ≡ error_of self }
     {
@@ -134,7 +134,7 @@ impl Refusal {
         }
     }
 
-    /// The member `reason` of the answer.
+    /// The member `reason` of the reply.
     pub fn reason(self) -> &'static str
         ensures { result.now ≡ reason_of self }
     {

@@ -1,4 +1,4 @@
-//! Answers and their bytes.
+//! Replies and their bytes.
 
 ghost use Rattle.std.specs.Prelude.{◌≡◌, ◌++◌, IfOk, OnOk};
 ghost use Rattle.hub_http.specs.Statuses.{reason_phrase};
@@ -10,21 +10,21 @@ use crate::status::StatusCode;
 use itoa::Buffer;
 use std::alloc::{AllocError, Global};
 
-/// A whole answer.
+/// A whole reply.
 #[derive(Debug, Drop)]
 pub enum Reply {
     /// A status, and a body: JSON text and a line feed.
     Done {
-        /// The status of the answer.
+        /// The status of the reply.
         status: StatusCode,
-        /// Its body.
+        /// The body of the reply.
         body: Vec<u8>,
     },
-    /// A refusal, with the body that `refusal_body` of `specs/Texts.antt` says.
+    /// A refusal. `refusal_body` of `specs/Texts.antt` gives the body.
     Refused(Refusal),
 }
 
-// No head of an answer and no body of a refusal is longer.
+// No head of a reply and no body of a refusal is longer, in bytes.
 const ROOM: usize = 192;
 
 #[tactic(auto, unfolding(crate::specs::Texts::status_line))]
@@ -41,7 +41,7 @@ fn put_status_line(out: &mut Vec<u8>, status: StatusCode) -> Result<(), AllocErr
     Ok(())
 }
 
-// Appends a head as far as the length of the body. Where the status is 200 or 201 it is one append.
+// Appends the front of a head, before the body's length. For the status 200 or 201 it is one append.
 fn put_front(out: &mut Vec<u8>, status: StatusCode) -> Result<(), AllocError>
     ensures { OnOk result (out.new.items ≡ out.old.items ++ head_front status) }
 {
@@ -62,7 +62,7 @@ fn put_front(out: &mut Vec<u8>, status: StatusCode) -> Result<(), AllocError>
     Ok(())
 }
 
-/// What stands in a head behind the length of the body. It costs nothing.
+/// The rest of a head, behind the number of the body's length. It costs nothing.
 #[tactic(auto, unfolding(crate::specs::Texts::close_line))]
 pub fn head_end(close: bool) -> &'static str
     ensures { result.now ≡ head_end close }
@@ -119,9 +119,9 @@ fn with_body(
     Ok(bytes)
 }
 
-/// The bytes of an answer (RFC 9112, sections 4 and 6). With `head_only`, which answers a HEAD, the
-/// body is left out and its length still told. It costs the answer's length, in one allocation, and
-/// one more for a refusal.
+/// The bytes of a reply (RFC 9112, sections 4 and 6). With `head_only`, for a HEAD, the body is left out, and
+/// the head still tells its length. The cost is the reply's length, in one allocation, and another for a
+/// refusal.
 pub fn reply_bytes(
     alloc: Global,
     reply: &Reply,

@@ -24,9 +24,9 @@ use std::alloc::Global;
 pub struct Requests<R> {
     reader: R,
     alloc: Global,
-    /// What came and is not held yet.
+    /// The bytes that came and are not held yet.
     block: Block,
-    /// What came and was not asked for yet, in order.
+    /// The bytes that are held and that no request took yet, in order.
     held: Pending,
     ended: bool,
 }
@@ -35,7 +35,7 @@ impl<R: Input> Requests<R> {
     ghost use Rattle.hub_http.specs.Words.{to_come, IsOpen, HasEnded, faults_of, failures_of, reader_of};
     ghost use Rattle.hub_http.specs.Readings.{RequestReading, HeadReading, Filling};
 
-    /// Nothing is read yet.
+    /// The requests of a reader from which nothing was read yet.
     pub fn new(alloc: Global, reader: R) -> Requests<R>
         ensures bytes { to_come R.left result ≡ R.left reader }
         ensures open { IsOpen result }
@@ -51,31 +51,29 @@ impl<R: Input> Requests<R> {
         }
     }
 
-    /// Where the requests come from, with its counts.
+    /// The reader of the requests, with its counts.
     pub fn reader(&self) -> &R
         ensures { result.now ≡ reader_of self.now }
     {
         &self.reader
     }
 
-    /// The next request, `None` at the end of the input. After a fault but out of memory each
-    /// call answers `Ended`, and reads nothing. After out of memory the same call reads on where
-    /// it stood. Only bytes that came take memory: an end of the input between two requests is
-    /// `None` in spite of want of it.
+    /// The next request, `None` at the end of the input. After a fault other than out of memory, each call
+    /// answers `Ended` and reads nothing. After out of memory, the same call reads on. Only bytes that came
+    /// take memory. So an end of the input between two requests is `None`, even out of memory.
     ///
-    /// A read that is interrupted is made again; after 1,000,000 in a row that were, the call
-    /// answers `IoFault`.
+    /// A read that is interrupted is made again. After 1,000,000 such reads in a row the call answers
+    /// `IoFault`.
     ///
-    /// Cost: bytes are read in blocks of at most 4,096 and copied into the held bytes and from
-    /// there into the request; a body of more than 4,096 bytes is moved once and not copied again.
-    /// A head that comes in k reads is parsed k times, each time from its front,
-    /// over at most 16,384 bytes; the reads of a body parse nothing. Room for a body is made as its
-    /// bytes come, whatever `Content-Length` says: for 65,536 bytes at first, then for as many
-    /// again as are held, and never for more than the request has. So a body of fewer costs one
-    /// reservation, and a longer one is copied where its room grows, in all less than twice its
-    /// length. The bytes that were read behind a request stay where they lie. Before a read they are moved to
-    /// the front, where they are no more than those that were taken. So in all no more bytes are moved than
-    /// were taken.
+    /// Cost: bytes are read in blocks of at most 4,096. They are copied into the held bytes, and from there
+    /// into the request. A body of more than 4,096 bytes is moved once and not copied again. A head that
+    /// comes in k reads is parsed k times, each time from its front, over at most 16,384 bytes. The reads of
+    /// a body parse nothing. Room for a body is made as its bytes come, whatever `Content-Length` says. At
+    /// first it is made for 65,536 bytes, then for as many again as are held, and never for more than the
+    /// request has. So a shorter body costs one reservation. A longer body is copied where its room grows, in
+    /// all less than twice its length. The bytes that were read behind a request stay in place. Before a read
+    /// they are moved to the front, where the taken bytes are at least as many. So in all no more bytes are
+    /// moved than were taken.
     pub fn next(&mut self) -> Result<Option<Request>, HttpFault>
         ensures told { IsOpen self.old → IfSome (to_come R.left self.old)
             (λ bytes. Leaves bytes result (to_come R.left self.new)) }
@@ -116,7 +114,7 @@ impl<R: Input> Requests<R> {
         Ok(Some(head.with_body(body)))
     }
 
-    /// Reads until a whole head is there, `None` at an end before it.
+    /// Reads until a whole head is held, and answers `None` where the input ends before any byte of one.
     fn find_head(&mut self) -> Result<Option<Head>, HttpFault>
         ensures { HeadReading R.left R.fault_count R.failure_count result self.old self.new }
     {
@@ -137,8 +135,7 @@ impl<R: Input> Requests<R> {
         }
     }
 
-    /// Reads until so many bytes are held, and answers whether they came. The room for them grows with
-    /// those that came.
+    /// Reads until `wanted` bytes are held, and answers whether they came. Their room grows as they come.
     fn fill(&mut self, wanted: usize) -> Result<bool, HttpFault>
         ensures { Filling R.left R.fault_count R.failure_count wanted result self.old self.new }
     {
@@ -154,10 +151,10 @@ impl<R: Input> Requests<R> {
         Ok(true)
     }
 
-    /// Reads some more bytes to the end of those that are held, until at most so many are, and answers
-    /// whether some came: none come only at the end of the input. Where they find no memory they stay in
-    /// the block, and the same call made again takes them from there. Cost: one read of at most 4,096
-    /// bytes and a copy of what came; where there is room for so many no memory is taken.
+    /// Reads bytes behind the held ones, up to `most` held bytes, and answers whether any came. None come
+    /// only at the end of the input. Bytes that find no memory stay in the block, and the same call made
+    /// again takes them from there. Cost: one read of at most 4,096 bytes, and a copy of its bytes. Where
+    /// there is room for `most` bytes, no memory is taken.
     fn read_more(&mut self, most: usize) -> Result<bool, HttpFault>
         requires { length self.old.held < most }
         ensures kept { Keeps (to_come R.left self.old) (to_come R.left self.new) }
@@ -186,9 +183,9 @@ pub fn one_reading()
         → (a ≡ b) × (r ≡ q) }
 {}
 
-/// Bytes that spell a request have no fault, nor have no bytes; bytes that begin with a whole head
-/// have at most one. Only of bytes that begin with none more than one fault may be true: a bad
-/// head, a head too long, and an end in the middle.
+/// Bytes that spell a request have no fault of their own, and neither has the empty text. Bytes that begin
+/// with a whole head have at most one fault. Only bytes without a whole head may have several: a bad head, a
+/// head too long, and an end in the middle.
 pub fn one_verdict()
     ensures spelled { SpelledHasNoFault }
     ensures nothing_spelled { NothingSpellsNothing }
@@ -199,8 +196,8 @@ pub fn one_verdict()
     ensures open { OtherFaultsAreOpen }
 {}
 
-/// More bytes behind those of a request change nothing of it: they come behind what is left. So it is of
-/// several requests, and of a fault that a head has.
+/// More bytes behind a request do not change it: they come behind the bytes that are left. The same is true
+/// of several requests, and of a head's fault.
 pub fn more_behind()
     ensures spelled { (bytes : List ℕ) (a : PlainRequest) (rest more : List ℕ)
         → Spells bytes a rest → Spells (bytes ++ more) a (rest ++ more) }

@@ -5,15 +5,14 @@ ghost use Rattle.hub_document.specs.Appends.{Appends};
 
 use std::alloc::AllocError;
 
-/// A row of a feed, written as a JSON object. After an error what was held still stands in front,
-/// and a part of the text may stand behind it.
+/// A row of a feed, written as a JSON object. After an error the vector keeps its old bytes, and a part of
+/// the text may follow them.
 pub trait RowText {
-    /// The object, in a feed of the life of this number.
+    /// The row's object, in a feed of the life of this number.
     ghost row_text: { ℕ → Self → List ℕ };
 
-    /// The members that end a feed of such rows, and the brace that closes it: of the number of its
-    /// life, of the sequence that the feed has shown everything up to, and of how many current rows
-    /// lie above it.
+    /// The members that end a feed of such rows, and the brace that closes it. The arguments are the number
+    /// of the life, the feed's `last_seq`, and the number of current rows above that.
     ghost end_text: { ℕ → ℕ → ℕ → List ℕ };
 
     /// Appends the object. It costs the text's length.

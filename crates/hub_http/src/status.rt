@@ -1,12 +1,11 @@
-//! The statuses of answers.
+//! The statuses of replies.
 
 ghost use Rattle.std.specs.Prelude.{◌≡◌};
 ghost use Rattle.hub_http.specs.Statuses.{reason_phrase};
 
 use std::marker::Model;
 
-/// The status of an answer (RFC 9110, section 15), one of those that the hub answers. A contract sees it as
-/// its number.
+/// The status of a reply (RFC 9110, section 15): a status that the hub sends. A contract sees its number.
 #[derive(Clone, Copy, Debug, PartialEq, Eq)]
 pub struct StatusCode(u16);
 
@@ -21,16 +20,16 @@ impl Model for StatusCode {
 }
 
 impl StatusCode {
-    /// What was asked for.
+    /// The request was done.
     pub const OK: StatusCode = StatusCode(200);
 
-    /// Something was made.
+    /// The request made a database or an edit, or it was a batch or a commit.
     pub const CREATED: StatusCode = StatusCode(201);
 
-    /// The request is none that the hub reads.
+    /// The hub cannot read or take the request.
     pub const BAD_REQUEST: StatusCode = StatusCode(400);
 
-    /// What was asked for is not there.
+    /// No such path, database or document is there.
     pub const NOT_FOUND: StatusCode = StatusCode(404);
 
     /// The path does not take this method.
@@ -54,20 +53,20 @@ impl StatusCode {
     /// The body has a transfer coding.
     pub const NOT_IMPLEMENTED: StatusCode = StatusCode(501);
 
-    /// The hub has no room for this now.
+    /// The hub has no room for the request now.
     pub const SERVICE_UNAVAILABLE: StatusCode = StatusCode(503);
 
     /// The version is not HTTP/1.1.
     pub const HTTP_VERSION_NOT_SUPPORTED: StatusCode = StatusCode(505);
 
-    /// Its number. Constant time.
+    /// The number of the status. Constant time.
     pub fn as_u16(self) -> u16
         ensures { result ≡ self }
     {
         self.0
     }
 
-    /// Its phrase. Constant time.
+    /// The phrase of the status. Constant time.
     pub fn reason_phrase(self) -> &'static str
         ensures { result.now ≡ reason_phrase self }
     {

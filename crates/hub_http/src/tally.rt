@@ -19,7 +19,7 @@ pub struct Tally<T> {
 impl<T> Tally<T> {
     ghost use Rattle.hub_http.specs.Words.{inner_of, faults_counted, failures_counted, reads_counted};
 
-    /// Nothing is counted yet.
+    /// The reader or writer, with nothing counted yet.
     pub fn new(inner: T) -> Tally<T>
         ensures inner { inner_of result ≡ inner }
         ensures faults { faults_counted result ≡ 0 }
@@ -42,7 +42,7 @@ impl<T> Tally<T> {
     }
 }
 
-/// One more, up to the last value.
+/// The next count, at most 2^64 - 1.
 pub(crate) fn bump(count: u64) -> u64
     ensures { result ≡ one_more count }
 {

@@ -4,9 +4,9 @@ ghost use Rattle.std.specs.Prelude.{◌≡◌, ◌++◌, ℕ, List, OnOk};
 
 use std::alloc::AllocError;
 
-/// A text that is made where it is sent from.
+/// A text that is made in the buffer from which it is sent.
 pub trait Text {
-    /// Its bytes.
+    /// The bytes of the text.
     ghost bytes: { Self → List ℕ };
 
     /// Appends the bytes. After an error the buffer holds nothing of use. It costs the text's length.

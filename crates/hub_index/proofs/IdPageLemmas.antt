@@ -1,4 +1,4 @@
--- Pages of numbers in the order of their ids: the page of an id, and what a page that changes leaves of all.
+-- Pages of numbers in the order of their ids: the page of an id, and all numbers after a page changed.
 use Rattle.std.proofs.Common.{◌≡◌, ◌≢◌, ℕ, zero, suc, ◌+◌, ◌-◌, ◌<◌, ◌≤◌}
 use Rattle.std.proofs.Common.{List, [], ◌∷◌, ◌++◌, length, get_or, Bool, true}
 use Rattle.std.proofs.Common.{false, not, ap, refl, sym, ◌∙◌, subst, arith}
@@ -30,14 +30,14 @@ use Rattle.hub_index.proofs.ListLemmas.{at_place}
 
 -- pages that show lists of numbers
 module _ {A : Type 0} (f : A → List ℕ) where
-  -- what holds of each page's numbers holds of all
+  -- a statement that holds of each page's numbers holds of all numbers
   pub all_pages : (P : ℕ → Type 0) (pages : List A) → All (λ x. All P (f x)) pages → All P (flat_map f pages)
   all_pages P [] all = All-nil P
   all_pages P (x ∷ xs) all =
       All-append P (f x) (flat_map f xs) (All-head (λ y. All P (f y)) x xs all)
       (all_pages P xs (All-tail (λ y. All P (f y)) x xs all))
 
-  -- the number of a page is one of all
+  -- a number of a page is one of all numbers
   pub page_has : (pages : List A) (j : ℕ) (d : A) (n : ℕ) → j < length pages
       → Contains (f (get_or pages j d)) n
       → Contains (flat_map f pages) n
@@ -46,7 +46,7 @@ module _ {A : Type 0} (f : A → List ℕ) where
   page_has (x ∷ xs) (suc j) d n l there =
       Contains-append_right (f x) (flat_map f xs) n (page_has xs j d n (omega arith) there)
 
-  -- the pages before one, that one, and those behind it
+  -- the numbers of the pages before page k, those of page k, and those of the pages behind it
   pub cut_at : (pages : List A) (k : ℕ) (x : A) → k < length pages → x ≡ get_or pages k x
       → flat_map f pages ≡ flat_map f (take k pages) ++ (f x ++ flat_map f (drop (k + 1) pages))
   cut_at pages k x l is =
@@ -56,7 +56,7 @@ module _ {A : Type 0} (f : A → List ℕ) where
       ∙ flat_map-append f (take k pages) (x ∷ drop (k + 1) pages)
 
   module _ (ids : List (List ℕ)) where
-    -- each page of an order is one
+    -- where all numbers are in order, the numbers of each page are
     pub each_order : (pages : List A) → IsOrder ids (flat_map f pages) → All (λ x. IsOrder ids (f x)) pages
     each_order [] order = All-nil (λ x. IsOrder ids (f x))
     each_order (x ∷ xs) order =
@@ -90,7 +90,7 @@ module _ {A : Type 0} (f : A → List ℕ) where
           firsts_parted xs (All-tail (λ y. 0 < length (f y)) x xs some)
           (pairs_right (Rises ids) (f x) (flat_map f xs) rising) i j d (omega arith) (omega arith) h
 
-      -- a page that begins above the id lies above it
+      -- the numbers of a page that begins above the id lie above the id
       page_above : (xs : List ℕ) → 0 < length xs → AllPairs (Rises ids) xs → begins_up_to ids id xs ≡ false
           → All (λ n. is_gt (id_cmp ids id n) ≡ true) xs
       page_above [] some rising h = absurd (omega arith)
@@ -117,7 +117,7 @@ module _ {A : Type 0} (f : A → List ℕ) where
           (page_above (f (get_or pages (k + j) d)) (some (k + j) d there)
           (each_order pages order (k + j) d there).rising (high (k + j) d (omega arith) there)))
 
-      -- the pages before one that begins with the id or below it lie below it
+      -- the numbers of the pages before a page that begins with the id or below it lie below the id
       pub below_page : (pages : List A) (k : ℕ) (x : A) → k < length pages → x ≡ get_or pages k x
           → AllPairs (Rises ids) (flat_map f pages) → begins_up_to ids id (f x) ≡ true
           → All (λ n. is_below ids id n ≡ true) (flat_map f (take k pages))
@@ -135,7 +135,7 @@ module _ {A : Type 0} (f : A → List ℕ) where
               (pairs_across (Rises ids) xs (m ∷ (ys ++ zs)) pairs (get_or xs j d) m
               (Contains-get_or xs j d m<l) (0, omega arith, refl)) e)
 
-      -- where the pages that begin with the id or below it are the first k: what lies before the last of them
+      -- where the first k pages begin with the id or below it, the numbers before page k - 1 lie below the id
       pub before_page : (pages : List A) (k : ℕ) → k ≤ length pages → AllPairs (Rises ids) (flat_map f pages)
           → AllWithin (λ x. begins_up_to ids id (f x) ≡ true) pages 0 k
           → All (λ n. is_below ids id n ≡ true) (flat_map f (take (k - 1) pages))
@@ -151,7 +151,7 @@ module _ {A : Type 0} (f : A → List ℕ) where
           suc_less : suc k - 1 ≡ k
           suc_less = omega arith
 
-      -- and what lies behind it
+      -- where the pages from k on begin above the id, the numbers behind page k - 1 lie above the id
       pub behind_page : (pages : List A) (k : ℕ) → All (λ x. 0 < length (f x)) pages
           → IsOrder ids (flat_map f pages)
           → AllWithin (λ x. begins_up_to ids id (f x) ≡ false) pages k (length pages)
@@ -173,7 +173,7 @@ insert_before ys zs at n l =
     ∙ (ap (λ back. take at ys ++ n ∷ back) (drop-append-le at ys zs l)
     ∙ sym (append_assoc (take at ys) (n ∷ drop at ys) zs))
 
--- at a place of a part between two others
+-- a number goes to a place of the middle one of three lists
 pub insert_inside : (xs ys zs : List ℕ) (at n : ℕ) → at ≤ length ys
     → insert (xs ++ (ys ++ zs)) (length xs + at) n ≡ xs ++ (insert ys at n ++ zs)
 insert_inside xs ys zs at n l =
@@ -182,7 +182,7 @@ insert_inside xs ys zs at n l =
 -- ---- a page that changes
 
 module _ {A : Type 0} where
-  -- what is said of the element at a place
+  -- a statement on the element at a place holds of the element that is read there
   pub some_at : (P : A → Type 0) (xs : List A) (k : ℕ) → IsSomeAnd (slice_get xs k) P
       → (k < length xs) × ((x : A) → x ≡ get_or xs k x → P x)
   some_at P [] k h = absurd h
@@ -196,7 +196,7 @@ module _ {A : Type 0} where
   at_some P xs k x l is h = subst (λ o. IsSomeAnd o P) (sym (at_place xs k x l is)) h
 
 module _ {A : Type 0} (f : A → List ℕ) where
-  -- a page that takes in a number
+  -- a page takes in a number, and so do the numbers of all pages
   pub page_put : (pages : List A) (k : ℕ) (x y : A) (at n : ℕ) → k < length pages → x ≡ get_or pages k x
       → at ≤ length (f x) → f y ≡ insert (f x) at n
       → flat_map f (set pages k y) ≡ insert (flat_map f pages) (length (flat_map f (take k pages)) + at) n
@@ -211,7 +211,7 @@ module _ {A : Type 0} (f : A → List ℕ) where
       next : suc k ≡ k + 1
       next = omega arith
 
-  -- a page that keeps its numbers
+  -- a page that keeps its numbers keeps the numbers of all pages
   pub page_same : (pages : List A) (k : ℕ) (x y : A) → k < length pages → x ≡ get_or pages k x → f y ≡ f x
       → flat_map f (set pages k y) ≡ flat_map f pages
   page_same pages k x y l is e =
@@ -252,7 +252,7 @@ module _ {A : Type 0} where
   second_of_two (x ∷ xs) ys a b zero e = absurd (omega arith)
   second_of_two (x ∷ xs) ys a b (suc k) e = second_of_two xs ys a b k (omega arith)
 
--- the pages of `pages`, of which page k is cut into `lower` and `upper`
+-- the pages of `pages`, where page k is cut into `lower` and `upper`
 module _ {A : Type 0} (f : A → List ℕ) (pages : List A) (k : ℕ) (x y lower upper : A) (l : k < length pages)
     (is : x ≡ get_or pages k x) (full : length (f x) ≡ 256) (high : f upper ≡ drop 128 (f x))
     (there : y ≡ get_or (insert pages (k + 1) upper) k y) (low : f lower ≡ take 128 (f y)) where
@@ -314,7 +314,7 @@ module _ {A : Type 0} (f : A → List ℕ) (pages : List A) (k : ℕ) (x y lower
       (All-cons P lower (upper ∷ drop (k + 1) pages) (good lower lower_size)
       (All-cons P upper (drop (k + 1) pages) (good upper upper_size) (All-drop P (k + 1) pages all))))
 
--- where a place of the upper half lies among all
+-- a place of the upper half among the numbers of all pages
 pub place_behind : {A : Type 0} (f : A → List ℕ) (old new : List A) (k at : ℕ) → take k new ≡ take k old
     → IsSomeAnd (slice_get new k) (λ v. length (f v) ≡ 128) → 128 ≤ at
     → length (flat_map f (take (k + 1) new)) + (at - 128) ≡ length (flat_map f (take k old)) + at
@@ -349,7 +349,7 @@ module _ {A : Type 0} (f : A → List ℕ) (ids : List (List ℕ)) (id : List �
       (order_right ids (flat_map f (take k pages)) (f x ++ flat_map f (drop (k + 1) pages))
       (subst (IsOrder ids) (cut_at f pages k x l is) order))
 
-  -- the number of the id stands on the page or nowhere
+  -- the number of the id stands on page k or nowhere
   pub page_finds : number_in ids (flat_map f pages) id ≡ number_in ids (f x) id
   page_finds =
       ap (find (has_id ids id)) (cut_at f pages k x l is)
@@ -393,7 +393,7 @@ module _ {A : Type 0} (f : A → List ℕ) (ids : List (List ℕ)) (id : List �
       ∙ (ap (λ l. filter p (front ++ (f x ++ back)) ++ n ∷ l) (sym highs)
       ∙ ap (λ l. with_number ids l id n) (sym (cut_at f pages k x l is)))))))
 
--- a page that took in a number, or did not
+-- a page that took in a number, or found no memory for it
 pub page_kept : {Y T E : Type 0} (r : Result T E) (x y : Vec ℕ Y) (at n : ℕ)
     → OnOk r (y.items ≡ insert x.items at n) → OnErr r (y.items ≡ x.items) → IsNumberPage x
     → at ≤ length x.items → length x.items < 256 → IsNumberPage y

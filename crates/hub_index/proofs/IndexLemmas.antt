@@ -40,7 +40,7 @@ module _ {X : Type 0} (p : X → Bool) where
   find_nothing (y ∷ xs) all =
       rw (all 0 y (omega arith)) (find_nothing xs (All-tail (λ x. p x ≡ false) y xs all))
 
-  -- the first of those that pass
+  -- the first of the elements that pass is found
   pub find_first : (xs : List X) (x : X) (rest : List X) → filter p xs ≡ x ∷ rest → find p xs ≡ Some x
   find_first [] x rest e = absurd (cc)
   find_first (y ∷ xs) x rest e =
@@ -69,7 +69,7 @@ module _ {X : Type 0} (p : X → Bool) where
   filter_keeps (y ∷ xs) all =
       rw (all 0 y (omega arith)) (ap (λ l. y ∷ l) (filter_keeps xs (All-tail (λ x. p x ≡ true) y xs all)))
 
-  -- what a filter leaves passes it
+  -- the elements that a filter leaves pass it
   pub filter_passes : (xs : List X) → All (λ x. p x ≡ true) (filter p xs)
   filter_passes [] = All-nil (λ x. p x ≡ true)
   filter_passes (y ∷ xs) =
@@ -92,7 +92,7 @@ module _ {X : Type 0} (p q : X → Bool) (same : (x : X) → p x ≡ q x) where
   filter_as [] = refl
   filter_as (y ∷ xs) = rw (same y, filter_as xs) refl
 
--- the tree's test of what lies above a place
+-- the tree's test of sequences above a place
 above_is : (place seq : ℕ) → range_contains nat_cmp (Excluded place) Unbounded seq ≡ nat_lt place seq
 above_is place seq =
     elim (cases_order place seq) [
@@ -112,7 +112,7 @@ above place rows =
     filter_as (λ (row : ℕ × ℕ). range_contains nat_cmp (Excluded place) Unbounded row.0)
     (λ (row : ℕ × ℕ). nat_lt place row.0) (λ row. above_is place row.0) rows
 
--- the tree's test of what lies below a place
+-- the tree's test of sequences below a place
 below_is : (place seq : ℕ) → range_contains nat_cmp Unbounded (Excluded place) seq ≡ nat_lt seq place
 below_is place seq =
     elim (cases_order place seq) [
@@ -133,7 +133,7 @@ below place rows =
     filter_as (λ (row : ℕ × ℕ). range_contains nat_cmp Unbounded (Excluded place) row.0)
     (λ (row : ℕ × ℕ). nat_lt row.0 place) (λ row. below_is place row.0) rows
 
--- what the rows below a place end with
+-- the last one of the rows below a place
 module _ (rows found : List (ℕ × ℕ)) (place : ℕ)
     (is : found ≡ entries_between nat_cmp Unbounded (Excluded place) rows) where
   from_last : filter (λ (row : ℕ × ℕ). nat_lt row.0 place) (reverse rows) ≡ reverse found
@@ -204,7 +204,7 @@ nothing (row ∷ rows) place (Some bound) e =
       | inr f ↦ rw f (nothing rows place (Some bound) (rw f at e))
     ]
 
--- what the rows above a place begin with
+-- the first one of the rows above a place
 module _ (rows found : List (ℕ × ℕ)) (place : ℕ)
     (is : found ≡ entries_between nat_cmp (Excluded place) Unbounded rows) where
   first_above : (row : ℕ × ℕ) (rest : List (ℕ × ℕ)) → found ≡ row ∷ rest
@@ -229,7 +229,7 @@ module _ (rows found : List (ℕ × ℕ)) (place : ℕ)
   pub counted : length found ≡ count_after rows place
   counted = ap length (is ∙ above place rows) ∙ length-filter (λ (row : ℕ × ℕ). nat_lt place row.0) rows
 
--- a row above all goes to the end
+-- a row above all others goes to the end
 pub insert_last : {X : Type 0} (rows : List (ℕ × X)) (seq : ℕ) (document : X)
     → All (λ (r : ℕ × X). r.0 < seq) rows
     → insert_entry nat_cmp rows seq document ≡ rows ++ (seq, document) ∷ []
@@ -309,12 +309,12 @@ module _ (document : ℕ) where
           (λ h. of_head (λ (other_row third_row : ℕ × ℕ). other_row.1 ≢ third_row.1) row rows once k d m
           (q ∙ sym (eqb-true _ document h))))
 
-  -- a document that has a row loses that one
+  -- a document that has a row loses that row
   pub moved_old : (rows : List (ℕ × ℕ)) (old seq : ℕ) → IsIndex rows → seq_of document rows ≡ Some old
       → remove_entry (is_at (nat_cmp old)) (rows ++ (seq, document) ∷ []) ≡ rows_after_move rows document seq
   moved_old rows old seq index e = without rows old seq index.rising index.once e
 
-  -- rows after a move
+  -- the rows after a move are those of an index
   pub index_moved : (rows : List (ℕ × ℕ)) (seq : ℕ) → IsIndex rows → 0 < seq
       → All (λ (row : ℕ × ℕ). row.0 < seq) rows → IsIndex (rows_after_move rows document seq)
   index_moved rows seq index positive all = record {

@@ -1,4 +1,4 @@
--- The rows of an index that are the current ones of edits: with one edit more, and what is read of them.
+-- The rows of an index that are the current ones of edits: with one edit more, and the reads of the index.
 use Rattle.std.proofs.Common.{◌≡◌, ◌≢◌, ℕ, zero, suc, ◌+◌, ◌<◌, ◌≤◌, List, [], ◌∷◌, ◌++◌, length, Contains}
 use Rattle.std.proofs.Common.{Bool, true, false, not, ◌&&◌, ap, refl, sym, ◌∙◌, subst, arith, inl, inr, ◌⊎◌}
 use Rattle.std.proofs.Common.{nat_eq, nat_lt, find, filter, map, reverse}
@@ -21,13 +21,13 @@ use Rattle.hub_model.proofs.Lists.{same_number}
 use Rattle.hub_model.proofs.Rows.{current_push, current_within, from_cases}
 use Rattle.hub_model.proofs.Shown.{find_is}
 
--- the key that is found among rows, the first of which has this number or another
+-- the sequence of a number among rows, by whether the first row has this number
 abbrev first_key : ℕ → ℕ × ℕ → List (ℕ × ℕ) → Bool → Option ℕ
 first_key k row rows b =
     option_map (λ (other_row : ℕ × ℕ). other_row.0)
     (if b then Some row else find (λ (other_row : ℕ × ℕ). nat_eq other_row.1 k) rows)
 
--- what a number has no key for is no row's number
+-- where a number has no sequence, no row has the number
 none_key : (rows : List (ℕ × ℕ)) (k : ℕ) → seq_of k rows ≡ None
     → (i : ℕ) (row : ℕ × ℕ) → slice_get rows i ≡ Some row → nat_eq row.1 k ≡ false
 none_key [] k e i row g = absurd (none-some row g)
@@ -42,13 +42,13 @@ none_key (other_row ∷ rows) k e i row g = from (none_key rows k) (nat_eq other
         subst (λ (third_row : ℕ × ℕ). nat_eq third_row.1 k ≡ false) (same_Some other_row row g) t
     from rest false t e (suc i) g = rest e i row g
 
--- and among the rows of the other numbers, with one of this number behind them
+-- the sequence of number j among the rows of the numbers but k, with a row of k behind them
 abbrev kept_key : ℕ → ℕ → ℕ → ℕ × ℕ → List (ℕ × ℕ) → Bool → Option ℕ
 kept_key j k n row rows b =
     let others : List (ℕ × ℕ) = filter (λ (other_row : ℕ × ℕ). not (nat_eq other_row.1 k)) rows in
     seq_of j ((if not b then (row ∷ others) else others) ++ (n, k) ∷ [])
 
--- the key of a number that is moved
+-- the sequence of a number that is moved
 moved_here : (rows : List (ℕ × ℕ)) (k n : ℕ) → seq_of k (rows_after_move rows k n) ≡ Some n
 moved_here [] k n = rw (eq-eqb k k refl) refl
 moved_here (row ∷ rows) k n = from (moved_here rows k n) (nat_eq row.1 k) refl
@@ -58,7 +58,7 @@ moved_here (row ∷ rows) k n = from (moved_here rows k n) (nat_eq row.1 k) refl
     from rest true t = rest
     from rest false t = ap (first_key k row (rows_after_move rows k n)) t ∙ rest
 
--- and of another
+-- the sequence of another number
 moved_other : (rows : List (ℕ × ℕ)) (k n j : ℕ) → j ≢ k → seq_of j (rows_after_move rows k n) ≡ seq_of j rows
 moved_other [] k n j h = rw (number_apart k j (λ e. h (sym e))) refl
 moved_other (row ∷ rows) k n j h = from (moved_other rows k n j h) (nat_eq row.1 k) refl
@@ -121,7 +121,7 @@ module _ (ids : ℕ → Option (List ℕ × ℕ)) (journal : List Edit) (index :
           (eq-eqb row.1 row.1 refl))
       from (Some p) e = (p, e)
 
-  -- and its sequence is that of an edit
+  -- the sequence of each row is that of an edit
   pub rows_within : All (λ (row : ℕ × ℕ). row.0 < length journal + 1) index
   rows_within = all_shown low (row_in ids) index (subst (All low) (sym ix.rows) within)
     where
@@ -136,7 +136,7 @@ module _ (ids : ℕ → Option (List ℕ × ℕ)) (journal : List Edit) (index :
   row_at : (row : ℕ × ℕ) → Contains index row → (p : List ℕ × ℕ) × (ids row.1 ≡ Some p)
   row_at row c = row_known c.0 row (at_place index c.0 row c.1 (sym c.2))
 
-  -- which the row shows
+  -- a row shows the id of its number
   row_shown : (row : ℕ × ℕ) (p : List ℕ × ℕ) → ids row.1 ≡ Some p
       → row_in ids row ≡ record { seq = row.0; id = p.0 }
   row_shown row p is = ap (λ (o : Option (List ℕ × ℕ)). record { seq = row.0; id = id_in o }) is
@@ -173,7 +173,7 @@ module _ (ids : ℕ → Option (List ℕ × ℕ)) (journal : List Edit) (index :
       ∙ (ap (find (λ (row : Current). nat_lt row.seq place)) (sym (map_reverse (row_in ids) index))
       ∙ find_map (λ (row : Current). nat_lt row.seq place) (row_in ids) (reverse index))
 
-  -- and so is the last one
+  -- the last row below a place is of a number that has an id, and is the last current row there
   module _ (place : ℕ) (r : ℕ × ℕ) (is : Some r ≡ last_before index place) where
     pub last_known : (p : List ℕ × ℕ) × (ids r.1 ≡ Some p)
     last_known =
@@ -190,13 +190,13 @@ module _ (ids : ℕ → Option (List ℕ × ℕ)) (journal : List Edit) (index :
       → None ≡ find (λ (row : Current). nat_lt row.seq place) (reverse (current journal))
   last_nothing place is = ap (option_map (row_in ids)) is ∙ sym (last_is place)
 
-  -- how many rows lie above a place
+  -- the number of rows above a place is the number of current rows above it
   pub count_is : (place : ℕ) → count_after index place ≡ pending (current journal) place
   count_is place =
       sym (count_map (λ (row : Current). nat_lt place row.seq) (row_in ids) index)
       ∙ ap (λ cs. pending cs place) ix.rows
 
-  -- one more edit, of the id of this number, which had this id or none
+  -- one more edit, of the id of number k, which had this id or none
   module _ (e : Edit) (k seq : ℕ) (last : seq ≡ length journal + 1)
       (own : (p : List ℕ × ℕ) → ids k ≡ Some p → p.0 ≡ e.id)
       (apart : (j : ℕ) (p : List ℕ × ℕ) → ids j ≡ Some p → j ≢ k → p.0 ≢ e.id)
@@ -225,7 +225,7 @@ module _ (ids : ℕ → Option (List ℕ × ℕ)) (journal : List Edit) (index :
               λ t. ap (λ (o : Option (List ℕ × ℕ)). record { seq = r.0; id = id_in o }) (other r.1 n),
             )
 
-    -- the current rows but that of the id, and then one of it
+    -- the current rows but that of the id, and then a row of the id
     abbrev renewed : List Current → Current → List Current
     renewed cs c = filter (λ (z : Current). not (bytes_eq z.id e.id)) cs ++ c ∷ []
 
@@ -240,7 +240,7 @@ module _ (ids : ℕ → Option (List ℕ × ℕ)) (journal : List Edit) (index :
         ∙ (ap (λ (n : ℕ). renewed (current journal) (record { seq = n; id = e.id })) (omega (arith, last))
         ∙ sym (current_push 1 journal e)))))
 
-    -- the rows go on to be the current ones
+    -- the moved rows are the current ones of the edits with the new edit
     pub indexed_more : IsIndexed ids' (journal ++ e ∷ []) (rows_after_move index k seq)
     indexed_more = record { rows = rows_more; key = key'; none = none' }
       where

@@ -1,5 +1,5 @@
--- Places of lists, and what a list with one more at its end, or one changed, has at them; and what is found,
--- counted and kept of what a list shows.
+-- Places of lists, and the elements there after a list grew by one or one changed. And the images of a list's
+-- elements: found, counted and filtered.
 use Rattle.std.proofs.Common.{◌≡◌, ◌≢◌, ℕ, zero, suc, ◌+◌, ◌-◌, ◌<◌, List, [], ◌∷◌, ◌++◌, length, get_or}
 use Rattle.std.proofs.Common.{Bool, true, false, ap, refl, sym, ◌∙◌, arith, inl, inr, ◌⊎◌, nat_eq, find, map}
 use Rattle.std.proofs.Common.{reverse, Contains}
@@ -75,7 +75,7 @@ module _ {A : Type 0} where
       let low : k < length xs = omega (arith, l, length-reverse xs) in
       (length xs - 1 - k, omega arith, sym (get_or-reverse xs k x low) ∙ e)
 
--- ---- what a list shows
+-- ---- the images of a list's elements
 
 module _ {A B : Type 0} where
   -- two functions that agree at each place
@@ -94,7 +94,7 @@ module _ {A B : Type 0} where
       ∙ (ap (λ ys. ys ++ f x ∷ []) (map_reverse f xs)
       ∙ sym (reverse-append (f x ∷ []) (map f xs))))
 
-  -- a filter of what is shown, where what is left is shown as before
+  -- a filter of images, where each element that it leaves keeps its image
   pub filter_shown : (f g : A → B) (p : A → Bool) (q : B → Bool) (xs : List A)
       → ((i : ℕ) (x : A) → slice_get xs i ≡ Some x → (p x ≡ q (f x)) × (p x ≡ true → g x ≡ f x))
       → map g (filter p xs) ≡ filter q (map f xs)
@@ -109,7 +109,7 @@ module _ {A B : Type 0} where
       from rest true t = ap (λ y. y ∷ map g (filter p xs)) ((h zero x refl).1 t) ∙ ap (λ ys. f x ∷ ys) rest
       from rest false t = rest
 
-  -- what holds of all that is shown
+  -- a statement on all images, as one on the elements
   pub all_shown : (P : B → Type 0) (f : A → B) (xs : List A) → All P (map f xs) → All (λ x. P (f x)) xs
   all_shown P f [] all = All-nil (λ x. P (f x))
   all_shown P f (x ∷ xs) all =
@@ -117,7 +117,7 @@ module _ {A B : Type 0} where
       All-cons (λ x. P (f x)) x xs (all 0 (f x) (omega arith)) rest
 
   module _ (p : B → Bool) (f : A → B) where
-    -- what is found among what is shown
+    -- the image that is found is that of the element that is found
     pub find_map : (xs : List A) → find p (map f xs) ≡ option_map f (find (λ x. p (f x)) xs)
     find_map [] = refl
     find_map (x ∷ xs) = from (p (f x)) (find_map xs)
@@ -128,7 +128,7 @@ module _ {A B : Type 0} where
         from true h = refl
         from false h = h
 
-    -- and how many pass
+    -- as many images pass as elements with such an image
     pub count_map : (xs : List A) → count_by p (map f xs) ≡ count_by (λ x. p (f x)) xs
     count_map [] = refl
     count_map (x ∷ xs) =

@@ -1,4 +1,4 @@
--- Numbers in the order of their ids: what a search finds, and where a number goes.
+-- Numbers in the order of their ids: the number that a search finds, and the place of a new number.
 use Rattle.std.proofs.Common.{◌≡◌, ◌≢◌, ℕ, zero, suc, ◌+◌, ◌<◌, ◌≤◌, List}
 use Rattle.std.proofs.Common.{[], ◌∷◌, ◌++◌, length, get_or, Bool, true}
 use Rattle.std.proofs.Common.{false, not, ap, refl, sym, ◌∙◌, subst, arith, inl}
@@ -55,7 +55,7 @@ greater_less x y z xz xy = ap is_gt (nat_list_cmp_total.antisymm y z ∙ ap orde
     zy : slice_cmp nat_cmp z y ≡ Less
     zy = nat_list_cmp_total.trans z x y (zx (slice_cmp nat_cmp x z) refl xz) xy
 
--- texts that compare as different are
+-- texts that compare as different are not the same bytes
 pub apart_by : (x y : List ℕ) (ordering : Ordering) → slice_cmp nat_cmp x y ≡ ordering → ordering ≢ Equal
     → bytes_eq x y ≡ false
 apart_by x y ordering e n =
@@ -178,12 +178,12 @@ module _ (ids : List (List ℕ)) where
     not_greater Equal n e h = absurd (cc)
     not_greater Greater n e h = (apart_by (id_at ids n) id Greater e (λ q. cc), refl)
 
-    -- a number above the id neither has it nor lies below it
+    -- a number above the id neither has the id nor lies below it
     pub not_above : (n : ℕ) → is_gt (id_cmp ids id n) ≡ true
         → (has_id ids id n ≡ false) × (is_below ids id n ≡ false)
     not_above n h = not_greater (id_cmp ids id n) n refl h
 
-    -- a number that neither lies below the id nor has it lies above
+    -- a number that neither has the id nor lies below it lies above the id
     pub above_else : (n : ℕ) → is_below ids id n ≡ false → has_id ids id n ≡ false
         → is_gt (id_cmp ids id n) ≡ true
     above_else n low apart = from (id_cmp ids id n) refl low
@@ -210,7 +210,7 @@ module _ (ids : List (List ℕ)) where
             let same : i ≡ j = omega arith in
             rw same h
 
-    -- what a search finds where it stops
+    -- the number that a search finds at its place
     module _ (numbers : List ℕ) (at : ℕ) (rising : AllPairs Rises numbers)
         (before : take at numbers ≡ filter (is_below ids id) numbers)
         (behind : drop at numbers ≡ filter (λ n. not (is_below ids id n)) numbers) where
@@ -362,10 +362,10 @@ module _ (ids : List (List ℕ)) (numbers : List ℕ) (id : List ℕ) (n : ℕ) 
           All-contains High (filter (λ m. not (is_below ids id m)) numbers) y high (k, omega arith, e) in
           rises a y la.0 hy.0 (nat_list_cmp_total.trans (id_at ids a) id (id_at ids y) la.1 hy.1)
 
--- ---- what is found with one more number
+-- ---- the number of an id, with one more number
 
 module _ {X : Type 0} (p : X → Bool) where
-  -- where the elements that pass stand before the others, they and the others are the list
+  -- where the elements that pass stand before the others, those and then the others are the list
   pub parts_whole : (xs : List X) → IsPartitionedBy p xs → filter p xs ++ filter (λ x. not (p x)) xs ≡ xs
   parts_whole [] before = refl
   parts_whole (x ∷ xs) before =
@@ -385,7 +385,7 @@ module _ {X : Type 0} (p : X → Bool) where
           fails true f = let t = f refl in absurd (cc)
           fails false f = refl
 
--- tests that agree on what a list has find the same
+-- tests that agree on each element of a list find the same element
 pub find_agree : {X : Type 0} (p q : X → Bool) (xs : List X) → All (λ x. p x ≡ q x) xs → find p xs ≡ find q xs
 find_agree p q [] all = refl
 find_agree p q (x ∷ xs) all =

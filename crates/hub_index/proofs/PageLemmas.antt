@@ -31,17 +31,17 @@ use Rattle.hub_index.proofs.IndexLemmas.{filter_reverse, of_head, of_tail}
 use Rattle.hub_index.proofs.SlotLemmas.{rows_within, rows_filled, rows_cleared, length_rows, at_seq, not_at}
 use Rattle.hub_index.proofs.SlotLemmas.{is_at_same, remove_none, remove_left, remove_right, All_removed}
 
--- a page, as lemmas name it
+-- a page, as these lemmas name it: its number and its slots
 abbrev pub Numbered : Type 0
 Numbered = ℕ × List (Option ℕ)
 
--- where the rows of a page lie
+-- the sequences of a page's rows
 pub page_within : (page : Numbered) → length page.1 ≡ 256
     → All (λ (row : ℕ × ℕ). (256 * page.0 < row.0) × (row.0 ≤ 256 * page.0 + 256)) (page_rows page)
 page_within page size k d l =
     let w = rows_within (256 * page.0 + 1) page.1 k d l in (omega (arith, w.0), omega (arith, w.1, size))
 
--- a page has a row
+-- a page that an index keeps has a first row
 pub page_has : (page : Numbered) → IsPage page
     → (row : ℕ × ℕ) × (rest : List (ℕ × ℕ)) × (page_rows page ≡ row ∷ rest)
 page_has page is = from (page_rows page) refl
@@ -57,7 +57,7 @@ page_has page is = from (page_rows page) refl
         ))
     from (row ∷ rest) e = (row, rest, e)
 
--- so what holds of its rows holds of one of them
+-- a statement on all rows of a page holds of one of them
 pub page_row : (P : ℕ × ℕ → Type 0) (page : Numbered) → IsPage page → All P (page_rows page)
     → (row : ℕ × ℕ) × P row × (256 * page.0 < row.0) × (row.0 ≤ 256 * page.0 + 256)
 page_row P page is all =
@@ -67,7 +67,7 @@ page_row P page is all =
     (page_within page is.size) in
     (h.0, subst (All P) h.2 all 0 h.0 (omega arith), (w 0 h.0 (omega arith)).0, (w 0 h.0 (omega arith)).1)
 
--- what holds of all of a list holds of what it begins with, and of what it ends with
+-- a statement on all elements of a list holds of the elements of a front, and of the elements of the rest
 pub Each_front : {X : Type 0} (P : X → Type 0) (xs ys : List X) → All P (xs ++ ys) → All P xs
 Each_front P [] ys all = All-nil P
 Each_front P (x ∷ xs) ys all =
@@ -84,7 +84,7 @@ module _ (P : ℕ × ℕ → Type 0) where
   pub All_back : (xs ys : List (ℕ × ℕ)) → All P (xs ++ ys) → All P ys
   All_back = Each_back P
 
-  -- and the other way
+  -- a statement on the rows of each page holds of all rows
   pub All_rows : (pages : List Numbered) → All (λ page. All P (page_rows page)) pages → All P (rows_of pages)
   All_rows [] all = All-nil P
   All_rows (page ∷ pages) all =
@@ -98,7 +98,7 @@ at_is k n t = elim (cases_order n k) [
   | inr (inr g) ↦ absurd (both_ways (at_seq k n) (not_at k n (inl g)) t)
 ]
 
--- slots of which none has a document
+-- slots without a document have no row
 pub no_slot : (n : ℕ) (s : List (Option ℕ)) → All (λ (o : Option ℕ). o ≡ None) s → slot_rows n s ≡ []
 no_slot n [] all = refl
 no_slot n (None ∷ s) all = no_slot (n + 1) s (All-tail (λ (o : Option ℕ). o ≡ None) None s all)
@@ -118,7 +118,7 @@ next_place n = omega arith
 abbrev pub Rising : List Numbered → Type 0
 Rising numbered = AllPairs (λ (other b : Numbered). other.0 < b.0) numbered
 
--- the page at a place, with those before it and behind it
+-- the rows of the pages before a place, of the page there, and of the pages behind it
 module _ (numbered : List Numbered) (at : ℕ) (other : Numbered) (l : at < length numbered)
     (here : other ≡ get_or numbered at other) where
   pub cut_rows : rows_of numbered ≡ rows_of (take at numbered)
@@ -177,7 +177,7 @@ remove_set numbered at other =
     ap (λ ys. ys ++ drop (suc at) (set numbered at other)) (take-set numbered at other)
     ∙ ap (λ ys. take at numbered ++ ys) (drop-set-lt (suc at) numbered at other (omega arith))
 
--- what is left of the pages
+-- the pages that are left after a removal
 left_of : (numbered : List Numbered) (at : ℕ) → remove numbered at ≡ take at numbered
     ++ drop (at + 1) numbered
 left_of numbered at = ap (λ n. take at numbered ++ drop n numbered) (next_place at)
@@ -188,7 +188,7 @@ dropped_is numbered at pages =
     (All-append IsPage (take at numbered) (drop (at + 1) numbered) (All-take IsPage at numbered pages)
     (All-drop IsPage (at + 1) numbered pages))
 
--- where a page of this number is, it parts the pages
+-- a page of this number parts the pages
 pub place_is : (numbered : List Numbered) (k at : ℕ) → Rising numbered
     → IsSomeAnd (slice_get numbered at) (λ (other : Numbered). other.0 ≡ k)
     → (at < length numbered) × IsPartitionPoint (λ (other : Numbered). other.0 < k)
@@ -214,7 +214,7 @@ place_is numbered k at rising there = (
       | inr (inr more) ↦ absurd (omega (arith, from, more))
     ]
 
--- what a search by number asks of the pages, and what its answer is
+-- the pages are parted by a number, as a search asks, and the answer of the search
 pub numbers_parted : (numbered : List Numbered) (k : ℕ) → Rising numbered
     → IsPartitionedBy (λ (other : Numbered). nat_lt other.0 k) numbered
 numbers_parted numbered k rising i j d from below passes =
@@ -234,7 +234,7 @@ place_searched numbered k at point = (
   λ z d from below. ltb-false (get_or numbered z d).0 k (point.1 z d from below),
 )
 
--- a page whose number is none, where the pages are parted by that number
+-- no page has this number, where the pages are parted by it and the page there has another
 pub none_there : (numbered : List Numbered) (k at : ℕ) → Rising numbered
     → IsPartitionPoint (λ (other : Numbered). other.0 < k) (λ (other : Numbered). k ≤ other.0) numbered at
     → ((d : Numbered) → at < length numbered → (get_or numbered at d).0 ≢ k)
@@ -247,11 +247,11 @@ none_there numbered k at rising point apart z d l q =
           omega (arith, q, rising at z d more l, point.1 at d (omega arith) (omega (arith, more, l)))
     ]
 
--- the number behind the one before a sequence, of 64 bits: before 0 stands the last of them
+-- the number after the one before a sequence, in 64 bits: the number before 0 is the last one of 64 bits
 abbrev pub behind : ℕ → ℕ
 behind seq = (seq + (2 ^ 64 - 1)) % 2 ^ 64 + 1
 
--- a removal there is one at the sequence: no row lies at 0 or behind the last
+-- a removal at that number is a removal at the sequence: no row lies at 0 or at 2^64
 pub row_behind : (seq : ℕ) → seq < 2 ^ 64 → (numbered : List Numbered) → All IsPage numbered
     → remove_entry (at_seq (behind seq)) (rows_of numbered) ≡ remove_entry (at_seq seq) (rows_of numbered)
 row_behind seq fits numbered pages =
@@ -293,14 +293,14 @@ module _ (k i seq : ℕ) (in' : i < 256) (is : 256 * k + i + 1 ≡ seq) where
       All_rows (λ (row : ℕ × ℕ). at_seq seq row.0 ≡ false) numbered
       (λ z d l. missed (get_or numbered z d) (pages z d l) (apart z d l))
 
-  -- a sequence whose page is not there has no row
+  -- a sequence without a page has no row
   pub pages_missed : (numbered : List Numbered) → All IsPage numbered
       → All (λ (other : Numbered). other.0 ≢ k) numbered
       → rows_of numbered ≡ remove_entry (at_seq seq) (rows_of numbered)
   pages_missed numbered pages apart =
       sym (remove_none (at_seq seq) (rows_of numbered) (missed_all numbered pages apart))
 
-  -- a row above all, in a slot of its page
+  -- a row above all others, in a slot of its page
   pub slots_filled : (d : ℕ) (slots : List (Option ℕ))
       → length slots ≡ 256 → All (λ (row : ℕ × ℕ). row.0 < seq) (page_rows (k, slots))
       → page_rows (k, set slots i (Some d)) ≡ page_rows (k, slots) ++ (seq, d) ∷ []
@@ -350,7 +350,7 @@ module _ (k i seq : ℕ) (in' : i < 256) (is : 256 * k + i + 1 ≡ seq) where
       (numbers_upto numbered (All-tail IsPage other numbered pages)
       (All_back (λ (row : ℕ × ℕ). row.0 < seq) (page_rows other) (rows_of numbered) low))
 
-  -- and if the last page has another number, all have lower ones
+  -- where the last page has another number too, all pages have lower numbers
   pub below_new : (numbered : List Numbered) (at : ℕ) (x : Numbered) → at + 1 ≡ length numbered
       → x ≡ get_or numbered at x
       → x.0 ≢ k → Rising numbered → All IsPage numbered
@@ -414,7 +414,7 @@ module _ (k i seq : ℕ) (in' : i < 256) (is : 256 * k + i + 1 ≡ seq) where
 module _ (numbered : List Numbered) (at : ℕ) (other : Numbered) (l : at < length numbered)
     (here : other ≡ get_or numbered at other)
     (pages : All IsPage numbered) (i seq : ℕ) (in' : i < 256) (is : 256 * other.0 + i + 1 ≡ seq) where
-  -- the row of a slot that is emptied
+  -- a slot that is emptied loses its row
   pub pages_cleared : Rising numbered
       → rows_of (set numbered at (other.0, set other.1 i None)) ≡ remove_entry (at_seq seq) (rows_of numbered)
   pages_cleared rising =
@@ -436,7 +436,7 @@ module _ (numbered : List Numbered) (at : ℕ) (other : Numbered) (l : at < leng
           rows_cleared (256 * other.0 + 1) i other.1
           ∙ ap (λ m. remove_entry (at_seq m) (page_rows other)) (omega (arith, is))
 
-  -- a page that has no row may as well be removed
+  -- an empty page may be removed with no change of the rows
   pub rows_dropped : (w : List (Option ℕ)) → count_by is_some w ≡ 0
       → rows_of (remove numbered at) ≡ rows_of (set numbered at (other.0, w))
   rows_dropped w none =
@@ -446,7 +446,7 @@ module _ (numbered : List Numbered) (at : ℕ) (other : Numbered) (l : at < leng
       (sym (none_live (256 * other.0 + 1) w none))
       ∙ sym (set_rows numbered at other l here (other.0, w))))
 
-  -- a row above all, on the last page
+  -- a row above all others, on the last page
   module _ (last : length numbered ≤ at + 1) (low : All (λ (r : ℕ × ℕ). r.0 < seq) (rows_of numbered)) where
     nothing_behind : (y : Numbered)
         → rows_of (take at numbered) ++ (page_rows y ++ rows_of (drop (at + 1) numbered))
@@ -479,7 +479,7 @@ module _ (numbered : List Numbered) (at : ℕ) (other : Numbered) (l : at < leng
         All-set IsPage numbered at (other.0, set other.1 i (Some d))
         (filled_is other.0 i seq in' is d other.1 page.low page.size bound own_low) pages
 
--- rows that pass a test, where those of the pages before a place or behind it do not
+-- the rows that pass a test, where the rows of the pages before a place or behind it do not pass
 module _ (p : ℕ × ℕ → Bool) where
   none_pass : (rows : List (ℕ × ℕ)) → All (λ row. p row ≡ false) rows → filter p rows ≡ []
   none_pass [] all = refl
@@ -495,7 +495,7 @@ module _ (p : ℕ × ℕ → Bool) where
       ∙ filter-append p (rows_of (take at numbered)) (rows_of (drop at numbered)))
 
 module _ {X : Type 0} (p : X → Bool) (xs ys : List X) (same : filter p xs ≡ filter p ys) where
-  -- what passes is the same, so the first of it is
+  -- where the same elements of two lists pass, the first one and the count are the same
   pub find_same : find p xs ≡ find p ys
   find_same = from (filter p ys) refl
     where
@@ -506,14 +506,14 @@ module _ {X : Type 0} (p : X → Bool) (xs ys : List X) (same : filter p xs ≡ 
   pub count_same : count_by p xs ≡ count_by p ys
   count_same = sym (length-filter p xs) ∙ (ap length same ∙ length-filter p ys)
 
--- the last of it, and how many there are
+-- where the same elements of two lists pass, the last one is the same
 pub find_reverse_same : {X : Type 0} (p : X → Bool) (xs ys : List X) → filter p xs ≡ filter p ys
     → find p (reverse xs) ≡ find p (reverse ys)
 find_reverse_same p xs ys same =
     find_same p (reverse xs) (reverse ys)
     (filter_reverse p xs ∙ (ap reverse same ∙ sym (filter_reverse p ys)))
 
--- pages from a number on have all rows above a place of that number's page
+-- the rows above a place lie on the pages from the number place / 256 on
 pub from_page : (place at : ℕ) (numbered : List Numbered) → All IsPage numbered → at ≤ length numbered
     → AllWithin (λ (other : Numbered). other.0 < place / 256) numbered 0 at
     → filter (λ (row : ℕ × ℕ). nat_lt place row.0) (rows_of numbered)
@@ -539,7 +539,7 @@ from_page place at numbered pages fits low =
         → All (λ (row : ℕ × ℕ). nat_lt place row.0 ≡ false) (page_rows other)
     early other page low z d l = le-ltb place _ (omega (arith, (page_within other page.size z d l).1, low))
 
--- pages up to a number have all rows below a place of that number's page
+-- the rows below a place lie on the pages up to the number place / 256
 pub upto_page : (place at : ℕ) (numbered : List Numbered) → All IsPage numbered → at ≤ length numbered
     → AllWithin (λ (other : Numbered). place / 256 + 1 ≤ other.0) numbered at (length numbered)
     → filter (λ (row : ℕ × ℕ). nat_lt row.0 place) (rows_of numbered)
@@ -563,7 +563,7 @@ upto_page place at numbered pages fits high =
         → All (λ (row : ℕ × ℕ). nat_lt row.0 place ≡ false) (page_rows other)
     late other page high z d l = le-ltb _ place (omega (arith, (page_within other page.size z d l).0, high))
 
--- rising rows below a number are fewer than it
+-- rising rows between two numbers are fewer than the difference of the numbers
 pub few : (n m : ℕ) (rows : List (ℕ × ℕ))
     → AllPairs (λ (other_row third_row : ℕ × ℕ). other_row.0 < third_row.0) rows
     → All (λ (row : ℕ × ℕ). n < row.0) rows → All (λ (row : ℕ × ℕ). row.0 < m) rows → n < m
@@ -586,7 +586,7 @@ few_rows numbered pages = omega (
       (All_rows (λ (row : ℕ × ℕ). row.0 < 2 ^ 64) numbered (λ z d l. (pages.each z d l).fits)) (omega arith),
 )
 
--- numbers that are all the same, before others that are not
+-- the different numbers of equal numbers, and then of others
 pub one_kind : (k : ℕ) (x : ℕ) (xs rest : List ℕ) → All (λ y. y ≡ k) (x ∷ xs)
     → is_member nat_eq rest k ≡ false → unique_keys nat_eq ((x ∷ xs) ++ rest) ≡ k ∷ unique_keys nat_eq rest
 one_kind k x [] rest all out =
@@ -598,7 +598,7 @@ one_kind k x (y ∷ ys) rest all out =
     (eq-eqb x y (all 0 x (omega arith) ∙ sym (all 1 y (omega arith)))))
     ∙ one_kind k y ys rest (All-tail (λ z. z ≡ k) x (y ∷ ys) all) out
 
--- an index has as many pages as its rows lie on
+-- an index has as many pages as there are pages on which its rows lie
 pub pages_counted : (numbered : List Numbered) → Rising numbered → All IsPage numbered
     → page_count (rows_of numbered) ≡ length numbered
 pages_counted numbered rising pages =
@@ -649,7 +649,7 @@ pages_counted numbered rising pages =
         (All-tail IsPage other numbered pages)))
 
 module _ (p : ℕ × ℕ → Bool) (numbered : Numbered) (others : List Numbered) where
-  -- what is found on the first page, or behind it
+  -- the first row that passes lies on the first page, or else behind it
   pub found_first : (row : ℕ × ℕ) → Some row ≡ find p (page_rows numbered)
       → find p (rows_of (numbered ∷ others)) ≡ Some row
   found_first row h =
@@ -662,7 +662,7 @@ module _ (p : ℕ × ℕ → Bool) (numbered : Numbered) (others : List Numbered
       find-append p (page_rows numbered) (rows_of others)
       ∙ ap (λ o. option_or o (find p (rows_of others))) (sym h)
 
-  -- the same from the last page on
+  -- the last row that passes lies on the last page, or else before it
   from_last : find p (reverse (rows_of (others ++ numbered ∷ [])))
       ≡ option_or (find p (reverse (page_rows numbered))) (find p (reverse (rows_of others)))
   from_last =
@@ -684,9 +684,9 @@ module _ (p : ℕ × ℕ → Bool) (numbered : Numbered) (others : List Numbered
       (rows_of others)
   counted_first = sum_by-append (λ r. cond (p r) 1 0) (page_rows numbered) (rows_of others)
 
--- ---- rows without one
+-- ---- rows without one row
 
--- the rows of an index without that at a sequence
+-- the rows of an index without the row at a sequence
 pub removed_is : (seq : ℕ) (rows : List (ℕ × ℕ))
     → AllPairs (λ (other_row third_row : ℕ × ℕ). other_row.0 < third_row.0) rows
     → remove_entry (at_seq seq) rows ≡ filter (λ (r : ℕ × ℕ). not (nat_eq r.0 seq)) rows

@@ -30,7 +30,7 @@ rows_append n (Some d ∷ xs) ys =
     ap (λ rows. (n, d) ∷ rows)
     (rows_append (n + 1) xs ys ∙ ap (λ m. slot_rows (n + 1) xs ++ slot_rows m ys) (omega arith))
 
--- where the sequences of rows lie
+-- the sequences of the rows of slots
 pub rows_within : (n : ℕ) (s : List (Option ℕ))
     → All (λ (row : ℕ × ℕ). (n ≤ row.0) × (row.0 < n + length s)) (slot_rows n s)
 rows_within n [] = All-nil (λ (row : ℕ × ℕ). (n ≤ row.0) × (row.0 < n + length {A = Option ℕ} []))
@@ -41,7 +41,7 @@ rows_within n (Some v ∷ s) =
     (omega arith, omega arith)
     (λ k d l. let w = rows_within (n + 1) s k d l in (omega (arith, w.0), omega (arith, w.1)))
 
--- rows below the slots' own
+-- slots whose rows all lie below the first slot have no row
 pub no_rows : (m n : ℕ) (s : List (Option ℕ)) → n ≤ m → All (λ (row : ℕ × ℕ). row.0 < n) (slot_rows m s)
     → slot_rows m s ≡ []
 no_rows m n [] l all = refl
@@ -57,7 +57,7 @@ rows_shift b n (Some d ∷ s) =
     ap (λ rows. (b + n, d) ∷ rows) (ap (λ m. slot_rows m s) (omega arith) ∙ rows_shift b (n + 1) s)
 
 module _ {X : Type 0} (p : X → Bool) where
-  -- what is found is an element
+  -- a found element is one of the list
   pub find_has : (P : X → Type 0) (xs : List X) (x : X) → All P xs → find p xs ≡ Some x → P x
   find_has P [] x all e = absurd (cc)
   find_has P (y ∷ xs) x all e =
@@ -66,7 +66,7 @@ module _ {X : Type 0} (p : X → Bool) where
         | inr f ↦ find_has P xs x (All-tail P y xs all) (rw f at e)
       ]
 
-  -- and it passes
+  -- a found element passes
   pub find_passes : (xs : List X) (x : X) → find p xs ≡ Some x → p x ≡ true
   find_passes [] x e = absurd (cc)
   find_passes (y ∷ xs) x e =
@@ -75,7 +75,7 @@ module _ {X : Type 0} (p : X → Bool) where
         | inr f ↦ find_passes xs x (rw f at e)
       ]
 
-  -- where no element of the first list passes
+  -- where no element of the first list passes, the search goes on in the second
   pub find_behind : (xs ys : List X) → All (λ x. p x ≡ false) xs → find p (xs ++ ys) ≡ find p ys
   find_behind xs ys all = find-append p xs ys ∙ ap (λ o. option_or o (find p ys)) (find_nothing p xs all)
 
@@ -86,7 +86,7 @@ module _ {X : Type 0} (p : X → Bool) where
       ∙ (ap (λ b. cond b 1 0 + count_by p xs) (all 0 x (omega arith))
       ∙ omega (arith, count_none xs (All-tail (λ x. p x ≡ false) x xs all)))
 
-  -- none passes, from the end either
+  -- where no element passes, none is found from the end either
   pub reverse_nothing : (xs : List X) → All (λ x. p x ≡ false) xs → find p (reverse xs) ≡ None
   reverse_nothing xs all =
       find_no_first p (reverse xs) (filter_reverse p xs ∙ ap reverse (filter_none xs all))
@@ -115,7 +115,7 @@ module _ (s : List (Option ℕ)) (at : ℕ) (in' : at < length s) where
       → slot_rows at (drop at s) ≡ (at, d) ∷ slot_rows (at + 1) (drop (at + 1) s)
   next_full d e = ap (slot_rows at) (drop_more s at None in' ∙ ap (λ o. o ∷ drop (at + 1) s) e)
 
-  -- and those up to it
+  -- the rows up to a slot, where it is empty, and where it has a document
   upto : (o : Option ℕ) → get_or s at None ≡ o
       → slot_rows 0 (take (at + 1) s) ≡ slot_rows 0 (take at s) ++ slot_rows at (o ∷ [])
   upto o e =
@@ -153,9 +153,9 @@ below_slot e m s l (inl q) =
     later : List (ℕ × ℕ)
     later = slot_rows (0 + length (take m s)) (drop m s)
 
--- the rows behind a base: the slot i has the sequence base + i + 1
+-- the rows above a base: the slot i has the sequence base + i + 1
 module _ (base : ℕ) where
-  -- a slot's row
+  -- the row of a slot, by its place and document
   abbrev pub row_at : ℕ × ℕ → ℕ × ℕ
   row_at row = (base + 1 + row.0, row.1)
 
@@ -186,7 +186,7 @@ module _ (base : ℕ) where
       ∙ ap (λ (p : ℕ → Bool). option_map row_at (find (λ (row : ℕ × ℕ). p row.0) (slot_rows 0 s)))
       (λ i n. above_same place n i))
 
-  -- and the last one below it that of the last slot below it
+  -- the last row below a place is that of the last slot below the place
   pub last_row : (place : ℕ) (s : List (Option ℕ))
       → find (λ (row : ℕ × ℕ). nat_lt row.0 place) (reverse (slot_rows (base + 1) s))
       ≡ option_map row_at (find (λ (row : ℕ × ℕ). nat_lt row.0 (place - (base + 1)))
@@ -198,7 +198,7 @@ module _ (base : ℕ) where
       ∙ ap (λ (p : ℕ → Bool). option_map row_at (find (λ (row : ℕ × ℕ). p row.0) (reverse (slot_rows 0 s))))
       (λ i n. below_same place n i)))
 
--- slots that have a document have a row each
+-- as many rows as slots that have a document
 pub count_each : (p : ℕ × ℕ → Bool) (n : ℕ) (s : List (Option ℕ)) → All (λ r. p r ≡ true) (slot_rows n s)
     → count_by p (slot_rows n s) ≡ count_by is_some s
 count_each p n [] all = refl
@@ -218,7 +218,7 @@ length_rows n (None ∷ s) =
 length_rows n (Some d ∷ s) =
     omega (arith, length_rows (n + 1) s, sum_by-cons (λ (o : Option ℕ). cond (is_some o) 1 0) (Some d) s)
 
--- how many rows lie above a place: the documents of the slots from the place on
+-- the number of rows above a place is the number of documents in the slots from the place on
 pub count_behind : (base place i : ℕ) (s : List (Option ℕ))
     → i ≤ length s → (i ≡ place - base) ⊎ ((length s ≤ i) × (i ≤ place - base))
     → count_by (λ (row : ℕ × ℕ). nat_lt place row.0) (slot_rows (base + 1) s) ≡ count_by is_some (drop i s)
@@ -268,7 +268,7 @@ count_behind base place i s l h =
           (rows_within (base + 1 + length (take i s)) (drop i s) k d g).1,
         ))
 
--- a slot above all is filled
+-- a document in a slot above all rows adds a row at the end
 pub rows_filled : (n i d : ℕ) (s : List (Option ℕ))
     → i < length s → All (λ (row : ℕ × ℕ). row.0 < n + i) (slot_rows n s)
     → slot_rows n (set s i (Some d)) ≡ slot_rows n s ++ (n + i, d) ∷ []
@@ -330,7 +330,7 @@ module _ {X : Type 0} (t : ℕ → Bool) where
       rw (all 0 e (omega arith))
       (ap (λ l. e ∷ l) (remove_right es fs (All-tail (λ (e : ℕ × X). t e.0 ≡ false) e es all)))
 
--- a slot is emptied
+-- an emptied slot loses its row
 pub rows_cleared : (n i : ℕ) (s : List (Option ℕ))
     → slot_rows n (set s i None) ≡ remove_entry (at_seq (n + i)) (slot_rows n s)
 rows_cleared n i [] = refl
@@ -345,7 +345,7 @@ rows_cleared n (suc i) (Some v ∷ s) =
     (ap (λ l. (n, v) ∷ l)
     (rows_cleared (n + 1) i s ∙ ap (λ m. remove_entry (at_seq m) (slot_rows (n + 1) s)) (omega arith)))
 
--- what holds of entries holds of what is left of them
+-- a statement on all entries holds of the entries that a removal leaves
 pub All_removed : {X : Type 0} (P : ℕ × X → Type 0) (t : ℕ → Bool) (es : List (ℕ × X)) → All P es
     → All P (remove_entry t es)
 All_removed P t [] all = all
@@ -358,7 +358,7 @@ All_removed P t (e ∷ es) all =
           (All_removed P t es (All-tail P e es all)))
     ]
 
--- a page's own search, told by what its slots' search found
+-- a search by sequences on a page, from the search by places in its slots
 module _ (base place from : ℕ) (now slots : List (Option ℕ)) (same : slots ≡ now) where
   module _ (is_from : from ≡ place - base) where
     pub nothing_from : None ≡ find (λ (r : ℕ × ℕ). nat_le from r.0) (slot_rows 0 slots)

@@ -6,25 +6,25 @@ ghost use Rattle.hub_index.specs.Order.{id_at};
 use crate::id_order::Named;
 use std::alloc::{AllocError, Global};
 
-/// How many slots an id may stand in. They lie side by side, mostly on one line of the cache.
+/// The number of slots in which an id may stand. They lie side by side, mostly on one line of the cache.
 const PLACES: usize = 8;
 
-/// The bits of a hash that say where the places of an id begin, as far as there are slots.
+/// The bits of a hash that tell the first slot of an id, as far as there are slots.
 const PLACE_BITS: u32 = 0xffff_fff8;
 
-/// The bits of the places that there are at least.
+/// The mask of the fewest slots that are made, 16.
 const FIRST_MASK: u32 = 15;
 
-/// Numbers in slots by a hash of their ids (FNV-1a). Nothing rests on what stands there: a number is
-/// given only after a look at its id, and one that is missing has to be found in another way, such
-/// as by `IdOrder`. So ids that are made to collide cost that other way, and the hash has no secret.
+/// Numbers in slots by a hash of their ids (FNV-1a). No contract rests on the slots: a number is given only
+/// after a look at its id. A number that is missing has to be found in another way, such as by `IdOrder`. So
+/// ids that are made to collide cost that other way, and the hash has no secret.
 #[derive(Debug)]
 pub struct IdHints {
     alloc: Global,
-    /// Zeros, and numbers plus one. The bits above the mask are those of the id's hash there: so few
-    /// other ids are looked at, and more slots are filled with no look at any.
+    /// Zeros, and numbers plus one. The bits above the mask are those of the id's hash. So few other ids are
+    /// looked at, and a move into more slots needs no look at an id.
     slots: Vec<u32>,
-    /// One less than a power of two: the number of slots.
+    /// The number of slots less one, where there are any. The number of slots is a power of two.
     mask: u32,
 }
 
@@ -44,7 +44,7 @@ fn hash_of(id: &str) -> u32 {
 }
 
 impl IdHints {
-    /// No number. It takes no memory yet; `remember` takes it from this allocator.
+    /// Hints without a number. They take no memory yet; `remember` takes it from this allocator.
     pub fn new(alloc: Global) -> IdHints {
         IdHints {
             alloc,
@@ -53,7 +53,7 @@ impl IdHints {
         }
     }
 
-    // The number of a slot, where an id of this hash may stand there.
+    // The number in a slot, where its id may have this hash.
     fn number_at(&self, at: usize, hash: u32) -> Option<u32> {
         let slot = *self.slots.get(at)?;
         if (slot ^ hash) & !self.mask != 0 {
@@ -62,9 +62,9 @@ impl IdHints {
         (slot & self.mask).checked_sub(1)
     }
 
-    /// A number of this id, if it is remembered. It takes constant time: it compares ids whose hashes
-    /// are alike, mostly one and at most 8. That none is given says nothing: one or two numbers of a
-    /// hundred are not remembered, and that of the empty text never is.
+    /// A number of this id, if it is remembered. It takes constant time: it compares ids whose hashes are
+    /// alike, mostly one and at most 8. `None` tells nothing of the id: one or two numbers of a hundred are
+    /// not remembered, and the number of the empty text is never given.
     pub fn find<N: Named>(&self, names: &N, id: &str) -> Option<u32>
         ensures { IfSome result (λ number. (number < length (N.ids names.now))
             × (id_at (N.ids names.now) number ≡ id.now)) }
@@ -84,7 +84,7 @@ impl IdHints {
         None
     }
 
-    // Puts a number plus one into the first empty slot of a hash, else in place of the first.
+    // Puts a number plus one into the first empty slot of a hash, else into its first slot.
     fn put(&mut self, hash: u32, next: u32) {
         let first = (hash & self.mask & PLACE_BITS) as usize;
         let mut places = first..first + PLACES;
@@ -96,7 +96,7 @@ impl IdHints {
         }
     }
 
-    // The same numbers in twice the slots.
+    // The same numbers in twice the slots, or in the first 16.
     fn grown(&self) -> Result<IdHints, AllocError> {
         let mask = self.mask.saturating_mul(2) | FIRST_MASK;
         let mut grown = IdHints {
@@ -113,10 +113,10 @@ impl IdHints {
         Ok(grown)
     }
 
-    /// Remembers the number of an id, the next after those remembered before. Where all its places are
-    /// taken, the number in the first of them is forgotten. Once half as many numbers as slots are
-    /// there, twice as many slots are made, which costs a step for each; a number takes 8 to 16 bytes
-    /// of them. Where they find no memory, the number may not be remembered.
+    /// Remembers the number of an id, the next after the numbers remembered before. Where all slots of the id
+    /// are taken, the number in the first of them is forgotten. Once there are half as many numbers as slots,
+    /// the slots are doubled, at a step for each. A number takes 8 to 16 bytes of slots. Out of memory for
+    /// more slots, the number may not be remembered.
     pub fn remember(&mut self, id: &str, number: u32) {
         if number >= self.mask / 2
             && let Ok(grown) = self.grown()

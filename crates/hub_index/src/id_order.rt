@@ -7,7 +7,7 @@ use crate::id_pages::{page_at, place_in, push_page, put};
 use std::alloc::{AllocError, Global};
 use std::marker::Model;
 
-/// What has ids by number.
+/// A holder of ids by their numbers.
 pub trait Named {
     ghost ids: { Self → List (List ℕ) };
 
@@ -17,8 +17,8 @@ pub trait Named {
         ensures { result.now ≡ id_at (ids self.now) number };
 }
 
-/// Numbers in the byte order of their ids, seen as the list of them. The ids stand elsewhere: each
-/// call is given them. A number takes four bytes, and pages that are not full some two more.
+/// Numbers in the byte order of their ids. A contract sees the list of the numbers. The ids stand elsewhere:
+/// each call is given them. A number takes four bytes, and some two more where pages are not full.
 #[derive(Debug)]
 pub struct IdOrder {
     alloc: Global,
@@ -45,7 +45,7 @@ impl Model for IdOrder {
 }
 
 impl IdOrder {
-    /// No number. It takes no memory yet; `insert` takes it from this allocator.
+    /// An order without a number. It takes no memory yet; `insert` takes it from this allocator.
     pub fn new(alloc: Global) -> IdOrder
         ensures { result ≡ [] }
     {
@@ -55,8 +55,8 @@ impl IdOrder {
         }
     }
 
-    /// The number of this id. It compares ids logarithmically many times, and two where the id lies
-    /// above all. It takes no memory.
+    /// The number of this id. It compares logarithmically many ids, and two where the id lies above all. It
+    /// takes no memory.
     pub fn find<N: Named>(&self, names: &N, id: &str) -> Option<u32>
         requires order { IsOrder (N.ids names.now) self.now }
         ensures { result ≡ number_in (N.ids names.now) self.now id.now }
@@ -74,10 +74,10 @@ impl IdOrder {
         }
     }
 
-    /// Takes in a number of a new id: the next after those that have ids, whose own id joins them
-    /// later. It compares ids logarithmically many times, and two where the id lies above all. It
-    /// moves the numbers behind it on its page; a full page is halved before, and ids that come in
-    /// order fill pages whole. An error leaves all numbers as they were.
+    /// Takes in the number of a new id. It is the next number after those that have ids, and its id joins
+    /// them later. The call compares logarithmically many ids, and two where the id lies above all. It moves
+    /// the numbers behind the new one on its page. A full page is halved before, and ids that come in order
+    /// fill pages whole. An error leaves all numbers as they were.
     pub fn insert<N: Named>(&mut self, names: &N, number: u32, id: &str) -> Result<(), AllocError>
         requires order { IsOrder (N.ids names.now) self.old }
         requires next { number ≡ length (N.ids names.now) }

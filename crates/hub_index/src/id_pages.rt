@@ -10,13 +10,13 @@ ghost use Rattle.hub_index.specs.Order.{is_below, numbers_of, place_of};
 use crate::id_order::Named;
 use std::alloc::{AllocError, Global};
 
-/// How many numbers a page has at most.
+/// The most numbers of a page.
 const PAGE_SIZE: usize = 256;
 
-/// Where a full page is cut.
+/// The place at which a full page is cut.
 const HALF: usize = 128;
 
-/// How many numbers more a page takes memory for, where it has none left.
+/// The count of numbers by which the memory of a page grows.
 const STEP: usize = 32;
 
 // Whether the first id of a page is this one or lies below it.
@@ -29,8 +29,8 @@ fn begins_up_to<N: Named>(names: &N, numbers: &[u32], id: &str) -> bool
     }
 }
 
-/// The page where an id stands or belongs: the last that begins with it or with one below it, and
-/// the first where none does. It compares one id where that is the last page, and else
+/// The page where an id stands or belongs. It is the last page that begins with this id or a lower one, and
+/// the first page where none does. It compares one id where the page is the last one, and else
 /// logarithmically many.
 pub(crate) fn page_at<N: Named>(names: &N, pages: &[Vec<u32>], id: &str) -> usize
     requires order { IsOrder (N.ids names.now) (numbers_of pages.now) }
@@ -51,9 +51,9 @@ pub(crate) fn page_at<N: Named>(names: &N, pages: &[Vec<u32>], id: &str) -> usiz
         .saturating_sub(1)
 }
 
-/// Where the number of an id stands or belongs on a page: behind those whose ids lie below it. It
-/// compares logarithmically many ids, and on the last page the highest before them: where that one
-/// lies below, it compares no other.
+/// The place where the number of an id stands or belongs on a page: behind the numbers whose ids lie below.
+/// It compares logarithmically many ids. On the last page it compares the highest id first, and no other
+/// where that id lies below.
 pub(crate) fn place_in<N: Named>(names: &N, numbers: &[u32], id: &str, is_last: bool) -> usize
     requires order { IsOrder (N.ids names.now) numbers.now }
     ensures within { result ≤ length numbers.now }
@@ -68,7 +68,7 @@ pub(crate) fn place_in<N: Named>(names: &N, numbers: &[u32], id: &str, is_last: 
     numbers.partition_point(|number| names.id(*number).cmp(id).is_lt())
 }
 
-/// A page behind all, with this number alone.
+/// Adds a page behind all others, with this number alone.
 pub(crate) fn push_page(
     pages: &mut Vec<Vec<u32>>,
     alloc: Global,
@@ -83,7 +83,7 @@ pub(crate) fn push_page(
     Ok(())
 }
 
-// Keeps the numbers below `HALF`, and the memory for them.
+// Keeps the numbers at places below `HALF`, and the memory for these.
 fn cut(numbers: &mut Vec<u32>)
     ensures { numbers.new.items ≡ take 128 numbers.old.items }
 {
@@ -108,7 +108,7 @@ fn split(pages: &mut Vec<Vec<u32>>, alloc: Global, page: usize) -> Result<(), Al
     Ok(())
 }
 
-// Puts a number at a place. Memory grows by a few numbers, and not to the double: a page stays small.
+// Puts a number at a place. The memory grows by a few numbers and is not doubled: a page stays small.
 fn insert_at(numbers: &mut Vec<u32>, at: usize, number: u32) -> Result<(), AllocError>
     requires { at ≤ length numbers.old.items }
     ensures ok { OnOk result (numbers.new.items ≡ insert numbers.old.items at number) }
@@ -135,9 +135,8 @@ fn put_within(
     insert_at(&mut pages[page], at, number)
 }
 
-/// Puts a number at a place of a page. A full page is halved before; but a number that goes behind
-/// all begins a page. It moves the numbers behind the place on the page, and where a page is new
-/// the pages behind it.
+/// Puts a number at a place of a page. A full page is halved before, but a number that goes behind all others
+/// begins a page. The numbers behind the place are moved on the page, and the pages behind a new page.
 pub(crate) fn put(
     pages: &mut Vec<Vec<u32>>,
     alloc: Global,

@@ -1,5 +1,5 @@
-//! The rows of a feed by sequence: which document stands at which sequence, and which row comes
-//! next (CouchDB API reference, `_changes`); and the numbers of documents in the order of their ids.
+//! The rows of a feed by sequence (CouchDB API reference, `_changes`): the document at each sequence, and the
+//! next row. Beside them the numbers of documents, in the order of their ids.
 #![tactic(auto)]
 
 mod id_hints;

@@ -1,4 +1,4 @@
-//! A page of rows: a slot for each of 256 sequences behind one another.
+//! A page of rows: a slot for each of 256 consecutive sequences.
 
 ghost use Rattle.std.specs.Prelude.{◌≡◌, ◌^◌, ◌<◌, nat_lt, nat_le, set, drop, replicate};
 ghost use Rattle.std.specs.Prelude.{reverse, find, is_some, count_by, None, Some, IfOk};
@@ -8,14 +8,14 @@ ghost use Rattle.hub_index.specs.Pages.{page_rows, slot_rows};
 use std::alloc::{AllocError, Global};
 use std::marker::Model;
 
-/// How many slots a page has.
+/// The number of slots of a page.
 pub(crate) const PAGE_SIZE: u64 = 256;
 
-/// The slots of a page, each with the document whose row is there, seen as its number with them.
+/// A page: slots, each with the document whose row is there. A contract sees the page's number and its slots.
 #[derive(Debug, Drop)]
 pub(crate) struct Page {
     number: u64,
-    /// How many slots have a document.
+    /// The number of slots that have a document.
     live: usize,
     slots: Vec<Option<u32>>,
 }
@@ -31,14 +31,14 @@ impl Model for Page {
     ghost invariant = { λ a. IsKeptPage a.live (a.number, a.slots.items) };
 }
 
-// As many slots, all empty.
+// A vector of `size` empty slots.
 fn empty_slots(alloc: Global, size: usize) -> Result<Vec<Option<u32>>, AllocError>
     ensures { IfOk result (λ slots. slots.items ≡ replicate size None) }
 {
     vec![in alloc; None; size]
 }
 
-// The first slot from this one on that has a document: its place, and the document.
+// The first slot from the place `from` on that has a document: its place, and the document.
 fn first_from(slots: &[Option<u32>], from: usize) -> Option<(usize, u32)>
     ensures { result ≡ find (λ r. nat_le from r.0) (slot_rows 0 slots.now) }
 {
@@ -50,7 +50,7 @@ fn first_from(slots: &[Option<u32>], from: usize) -> Option<(usize, u32)>
     None
 }
 
-// The last slot below this one that has a document.
+// The last slot below the place `end` that has a document: its place, and the document.
 fn last_below(slots: &[Option<u32>], end: usize) -> Option<(usize, u32)>
     ensures { result ≡ find (λ r. nat_lt r.0 end) (reverse (slot_rows 0 slots.now)) }
 {
@@ -64,7 +64,7 @@ fn last_below(slots: &[Option<u32>], end: usize) -> Option<(usize, u32)>
     None
 }
 
-// How many slots have a document.
+// The number of slots that have a document.
 fn count_live(slots: &[Option<u32>]) -> usize
     ensures { result ≡ count_by is_some slots.now }
 {
@@ -72,7 +72,7 @@ fn count_live(slots: &[Option<u32>]) -> usize
 }
 
 impl Page {
-    /// Empty slots of the page of this number.
+    /// The page of this number, with empty slots.
     pub(crate) fn new(alloc: Global, number: u64) -> Result<Page, AllocError>
         requires { number < 2 ^ 56 }
         ensures { IfOk result (λ page. page ≡ (number, replicate 256 None)) }
@@ -85,14 +85,14 @@ impl Page {
         })
     }
 
-    /// Its number.
+    /// The page's number.
     pub(crate) fn number(&self) -> u64
         ensures { result ≡ self.now.0 }
     {
         self.number
     }
 
-    /// How many slots have a document.
+    /// The number of slots that have a document.
     pub(crate) fn live(&self) -> usize
         ensures { result ≡ count_by is_some self.now.1 }
     {
@@ -134,7 +134,7 @@ impl Page {
         Some((base + (at as u64 + 1), document))
     }
 
-    /// How many rows lie above a place. It looks at slots from the place on, and at none where the place
+    /// The number of rows above a place. It looks at slots from the place on, and at none where the place
     /// lies before the page.
     pub(crate) fn count_after(&self, place: u64) -> u64
         ensures { result ≡ count_by (λ r. nat_lt place r.0) (page_rows self.now) }

@@ -15,14 +15,14 @@ use crate::page::{PAGE_SIZE, Page};
 use std::alloc::{AllocError, Global};
 use std::marker::Model;
 
-/// Rows in pages of 256 sequences, seen as the list of them. A page has a slot of eight bytes for each
-/// sequence, and is given back once it has no row left: then the pages behind it move up, of which
-/// some forty bytes each stand in one list. A search for a page takes constant time where no number
-/// from its own to the last lacks a page, and else time that is logarithmic in the number of pages.
+/// Rows in pages of 256 sequences. A contract sees the list of the rows. A page has a slot of eight bytes for
+/// each sequence, and is given back once it has no row left. Then the pages behind it move up in one list,
+/// where each has some forty bytes. A search for a page takes constant time where no page number from its own
+/// to the last is missing. Else its time is logarithmic in the number of pages.
 #[derive(Debug)]
 pub struct PageIndex {
     alloc: Global,
-    /// Their numbers rise.
+    /// The pages. Their numbers rise.
     pages: Vec<Page>,
 }
 
@@ -43,7 +43,7 @@ impl Model for PageIndex {
     ghost invariant = { λ a. ArePages a.pages.items };
 }
 
-// The page of the sequence behind this one, and its slot there.
+// The page number of the sequence after this one, and the slot of that sequence there.
 fn slot_of(before: u64) -> (u64, usize)
     ensures before { 256 * result.0 + result.1 ≡ before }
     ensures slot { result.1 < 256 }
@@ -51,7 +51,7 @@ fn slot_of(before: u64) -> (u64, usize)
     (before / PAGE_SIZE, (before % PAGE_SIZE) as usize)
 }
 
-// The place of the page of this number, where no number from it to the last lacks a page.
+// The place of the page of this number, where no page number from it to the last is missing.
 fn place_from_last(pages: &[Page], number: u64) -> Option<usize>
     ensures { IfSome result (λ at. IsSomeAnd (slice_get pages.now at) (λ page. page.0 ≡ number)) }
 {
@@ -64,8 +64,8 @@ fn place_from_last(pages: &[Page], number: u64) -> Option<usize>
     }
 }
 
-// Where the page of this number stands or belongs: behind those of lower numbers. It looks at two
-// pages where no number from this one to the last lacks a page, and else at logarithmically many.
+// The place where the page of this number stands or belongs: behind the pages of lower numbers. It looks at
+// two pages where no page number from this one to the last is missing, and else at logarithmically many.
 fn place_of(pages: &[Page], number: u64) -> usize
     requires { AllPairs (λ a b. a.0 < b.0) pages.now }
     ensures parted { IsPartitionPoint (λ page. page.0 < number) (λ page. number ≤ page.0) pages.now result }
@@ -77,7 +77,7 @@ fn place_of(pages: &[Page], number: u64) -> usize
     }
 }
 
-// Adds a row above all.
+// Adds a row above all others.
 fn add_row(pages: &mut Vec<Page>, alloc: Global, document: u32, seq: u64) -> Result<(), AllocError>
     requires laid { AreLaid pages.old.items }
     requires positive { 0 < seq }
@@ -99,8 +99,8 @@ fn add_row(pages: &mut Vec<Page>, alloc: Global, document: u32, seq: u64) -> Res
     Ok(())
 }
 
-// Removes the row at a sequence, and its page if that was the only row there. No row is at 0: it is looked for
-// in the last slot of 64 bits, which stays empty.
+// Removes the row at a sequence, and its page where it was the page's only row. No row is at the sequence 0.
+// A row there is looked for in the last slot of 64 bits, which stays empty.
 fn remove_row(pages: &mut Vec<Page>, seq: u64)
     requires pages { All IsPage pages.old.items }
     requires rising { AllPairs (λ a b. a.0 < b.0) pages.old.items }
@@ -134,7 +134,7 @@ fn row_after(pages: &[Page], place: u64) -> Option<(u64, u32)>
 }
 
 impl PageIndex {
-    /// No row. It takes no memory yet; `move_to` takes it from this allocator.
+    /// An index without a row. It takes no memory yet; `move_to` takes it from this allocator.
     pub fn new(alloc: Global) -> PageIndex
         ensures { result ≡ [] }
     {
@@ -144,16 +144,15 @@ impl PageIndex {
         }
     }
 
-    /// Removes the row at a sequence, if there is one, after a search for its page. It takes no
-    /// memory, and gives a page back where the row was its only one.
+    /// Removes the row at a sequence, if there is one, after a search for its page. It takes no memory, and
+    /// gives the page back where the row was its only one.
     pub fn remove(&mut self, seq: u64)
         ensures { self.new ≡ filter (λ r. not (nat_eq r.0 seq)) self.old }
     {
         remove_row(&mut self.pages, seq);
     }
 
-    /// How many pages it has: those on which a row lies, and no other. It takes no memory, and
-    /// constant time.
+    /// The number of pages: those on which a row lies, and no other. It takes no memory, and constant time.
     pub fn pages(&self) -> u64
         ensures { result ≡ page_count self.now }
     {
@@ -164,9 +163,9 @@ impl PageIndex {
 impl SeqIndex for PageIndex {
     ghost rows = { λ rows. rows };
 
-    /// Constant time for the new row, and a search for the page of the old one. It takes a page where
-    /// the new sequence is the first of its page, and gives one back where the old row was the only
-    /// one of its page.
+    /// The cost is constant time for the new row, and a search for the page of the old row. A page is taken
+    /// where the new row is the first one on its page. A page is given back where the old row was its only
+    /// one.
     fn move_to(&mut self, document: u32, old: Option<u64>, new: u64) -> Result<(), AllocError> {
         add_row(&mut self.pages, self.alloc, document, new)?;
         if let Some(old) = old {
@@ -175,8 +174,8 @@ impl SeqIndex for PageIndex {
         Ok(())
     }
 
-    /// A search for the page of the place, and a look at the slots from the place to the row: at most
-    /// those of two pages.
+    /// The cost is a search for the page of the place, and a look at the slots from the place to the row: at
+    /// most those of two pages.
     fn next_after(&self, place: u64, bound: Option<u64>) -> Option<(u64, u32)> {
         let (seq, document) = row_after(self.pages.as_slice(), place)?;
         match bound {
@@ -185,7 +184,7 @@ impl SeqIndex for PageIndex {
         }
     }
 
-    /// As `next_after`.
+    /// The cost is that of `next_after`.
     fn last_before(&self, place: u64) -> Option<(u64, u32)> {
         let pages = self.pages.as_slice();
         let mut at = place_of(pages, place / PAGE_SIZE + 1);

@@ -1,4 +1,4 @@
-//! What a feed asks of the rows.
+//! The questions of a feed to its rows.
 
 ghost use Rattle.std.specs.Prelude.{ℕ, List, ◌≡◌, ◌<◌, OnOk, OnErr};
 ghost use Rattle.std.specs.List.{All};
@@ -6,7 +6,7 @@ ghost use Rattle.hub_index.specs.Rows.{IsIndex, seq_of, rows_after_move, next_af
 
 use std::alloc::AllocError;
 
-/// The rows of a feed, rising: each is the sequence of a document's latest edit, and the document's
+/// The rows of a feed, in rising order. A row is the sequence of a document's latest edit, and the document's
 /// number. No two rows are of one document.
 pub trait SeqIndex {
     ghost rows: { Self → List (ℕ × ℕ) };
@@ -32,7 +32,7 @@ pub trait SeqIndex {
         ensures last { result ≡ last_before (rows self.now) place }
         ensures index { IsIndex (rows self.now) };
 
-    /// How many rows lie above a place. It takes no memory.
+    /// The number of rows above a place. It takes no memory.
     fn count_after(&self, place: u64) -> u64
         ensures count { result ≡ count_after (rows self.now) place }
         ensures index { IsIndex (rows self.now) };

@@ -8,7 +8,7 @@ use std::collections::BTreeMap;
 use std::marker::Model;
 use std::ops::Bound;
 
-/// Rows in a tree by sequence, seen as the list of them.
+/// Rows in a tree by sequence. A contract sees the list of the rows.
 #[derive(Debug)]
 pub struct TreeIndex {
     documents: BTreeMap<u64, u32>,
@@ -32,7 +32,7 @@ impl Model for TreeIndex {
 }
 
 impl TreeIndex {
-    /// No row. It takes no memory yet; `move_to` takes it from this allocator.
+    /// An index without a row. It takes no memory yet; `move_to` takes it from this allocator.
     pub fn new(alloc: Global) -> TreeIndex
         ensures { result ≡ [] }
     {
@@ -45,7 +45,7 @@ impl TreeIndex {
 impl SeqIndex for TreeIndex {
     ghost rows = { λ rows. rows };
 
-    /// Logarithmic in the number of rows.
+    /// The cost is logarithmic in the number of rows.
     fn move_to(&mut self, document: u32, old: Option<u64>, new: u64) -> Result<(), AllocError> {
         self.documents.insert(new, document)?;
         if let Some(old) = old {
@@ -54,7 +54,7 @@ impl SeqIndex for TreeIndex {
         Ok(())
     }
 
-    /// Logarithmic in the number of rows.
+    /// The cost is logarithmic in the number of rows.
     fn next_after(&self, place: u64, bound: Option<u64>) -> Option<(u64, u32)> {
         let above = (Bound::Excluded(place), Bound::Unbounded);
         let (seq, document) = self.documents.range(above).next()?;
@@ -64,14 +64,13 @@ impl SeqIndex for TreeIndex {
         }
     }
 
-    /// Logarithmic in the number of rows.
+    /// The cost is logarithmic in the number of rows.
     fn last_before(&self, place: u64) -> Option<(u64, u32)> {
         let (seq, document) = self.documents.range(..place).next_back()?;
         Some((*seq, *document))
     }
 
-    /// It goes over the rows above the place, after a search that is logarithmic in the number of
-    /// rows.
+    /// It goes over the rows above the place, after a search whose cost is logarithmic in the number of rows.
     fn count_after(&self, place: u64) -> u64 {
         let above = (Bound::Excluded(place), Bound::Unbounded);
         self.documents.range(above).count() as u64

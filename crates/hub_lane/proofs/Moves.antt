@@ -1,4 +1,4 @@
--- A take keeps the rule of a lane's queue, and what it tells.
+-- A take keeps the rule of a lane's queue, and learns that the label allows the taken and the held items.
 use Rattle.std.proofs.Common.{◌≡◌, ℕ, zero, suc, List, [], ◌∷◌, ◌++◌, set}
 use Rattle.std.proofs.Common.{sym, refl, ap, ◌∙◌, subst, inl, inr, append_assoc}
 use mathlib.Core.Option.{some}
@@ -23,7 +23,7 @@ no_receiver label mine zero at = cc
 no_receiver label mine (suc pass) at = cc
 
 module _ {L I : Type 0} (allows : L → List I → Type 0) where
-  -- what the rule says where the receiver's pass is asked
+  -- the facts of the rule where the receiver's pass is asked
   record AtReceiver (label : L) (mine items : List I) (views : List (View L I)) (pass : ℕ) : Type 0 where
     seat : pass ≡ 1
     sent : List I

@@ -1,10 +1,10 @@
--- The rule of a lane's queue: of the items in it, oldest first, and of what its passes know (own).
+-- The rule of a lane's queue: its items, the oldest first, and the knowledge of its passes (own).
 use Rattle.std.specs.Prelude.{◌≡◌, ◌⊎◌, Option, Some, None, List, [], ◌∷◌, ◌++◌, Contains}
 use Rattle.hub_lane.specs.declared.rule.View.{View}
 use Rattle.hub_lane.specs.declared.rule.View.TheVariants.{NoLabel, OfSender, OfReceiver}
 
--- what may be left of the items that were sent, once some were taken from the front
--- of a, b and c it is all three, b and c, c alone, or nothing
+-- Items that may be left of the sent items, after some were taken from the front.
+-- Of a, b and c, all three may be left, b and c, c alone, or none.
 abbrev pub IsLeftOf : {I : Type 0} → List I → List I → Type 0
 IsLeftOf {I} held sent = (taken : List I) × (sent ≡ taken ++ held)
 
@@ -15,7 +15,7 @@ module _ {L I : Type 0} where
   items_of (OfSender label sent) = sent
   items_of (OfReceiver label taken) = taken
 
-  -- the same pass behind one item more
+  -- the same pass after one item more
   abbrev pub with_item : View L I → I → View L I
   with_item NoLabel item = NoLabel
   with_item (OfSender label sent) item = OfSender label (sent ++ item ∷ [])
@@ -37,26 +37,26 @@ module _ {L I : Type 0} where
     pub empty : items ≡ []
 
 module _ {L I : Type 0} (allows : L → List I → Type 0) where
-  -- what the receiver's pass took, and then these, is a list that the label allows
+  -- the taken items of the receiver's pass, and then these items, are a list that the label allows
   abbrev pub IsAllowedWith : View L I → List I → Type 0
   IsAllowedWith NoLabel held = Unit {0}
   IsAllowedWith (OfSender label sent) held = Unit {0}
   IsAllowedWith (OfReceiver label taken) held = allows label (taken ++ held)
 
-  -- what the receiver's pass took is the beginning of a list that the label allows
+  -- the taken items of the receiver's pass are the beginning of a list that the label allows
   abbrev pub HasAllowedRest : View L I → Type 0
   HasAllowedRest view = (held : List I) × IsAllowedWith view held
 
-  -- the sender's pass of a lane under this label, which allows what was sent
+  -- the sender's pass of a lane under this label, which allows the sent items
   abbrev pub IsOfSender : L → View L I → Type 0
   IsOfSender label view = (view ≡ OfSender label (items_of view)) × allows label (items_of view)
 
-  -- the receiver's pass of a lane under this label, which allows a list that begins with what was taken
+  -- the receiver's pass of a lane under this label, which allows a list that begins with the taken items
   abbrev pub IsOfReceiver : L → View L I → Type 0
   IsOfReceiver label view = (view ≡ OfReceiver label (items_of view)) × HasAllowedRest view
 
-  -- a lane: what was sent is what was taken and then what the queue holds, and the label allows what was sent
-  -- with a, b and c sent and a taken it holds b and c
+  -- A lane: the sent items are the taken items and then those in the queue. The label allows the sent items.
+  -- With a, b and c sent and a taken, the queue holds b and c.
   pub record IsLabelled (items : List I) (views : List (View L I)) : Type 0 where
     pub label : L
     pub sent : List I
@@ -69,8 +69,8 @@ module _ {L I : Type 0} (allows : L → List I → Type 0) where
   abbrev pub IsLane : List I → List (View L I) → Type 0
   IsLane items views = IsUnlabelled items views ⊎ IsLabelled items views
 
-  -- wherever the rule holds, that is at every moment of a lane: its ends have one label, what was sent is
-  -- what was taken and then what the queue holds, and the label allows what was sent
+  -- The rule holds at every moment of a lane. Wherever it holds, the ends have one label. The sent items are
+  -- the taken items and then the items in the queue, and the label allows the sent items.
   abbrev pub EndsAgree : Type 0
   EndsAgree =
       (items : List I) (views : List (View L I)) (label other : L) (sent taken : List I) → IsLane items views

@@ -7,16 +7,16 @@ use crate::ends::{Receiver, Sender};
 use crate::rule::{Kept, Push, Take};
 use std::sync::Wait;
 
-/// A handle by which a lane is asked: every handle that may wait is one. Code with this bound knows
-/// nothing of `refuses` and `lacks` but what a call of this trait told it. So no layer that has it,
-/// and not `Wait` alone, can answer that a lane is full, or empty, without asking it.
+/// A handle by which a lane is asked: every handle that may wait is one. Code with this bound knows nothing
+/// of `refuses` and `lacks` but from a call of this trait. So a layer that has this bound, and not `Wait`
+/// alone, can't answer that a lane is full, or empty, without asking it.
 pub trait Asks<L: Kept<I>, I>: Wait {
     ghost use Rattle.hub_lane.specs.Ends.{SenderState, ReceiverState};
 
-    /// What is told of a sender whose item was refused: the lane was full at a moment of the call.
+    /// It holds of a sender whose item was refused: the lane was full at a moment of the call.
     ghost refuses: { Self → SenderState L I → I → Type 0 };
 
-    /// What is told of a receiver that got nothing: the lane was empty at a moment of the call.
+    /// It holds of a receiver that got no item: the lane was empty at a moment of the call.
     ghost lacks: { Self → ReceiverState L I → Type 0 };
 
     /// Sends an item where there is room, for `Sender::push`. It takes no memory.
@@ -38,10 +38,10 @@ pub trait Asks<L: Kept<I>, I>: Wait {
 impl<L: Kept<I>, I, R: Wait> Asks<L, I> for R {
     ghost use Rattle.hub_lane.specs.Ends.{HasBeenFull};
 
-    // Behind what was taken at that moment the lane held its capacity.
+    // At that moment the lane held as many items as it may, after the items that were taken by then.
     ghost refuses = { λ rt sender item. HasBeenFull sender.capacity sender.sent };
 
-    // What was taken is all that was sent by that moment, which the label allows.
+    // The items that were taken are all that were sent by that moment, and the label allows these.
     ghost lacks = { λ rt receiver. L.allows receiver.label receiver.taken };
 
     fn offer(&self, sender: &mut Sender<L, I>, item: I) -> Result<(), I> {

@@ -16,8 +16,8 @@ use std::sync::Arc;
 // The queue of a lane.
 type Queue<L, I> = RuledArrayQueue<I, View<L, I>, LaneRule<L, I>>;
 
-/// What the two ends of a lane share. It is dropped with the second of them, and items that were
-/// not taken are dropped with it. It serves 2^62 items: after them no push and no take returns.
+/// The queue and the label, which the two ends of a lane share. It is dropped with the second end, and items
+/// that were not taken are dropped with it. It serves 2^62 items: after them no push and no take returns.
 #[derive(Drop)]
 pub struct Lane<L: Kept<I>, I> {
     // The items that were sent and not taken yet.
@@ -26,20 +26,20 @@ pub struct Lane<L: Kept<I>, I> {
     label: L,
 }
 
-/// The lane held as many items as it may, so this one was not sent: it comes back.
+/// The lane held as many items as it may, so this item was not sent: it comes back.
 #[derive(Drop)]
 pub struct Full<I>(
     /// The item.
     pub I,
 );
 
-/// The end that sends. There is one of a lane. Contracts see which lane it is of, its label, all that
-/// was sent, and how many items the lane holds at most.
+/// The sending end of a lane, of which there is one. Contracts see the lane's identity, its label, all items
+/// that were sent, and how many items the lane holds at most.
 #[derive(Drop)]
 pub struct Sender<L: Kept<I>, I> {
-    // The receiver has the other handle on it.
+    // The receiver has the other handle on the lane.
     pub(crate) lane: Arc<Lane<L, I>, Global>,
-    // What this end sent. It has no bytes, and stays with the end.
+    // The items that this end sent. A pass has no bytes, and stays with its end.
     pub(crate) pass: Pass<I, View<L, I>>,
 }
 
@@ -63,13 +63,13 @@ impl<L: Kept<I>, I> Model for Sender<L, I> {
         × IsOfSender L.allows (arc_value s.lane).label (known s.pass) };
 }
 
-/// The end that takes. There is one of a lane. Contracts see which lane it is of, its label, and all
-/// that was taken.
+/// The taking end of a lane, of which there is one. Contracts see the lane's identity, its label, and all
+/// items that were taken.
 #[derive(Drop)]
 pub struct Receiver<L: Kept<I>, I> {
-    // The sender has the other handle on it.
+    // The sender has the other handle on the lane.
     pub(crate) lane: Arc<Lane<L, I>, Global>,
-    // What this end took. It has no bytes, and stays with the end.
+    // The items that this end took. A pass has no bytes, and stays with its end.
     pub(crate) pass: Pass<I, View<L, I>>,
 }
 
@@ -93,9 +93,9 @@ impl<L: Kept<I>, I> Model for Receiver<L, I> {
 }
 
 impl<L: Kept<I> + Drop, I: Drop> Lane<L, I> {
-    /// An empty lane that holds at most `capacity` items, and its two ends. It makes room for all
-    /// of them, and no later call takes memory. A capacity of 2^60 and more is told as out of
-    /// memory, and with every error the label is dropped.
+    /// An empty lane that holds at most `capacity` items, and its two ends. It makes room for all of these
+    /// items, and no later call takes memory. A capacity of 2^60 and more is an error, out of memory. With
+    /// every error the label is dropped.
     pub fn new(
         alloc: Global,
         capacity: usize,
@@ -110,7 +110,7 @@ impl<L: Kept<I> + Drop, I: Drop> Lane<L, I> {
         Lane::two_ends::<Brand>(alloc, queue, pass, label)
     }
 
-    // The ends of a queue that is being made: `N` is the label, for the proof alone.
+    // The ends of a queue that is being made. `N` has the label, for the proof alone.
     fn two_ends<N: NewLabel<L>>(
         alloc: Global,
         queue: Queue<L, I>,
@@ -134,7 +134,7 @@ impl<L: Kept<I> + Drop, I: Drop> Lane<L, I> {
 }
 
 impl<L: Kept<I>, I> Sender<L, I> {
-    /// The lane's label, which allows what was sent. Constant time.
+    /// The lane's label, which allows the items that were sent. Constant time.
     pub fn label(&self) -> &L
         ensures label { result.now ≡ self.now.label }
         ensures allowed { L.allows self.now.label self.now.sent }
@@ -142,9 +142,9 @@ impl<L: Kept<I>, I> Sender<L, I> {
         &self.lane.label
     }
 
-    /// Sends an item, behind those that were sent before. Where the lane was full at a moment of
-    /// the call the item comes back: no call waits for room. It tries again only while the receiver
-    /// is within a take. Otherwise it takes constant time, and no memory.
+    /// Sends an item, after the items that were sent before. Where the lane was full at a moment of the call,
+    /// the item comes back: no call waits for room. It tries again only while the receiver is within a take.
+    /// Otherwise it takes constant time, and no memory.
     pub fn push<R: Asks<L, I>>(&mut self, rt: &R, item: I) -> Result<(), Full<I>>
         requires allowed { L.allows self.old.label (self.old.sent ++ item ∷ []) }
         ensures sent { OnOk result (self.new ≡ behind_push self.old item) }
@@ -159,7 +159,7 @@ impl<L: Kept<I>, I> Sender<L, I> {
 }
 
 impl<L: Kept<I>, I> Receiver<L, I> {
-    /// The lane's label, which allows a list that begins with what was taken. Constant time.
+    /// The lane's label, which allows a list that begins with the taken items. Constant time.
     pub fn label(&self) -> &L
         ensures label { result.now ≡ self.now.label }
         ensures allowed { IsAllowedBeginning L.allows self.now }
@@ -167,10 +167,9 @@ impl<L: Kept<I>, I> Receiver<L, I> {
         &self.lane.label
     }
 
-    /// Takes the first item that was sent and not taken yet. There is none where the lane was empty
-    /// at a moment of the call: no call waits for an item, and none tells whether the sender is
-    /// still there. It tries again only while the sender is within a push. Otherwise it takes
-    /// constant time, and no memory.
+    /// Takes the first item that was sent and not taken yet. `None` says that the lane was empty at a moment
+    /// of the call: no call waits for an item, and none tells whether the sender is still there. It tries
+    /// again only while the sender is within a push. Otherwise it takes constant time, and no memory.
     pub fn take<R: Asks<L, I>>(&mut self, rt: &R) -> Option<I>
         ensures taken { IfSome result (λ item. self.new ≡ behind_take self.old item) }
         ensures same { IfNone result (self.new ≡ self.old) }

@@ -1,5 +1,5 @@
-//! The queue between what pumps a feed and the connection that shows it: bounded, from one sender
-//! to one receiver, in order, under a label that says which lists of items may be sent.
+//! The lane of a feed: the queue between whoever hands the feed's items and the feed's connection. It is
+//! bounded and in order, with one sender and one receiver. Its label says which lists of items may be sent.
 #![tactic(auto)]
 
 mod asks;

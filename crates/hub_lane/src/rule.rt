@@ -1,4 +1,4 @@
-//! The rule of a lane's queue: what was sent is what was taken and then what the queue holds.
+//! The rule of a lane's queue: the sent items are the taken items, and then the items in the queue.
 
 ghost use Rattle.hub_lane.specs.Rule.{EndsAgree};
 
@@ -6,7 +6,7 @@ use crossbeam_queue::protocol::{Lesson, Outcome, Protocol, Split};
 use std::collections::LinkedList;
 use std::marker::{Brand, PhantomData};
 
-/// What a label of a lane means: which lists of items may be sent under it, the first item first.
+/// The meaning of a lane's label: which lists of items may be sent under it, the first item first.
 pub trait Kept<I> {
     ghost use Rattle.std.specs.Prelude.{List};
 
@@ -14,7 +14,7 @@ pub trait Kept<I> {
     ghost allows: { Self → List I → Type 0 };
 }
 
-/// What a pass of the queue knows. It stands in proofs alone: no value of it is made.
+/// The knowledge of a pass of the queue. It stands in proofs alone: no value of it is made.
 pub enum View<L, I> {
     /// The one pass of a queue that is being made.
     NoLabel,
@@ -38,7 +38,7 @@ impl<L: Kept<I>, I> Protocol<I, View<L, I>> for LaneRule<L, I> {
     ghost first = { NoLabel };
 }
 
-/// The label of the lane that a call makes, for its proof: the call picks it.
+/// The label of the lane that a call makes, for the call's proof. The call picks it.
 pub trait NewLabel<L> {
     ghost use Rattle.std.specs.Prelude.{Option};
 
@@ -64,7 +64,7 @@ impl<L, I, N: NewLabel<L>> Split<View<L, I>> for TwoEnds<N> {
     ghost right = { λ v. new_receiver_view N.label };
 }
 
-/// A push: the item stands behind what was sent. A refused one tells what the lane held.
+/// A push: the item stands after the sent items. A refused push tells that the lane held the last of these.
 pub struct Push;
 
 impl<L, I> Outcome<I, View<L, I>> for Push {
@@ -80,8 +80,8 @@ impl<L, I> Lesson<I, View<L, I>> for Push {
     ghost fact = { λ v items. IsLeftOf items (items_of v) };
 }
 
-/// A take: the item stands behind what was taken, which goes on to a list that the label allows.
-/// One that finds none tells what the lane held.
+/// A take: the item stands after the taken items, which begin a list that the label allows. A take that finds
+/// no item tells that the label allows the taken items, and then the items that the lane held.
 pub struct Take<L> {
     of: PhantomData<L>,
 }
@@ -99,8 +99,8 @@ impl<L: Kept<I>, I> Lesson<I, View<L, I>> for Take<L> {
     ghost fact = { λ v items. IsAllowedWith L.allows v items };
 }
 
-/// At every moment of a lane its ends have one label, what was sent is what was taken and then what
-/// the queue holds, and the label allows what was sent.
+/// At every moment of a lane its ends have one label. The sent items are the taken items and then the items
+/// in the queue, and the label allows the sent items.
 pub fn ends_agree<L: Kept<I>, I>()
     ensures { EndsAgree L.allows }
 {}

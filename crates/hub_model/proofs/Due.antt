@@ -1,4 +1,4 @@
--- What it says of a feed that a row, an End or nothing is due.
+-- Facts about a feed to which a row, an End or nothing is due.
 use Rattle.std.proofs.Common.{◌≡◌, ℕ, ◌<◌, ◌≤◌, List, true, false, ◌⊎◌, inl, inr, refl, arith}
 use Rattle.std.specs.Prelude.{Option, Some, None, find, IsTrue, IfSome, max, nat_le}
 use Rattle.std.proofs.lemmas.Bool.{and_parts, and_from, ltb-true, lt-ltb}
@@ -63,7 +63,7 @@ pub due_nothing : (rows : List Current) (feed : Feed) → next_due rows feed ≡
     → (feed.status ≡ Open) × (feed.bound ≡ None) × (find (is_in_reach feed) rows ≡ None)
 due_nothing rows feed e = due_at_nothing feed.status rows feed e
 
--- the parts of the test
+-- the parts of the test `is_in_reach`
 pub reach_parts : (feed : Feed) (row : Current) → is_in_reach feed row ≡ true
     → (feed.place < row.seq) × (is_within feed.bound row.seq ≡ true)
     × IsTrue (is_passing feed.params.filter row.id)
@@ -82,7 +82,7 @@ pub within_below : (b : Option ℕ) (m n : ℕ) → is_within b n ≡ true → m
 within_below None m n e h = refl
 within_below (Some k) m n e h = le-leb m k (let i : n ≤ k = leb-true n k e in omega arith)
 
--- the bound after a row stands between the row and the length
+-- the bound after a row lies between the row and the length
 pub bound_after_row : (mode : Mode) (b : Option ℕ) (len seq : ℕ) → seq ≤ len → IfSome b (λ m. seq ≤ m)
     → IfSome b (λ m. m ≤ len) → IfSome (bound_after mode b len) (λ m. (seq ≤ m) × (m ≤ len))
 bound_after_row Normal None len seq h p q = tt
@@ -92,7 +92,7 @@ bound_after_row Longpoll (Some m) len seq h p q = (p, q)
 bound_after_row Continuous None len seq h p q = tt
 bound_after_row Continuous (Some m) len seq h p q = (p, q)
 
--- a feed that stays open after a row has fewer than its limit
+-- a feed that stays open after a row has handed fewer rows than its limit
 pub open_after_row : (limit : Option ℕ) (rows : ℕ) → status_after limit rows ≡ Open
     → IfSome limit (λ n. rows < max 1 n)
 open_after_row None rows e = tt

@@ -1,4 +1,4 @@
--- Entries by number: where one stands, and the entries without it, with it changed, or with one more.
+-- Entries with numbers: the place of an entry, and the entries after one was changed, taken out or added.
 use Rattle.std.proofs.Common.{◌≡◌, ◌≢◌, ℕ, zero, suc, ◌+◌, ◌<◌, ◌≤◌, List, [], ◌∷◌, ◌++◌}
 use Rattle.std.proofs.Common.{length, Bool, true, false, ap, refl, sym, ◌∙◌, subst, arith, ◌⊎◌}
 use Rattle.std.proofs.Common.{inl, inr, get_or, find, not, nat_eq, nat_lt, Result, Ok, Err}
@@ -22,9 +22,9 @@ use Rattle.std.proofs.lemmas.Option.{none-some, same_Some, slice_get_past, slice
 use Rattle.hub_model.specs.Entries.{is_of, entry_in, with_change, without, AreRising}
 use Rattle.hub_model.proofs.Shown.{find_is}
 
--- what a search for a test finds
+-- a search for the first element that passes a test
 module _ {A : Type 0} (p : A → Bool) (xs : List A) where
-  -- at a place
+  -- where the search gives a place, the element there is the first that passes
   pub place_found : (at : ℕ) → Some at ≡ position p xs → (x : A) → x ≡ get_or xs at x
       → (find p xs ≡ Some x) × (slice_get xs at ≡ Some x)
   place_found at e x is = from (nat_lt (position_or_len p xs) (length xs)) refl e
@@ -40,7 +40,7 @@ module _ {A : Type 0} (p : A → Bool) (xs : List A) where
           (find_at p xs ∙ (ap (slice_get xs) same ∙ there), there)
       from false t e = absurd (none-some at (sym e))
 
-  -- or nowhere
+  -- where the search gives no place, no element passes
   pub place_none : position p xs ≡ None → find p xs ≡ None
   place_none e = from (nat_lt (position_or_len p xs) (length xs)) refl e
     where
@@ -51,7 +51,7 @@ module _ {A : Type 0} (p : A → Bool) (xs : List A) where
           find_at p xs
           ∙ slice_get_past xs (position_or_len p xs) (ltb-false (position_or_len p xs) (length xs) t)
 
-  -- the one place where it passes, or none
+  -- the place of the first element that passes, from the search, which gives the length where none passes
   position_is : (n : ℕ) → position_or_len p xs ≡ n → n < length xs → Some n ≡ position p xs
   position_is n e low = rw (e, lt-ltb n (length xs) low) refl
 
@@ -85,7 +85,7 @@ module _ {A : Type 0} (number : ℕ) where
       ordered i j le low =
           elim (cases_lt i j) [ inl l ↦ inr (rising i j q l low) | inr g ↦ inl (omega arith) ]
 
-  -- the place where the number stands
+  -- the place of the entry with the number
   pub placed_at : (entries : List (ℕ × A)) (at : ℕ) (d : ℕ × A) → AreRising entries → at < length entries
       → (get_or entries at d).0 ≡ number → Some at ≡ position (is_of number) entries
   placed_at entries at d rising within here =
@@ -123,7 +123,7 @@ module _ {A : Type 0} (number : ℕ) where
                 ne_eqb (get_or (q ∷ entries) k q).0 number (λ e. omega (arith, more, e))
           ]
 
--- where numbers rise, those after the first are above it, and rise
+-- where numbers rise, the numbers after the first entry rise too, and are above its number
 module _ {A : Type 0} (p : ℕ × A) (entries : List (ℕ × A)) (rising : AreRising (p ∷ entries)) where
   after_first : All (λ (q : ℕ × A). p.0 < q.0) entries
   after_first k d l = rising 0 (suc k) d (omega arith) (omega arith)
@@ -131,7 +131,7 @@ module _ {A : Type 0} (p : ℕ × A) (entries : List (ℕ × A)) (rising : AreRi
   rest_rises : AreRising entries
   rest_rises i j d l m = rising (suc i) (suc j) d (omega arith) (omega arith)
 
--- entries of other numbers stay, whether that of this number is changed or taken out
+-- entries with other numbers stay where the entry with this number is changed or taken out
 module _ {A : Type 0} (number : ℕ) where
   abbrev Others : List (ℕ × A) → Type 0
   Others entries = All (λ p. is_of number p ≡ false) entries
@@ -149,7 +149,7 @@ module _ {A : Type 0} (number : ℕ) where
       rw (others 0 q (omega arith))
       (ap (λ qs. q ∷ qs) (others_kept entries (λ k d l. others (suc k) d (omega arith))))
 
-  -- as where there is none of this number
+  -- where no entry has this number, all entries have other numbers
   none_of : (entries : List (ℕ × A)) → entry_in number entries ≡ None → Others entries
   none_of [] none = λ k d l. absurd (omega arith)
   none_of (q ∷ entries) none =
@@ -162,13 +162,13 @@ module _ {A : Type 0} (number : ℕ) where
       with_first t others zero d l = t
       with_first t others (suc k) d l = others k d (omega arith)
 
-  -- and those after one of it, where numbers rise
+  -- where numbers rise, the entries after the entry with this number have other numbers
   above : (p : ℕ × A) (entries : List (ℕ × A)) → p.0 ≡ number → All (λ (q : ℕ × A). p.0 < q.0) entries
       → Others entries
   above p entries own rising k d l =
       let r = rising k d l in ne_eqb (get_or entries k d).0 number (λ e. omega (arith, r, own, e))
 
-  -- the one here has the number, and those before and after it other ones
+  -- a change or a removal at the place of the entry with this number changes or takes out no other entry
   at_place : (change : A → A) (entries : List (ℕ × A)) (at : ℕ) (p : ℕ × A) → AreRising entries
       → slice_get entries at ≡ Some p → p.0 ≡ number
       → (slice_set entries at (p.0, change p.1) ≡ with_change number change entries)
@@ -199,7 +199,7 @@ put_back [] k x e = refl
 put_back (y ∷ xs) zero x e = ap (λ z. z ∷ xs) (sym (same_Some y x e))
 put_back (y ∷ xs) (suc k) x e = ap (λ zs. y ∷ zs) (put_back xs k x e)
 
--- the entry of this number stands here
+-- the entry with this number stands at this place
 module _ {A : Type 0} (number : ℕ) (entries : List (ℕ × A)) (at : ℕ)
     (placed : Some at ≡ position (is_of number) entries) (p : ℕ × A) (is : p ≡ get_or entries at p) where
   there : slice_get entries at ≡ Some p
@@ -213,27 +213,27 @@ module _ {A : Type 0} (number : ℕ) (entries : List (ℕ × A)) (at : ℕ)
   pub entry_here : entry_in number entries ≡ Some p.1
   entry_here = ap (option_map (λ (q : ℕ × A). q.1)) (place_found (is_of number) entries at placed p is).0
 
-  -- and changes there
+  -- a change at its place is the change of the entry with this number
   pub changed_here : (change : A → A) (new : A) → AreRising entries → new ≡ change p.1
       → slice_set entries at (p.0, new) ≡ with_change number change entries
   changed_here change new rising e =
       ap (λ (a : A). slice_set entries at (p.0, a)) e
       ∙ (at_place number change entries at p rising there own).0
 
-  -- or stays
+  -- its old value at its place changes nothing
   pub stays_here : (new : A) → new ≡ p.1 → slice_set entries at (p.0, new) ≡ entries
   stays_here new e = ap (λ (a : A). slice_set entries at (p.0, a)) e ∙ put_back entries at p there
 
-  -- or goes
+  -- a removal at its place leaves the entries without it
   pub without_here : AreRising entries → remove entries at ≡ without number entries
   without_here rising = (at_place number (λ a. a) entries at p rising there own).1
 
--- there is none
+-- no entry has this number
 module _ {A : Type 0} (number : ℕ) (entries : List (ℕ × A)) where
   pub no_entry : position (is_of number) entries ≡ None → entry_in number entries ≡ None
   no_entry none = ap (option_map (λ (q : ℕ × A). q.1)) (place_none (is_of number) entries none)
 
--- then none is changed, and none is left out
+-- where no entry has this number, none is changed, and none is left out
 pub changed_absent : {A : Type 0} (number : ℕ) (change : A → A) (entries : List (ℕ × A))
     → entry_in number entries ≡ None → with_change number change entries ≡ entries
 changed_absent number change entries none = others_changed number change entries (none_of number entries none)
@@ -242,7 +242,7 @@ pub without_absent : {A : Type 0} (number : ℕ) (entries : List (ℕ × A)) →
     → without number entries ≡ entries
 without_absent number entries none = others_kept number entries (none_of number entries none)
 
--- that of this number, and those of others, once it is changed, goes or comes
+-- the entry with this number, and the entries with others, after it was changed, taken out or added
 module _ {A : Type 0} (id : ℕ) where
   pub own_changed : (change : A → A) (entries : List (ℕ × A))
       → entry_in id (with_change id change entries) ≡ option_map change (entry_in id entries)
@@ -298,12 +298,12 @@ module _ {A : Type 0} (id : ℕ) where
   other_added a q n (p ∷ entries) =
       elim (cases_Bool (nat_eq p.0 q)) [ inl u ↦ rw u refl | inr u ↦ rw u (other_added a q n entries) ]
 
--- numbers stay below the next one, and rise
+-- the numbers of entries rise, and stay below the next number
 module _ {A : Type 0} where
   abbrev AreBelow : ℕ → List (ℕ × A) → Type 0
   AreBelow next entries = All (λ (p : ℕ × A). p.0 < next) entries
 
-  -- none has a number above all of theirs
+  -- no entry has the next number
   pub none_above : (next : ℕ) (entries : List (ℕ × A)) → AreBelow next entries → entry_in next entries ≡ None
   none_above next [] all = refl
   none_above next (p ∷ entries) all =

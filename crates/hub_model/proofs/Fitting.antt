@@ -1,4 +1,4 @@
--- How a list that fits a feed goes on fitting it, at each thing that may happen to the feed.
+-- A list that fits a feed still fits it after each step of the feed.
 use Rattle.std.proofs.Common.{◌≡◌, ℕ, ◌+◌, ◌<◌, ◌≤◌, List, [], ◌∷◌, ◌++◌, length, true, false}
 use Rattle.std.proofs.Common.{inl, inr, sym, ◌∙◌, ap, subst, refl, arith, length-append, ◌&&◌}
 use Rattle.std.specs.Prelude.{Contains, Option, Some, None, IsTrue, IfSome, max}
@@ -74,7 +74,7 @@ module _ {R : Type 0} (kind : RowKind R) where
     bounded = bound_within params.mode _ (length J) (since_within params.since (length J) life);
   }
 
-  -- an End was handed only by a feed that is over
+  -- only a feed that is over has handed an End
   no_end : (journal : List Edit) (feed : Feed) (items : List (Item R)) → Fits kind journal feed items
       → is_over feed.status ≡ false → list_any is_end items ≡ false
   no_end journal feed items h e =
@@ -95,7 +95,7 @@ module _ {R : Type 0} (kind : RowKind R) where
         | inr t ↦ absurd (let t' = rw e at t in cc)
       ]
 
-  -- a row that is due
+  -- the list with a row that is due fits the feed after it
   fits_row : (journal : List Edit) (feed : Feed) (items : List (Item R)) (c : Current)
       → Fits kind journal feed items → next_due (current journal) feed ≡ DueRow c
       → Fits kind journal (after_row feed c.seq (length journal))
@@ -133,7 +133,7 @@ module _ {R : Type 0} (kind : RowKind R) where
         bounded = bounds;
       }
 
-  -- an End, at a place that no passing row lies before
+  -- the list with an End at this place fits, if no passing row lies between the feed's place and it
   fits_end_at : (journal : List Edit) (feed : Feed) (items : List (Item R)) (last n : ℕ)
       → Fits kind journal feed items
       → is_over feed.status ≡ false → feed.place ≤ last → last ≤ length journal
@@ -160,7 +160,7 @@ module _ {R : Type 0} (kind : RowKind R) where
       both None x y = tt
       both (Some m) x y = (x, y.1)
 
-  -- an End that is due
+  -- the list with an End that is due fits the feed after it
   fits_end : (journal : List Edit) (feed : Feed) (items : List (Item R)) (last n : ℕ)
       → Fits kind journal feed items
       → next_due (current journal) feed ≡ DueEnd last
@@ -178,7 +178,7 @@ module _ {R : Type 0} (kind : RowKind R) where
             (reach_from feed c y (rw a.1 (le-leb c.seq last z)) q))
       ]
 
-  -- what is due so is handed
+  -- the list with the item that is due fits the feed after it
   handed_as : (journal : List Edit) (feed : Feed) (items : List (Item R)) (item : Item R) (next_due : Due)
       → journal_due journal feed ≡ next_due
       → item_of_due (kind.shown journal feed.params.style feed.params.include_docs)
@@ -203,7 +203,7 @@ module _ {R : Type 0} (kind : RowKind R) where
   open_when Ended e = absurd (cc)
   open_when Finished e = absurd (cc)
 
-  -- a Heartbeat that pushes
+  -- the list with a heartbeat fits the feed
   pub fits_beat : BeatFits kind
   fits_beat J f items e h =
       let p = and_parts (is_open f.status) (is_waiting_mode f.params.mode && f.params.heartbeat) e in
@@ -221,7 +221,7 @@ module _ {R : Type 0} (kind : RowKind R) where
         bounded = h.bounded;
       }
 
-  -- a Hand with nothing to hand
+  -- the list fits the feed after it found nothing to hand
   pub fits_nothing : WaitingFits kind
   fits_nothing J f items e h =
       let d = due_nothing (current J) f e in
@@ -238,7 +238,7 @@ module _ {R : Type 0} (kind : RowKind R) where
         bounded = rw d.1 tt;
       }
 
-  -- the feed is no longer open
+  -- the list fits the feed with another status, which is not open
   pub fits_status : (journal : List Edit) (feed : Feed) (items : List (Item R)) (status : Status)
       → (status ≡ Open → ⊥) → (list_any is_end items ≡ true → is_over status ≡ true)
       → Fits kind journal feed items → Fits kind journal (record feed { status = status }) items
@@ -278,7 +278,7 @@ module _ {R : Type 0} (kind : RowKind R) where
   pub fits_finish : FinishedFits kind
   fits_finish J f items h = fits_status J f items Finished (λ t. cc) (λ t. refl) h
 
--- a feed that has handed as many rows as it may
+-- a feed that has handed as many rows as its limit is not open
 below_limit : (limit : ℕ) (o : Option ℕ) (rows : ℕ) → o ≡ Some limit → IfSome o (λ limit. rows < max 1 limit)
     → rows < max 1 limit
 below_limit limit o rows p h = subst (λ z. IfSome z (λ limit. rows < max 1 limit)) p h

@@ -1,4 +1,4 @@
--- The path that an edit came with is the front of all that stands behind its revision.
+-- The path of an edit is the front of the line of its head.
 use Rattle.std.proofs.Common.{◌≡◌, ℕ, List, [], ◌∷◌, length, take, inl, inr, refl, sym, ap, ◌∙◌, subst}
 use Rattle.hub_model.specs.Revision.{Revision}
 use Rattle.hub_model.specs.Path.{IsFirst, IsNext}
@@ -8,7 +8,7 @@ use Rattle.hub_model.specs.Laws.{PathIsFront}
 use Rattle.hub_model.proofs.Legal.{first_in, legal_sound}
 use Rattle.hub_model.proofs.Walks.{line_of_walk}
 
--- what goes step by step is the front of the walk from its first
+-- a list whose steps are steps of paths is the front of the walk from its first revision
 front_of : (journal : List Edit) (id : List ℕ) → IsTree journal id
     → (others revisions : List Revision) (revision : Revision)
     → ((s t : Revision) → IsNext others s t → IsBehind journal id t s) → IsFirst others revision

@@ -1,4 +1,4 @@
--- Lists of items, with one more at the back.
+-- Lists of items, with more items at the end.
 use Rattle.std.proofs.Common.{◌≡◌, ℕ, List, [], ◌∷◌, ◌++◌, false, ◌∙◌, ap, refl}
 use Rattle.std.specs.List.{list_any}
 use Rattle.std.proofs.lemmas.List.{append-nil}
@@ -13,7 +13,7 @@ module _ {R : Type 0} where
   rows_of-append (Beat ∷ xs) ys = rows_of-append xs ys
   rows_of-append (End last n ∷ xs) ys = rows_of-append xs ys
 
-  -- the rows after one more
+  -- the rows of a list with one more row
   pub rows_of-row : (xs : List (Item R)) (row : R) → rows_of (xs ++ Row row ∷ []) ≡ rows_of xs ++ row ∷ []
   rows_of-row xs row = rows_of-append xs (Row row ∷ [])
 
@@ -23,7 +23,7 @@ module _ {R : Type 0} where
   pub rows_of-end : (xs : List (Item R)) (last n : ℕ) → rows_of (xs ++ End last n ∷ []) ≡ rows_of xs
   rows_of-end xs last n = rows_of-append xs (End last n ∷ []) ∙ append-nil (rows_of xs)
 
-  -- a list with no End may be followed by a last item, and then stands at any place
+  -- a list that ends at a place still does with a list without an End in front
   pub ends_more : (place : ℕ) (xs ys : List (Item R)) → list_any is_end xs ≡ false → EndsAt place ys
       → EndsAt place (xs ++ ys)
   ends_more place [] ys e h = h

@@ -1,4 +1,4 @@
--- How a rightly handed list stays one: as the journal grows, as the feed moves on, and with one more row.
+-- A rightly handed list stays so as the journal grows, as the feed moves on, and with one more row.
 use Rattle.std.proofs.Common.{◌≡◌, ℕ, ◌+◌, ◌<◌, ◌≤◌, List, [], ◌∷◌, ◌++◌, length, map, take}
 use Rattle.std.proofs.Common.{get_or, false, inl, inr, sym, ◌∙◌, ap, subst, arith, length-append}
 use Rattle.std.specs.Prelude.{All, Contains, Option, Some, None, IsTrue, IfSome, max}
@@ -51,7 +51,7 @@ module _ {R : Type 0} (kind : RowKind R) where
     bounded = r.bounded;
   }
 
-  -- more edits come
+  -- the list stays right after more edits
   pub right_grows : (journal edits : List Edit) (feed : Feed) (items : List (Item R))
       → RightlyHanded kind journal feed items → RightlyHanded kind (journal ++ edits) feed items
   right_grows journal edits feed items r = record {
@@ -67,7 +67,7 @@ module _ {R : Type 0} (kind : RowKind R) where
     beats = r.beats;
   }
 
-  -- the feed, moved on
+  -- the feed with another bound, place, number of rows and status
   abbrev moved : Feed → Option ℕ → ℕ → ℕ → Status → Feed
   moved feed bound place rows status =
       record feed { bound = bound; place = place; rows = rows; status = status }
@@ -82,7 +82,7 @@ module _ {R : Type 0} (kind : RowKind R) where
     bounded = some_weaker bound _ _ b (λ n h. omega (arith, r.reached));
   }
 
-  -- the feed moves on with no row, past no row that passes
+  -- the list stays right where the feed's place moves past no row that passes
   pub right_moves : (journal : List Edit) (feed : Feed) (items more : List (Item R)) (bound : Option ℕ)
       (place rows : ℕ) (status : Status) →
       RightlyHanded kind journal feed items → rows_of more ≡ [] → feed.place ≤ place → place ≤ length journal
@@ -111,7 +111,7 @@ module _ {R : Type 0} (kind : RowKind R) where
       same : rows_of (items ++ more) ≡ rows_of items
       same = rows_of-append items more ∙ (ap (λ rs. rows_of items ++ rs) none ∙ append-nil (rows_of items))
 
-  -- the feed moves on to its next row
+  -- the list with the next row is right where the feed's place moves to this row
   pub right_row : (journal : List Edit) (feed : Feed) (items : List (Item R)) (row : R) (seq : ℕ)
       → kind.seq row ≡ seq → (bound : Option ℕ) (rows : ℕ) (status : Status) →
       RightlyHanded kind journal feed items → IsPassingRow kind journal feed row → feed.place < seq

@@ -1,4 +1,4 @@
--- The current rows, and what is shown of a revision, are what their relations say.
+-- The current rows, and the edit that is shown of a revision, agree with their relations.
 use Rattle.std.proofs.Common.{◌≡◌, ◌≢◌, ℕ, ◌+◌, List, [], ◌∷◌, ◌++◌, length, Bool}
 use Rattle.std.proofs.Common.{true, false, inl, inr, sym, ap, subst, refl, arith}
 use Rattle.std.specs.Prelude.{Contains, Option, Some, None, find}
@@ -18,7 +18,7 @@ use Rattle.hub_model.proofs.Tests.{any_at, at_any, same_is, same_self, edits_in,
 use Rattle.hub_model.proofs.Rows.{from_cases, from_rest, from_head}
 use Rattle.hub_model.proofs.Walks.{line_of_walk}
 
--- what is found, and where nothing is
+-- a search that finds an element, and a search that finds none
 module _ {X : Type 0} (P : X → Bool) where
   pub find_is : (xs : List X) (x : X) → find P xs ≡ Some x → (P x ≡ true) × Contains xs x
   find_is [] x e = absurd (none-some x e)
@@ -52,7 +52,7 @@ is_head_from [] revision i = absurd i
 is_head_from (other ∷ revisions) revision i =
     subst (λ z. is_first revision (z ∷ revisions) ≡ true) (sym i) (same_self revision)
 
--- what is shown of a revision is so
+-- the edit that is shown of a revision agrees with the relation
 pub shown_is : (journal : List Edit) (id : List ℕ) (revision : Revision) (edit : Edit) → IsLegal journal
     → shown_edit journal id revision ≡ Some edit → IsShown journal id revision edit
 shown_is journal id revision edit legal h = from (find (is_head revision) (edits_of journal id)) refl h
@@ -79,7 +79,7 @@ shown_none journal id revision h deleted body d = from (find (is_head revision) 
         (is_head_from d.0.path revision d.2)
     from (Some f) q u = absurd (cc)
 
--- the numbered rows
+-- the current rows of edits that are numbered from n, as a relation
 abbrev IsCurrentFrom : ℕ → List Edit → ℕ → List ℕ → Type 0
 IsCurrentFrom n journal seq id =
     (edit : Edit) × (before later : List Edit) × (journal ≡ before ++ edit ∷ later)
@@ -131,7 +131,7 @@ from_current n (other ∷ before) later edit seq q h =
     from_rest n other (before ++ edit ∷ later) (record { seq = seq; id = edit.id })
     (from_current (n + 1) before later edit seq (omega arith) h)
 
--- the current rows are the current entries
+-- the current rows are the current entries of the journal
 pub current_is : (journal : List Edit) (row : Current) → Contains (current journal) row
     → (edit : Edit) × IsCurrent journal row.seq edit × (edit.id ≡ row.id)
 current_is journal row h =

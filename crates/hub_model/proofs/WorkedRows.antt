@@ -1,4 +1,4 @@
--- Worked rows: what the definitions say of some small journals and logs.
+-- Worked rows: results of the definitions for some small journals and logs.
 use Rattle.std.proofs.Common.{◌≡◌, ℕ, List, [], ◌∷◌, false, refl}
 use Rattle.std.specs.Prelude.{Some, None, codes}
 use Rattle.hub_model.specs.Revision.{Revision}
@@ -12,7 +12,7 @@ r n h = record { generation = n; hash = h }
 abbrev doc : List ℕ → List Revision → Edit
 doc id path = record { id = id; path = path; deleted = false; body = codes "{}" }
 
--- a, b, then a again
+-- edits of a, b, then a again
 abbrev two : List Edit
 two =
     doc (codes "a") (r 1 (codes "a") ∷ []) ∷ doc (codes "b") (r 1 (codes "b") ∷ [])
@@ -21,7 +21,7 @@ two =
 abbrev asked : List ℕ → List Revision → RevisionsOfDoc
 asked id revs = record { id = id; revs = revs }
 
--- what is missing of a, b and an unknown document
+-- the missing revisions of a, b and an unknown document
 missing_rows : missing_by_document two
     (asked (codes "a") (r 1 (codes "a") ∷ r 2 (codes "d") ∷ r 3 (codes "e") ∷ [])
     ∷ asked (codes "b") (r 1 (codes "b") ∷ []) ∷ asked (codes "z") (r 1 (codes "q") ∷ []) ∷ [])
@@ -33,7 +33,7 @@ ancestors_row : possible_ancestors two (codes "a") (r 1 (codes "a") ∷ r 2 (cod
     ≡ r 2 (codes "c") ∷ []
 ancestors_row = refl
 
--- an ancestor with a body, a leaf with its history, and an unknown revision
+-- the edits that are shown of an ancestor with a body, of a leaf, and of an unknown revision
 shown_ancestor : shown_edit two (codes "a") (r 1 (codes "a")) ≡ Some (doc (codes "a") (r 1 (codes "a") ∷ []))
 shown_ancestor = refl
 

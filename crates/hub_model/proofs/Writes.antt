@@ -1,4 +1,4 @@
--- What storing does is what the relation allows, and leaves a legal journal legal.
+-- Storing edits gives results that the relations allow, and leaves a legal journal legal.
 use Rattle.std.proofs.Common.{◌≡◌, ℕ, suc, ◌+◌, List, [], ◌∷◌, ◌++◌, length, Bool, true}
 use Rattle.std.proofs.Common.{false, ◌⊎◌, inl, inr, sym, ◌∙◌, ap, subst, refl, ⊎_elim, arith}
 use Rattle.std.specs.Prelude.{Contains, Option, Some, None, nat_le, if◌then◌else◌, unwrap_or, slice_get}
@@ -69,7 +69,7 @@ pub merges_legal : (limit : ℕ) (journal : List Edit) (edit : Edit) → IsLegal
     → IsLegal (merge_result limit journal edit).journal
 merges_legal limit journal edit h = takes_legal limit journal edit _ _ (merges_takes limit journal edit h) h
 
--- storing one replicated edit after the other
+-- storing replicated edits one after the other
 pub merges_answer_each : (limit : ℕ) (journal edits : List Edit)
     → length (merges_all limit journal edits).outcomes ≡ length edits
 merges_answer_each limit journal [] = refl
@@ -95,7 +95,7 @@ adds_legal : (limit : ℕ) (journal : List Edit) (edit : Edit) → IsLegal journ
     → IsLegal (addition_result limit journal edit).journal
 adds_legal limit journal edit h a = takes_legal limit journal edit _ _ (adds_takes limit journal edit a) h
 
--- the path that a draft extends is empty, or all that stands behind a known revision
+-- the path that a draft extends is empty, or the line of a known revision
 abbrev IsExtended : List Edit → List ℕ → List Revision → Type 0
 IsExtended journal id path =
     (path ≡ []) ⊎ ((revision : Revision) × IsKnown journal id revision × (path ≡ line_of journal id revision))
@@ -118,7 +118,7 @@ extended_known journal id (winner ∷ others) None path k e = from (cases_Bool w
         inr (winner.rev, k winner.rev (or_left _ _ (same_self winner.rev)), let e' = rw t at e in cc)
     from (inr t) = absurd (let e' = rw t at e in cc)
 
--- a new revision in front of the walk of a known one, or alone
+-- a new revision in front of the walk of a known revision, or alone
 module _ (journal : List Edit) (edit : Edit) (revision : Revision) (legal : IsLegal journal)
     (new : ¬ IsKnown journal edit.id revision) where
   tree_with : (older : List Revision) → ((s r : Revision) → IsNext older s r → IsBehind journal edit.id r s)
@@ -221,7 +221,7 @@ makes_legal limit journal draft h =
         (extended_known journal draft.id (leaves_of journal draft.id) draft.rev path known e)
         (λ k. both_ways _ u (is_known_from journal draft.id (new_revision draft (parent_of path)) k)))))
 
--- documents one after the other
+-- storing documents one after the other
 pub all_legal : {A : Type 0} (store : List Edit → A → Stores)
     → ((journal : List Edit) (x : A) → IsLegal journal → IsLegal (store journal x).journal)
     → (deleted : Bool) (journal : List Edit) (xs : List A) → IsLegal journal

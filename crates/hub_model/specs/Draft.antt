@@ -15,17 +15,17 @@ use Rattle.hub_model.specs.declared.outcomes.Outcome.{Outcome}
 use Rattle.hub_model.specs.declared.outcomes.Outcome.TheVariants.{Stored, Known, Refused}
 use Rattle.hub_model.specs.Outcome.{Stores, refusal_result, addition_result}
 
--- an edit before its revision is made. rev names the leaf that it extends
+-- an edit before its revision is made. `rev` names the leaf that the draft extends
 pub record Draft : Type 0 where
   pub id : List ℕ
   pub rev : Option Revision
   pub deleted : Bool
   pub body : List ℕ
 
--- The path that a draft extends, if there is one: the named leaf's; without a name none for an unknown
--- document, and else a deleted winner's. Where the leaves are 2-a, with 1-q behind it, and 1-z, it is
--- 2-a 1-q for the name 2-a. There is no path for the name 1-q, and none without a name, since the winner 2-a
--- is not deleted.
+-- The path that a draft extends, if there is one. With a name it is the line of the named leaf. Without a
+-- name the path is empty for an unknown document, and otherwise the line of a winner that is deleted. Take
+-- the leaves 2-a, with 1-q behind it, and 1-z. The path is 2-a 1-q for the name 2-a. There is no path for the
+-- name 1-q, which is no leaf, and none without a name, since the winner 2-a is not deleted.
 abbrev pub extended_path : List Edit → List ℕ → List Leaf → Option Revision → Option (List Revision)
 extended_path journal id leaves (Some rev) =
     if names (revisions_of leaves) rev then Some (line_of journal id rev) else None
@@ -38,17 +38,17 @@ abbrev pub bool_text : Bool → List ℕ
 bool_text false = codes "false"
 bool_text true = codes "true"
 
--- the revision that is extended: the first of the path, if there is one
+-- the parent of a draft's revision: the first revision of the extended path, if there is one
 abbrev pub parent_of : List Revision → Option Revision
 parent_of path = slice_get path 0
 
--- its JSON text
+-- the JSON text of the parent, `null` where there is none
 abbrev pub parent_text : Option Revision → List ℕ
 parent_text None = codes "null"
 parent_text (Some revision) = quoted (text_of revision)
 
--- `[deleted,parent,id,body]`, which this project hashes. For a new document x with the body {} it is
--- `[false,null,"x",{}]`, and behind 1-a it is `[false,"1-a","x",{}]`.
+-- The text that this project hashes for a draft's revision: `[deleted,parent,id,body]`. For a new document x
+-- with the body {} it is `[false,null,"x",{}]`. With the parent 1-a it is `[false,"1-a","x",{}]`.
 abbrev pub draft_text : Draft → Option Revision → List ℕ
 draft_text draft parent =
     codes "["
@@ -56,13 +56,13 @@ draft_text draft parent =
     ++ (codes ","
     ++ (parent_text parent ++ (codes "," ++ (quoted draft.id ++ (codes "," ++ (draft.body ++ codes "]")))))))
 
--- the generation of the revision that is extended, 0 where there is none
+-- the generation of the parent, 0 where there is none
 abbrev pub generation_of : Option Revision → ℕ
 generation_of None = 0
 generation_of (Some revision) = revision.generation
 
--- the draft's revision where it extends this one. A new document x with the body {} gets
--- 1-6bb47d1c10868be9dedaf96db9579d8b, and behind 1-a it gets 2-7c379ea93cbd7dfe02fff7e52e3793f7.
+-- The revision of a draft with this parent. A new document x with the body {} gets
+-- 1-6bb47d1c10868be9dedaf96db9579d8b. With the parent 1-a it gets 2-7c379ea93cbd7dfe02fff7e52e3793f7.
 abbrev pub new_revision : Draft → Option Revision → Revision
 new_revision draft parent =
     record { generation = generation_of parent + 1; hash = encode_lower (md5 (draft_text draft parent)) }
@@ -78,7 +78,7 @@ edit_of draft path =
       body = draft.body;
     }
 
--- what storing it answers where it extends this path
+-- the result of storing a draft that extends this path; a draft without a path is refused as a Conflict
 abbrev pub draft_result_on : ℕ → List Edit → Draft → Option (List Revision) → Stores
 draft_result_on limit journal draft None = refusal_result journal Conflict
 draft_result_on limit journal draft (Some path) =
@@ -86,24 +86,24 @@ draft_result_on limit journal draft (Some path) =
     else if is_known journal draft.id (new_revision draft (parent_of path)) then refusal_result journal Conflict
     else addition_result limit journal (edit_of draft path)
 
--- what storing it answers, and the journal after it. After an edit with the path 2-b 1-a a draft that names
--- 1-a is refused as a Conflict (proved: `WritesAnswer`); one that names 2-b is stored, with a revision of
--- generation 3.
+-- The result of storing a draft: its outcome, and the journal after it. After an edit with the path 2-b 1-a a
+-- draft that names 1-a is refused as a Conflict (proved: `WritesAnswer`). A draft that names 2-b is stored,
+-- with a revision of generation 3.
 abbrev pub draft_result : ℕ → List Edit → Draft → Stores
 draft_result limit journal draft =
     draft_result_on limit journal draft (extended_path journal draft.id (leaves_of journal draft.id) draft.rev)
 
--- There is a path that the draft extends and a generation behind it, so that its revision is to be made: a
--- draft without `_rev` has one where its document is unknown or its winner deleted, and none where a winner
--- stands.
+-- The draft extends a path, and the next generation is at most 65,535, so the draft's revision is to be made.
+-- A draft without `_rev` extends a path where its document is unknown or the winner is deleted. It extends
+-- none where the winner is not deleted.
 abbrev pub HasNextRevision : List Edit → Draft → Type 0
 HasNextRevision journal draft =
     (path : List Revision) × (extended_path journal draft.id (leaves_of journal draft.id) draft.rev ≡ Some path)
     × (generation_of (parent_of path) < 65535)
 
--- path is what a draft that names this revision extends, or one that names none. After an edit with the path
--- 2-b 1-a it is 2-b 1-a for the name 2-b, and there is none for the name 1-a, which is no leaf. Without a
--- name it is 2-b 1-a where that edit deletes, and there is none where it does not.
+-- A draft that names this revision, or names none, extends the path. After an edit with the path 2-b 1-a the
+-- path is 2-b 1-a for the name 2-b. There is none for the name 1-a, which is no leaf. Without a name the path
+-- is 2-b 1-a where that edit deletes, and there is none where it does not.
 abbrev pub Extends : List Edit → List ℕ → Option Revision → List Revision → Type 0
 Extends journal id (Some revision) path =
     IsLeaf journal id revision × IsFirst path revision × IsWalk journal id path
@@ -112,7 +112,7 @@ Extends journal id None path =
     ⊎ ((revision : Revision) × IsWinner journal id revision × IsMarked journal id revision true
     × IsFirst path revision × IsWalk journal id path)
 
--- storing a draft as a relation: after journal it may come out so and leave the journal so
+-- storing a draft as a relation: after `journal` the draft may have this outcome and leave the journal `new`
 abbrev pub Makes : ℕ → List Edit → Draft → Outcome Revision → List Edit → Type 0
 Makes limit journal draft (Stored r) new =
     (path : List Revision) × Extends journal draft.id draft.rev path

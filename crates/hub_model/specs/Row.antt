@@ -1,4 +1,4 @@
--- What a row of changes shows (CouchDB API reference, _changes with style and include_docs).
+-- The rows of a database's changes (CouchDB API reference, _changes with style and include_docs).
 use Rattle.std.specs.Prelude.{◌≡◌, ℕ, List, [], ◌∷◌, length, take, Contains, Bool, true, false, Option, Some}
 use Rattle.std.specs.Prelude.{None}
 use Rattle.hub_model.specs.declared.feeds.Style.{Style}
@@ -8,7 +8,7 @@ use Rattle.hub_model.specs.Journal.{Edit}
 use Rattle.hub_model.specs.Leaves.{Leaf, leaves_of, revisions_of}
 use Rattle.hub_model.specs.Current.{Current, current}
 
--- a row; seen is how many edits there were when it was made
+-- a row of changes. `seen` is the number of edits when the row was made
 pub record ChangeRow : Type 0 where
   pub seq : ℕ
   pub id : List ℕ
@@ -17,8 +17,8 @@ pub record ChangeRow : Type 0 where
   pub doc : Option (List ℕ)  -- the members of the winner's document: its id, revision and mark are the row's
   pub seen : ℕ
 
--- of leaves best first, the revisions that a row lists. Of the leaves 2-a, 1-z and 2-b, which is deleted,
--- MainOnly lists 2-a, and AllDocs lists all three in this order (proved: `StylesList`).
+-- The revisions that a row lists, out of the leaves, best first. Of the leaves 2-a, 1-z and 2-b, which is
+-- deleted, MainOnly lists 2-a, and AllDocs lists all three in this order (proved: `StylesList`).
 abbrev pub changes_of : Style → List Leaf → List Revision
 changes_of MainOnly leaves = take 1 (revisions_of leaves)
 changes_of AllDocs leaves = revisions_of leaves
@@ -34,8 +34,8 @@ doc_of false leaves = None
 doc_of true [] = None
 doc_of true (winner ∷ others) = Some winner.edit.body
 
--- a current row as it is shown while this is the journal. After edits of a, b and then a again, with
--- 2-b as its newest revision, the row of a has seq 3, changes 2-b, and seen 3 (proved: `AgainIsLater`).
+-- The row that shows a current row of this journal. After edits of a, b and then a again, with 2-b as its
+-- newest revision, the row of a has seq 3, changes 2-b, and seen 3 (proved: `AgainIsLater`).
 abbrev pub row_of : List Edit → Style → Bool → Current → ChangeRow
 row_of journal style include_docs row = record {
   seq = row.seq;
@@ -46,7 +46,7 @@ row_of journal style include_docs row = record {
   seen = length journal;
 }
 
--- the row is a current one, as it is shown while this is the journal
+-- the row shows a current row of this journal
 abbrev pub IsRow : List Edit → Style → Bool → ChangeRow → Type 0
 IsRow journal style include_docs row =
     (c : Current) × Contains (current journal) c × (row ≡ row_of journal style include_docs c)

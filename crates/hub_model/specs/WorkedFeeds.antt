@@ -19,11 +19,11 @@ use Rattle.hub_model.specs.Descending.{descending}
 abbrev pub rev : ℕ → List ℕ → Revision
 rev generation hash = record { generation = generation; hash = hash }
 
--- an edit with this path
+-- an edit of this document with this path, which does not delete, and has the body {}
 abbrev pub doc : List ℕ → List Revision → Edit
 doc id path = record { id = id; path = path; deleted = false; body = codes "{}" }
 
--- a, b, c, then a twice more
+-- edits of a, b, c, and then of a twice more
 abbrev pub five_edits : List Edit
 five_edits =
     doc (codes "a") (rev 1 (codes "a") ∷ []) ∷ doc (codes "b") (rev 1 (codes "b") ∷ [])
@@ -31,7 +31,7 @@ five_edits =
     ∷ doc (codes "a") (rev 2 (codes "a") ∷ rev 1 (codes "a") ∷ [])
     ∷ doc (codes "a") (rev 3 (codes "a") ∷ rev 2 (codes "a") ∷ rev 1 (codes "a") ∷ []) ∷ []
 
--- everything after where it begins, so many rows at most
+-- the parameters of a normal feed over every document, with this since and this limit
 abbrev pub normal_params : Since → Option ℕ → Params
 normal_params since limit =
     record {
@@ -44,12 +44,12 @@ normal_params since limit =
       heartbeat = false;
     }
 
--- how a document of one leaf is shown in that journal
+-- the row of a document with one leaf in `five_edits`
 abbrev pub leaf_row : ℕ → List ℕ → Revision → ChangeRow
 leaf_row seq id winner =
     record { seq = seq; id = id; changes = winner ∷ []; deleted = false; doc = None; seen = 5 }
 
--- after 2: a at 5, then c at 3, and nothing between
+-- after 2: the rows of a at 5 and of c at 3, and no row pending
 abbrev pub FallsAfterTwo : Type 0
 FallsAfterTwo =
     descending five_edits 1 (normal_params (Plain 2) None)
@@ -61,29 +61,29 @@ FallsAfterTwo =
       life = 1;
     }
 
--- after a sequence above the journal: no row, and the journal's length
+-- after a sequence above the journal: no row, and last_seq is the journal's length
 abbrev pub FallsAfterAll : Type 0
 FallsAfterAll =
     descending five_edits 1 (normal_params (Plain 9) None)
     ≡ record { rows = []; last_seq = 5; pending = 0; life = 1 }
 
--- after 2 of its own life it is the same; 2 of another life counts as 0, and all rows are shown
+-- 2 of the feed's own life acts as a plain 2; 2 of another life counts as 0, and all rows are shown
 abbrev pub FallsByLife : Type 0
 FallsByLife =
     (descending five_edits 1 (normal_params (Tagged 2 1) None) ≡ descending five_edits 1 (normal_params (Plain 2) None))
     × (descending five_edits 1 (normal_params (Tagged 2 7) None) ≡ descending five_edits 1 (normal_params (Plain 0) None))
 
--- a limit of 0 acts as 1: b and c are left out
+-- a limit of 0 acts as 1: the rows of b and c are left out, and pending
 abbrev pub FallsOnce : Type 0
 FallsOnce =
     descending five_edits 1 (normal_params (Plain 0) (Some 0))
     ≡ record { rows = leaf_row 5 (codes "a") (rev 3 (codes "a")) ∷ []; last_seq = 5; pending = 2; life = 1 }
 
--- that this happened to the database d
+-- a note of this kind about the database d
 abbrev pub of_d : UpdateKind → Note
 of_d kind = record { kind = kind; name = codes "d" }
 
--- and how it is shown at a sequence, of four notes
+-- the row of such a note at this sequence, in a log of four notes
 abbrev pub update : ℕ → UpdateKind → UpdateRow
 update seq kind = record { db_name = codes "d"; kind = kind; seq = seq; seen = 4 }
 

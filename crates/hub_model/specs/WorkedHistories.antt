@@ -23,21 +23,21 @@ c3 = rev 3 (codes "c")
 abbrev pub d4 : Revision
 d4 = rev 4 (codes "d")
 
--- 2-b alone, 3-c alone, then 3-c with 2-b behind it, which is known, and then 4-d with both
+-- edits with the paths 2-b, 3-c, 3-c 2-b, whose head is known by then, and 4-d 3-c 2-b
 abbrev pub late_edits : List Edit
 late_edits = edit (b2 ∷ []) ∷ edit (c3 ∷ []) ∷ edit (c3 ∷ b2 ∷ []) ∷ edit (d4 ∷ c3 ∷ b2 ∷ []) ∷ []
 
--- the journal after them, which has three edits, each with the path that it came with
+-- the journal after these edits: it has three edits, each with the path that it came with
 abbrev pub late_journal : List Edit
 late_journal = edit (b2 ∷ []) ∷ edit (c3 ∷ []) ∷ edit (d4 ∷ c3 ∷ b2 ∷ []) ∷ []
 
--- what storing them answers
+-- the outcomes of `late_edits`, and the journal after them
 abbrev pub LateIsStored : Type 0
 LateIsStored =
     merges_all 9 [] late_edits
     ≡ record { outcomes = Stored b2 ∷ Stored c3 ∷ Known ∷ Stored d4 ∷ []; journal = late_journal }
 
--- before the last of them both are leaves; after it the last alone is one, and 3-c has 2-b behind it
+-- before the edit of 4-d the leaves are 3-c and 2-b; after it 4-d is the only leaf, and 3-c has 2-b behind it
 abbrev pub LateIsJoined : Type 0
 LateIsJoined =
     (revisions_of (leaves_of (edit (b2 ∷ []) ∷ edit (c3 ∷ []) ∷ []) (codes "x")) ≡ c3 ∷ b2 ∷ [])
@@ -45,7 +45,7 @@ LateIsJoined =
     × (line_of late_journal (codes "x") c3 ≡ c3 ∷ b2 ∷ [])
     × (shown_edit late_journal (codes "x") c3 ≡ Some (edit (c3 ∷ b2 ∷ [])))
 
--- 5-e alone, 5-e with 4-d, which is known; 6-f with both, and 6-h with another one behind 5-e
+-- edits with the paths 5-e, 5-e 4-d, whose head is known, 6-f 5-e 4-d, and 6-h 5-e 4-q, another parent of 5-e
 abbrev pub partial_edits : List Edit
 partial_edits =
     edit (rev 5 (codes "e") ∷ []) ∷ edit (rev 5 (codes "e") ∷ rev 4 (codes "d") ∷ [])

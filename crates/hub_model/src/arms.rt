@@ -1,4 +1,4 @@
-//! Choices with an arm for each mode and each style of a feed. Each arm is straight code.
+//! Macros with an arm for each mode of a feed and for each style of a row. Each arm is straight code.
 
 /// One arm for each `Mode` of a feed.
 #[macro_export]

@@ -1,4 +1,4 @@
-//! The words of feeds that code and definitions share (CouchDB API reference, `_changes`).
+//! The types of feeds that code and definitions share (CouchDB API reference, `_changes`).
 
 ghost use Rattle.std.specs.Prelude.{◌≡◌};
 ghost use Rattle.hub_model.specs.Feed.{since_of, is_waiting_mode};
@@ -9,16 +9,16 @@ use crate::by_mode;
 /// How long a feed lasts.
 #[derive(Clone, Copy, Debug, PartialEq, Eq)]
 pub enum Mode {
-    /// It ends at once, with what is there.
+    /// The feed shows rows up to the last edit at its opening, and then ends.
     Normal,
-    /// It waits for a first row, and then ends.
+    /// The feed waits for a first row, shows rows up to the last edit of that moment, and then ends.
     Longpoll,
-    /// It goes on.
+    /// The feed goes on with later edits. Its limit, its time or a deletion may end it.
     Continuous,
 }
 
 impl Mode {
-    /// Whether such a feed waits for edits to come.
+    /// Whether a feed of this mode waits for later edits.
     pub fn waits(self) -> bool
         ensures { result ≡ is_waiting_mode self }
     {
@@ -40,20 +40,20 @@ pub enum Style {
     AllDocs,
 }
 
-/// Where a feed begins.
+/// The sequence after which a feed begins.
 #[derive(Clone, Copy, Debug, PartialEq, Eq)]
 pub enum Since {
-    /// After everything that is there when it is opened.
+    /// After the last edit at the feed's opening.
     Now,
-    /// After this sequence, whichever life it is of.
+    /// After this sequence, whatever life the edits are of.
     Plain(u64),
-    /// After this sequence of the life of this number; in another life from the first one on.
+    /// After this sequence of the life with this number. In another life: from the first edit on.
     Tagged(u64, u64),
 }
 
 impl Since {
-    /// The sequence that a feed begins after, in the life of this number and while there are `length`
-    /// edits: none above the last.
+    /// The sequence after which a feed begins, in the life of this number and while there are `length` edits.
+    /// It is `length` at most. Constant time.
     pub fn within(self, length: u64, life: u64) -> u64
         ensures { result ≡ since_of self length life }
     {
@@ -66,20 +66,20 @@ impl Since {
     }
 }
 
-/// What a feed of such rows hands to its subscriber.
+/// An item that a feed hands to its subscriber. `R` is the type of its rows.
 #[derive(Debug, Drop)]
 pub enum Item<R> {
     /// A row.
     Row(R),
     /// A heartbeat.
     Beat,
-    /// The end of the feed: the sequence that it has shown everything up to, and how many current
-    /// rows lie above it.
+    /// The end of the feed. `last_seq` is the feed's place, and `pending` is the number of the current rows
+    /// above it, whether they pass the filter or not.
     End { last_seq: u64, pending: u64 },
 }
 
 impl<R> Item<R> {
-    /// Whether it is the end of its feed.
+    /// Whether this item is the end of its feed.
     pub fn is_end(&self) -> bool
         ensures { result ≡ is_end self.now }
     {

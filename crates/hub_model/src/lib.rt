@@ -1,6 +1,5 @@
-//! The definitions that every crate's contracts speak of (`specs/`), the words that code and
-//! definitions share, and the laws that tie the definitions to one another. Each law is the
-//! contract of a function that does nothing.
+//! The definitions that every crate's contracts use (`specs/`), the types that code and definitions share,
+//! and the laws between the definitions. Each law is the contract of a function that does nothing.
 #![tactic(auto)]
 
 ghost use Rattle.hub_model.specs.Laws.{KnownIsTested, HistoryIsTested, AcceptableIsTested, LeavesAreListed};
@@ -27,7 +26,7 @@ pub use outcomes::{Fault, Outcome};
 pub use places::{place_near, place_of};
 pub use updates::UpdateKind;
 
-/// The tests of what is known, of histories and of what may be stored are right.
+/// The tests of known revisions, histories, acceptable edits and missing revisions decide their relations.
 pub fn tests_decide()
     ensures known { KnownIsTested }
     ensures history { HistoryIsTested }
@@ -35,8 +34,8 @@ pub fn tests_decide()
     ensures missing { MissingIsUnknown }
 {}
 
-/// The leaves of a document are its known revisions behind none, each once, best first, and the
-/// first of them is its winner.
+/// The leaves of a document are its known revisions that stand behind no other, each once, best first. The
+/// first leaf is the winner. A document with a known revision has a leaf.
 pub fn leaves_are_listed()
     ensures listed { LeavesAreListed }
     ensures edits { LeavesHaveEdits }
@@ -44,7 +43,7 @@ pub fn leaves_are_listed()
     ensures some { KnownHasLeaf }
 {}
 
-/// What is shown of a revision is all that stands behind it, its mark and its body.
+/// A revision with a body is shown, with the revisions behind it, its mark and its body.
 pub fn showing()
     ensures line { LineIsWalk }
     ensures front { PathIsFront }
@@ -52,13 +51,13 @@ pub fn showing()
     ensures none { NoneIsShown }
 {}
 
-/// The current rows are the entries that no later one of their document follows, rising.
+/// The current rows are the edits that no later edit of their document follows, in rising sequence.
 pub fn current_rows()
     ensures entries { RowsAreCurrent }
     ensures rise { RowsRise }
 {}
 
-/// Storing edits is what its relation allows, and a legal journal stays legal.
+/// Storing edits and drafts agrees with the relations, and keeps a legal journal legal.
 pub fn storing()
     ensures one { MergesTake }
     ensures all { MergesTakeAll }
@@ -69,8 +68,8 @@ pub fn storing()
     ensures drafts { DraftsTake }
 {}
 
-/// What a feed of changes or of updates has handed fits it, from its opening on, whatever happens to it and
-/// to the edits that it follows. So the list of its items is rightly handed at any moment.
+/// The items that a feed of changes or of updates has handed fit the feed, at its opening and after each step
+/// or edit. So the list of the items is rightly handed at any moment.
 pub fn feeds_fit()
     ensures opened { OpenedFits change_rows × OpenedFits update_rows }
     ensures grown { GrownFits change_rows × GrownFits update_rows }
@@ -83,20 +82,20 @@ pub fn feeds_fit()
     ensures limited { LimitedEnds change_rows × LimitedEnds update_rows }
 {}
 
-/// A note of the log of updates is read again from the id of the edit that it is taken for.
+/// A note of the log of updates is read back from the id of its edit.
 pub fn notes_read_back()
     ensures notes { NotesReadBack }
 {}
 
-/// What storing histories answers that end above the first generation: a revision may get the one
-/// behind it later, a known revision stays as it is, and another parent contradicts.
+/// Worked cases of histories that end above the first generation. A later edit may bring the parent of a
+/// known revision. A known head changes nothing, and another parent contradicts.
 pub fn worked_histories()
     ensures stored { LateIsStored }
     ensures joined { LateIsJoined }
     ensures partial { PartialIsStored }
 {}
 
-/// What the definitions say of a small journal that is read downwards, and of a small log of updates.
+/// Worked cases: descending answers over a small journal, and the rows of a small log of updates.
 pub fn worked_feeds()
     ensures two { FallsAfterTwo }
     ensures all { FallsAfterAll }

@@ -1,4 +1,4 @@
-//! What becomes of a document that is stored (CouchDB API reference, `_bulk_docs`).
+//! The outcomes of documents that are stored (CouchDB API reference, `_bulk_docs`).
 
 /// Why a document is refused.
 #[derive(Clone, Copy, Debug, PartialEq, Eq)]
@@ -7,21 +7,21 @@ pub enum Fault {
     Deleted,
     /// The path is no history, or gives a known revision another parent.
     Contradicts,
-    /// No leaf is named or chosen, or the made revision is there already.
+    /// `_rev` is no leaf, or is missing where the winner is not deleted, or the new revision is known.
     Conflict,
-    /// The named leaf has the last generation.
+    /// The leaf that the document extends has the last generation, 65,535.
     GenerationLimit,
     /// The journal is at its limit.
     SequenceFull,
 }
 
-/// What becomes of one document.
+/// The outcome of one document.
 #[derive(Clone, Copy, Debug, PartialEq, Eq)]
 pub enum Outcome<R> {
-    /// It is the next edit of the journal, with this revision.
+    /// The document is the next edit of the journal, with this revision.
     Stored(R),
     /// Its revision was known, and nothing changed.
     Known,
-    /// Nothing changed.
+    /// The document is refused, and nothing changed.
     Refused(Fault),
 }

@@ -1,10 +1,10 @@
-//! Where an entry stands, of entries by number.
+//! The place of an entry among entries with numbers.
 
 ghost use Rattle.std.specs.Prelude.{◌≡◌, position};
 ghost use Rattle.hub_model.specs.Entries.{is_of, AreRising};
 
-/// Where the entry of this number stands, of entries whose numbers rise. A binary search: it costs
-/// the logarithm of how many there are.
+/// The place, from 0, of the entry with this number, among entries whose numbers rise. A binary search: the
+/// cost is logarithmic in the number of entries.
 pub fn place_of<T>(entries: &[(u64, T)], number: u64) -> Option<usize>
     requires rising { AreRising entries.now }
     ensures { result ≡ position (is_of number) entries.now }
@@ -12,8 +12,8 @@ pub fn place_of<T>(entries: &[(u64, T)], number: u64) -> Option<usize>
     entries.binary_search_by_key(&number, |entry| entry.0).ok()
 }
 
-/// The same, where the entry most likely stands at `near`: then it costs constant time, and as much
-/// as `place_of` otherwise.
+/// The same place, where `near` is a guess. A right guess costs constant time, and a wrong guess costs as
+/// much as `place_of`.
 pub fn place_near<T>(entries: &[(u64, T)], near: usize, number: u64) -> Option<usize>
     requires rising { AreRising entries.now }
     ensures { result ≡ position (is_of number) entries.now }

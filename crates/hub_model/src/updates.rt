@@ -1,13 +1,13 @@
-//! The words of the log of updates that code and definitions share (CouchDB API reference,
+//! The kinds of notes in the log of updates, which code and definitions share (CouchDB API reference,
 //! `_db_updates`).
 
-/// What happened to a database.
+/// An event of a database.
 #[derive(Clone, Copy, Debug, PartialEq, Eq)]
 pub enum UpdateKind {
-    /// It was made.
+    /// The database was made.
     Created,
     /// At least one edit of one request was accepted.
     Updated,
-    /// It was removed.
+    /// The database was deleted.
     Deleted,
 }

@@ -1,10 +1,10 @@
--- The answer to an edit, put together.
+-- The reply to an edit, put together.
 use Rattle.std.proofs.Common.{◌≡◌, ℕ, List, ◌++◌, ap, sym, ◌∙◌, append_assoc}
 use Rattle.std.specs.Prelude.{codes}
 use Rattle.json.specs.Print.{quoted}
 use Rattle.hub_replies.specs.Bodies.{edit_front, edit_text}
 
--- the front, the text of a revision and the end are the whole
+-- the front, the text of a revision and the end are the whole reply
 pub whole_edit : (id rev : List ℕ)
     → (edit_front id ++ quoted rev) ++ codes "}\n" ≡ edit_text (quoted id) rev ++ codes "\n"
 unfolding edit_front edit_text

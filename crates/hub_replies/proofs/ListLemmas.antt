@@ -23,7 +23,7 @@ listed_all : (xs : List (List ℕ)) → listed false xs ≡ join_with_byte 44 xs
 listed_all [] = refl
 listed_all (x ∷ xs) = listed_joined x xs
 
--- what was written when the members that are left are none
+-- the text that was written once no member is left
 pub list_written : {A : Type 0} (left : List A → List (List ℕ)) (texts : List (List ℕ)) (xs : List A)
     (i : ℕ) (later : Bool) (front held new end : List ℕ)
     → left [] ≡ []
@@ -46,14 +46,14 @@ unfolding list_text
 list_line texts =
     ap (λ l. codes "[" ++ l) (sym (append_assoc (join_with_byte 44 texts) (codes "]") (codes "\n")))
 
--- the member of the leaves that may be behind, where there are some
+-- the member of the possible ancestors, where there are some
 pub some_ancestors : (revs : List Revision) → 0 < length revs
     → ancestors_text revs ≡ codes ",\"possible_ancestors\":" ++ revisions_text revs
 unfolding ancestors_text
 some_ancestors [] h = absurd (omega (arith, h))
 some_ancestors (r ∷ revs) h = refl
 
--- nothing is said where no replies are left
+-- no element has an object where no replies are left
 pub none_replied : (items : Items) (rs : List (Option BatchReply)) → length rs < 1 → reply_texts items rs ≡ []
 none_replied no_items rs h = refl
 none_replied (item d items) [] h = refl

@@ -1,4 +1,4 @@
-//! The answer to a batch of documents.
+//! The reply to a batch of documents.
 
 ghost use Rattle.std.specs.Prelude.{◌≡◌, ◌++◌, IfOk, OnOk};
 ghost use Rattle.serde_json.specs.View.{view, items_view};
@@ -13,16 +13,16 @@ use hub_http::Refusal;
 use serde_json::Value;
 use std::alloc::{AllocError, Global};
 
-/// What the answer to a batch says of an element.
+/// The part of the reply to a batch that tells of one element.
 #[derive(Clone, Copy, Debug, PartialEq, Eq)]
 pub enum BatchReply {
-    /// It is stored, and this is its revision.
+    /// The element is stored, and this is its revision.
     Stored(RevId),
-    /// It is refused.
+    /// The element is refused.
     Refused(Refusal),
 }
 
-// Appends the id that an element names, `null` where it is no text.
+// Appends the id of an element as JSON text, `null` where its `_id` is no text.
 fn put_id(out: &mut Vec<u8>, element: &Value) -> Result<(), AllocError>
     ensures { OnOk result (out.new.items ≡ out.old.items ++ id_text (id_in (view element.now))) }
 {
@@ -32,7 +32,7 @@ fn put_id(out: &mut Vec<u8>, element: &Value) -> Result<(), AllocError>
     }
 }
 
-// Appends the members that say why an element is refused, and the brace that closes them.
+// Appends the members with the reason of a refusal, and the brace that closes the element.
 fn put_reason(out: &mut Vec<u8>, refusal: Refusal) -> Result<(), AllocError>
     ensures { OnOk result (out.new.items ≡ out.old.items ++ reason_members refusal) }
 {
@@ -43,7 +43,7 @@ fn put_reason(out: &mut Vec<u8>, refusal: Refusal) -> Result<(), AllocError>
     Ok(out.extend_from_slice(b"\"}")?)
 }
 
-// Appends an element that is stored.
+// Appends the object of an element that is stored.
 fn put_stored(out: &mut Vec<u8>, element: &Value, rev: &RevId) -> Result<(), AllocError>
     ensures { OnOk result
         (out.new.items ≡ out.old.items ++ edit_text (id_text (id_in (view element.now))) (text_of rev.now)) }
@@ -55,7 +55,7 @@ fn put_stored(out: &mut Vec<u8>, element: &Value, rev: &RevId) -> Result<(), All
     Ok(out.push(b'}')?)
 }
 
-// Appends an element that is refused.
+// Appends the object of an element that is refused.
 #[tactic(auto, unfolding(crate::specs::Bulk::refused_text))]
 fn put_refused(out: &mut Vec<u8>, element: &Value, refusal: Refusal) -> Result<(), AllocError>
     ensures { OnOk result (out.new.items ≡ out.old.items ++ refused_text (id_in (view element.now)) refusal) }
@@ -65,7 +65,7 @@ fn put_refused(out: &mut Vec<u8>, element: &Value, refusal: Refusal) -> Result<(
     put_reason(out, refusal)
 }
 
-// Appends what the answer says of an element.
+// Appends the object of an element.
 #[tactic(auto, unfolding(crate::specs::Bulk::reply_text))]
 fn put_reply(out: &mut Vec<u8>, element: &Value, reply: &BatchReply) -> Result<(), AllocError>
     ensures { OnOk result (out.new.items ≡ out.old.items ++ reply_text (id_in (view element.now)) reply.now) }
@@ -76,10 +76,9 @@ fn put_reply(out: &mut Vec<u8>, element: &Value, reply: &BatchReply) -> Result<(
     }
 }
 
-/// What became of the elements of a batch (CouchDB API reference, `POST /{db}/_bulk_docs`): of each
-/// that has a reply, in order, and nothing of the others. The id is `null` where an element's `_id`
-/// is no text. Elements behind the last reply have none. It costs the text's length, and looking for
-/// the elements' ids.
+/// The body of the reply to a batch (CouchDB API reference, `POST /{db}/_bulk_docs`). It has each element
+/// that has a reply, in order, and no other. The id is `null` where an element's `_id` is no text. Elements
+/// behind the last reply have none. The cost is the text's length, and the search for the elements' ids.
 pub fn batch_body(
     alloc: Global,
     elements: &[Value],

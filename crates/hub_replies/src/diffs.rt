@@ -1,4 +1,4 @@
-//! What a database misses of the revisions that were asked for.
+//! The revisions that a database misses, of those that were asked for.
 
 ghost use Rattle.std.specs.Prelude.{◌≡◌, ◌++◌, IfOk, OnOk};
 ghost use Rattle.hub_replies.specs.Bodies.{revisions_text, ancestors_text, diff_text, diffs_body};
@@ -8,7 +8,7 @@ use hub_database::Diff;
 use hub_document::{RevId, put_quoted};
 use std::alloc::{AllocError, Global};
 
-// Appends the list of some revisions.
+// Appends the JSON list of some revisions.
 fn put_revisions(out: &mut Vec<u8>, revs: &[RevId]) -> Result<(), AllocError>
     ensures { OnOk result (out.new.items ≡ out.old.items ++ revisions_text revs.now) }
 {
@@ -22,7 +22,7 @@ fn put_revisions(out: &mut Vec<u8>, revs: &[RevId]) -> Result<(), AllocError>
     Ok(out.push(b']')?)
 }
 
-// Appends the member of the leaves that may be behind, where there are any.
+// Appends the member `possible_ancestors`, where there are such leaves.
 #[tactic(auto, unfolding(crate::specs::Bodies::ancestors_text))]
 fn put_ancestors(out: &mut Vec<u8>, revs: &[RevId]) -> Result<(), AllocError>
     ensures { OnOk result (out.new.items ≡ out.old.items ++ ancestors_text revs.now) }
@@ -35,7 +35,7 @@ fn put_ancestors(out: &mut Vec<u8>, revs: &[RevId]) -> Result<(), AllocError>
     Ok(())
 }
 
-// Appends the member of a document that misses revisions.
+// Appends the member of a document: its id, its missing revisions and their possible ancestors.
 fn put_diff(out: &mut Vec<u8>, diff: &Diff) -> Result<(), AllocError>
     ensures { OnOk result (out.new.items ≡ out.old.items ++ diff_text diff.now) }
 {
@@ -46,9 +46,9 @@ fn put_diff(out: &mut Vec<u8>, diff: &Diff) -> Result<(), AllocError>
     Ok(out.push(b'}')?)
 }
 
-/// What each document misses, in the order given (CouchDB API reference, `POST /{db}/_revs_diff`);
-/// `possible_ancestors` is left out where there is none. An id that is given twice stands there
-/// twice. It costs the text's length.
+/// The revisions that each document misses, in the order given (CouchDB API reference,
+/// `POST /{db}/_revs_diff`). `possible_ancestors` is left out where there is none. An id that is given twice
+/// has two members. It costs the text's length.
 pub fn diffs_body(alloc: Global, diffs: &[Diff]) -> Result<Vec<u8>, AllocError>
     ensures { IfOk result (λ t. t.items ≡ diffs_body diffs.now) }
 {

@@ -8,10 +8,10 @@ use hub_database::{Local, OpenRev};
 use hub_document::{Doc, write_local};
 use std::alloc::{AllocError, Global};
 
-// Room for what stands in a document's text beside its id and its members, unless it has a history.
+// Room, in bytes, for a document's text beside its id and its members, unless the text has a history.
 const ROOM: usize = 128;
 
-// An empty text, with room for a document with this id and these members.
+// An empty text, with room for a document of this id and these members.
 fn text_for(alloc: Global, id: &str, members: &[u8]) -> Result<Vec<u8>, AllocError>
     ensures { IfOk result (λ t. t.items ≡ []) }
 {
@@ -19,8 +19,8 @@ fn text_for(alloc: Global, id: &str, members: &[u8]) -> Result<Vec<u8>, AllocErr
     Vec::with_capacity(alloc, room)
 }
 
-/// A document (CouchDB API reference, `GET /{db}/{docid}`). It is written straight into the body,
-/// and costs the text's length.
+/// The body with a document (CouchDB API reference, `GET /{db}/{docid}`). The document is written straight
+/// into the body. It costs the text's length.
 #[tactic(auto, unfolding(crate::specs::Bodies::doc_body))]
 pub fn doc_body(alloc: Global, doc: &Doc) -> Result<Vec<u8>, AllocError>
     ensures { IfOk result (λ t. t.items ≡ doc_body doc.now) }
@@ -31,8 +31,8 @@ pub fn doc_body(alloc: Global, doc: &Doc) -> Result<Vec<u8>, AllocError>
     Ok(text)
 }
 
-/// The local document of this id, `_local/` included (CouchDB API reference,
-/// `GET /{db}/_local/{docid}`). It is written straight into the body, and costs the text's length.
+/// The body with the local document of this id, `_local/` included (CouchDB API reference,
+/// `GET /{db}/_local/{docid}`). The document is written straight into the body. It costs the text's length.
 #[tactic(auto, unfolding(crate::specs::Bodies::local_doc_body))]
 pub fn local_doc_body(alloc: Global, id: &str, local: &Local) -> Result<Vec<u8>, AllocError>
     ensures { IfOk result (λ t. t.items ≡ local_doc_body id.now local.now.count local.now.body) }
@@ -43,7 +43,7 @@ pub fn local_doc_body(alloc: Global, id: &str, local: &Local) -> Result<Vec<u8>,
     Ok(text)
 }
 
-// Appends a revision that was asked for.
+// Appends the object of a revision that was asked for.
 #[tactic(auto, unfolding(crate::specs::Bodies::open_rev_text))]
 fn put_open_rev(out: &mut Vec<u8>, rev: &OpenRev) -> Result<(), AllocError>
     ensures { OnOk result (out.new.items ≡ out.old.items ++ open_rev_text rev.now) }
@@ -62,8 +62,7 @@ fn put_open_rev(out: &mut Vec<u8>, rev: &OpenRev) -> Result<(), AllocError>
 }
 
 /// The revisions of a document that were asked for, in order (CouchDB API reference,
-/// `GET /{db}/{docid}?open_revs=..`). Each is written straight into the body: it costs the text's
-/// length.
+/// `GET /{db}/{docid}?open_revs=..`). Each is written straight into the body. It costs the text's length.
 pub fn open_revs_body(alloc: Global, revs: &[OpenRev]) -> Result<Vec<u8>, AllocError>
     ensures { IfOk result (λ t. t.items ≡ open_revs_body revs.now) }
 {

@@ -1,4 +1,4 @@
-//! The answers to edits.
+//! The replies to edits.
 
 ghost use Rattle.std.specs.Prelude.{◌≡◌, ◌++◌, List, ℕ, codes, decimal, IfOk, OnOk};
 ghost use Rattle.json.specs.Print.{quoted};
@@ -8,15 +8,15 @@ use hub_document::{RevId, put_quoted};
 use itoa::Buffer;
 use std::alloc::{AllocError, Global};
 
-// Room for what stands before and behind the id: the longest revision has 70 bytes.
+// Room, in bytes, for the text before and behind the id: the longest revision has 70 bytes.
 const ROOM: usize = 128;
 
-// Room for what stands behind the front.
+// Room, in bytes, for the text behind the front.
 const REST: usize = 80;
 
-/// The front of the answer to an edit of the document of this id, up to its revision. Of a local document
-/// the id has its `_local/`. It has room for the rest, so that an answer which is begun before the edit
-/// takes no memory behind it. It costs the id's length.
+/// The front of the reply to an edit of the document of this id, before its revision. The id of a local
+/// document has its `_local/`. The front has room for the rest, so a reply that is begun before the edit
+/// takes no memory after the edit. It costs the id's length.
 #[tactic(auto, unfolding(crate::specs::Bodies::edit_front))]
 pub fn edit_front(alloc: Global, id: &str) -> Result<Vec<u8>, AllocError>
     ensures { IfOk result (λ t. t.items ≡ edit_front id.now) }
@@ -29,7 +29,7 @@ pub fn edit_front(alloc: Global, id: &str) -> Result<Vec<u8>, AllocError>
     Ok(text)
 }
 
-/// The answer with this front to an edit of a document that has this revision now (CouchDB API reference,
+/// The reply with this front to an edit of a document that has this revision now (CouchDB API reference,
 /// `PUT /{db}/{docid}`). Constant time.
 pub fn edit_body(front: Vec<u8>, rev: &RevId) -> Result<Vec<u8>, AllocError>
     ensures { IfOk result
@@ -41,7 +41,7 @@ pub fn edit_body(front: Vec<u8>, rev: &RevId) -> Result<Vec<u8>, AllocError>
     Ok(text)
 }
 
-// Appends the JSON string of the revision that a local document has after so many writings.
+// Appends the JSON string of the revision of a local document that was written `count` times.
 fn put_count(out: &mut Vec<u8>, count: u64) -> Result<(), AllocError>
     ensures { OnOk result (out.new.items ≡ out.old.items ++ quoted (codes "0-" ++ decimal count)) }
 {
@@ -51,8 +51,8 @@ fn put_count(out: &mut Vec<u8>, count: u64) -> Result<(), AllocError>
     Ok(out.push(b'"')?)
 }
 
-/// The answer with this front to an edit of a local document, which was written `count` times now (CouchDB
-/// API reference, `PUT /{db}/_local/{docid}`). Constant time.
+/// The reply with this front to an edit of a local document, which was written `count` times now (CouchDB API
+/// reference, `PUT /{db}/_local/{docid}`). Constant time.
 pub fn local_edit_body(front: Vec<u8>, count: u64) -> Result<Vec<u8>, AllocError>
     ensures { IfOk result
         (λ t. (id : List ℕ) → front.items ≡ edit_front id → t.items ≡ local_edit_body id count) }

@@ -1,4 +1,4 @@
-//! What a database says of itself.
+//! The body with the counts of a database.
 
 ghost use Rattle.std.specs.Prelude.{◌≡◌, IfOk};
 ghost use Rattle.hub_replies.specs.Bodies.{info_body};
@@ -8,8 +8,8 @@ use hub_document::{put_quoted, put_sequence};
 use itoa::Buffer;
 use std::alloc::{AllocError, Global};
 
-/// What the database of this name says of itself (CouchDB API reference, `GET /{db}`). It costs the
-/// text's length.
+/// The name of a database, its counts and its latest sequence (CouchDB API reference, `GET /{db}`). It costs
+/// the text's length.
 pub fn info_body(alloc: Global, name: &str, info: &Info) -> Result<Vec<u8>, AllocError>
     ensures { IfOk result (λ t. t.items ≡ info_body name.now info.now) }
 {

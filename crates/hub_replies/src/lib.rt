@@ -1,4 +1,4 @@
-//! The JSON bodies of the answers of the hub: each is compact, and a line feed ends it.
+//! The JSON bodies of the hub's replies: each is compact, and a line feed ends it.
 #![tactic(auto)]
 
 mod batch;

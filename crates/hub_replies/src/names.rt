@@ -9,7 +9,7 @@ use crate::texts::put_comma;
 use hub_document::put_quoted;
 use std::alloc::{AllocError, Global};
 
-// Appends the names, with commas between them, and the end of their list.
+// Appends the names, with commas between them, and the end of their list with a line feed.
 fn put_names(out: &mut Vec<u8>, names: &[String]) -> Result<(), AllocError>
     ensures { OnOk result (out.new.items ≡ out.old.items
         ++ (join_with_byte 44 (map quoted (map string_bytes names.now)) ++ codes "]\n")) }

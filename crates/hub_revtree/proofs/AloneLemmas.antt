@@ -35,7 +35,7 @@ first_there [] revision e = absurd (cc)
 first_there (other ∷ revisions) revision e =
     subst (λ z. is_same revision z ≡ true) (sym (same_Some other revision e)) (same_self revision)
 
--- the newest of a stem is the head of its branch, and the mark is the stem's
+-- the newest revision of a stem is the head of its branch, and the branch has the stem's mark
 module _ (stems : List Stem) (a : AreStems stems) (k : ℕ) (stem : Stem)
     (at : slice_get stems k ≡ Some stem) where
   pub head_alone : (changes : List Revision) → changes ≡ take 1 stem.revisions
@@ -51,14 +51,14 @@ module _ (stems : List Stem) (a : AreStems stems) (k : ℕ) (stem : Stem)
       let r = newest stem.revisions (a.falling k stem at) in
       rw (head_at stems a k stem r.0 at r.1) (ap Some (sym is))
 
-  -- where the one is the text of no digest, so is the other
+  -- where the hash of the stem's newest revision is no digest's text, neither is that of the branch's head
   pub head_other : IsSomeAnd (slice_get stem.revisions 0) (λ r. ¬ IsDigestText r.hash)
       → IsSomeAnd (option_and_then head_in (slice_get (branches_of stems) k)) (λ w. ¬ IsDigestText w.rev.hash)
   head_other other =
       let r = newest stem.revisions (a.falling k stem at) in
       rw (head_at stems a k stem r.0 at r.1) (rw r.1 at other)
 
-  -- and it is found by its revision
+  -- the branch that is found by this head has the stem's members
   pub head_body : (body : List ℕ) → body ≡ stem.body
       → IsSomeAnd (option_and_then head_in (slice_get (branches_of stems) k))
       (λ w. option_map (λ b. b.body) (find (λ b. is_first w.rev b.path) (branches_of stems)) ≡ Some body)
@@ -71,7 +71,7 @@ module _ (stems : List Stem) (a : AreStems stems) (k : ℕ) (stem : Stem)
       (find (λ b. is_first r.0 b.path) (branches_of stems))
       (some_headed stems a r.0 stem r.0 stem.deleted body there r.1 refl is)).1)
 
--- what the winner's revision alone and its mark are, and the leaves' first
+-- the winner's revision alone and its mark are those of the first leaf
 pub alone_of : (leaves : List Leaf) (changes : List Revision)
     → option_map (λ w. w.rev ∷ []) (winner_of leaves) ≡ Some changes → changes ≡ take 1 (revisions_of leaves)
 alone_of [] changes e = absurd (cc)
@@ -82,36 +82,36 @@ pub mark_of : (leaves : List Leaf) (deleted : Bool)
 mark_of [] deleted e = absurd (cc)
 mark_of (leaf ∷ leaves) deleted e = sym (same_Some _ deleted e)
 
--- what holds of each value that is answered holds of the answer
+-- a statement that holds of each value of a reply holds of the reply
 pub ok_of : {A E : Type 0} (r : Result A E) (P Q : A → Type 0) → IfOk r P → ((x : A) → P x → Q x) → IfOk r Q
 ok_of (Ok x) P Q h f = f x h
 ok_of (Err e) P Q h f = h
 
--- past the branches stands none
+-- no head has a number past the branches
 pub no_head : (branches : List Branch) (k : ℕ) → length branches ≤ k
     → option_and_then head_in (slice_get branches k) ≡ None
 no_head branches k past = ap (option_and_then head_in) (slice_get_past branches k past)
 
--- past the stems stands no head
+-- no head has a number past the stems
 pub no_stem : (stems : List Stem) (branches : List Branch) (k : ℕ) → branches_of stems ≡ branches
     → length stems ≤ k → option_and_then head_in (slice_get branches k) ≡ None
 no_stem stems branches k same past =
     let many : length (branches_of stems) ≡ length branches = ap length same in
     no_head branches k (omega (arith, past, as_many stems, many))
 
--- and without one there is no leaf
+-- without a winner there is no leaf
 pub no_winner : (leaves : List Leaf) → winner_of leaves ≡ None
     → (take 1 (revisions_of leaves) ≡ []) × (is_deleted leaves ≡ false)
 no_winner [] none = (refl, refl)
 no_winner (leaf ∷ leaves) none = absurd (cc)
 
--- the first of the leaves is the first of their revisions
+-- the winner is the first of the leaves' revisions
 pub winner_other : (leaves : List Leaf) → IsSomeAnd (winner_of leaves) (λ w. ¬ IsDigestText w.rev.hash)
     → IsSomeAnd (slice_get (revisions_of leaves) 0) (λ r. ¬ IsDigestText r.hash)
 winner_other [] other = absurd other
 winner_other (leaf ∷ leaves) other = other
 
--- what is refused for a reason is refused for each weaker one
+-- an error for a reason is an error for each weaker reason
 pub refused_for : {A E P Q : Type 0} → (r : Result A E) → OnErr r P → (P → Q) → OnErr r Q
 refused_for (Ok x) h f = h
 refused_for (Err e) h f = f h

@@ -1,4 +1,5 @@
--- Leaves below a generation: they are found by the branches, and the order neither loses nor makes one.
+-- Leaves below a generation: they are found by the branches, and to put leaves in order neither loses nor
+-- adds one.
 use Rattle.std.proofs.Common.{◌≡◌, ℕ, ◌+◌, ◌<◌, List, [], ◌∷◌, length, get_or, Bool, true, false}
 use Rattle.std.proofs.Common.{inl, inr, ap, ap₂, refl, sym, ◌∙◌, subst, ◌||◌, ◌&&◌, not, arith}
 use Rattle.std.specs.Prelude.{Option, None, Some, option_and_then, option_map}
@@ -73,7 +74,7 @@ module _ (g : ℕ) where
       ∙ ap (λ low. has_below g (with_leaf (edits_in all) (edit_of branch) branch.path []) || low)
       (among_below all some)
 
-  -- the branches have a leaf below where one of their heads is one
+  -- the branches have a leaf below the generation where one of their heads is one
   pub some_branch : (branches : List Branch)
       → list_any (λ b. has_below g (with_leaf (edits_in branches) (edit_of b) b.path [])) branches
       ≡ has_below g (best_first (leaves_among (edits_in branches) (edits_in branches)))
@@ -103,7 +104,7 @@ module _ (g : ℕ) where
       or_and true = refl
       or_and false = refl
 
-  -- one branch
+  -- the head of one branch
   head_below : (all : List Branch) (branch : Branch) (revision : Revision)
       → slice_get branch.path 0 ≡ Some revision
       → has_below g (with_leaf (edits_in all) (edit_of branch) branch.path [])
@@ -120,7 +121,7 @@ module _ (g : ℕ) where
   low_head all branch revision h low =
       sym (head_below all branch revision h ∙ rw (lt-ltb revision.generation g low) refl)
 
-  -- where there is no leaf below, there is no revision of one
+  -- where no leaf is below, no revision of a leaf is
   pub none_below : (leaves : List Leaf) → has_below g leaves ≡ false
       → filter (λ r. nat_lt r.generation g) (revisions_of leaves) ≡ []
   none_below [] f = refl
@@ -129,7 +130,7 @@ module _ (g : ℕ) where
     | inr t ↦ rw t (none_below leaves (rw t at f))
   ]
 
-  -- and where there is one, there is
+  -- where a leaf is below, a revision of a leaf is
   pub some_below : (leaves : List Leaf) → has_below g leaves ≡ true
       → ¬ (filter (λ r. nat_lt r.generation g) (revisions_of leaves) ≡ [])
   some_below [] s = absurd (cc)
@@ -138,7 +139,7 @@ module _ (g : ℕ) where
     | inr t ↦ λ e. some_below leaves (rw t at s) (rw t at e)
   ]
 
--- the greatest generation of what is not named, a revision at a time
+-- the greatest generation of the unnamed revisions, one revision at a time
 module _ (branches : List Branch) (revs : List Revision) (i : ℕ) (revision : Revision) (low : i < length revs)
     (is : revision ≡ get_or revs i revision) where
   left : unnamed_in branches (drop i revs) ≡ unnamed_in branches (revision ∷ drop (i + 1) revs)
@@ -165,7 +166,7 @@ module _ (branches : List Branch) (revs : List Revision) (i : ℕ) (revision : R
       turned : (a b c : ℕ) → max (max a b) c ≡ max b (max a c)
       turned a b c = omega arith
 
--- what a tree answers, by its branches
+-- the tree's reply, by its branches
 module _ (branches : List Branch) (edits : List Edit) (same : edits_in branches ≡ edits)
     (revs : List Revision) (newest : ℕ)
     (is : newest ≡ highest (unnamed_in branches revs)) where
@@ -207,7 +208,7 @@ low_at g all at leaf head low behind is =
     let here = head_there all at leaf head in
     rw (here.1, is) (ap Some (sym (low_head g all here.0 leaf.rev here.2 low)))
 
--- what is found of a number
+-- the element of a number, and the result of its test
 read_at : {A : Type 0} (P : A → Bool) (o : Option A) (b : Bool) → option_map P o ≡ Some b
     → (x : A) × (o ≡ Some x) × (P x ≡ b)
 read_at P None b e = absurd (cc)

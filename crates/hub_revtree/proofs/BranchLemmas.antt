@@ -1,4 +1,4 @@
--- What branches and lists of them show.
+-- Branches and lists of them.
 use Rattle.std.proofs.Common.{◌≡◌, ℕ, zero, suc, ◌+◌, ◌++◌, take, get_or, filter, cond, ◌<◌, ◌≤◌, List, []}
 use Rattle.std.proofs.Common.{◌∷◌, length, Bool, true, false, inl, inr, ap, refl, sym, ◌∙◌, ◌||◌, not, arith}
 use Rattle.std.specs.Prelude.{Result, Ok, Err, OnErr, Some, slice_get, map}
@@ -30,7 +30,7 @@ within_generation (other ∷ revisions) revision h e =
     below other [] f = f
     below other (z ∷ revisions) f = omega (arith, below z revisions f.1, f.0)
 
--- where an element passes a test, some do
+-- where an element passes a test, the elements that pass are not none
 some_pass : {A : Type 0} (P : A → Bool) (xs : List A) (i : ℕ) (d : A) → i < length xs
     → P (get_or xs i d) ≡ true → ¬ (filter P xs ≡ [])
 some_pass P [] i d low t = absurd (omega arith)
@@ -40,7 +40,7 @@ some_pass P (x ∷ xs) (suc i) d low t = elim (cases_Bool (P x)) [
   | inr p ↦ λ e. some_pass P xs i d (omega arith) t (rw p at e)
 ]
 
--- one revision more, that a path names or not
+-- one revision more, which a path names or none does
 module _ (branches : List Branch) (revs : List Revision) (i : ℕ) (revision : Revision) (low : i < length revs)
     (is : revision ≡ get_or revs i revision) where
   step : (b : Bool) → list_any (λ b. names b.path revision) branches ≡ b
@@ -72,7 +72,7 @@ pub any_map : {A B : Type 0} (P : B → Bool) (f : A → B) (xs : List A)
 any_map P f [] = refl
 any_map P f (x ∷ xs) = ap (λ b. P (f x) || b) (any_map P f xs)
 
--- what holds in any case holds of an error
+-- a statement that holds in any case holds of an error
 pub on_err : {T E : Type 0} (result : Result T E) (P : Type 0) → P → OnErr result P
 on_err (Ok x) P p = tt
 on_err (Err e) P p = p

@@ -1,4 +1,4 @@
--- What the stem of a path that may be stored brings.
+-- The stem of a path that may be stored, and its path and chain.
 use Rattle.std.proofs.Common.{◌≡◌, ◌≢◌, ℕ, zero, suc, ◌+◌, ◌-◌, ◌<◌, ◌≤◌, List, [], ◌∷◌}
 use Rattle.std.proofs.Common.{◌++◌, length, drop, map, take, Bool, true, false, inl, inr}
 use Rattle.std.proofs.Common.{refl, sym, ap, ap₂, ◌∙◌, subst, append-nil, option_map, arith}
@@ -45,7 +45,7 @@ take_falls (suc n) (revision ∷ revisions) some f = falls n revision revisions 
     falls (suc n) revision [] f = f
     falls (suc n) revision (y ∷ revisions) f = (f.0, falls n y revisions f.1)
 
--- nothing is behind the last of a path in it
+-- no revision stands behind the last one of a path, in that path
 last_next : (revisions : List Revision) (revision other : Revision) → IsPath revisions
     → last_in revisions ≡ Some revision → ¬ IsNext revisions revision other
 last_next [] revision other f e n = absurd n
@@ -79,7 +79,7 @@ last_next (x ∷ revisions) revision other f e n = from x revisions f e n
         absurd (omega (arith, i, f.0, g))
     from x (y ∷ revisions) f e (inr n) = from y revisions f.1 e n
 
--- the last of a path is at its last place
+-- the last revision of a path is at its last place
 pub last_at : (revisions : List Revision) (n : ℕ) (revision other : Revision) → length revisions ≡ n + 1
     → slice_get revisions n ≡ Some revision → last_in revisions ≡ Some other → revision ≡ other
 last_at [] n revision other many e last = absurd (omega (arith, many))
@@ -89,7 +89,7 @@ last_at (y ∷ w ∷ revisions) zero revision other many e last = absurd (omega 
 last_at (y ∷ w ∷ revisions) (suc n) revision other many e last =
     last_at (w ∷ revisions) n revision other (omega (arith, many)) e last
 
--- a path that has as many revisions as its first one's generation ends with the first generation
+-- a path with as many revisions as its first one's generation ends with generation 1
 pub ends_first : (revisions : List Revision) (g : ℕ) (revision : Revision)
     → IsPath revisions → option_map (λ r. r.generation) (slice_get revisions 0) ≡ Some g
     → length revisions ≡ g → last_in revisions ≡ Some revision → revision.generation ≡ 1
@@ -98,7 +98,7 @@ ends_first (other ∷ revisions) g revision f newest long last =
     let same : other.generation ≡ g = same_Some other.generation g newest in
     omega (arith, last_down other revisions revision f last, same, long)
 
--- nothing stands behind the last of such a path
+-- no revision stands behind the last one of such a path
 pub nothing_first : (stems : List Stem) → AreStems stems → IsLegal (edits_in (branches_of stems))
     → (revisions : List Revision) (g : ℕ) → IsPath revisions
     → option_map (λ other. other.generation) (slice_get revisions 0) ≡ Some g
@@ -115,7 +115,7 @@ pub last_place : (revisions : List Revision) → IsPath revisions
 last_place [] f = absurd f
 last_place (revision ∷ revisions) f = omega arith
 
--- what the look behind the last says
+-- where the look behind the last revision finds no place, no revision stands behind that one
 pub none_behind : (stems : List Stem) (maybe_place : Option Place) (b : Bool) (other revision : Revision)
     → is_some maybe_place ≡ not b
     → IsTrue b → other ≡ revision → IfNone maybe_place ((r : Revision) → ¬ IsBrought stems r other)
@@ -162,7 +162,7 @@ module _ (stems : List Stem) (a : AreStems stems) (legal : IsLegal (edits_in (br
   new_step revision other i =
       (nameless path deleted body, (Contains-push es (nameless path deleted body), refl), i)
 
-  -- what is left of the path is the front of the chain that it meets
+  -- the rest of the path is the front of the chain that it meets
   pub goes_on : (at : ℕ) (place : Place) → IsWithin stems place
       → slice_get path at ≡ rev_at stems (Some place)
       → length path - at ≤ length (chain_from (chains_of stems) (Some place))
@@ -183,7 +183,7 @@ module _ (stems : List Stem) (a : AreStems stems) (legal : IsLegal (edits_in (br
       (omega (arith, low, count, long))
       ∙ sym d
 
-  -- it meets none with its first
+  -- the path meets no chain with its first revision
   pub not_first : (at : ℕ) (place : Place) → IsWithin stems place
       → slice_get path at ≡ rev_at stems (Some place) → at ≢ 0
   not_first at place w same none =
@@ -212,7 +212,7 @@ module _ (stems : List Stem) (a : AreStems stems) (legal : IsLegal (edits_in (br
             (subst (λ o. IfSome o (λ p. slice_get path at ≡ rev_at stems (Some p))) q m.same) in
             omega arith
 
-    -- there is a revision behind those that it keeps, where it stands on one
+    -- the chain has more revisions than the stem, where the stem stands on a place
     pub stands_low : (o : Option Place) (p : List Revision) (reach : ℕ) → o ≡ place → p ≡ take at path
         → reach ≡ at + behind → IfSome o (λ _. length p < reach)
     stands_low None p reach same own is = tt
@@ -225,7 +225,7 @@ module _ (stems : List Stem) (a : AreStems stems) (legal : IsLegal (edits_in (br
         let size : length p ≡ at = ap length own ∙ length-take-le at path m.kept in
         omega (arith, size, low, m.rest, is)
 
-    -- its chain has no more revisions than its first one's generation
+    -- the stem's chain has no more revisions than the generation of its first
     pub reach_low : (x : Revision) → slice_get path 0 ≡ Some x → at + behind ≤ x.generation
     reach_low x head = from place refl
       where
@@ -285,7 +285,7 @@ module _ (stems : List Stem) (a : AreStems stems) (legal : IsLegal (edits_in (br
             ap (λ o. length (chain_from (chains_of stems) o)) q in
             omega (arith, m.rest, m.long, l))
 
-    -- its stem
+    -- the stem of the path brings the path
     pub met_brings : (s : Stem) → s.revisions ≡ take at path → s.parent ≡ place → s.count ≡ length path
         → s.reach ≡ at + behind → s.joins ≡ joins → Brings stems path s
     met_brings s own stands count reach joined = record {
@@ -347,7 +347,7 @@ module _ (stems : List Stem) (a : AreStems stems) (legal : IsLegal (edits_in (br
       ∙ map-append edit_of (branches_of stems) (branch_of (chain_of (chains_of stems) stem) ∷ [])
       ∙ ap (λ p. es ++ nameless p stem.deleted stem.body ∷ []) b.whole
 
-  -- where nothing stood behind the path's last, it is all that stands behind its first
+  -- where no revision stood behind the path's last, the path has all revisions behind its head
   module _ (s : Stem) (b : Brings stems path s) (mark : s.deleted ≡ deleted) (members : s.body ≡ body) where
     abbrev ys : List Stem
     ys = stems ++ s ∷ []
@@ -358,7 +358,7 @@ module _ (stems : List Stem) (a : AreStems stems) (legal : IsLegal (edits_in (br
     later_legal : IsLegal (edits_in (branches_of ys))
     later_legal = subst IsLegal (sym later_is) (legal_more es (nameless path deleted body) legal ok)
 
-    -- the path's steps are the later ones
+    -- the path's steps are steps of the edits, once its stem has come
     later_steps : (t r : Revision) → IsNext path t r → IsBehind (edits_in (branches_of ys)) [] r t
     later_steps t r n = subst (λ z. IsBehind z [] r t) (sym later_is) (new_step t r n)
 

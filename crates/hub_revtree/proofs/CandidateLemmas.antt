@@ -59,7 +59,7 @@ first_get [] revision i = absurd i
 first_get (other ∷ revisions) revision i = ap Some i
 
 module _ (branches : List Branch) where
-  -- a head that stands behind none is a leaf, with its mark
+  -- a head has its branch's mark, and is a leaf where it stands behind no head
   branch_marked : (k : ℕ) (winner : Winner) → option_and_then head_in (slice_get branches k) ≡ Some winner
       → IsMarked (edits_in branches) [] winner.rev winner.deleted
   branch_marked k winner h =
@@ -95,7 +95,7 @@ module _ (branches : List Branch) where
       (sym (leaf_law (edits_in branches) [] revision) ∙ named) in
       sym (passed_by branches revision) ∙ not_true _ parts.1
 
-  -- and is the head of a branch with its mark
+  -- a leaf is the head of a branch with its mark
   leaf_branch : (revision : Revision) (m : Bool) → IsMarked (edits_in branches) [] revision m
       → (k : ℕ) × (option_and_then head_in (slice_get branches k) ≡ Some
       (record { rev = revision; deleted = m }))
@@ -119,7 +119,7 @@ items candidates = heap_items candidates.heap
 module _ (branches : List Branch) (legal : IsLegal (edits_in branches)) (candidates : Candidates)
     (are : AreCandidates branches candidates)
     (all : candidates.count ≡ length branches) where
-  -- each leaf is among them
+  -- each leaf is among the candidates
   leaf_in : (revision : Revision) (m : Bool) → IsLeaf (edits_in branches) [] revision
       → IsMarked (edits_in branches) [] revision m
       → (k : ℕ) × Contains (items candidates) (candidate_of k (record { rev = revision; deleted = m }))
@@ -134,7 +134,7 @@ module _ (branches : List Branch) (legal : IsLegal (edits_in branches)) (candida
           → k < length branches
       within k winner h = let i = head_there branches k winner h in slice_get_within branches k i.0 i.1
 
-  -- one that is a leaf, and below none, is the best leaf
+  -- a candidate that is a leaf, and below no candidate, is the best leaf
   pub top_wins : (top : Candidate) → Contains (items candidates) top
       → ((candidate : Candidate) → Contains (items candidates) candidate
       → is_lt (candidate_cmp top candidate) ≡ false) → is_passed_in branches top.rev ≡ false
@@ -148,7 +148,7 @@ module _ (branches : List Branch) (legal : IsLegal (edits_in branches)) (candida
       let i = leaf_in s m leaf marked in
       both_ways _ (greatest (candidate_of i.0 (record { rev = s; deleted = m })) i.1) (ap is_lt less)))
 
-  -- where there is none there is no leaf
+  -- where there is no candidate there is no leaf
   pub none_wins : items candidates ≡ [] → (n : ℕ) → n ≡ length branches
       → option_and_then head_in (slice_get branches n) ≡ winner_of (leaves_of (edits_in branches) [])
   none_wins empty n past =
@@ -174,9 +174,9 @@ below_bound candidate (other ∷ candidates) u y c = elim (contains_cases other 
   | inr d ↦ below_bound candidate candidates u.1 y d
 ]
 
--- ---- they stay candidates
+-- ---- candidates stay candidates
 
--- one branch more, which was not looked at
+-- the candidates are those of the branches with one more, which was not looked at
 pub branch_more : (branches : List Branch) (branch : Branch) (candidates : Candidates)
     → AreCandidates branches candidates → AreCandidates (branches ++ branch ∷ []) candidates
 branch_more branches branch candidates are = record {
@@ -205,7 +205,7 @@ branch_more branches branch candidates are = record {
       | inr f ↦ absurd (omega (arith, f.0, low, are.within))
     ]
 
--- a number that is looked at once one more is, was looked at or is that one's
+-- a number below the next count was below this count, or is this count
 looked : (k n : ℕ) → k < n + 1 → (k < n) ⊎ (k ≡ n)
 looked k n low = elim (cases_Bool (nat_lt k n)) [
   | inl t ↦ inl (ltb-true k n t)
@@ -237,7 +237,7 @@ module _ (branches : List Branch) (candidates other : Candidates)
       ];
     }
 
-    -- the next branch was looked at, and its head put among them
+    -- the next branch was looked at, and its head put among the candidates
     pub looked_at : IsHeap candidate_cmp (items other)
         → IsPermutation (candidate_of candidates.count w ∷ items candidates) (items other)
         → AreCandidates branches other
@@ -267,7 +267,7 @@ module _ (branches : List Branch) (candidates other : Candidates)
           ]);
     }
 
-  -- one that is no leaf was given up
+  -- a candidate that is no leaf was given up
   pub given_up : (candidate : Candidate) → IsHeap candidate_cmp (items other)
       → IsPermutation (items candidates) (candidate ∷ items other)
       → other.count ≡ candidates.count → is_passed_in branches candidate.rev ≡ true
@@ -288,7 +288,7 @@ module _ (branches : List Branch) (candidates other : Candidates)
         ];
   }
 
--- those that are kept once an edit more has come, of those that were kept
+-- the candidates that are kept once an edit more has come, of those that were kept
 pub candidates_more : (branches others : List Branch) (edit : Edit) (maybe_candidates p : Option Candidates)
     → edits_in others ≡ edits_in branches ++ edit ∷ []
     → IfSome p (λ candidates. maybe_candidates ≡ Some candidates)
@@ -320,7 +320,7 @@ same_items branches candidates other are same still = record {
       (are.whole k v (omega (arith, still, low)) h leads);
 }
 
--- the first was taken from them, which is no leaf
+-- the first candidate, which is no leaf, was taken from the heap
 pub first_given_up : (branches : List Branch) (candidates other : Candidates)
     → AreCandidates branches candidates → (top : Candidate)
     → 0 < length (items candidates) → top ≡ get_or (items candidates) 0 top

@@ -1,4 +1,4 @@
--- How far two lists of revisions are one, step by step.
+-- How far two lists of revisions are the same, step by step.
 use Rattle.std.proofs.Common.{◌≡◌, ℕ, zero, suc, ◌+◌, min, List, [], ◌∷◌, length, drop}
 use Rattle.std.proofs.Common.{take, true, inl, inr, refl, sym, ap, ap₂, subst, option_map, arith}
 use Rattle.std.specs.Prelude.{Option, Some, None, slice_get}
@@ -9,7 +9,7 @@ use Rattle.hub_model.specs.Path.{is_first}
 use Rattle.hub_model.proofs.Tests.{same_is}
 use Rattle.hub_revtree.specs.Common.{common}
 
--- both have this one here
+-- both lists have this revision here
 pub common_on : (others revisions : List Revision) (k : ℕ) (revision : Revision)
     → slice_get others k ≡ Some revision → is_first revision (drop k revisions) ≡ true
     → common (drop k others) (drop k revisions) ≡ option_map suc
@@ -44,7 +44,7 @@ pub none_of : (o : Option ℕ) → option_map suc o ≡ None → o ≡ None
 none_of None h = refl
 none_of (Some n) h = absurd (cc)
 
--- as far as both go
+-- the lists are the same as far as both go
 pub common_some : (rest others : List Revision) (n : ℕ) → common rest others ≡ Some n
     → (n ≡ min (length rest) (length others)) × (take n rest ≡ take n others)
 common_some [] others n e =

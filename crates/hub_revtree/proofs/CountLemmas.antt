@@ -21,11 +21,11 @@ use Rattle.hub_revtree.proofs.StemLemmas.{chains_name, from_chain_named, from_en
 use Rattle.hub_revtree.proofs.StemLemmas.{named_in, names_take, one_stem_more, take_more}
 use Rattle.hub_revtree.proofs.TreeLemmas.{known_by}
 
--- those of some revisions that none of the stems has
+-- the revisions that none of the stems has
 abbrev pub new_of : List Stem → List Revision → List Revision
 new_of earlier revs = filter (λ r. not (has_revision earlier r)) revs
 
--- how many revisions the stems bring, each counted by the first that has it
+-- how many revisions the stems bring, each counted at the first stem that has it
 abbrev pub brought_after : List Stem → List Stem → ℕ
 brought_after earlier [] = 0
 brought_after earlier (stem ∷ later) =
@@ -46,7 +46,7 @@ count_more earlier (other ∷ later) edit =
     ap (λ es. length (unknown_revisions es [] edit.path)) (append_assoc earlier (other ∷ []) later) in
     omega (arith, ih, same)
 
--- what is missing of a path is what is new of it
+-- the missing revisions of a path are the new ones
 missing_new : (stems : List Stem) → AreStems stems → (revisions : List Revision)
     → unknown_revisions (edits_in (branches_of stems)) [] revisions ≡ new_of stems revisions
 missing_new stems a [] = refl
@@ -70,7 +70,7 @@ new_front stems (revision ∷ others) revisions known = elim (cases_Bool (has_re
   | inr t ↦ rw t (ap (λ z. revision ∷ z) (new_front stems others revisions known))
 ]
 
--- all of them are new where no stem has one
+-- all revisions are new where no stem has one
 pub all_new : (stems : List Stem) (revisions : List Revision)
     → list_any (has_revision stems) revisions ≡ false → new_of stems revisions ≡ revisions
 all_new stems [] f = refl
@@ -163,7 +163,7 @@ saturated_all stems k count most a past is =
     ap (brought_after []) (take_all k stems past) in
     omega (arith, is, all, counted stems a)
 
--- some of the stems, the first ones, are such stems too
+-- the first stems of a tree's are stems of a tree
 are_front : (stems others : List Stem) → AreStems (stems ++ others) → AreStems stems
 are_front stems [] a = subst AreStems (append-nil stems) a
 are_front stems (stem ∷ others) a =
@@ -174,7 +174,7 @@ pub are_taken : (k : ℕ) (stems : List Stem) → AreStems stems → AreStems (t
 are_taken k stems a =
     are_front (take k stems) (drop k stems) (subst AreStems (sym (take-append-drop k stems)) a)
 
--- how many of the first revisions are new: no more than they are
+-- the new ones of the first revisions are no more than these
 pub new_few : (earlier : List Stem) (revisions : List Revision) (at count : ℕ)
     → count ≡ length (new_of earlier (take at revisions)) → count ≤ at
 new_few earlier revisions at count so_far =
@@ -194,7 +194,7 @@ new_next earlier revisions at revision known e is =
     (get_or_from_slice_get revisions at revision revision e)
     ∙ ap (λ b. length (new_of earlier (take at revisions)) + cond (not b) 1 0) is
 
--- with the next one, one more where that is new
+-- with the next revision, which is new, there is one more
 pub new_more : (earlier : List Stem) (revisions : List Revision) (at count : ℕ) (revision : Revision)
     → slice_get revisions at ≡ Some revision → has_revision earlier revision ≡ false
     → count ≡ length (new_of earlier (take at revisions))
@@ -202,7 +202,7 @@ pub new_more : (earlier : List Stem) (revisions : List Revision) (at count : ℕ
 new_more earlier revisions at count revision e new so_far =
     omega (arith, so_far, new_next earlier revisions at revision false e new)
 
--- and as many where it is not
+-- with the next revision, which is known, there are as many
 pub new_same : (earlier : List Stem) (revisions : List Revision) (at count : ℕ) (revision : Revision)
     → slice_get revisions at ≡ Some revision → has_revision earlier revision ≡ true
     → count ≡ length (new_of earlier (take at revisions))

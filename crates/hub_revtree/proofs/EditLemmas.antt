@@ -1,4 +1,4 @@
--- What an edit that is made extends, and that it is acceptable.
+-- The path that an edit extends, and that the edit is acceptable.
 use Rattle.std.proofs.Common.{◌≡◌, ℕ, ◌+◌, ◌<◌, ◌≤◌, List, [], ◌∷◌, Bool, true, false}
 use Rattle.std.proofs.Common.{◌⊎◌, inl, inr, refl, sym, ap, ◌∙◌, subst, arith}
 use Rattle.std.specs.Prelude.{Contains, Option, Some, None, Ok, Err}
@@ -28,7 +28,7 @@ use Rattle.hub_revtree.specs.Winner.{winner_of}
 use Rattle.hub_revtree.proofs.BranchLemmas.{any_map}
 use Rattle.hub_revtree.proofs.TreeLemmas.{all_of_one, known_by, wins}
 
--- the path that a named revision stands for, by a slice of the branches
+-- the path that an edit on a named revision extends, by the branches
 module _ (branches : List Branch) (edits : List Edit) (same : edits_in branches ≡ edits)
     (revision : Revision) where
   leaf_by : names (revisions_of (leaves_of edits [])) revision
@@ -81,7 +81,7 @@ pub unknown_path : (edits : List Edit) (revision : Revision) → is_known edits 
     → path_to edits revision ≡ None
 unknown_path edits revision f = rw f refl
 
--- begins with it
+-- the line of a known revision begins with it
 pub known_first : (edits : List Edit) (revision : Revision) → IsRevTree edits
     → is_known edits [] revision ≡ true → parent_of (line_to edits (Some revision)) ≡ Some revision
 known_first edits revision tree known =
@@ -92,7 +92,7 @@ known_first edits revision tree known =
     first [] i = absurd i
     first (x ∷ revisions) i = ap Some i
 
--- what the test of a revision's twin says
+-- where a test of an equal revision says so, this one is known
 pub is_taken : (edits : List Edit) (revision other : Revision) (b : Bool)
     → IsTrue b ↔ IsKnown edits [] revision → revision ≡ other → b ≡ true → is_known edits [] other ≡ true
 is_taken edits revision other b known same t =
@@ -106,7 +106,7 @@ is_new edits revision other b known same f = elim (cases_Bool (is_known edits []
   | inr u ↦ u
 ]
 
--- without a name it is a deleted winner's
+-- without a name the extended path is that of a deleted winner
 pub dead_extends : (edits : List Edit) (winner : Winner) → Some winner ≡ winner_of (leaves_of edits [])
     → winner.deleted ≡ true → path_to edits winner.rev ≡ extended_path edits [] (leaves_of edits []) None
 dead_extends edits winner is dead = from (leaves_of edits []) refl is
@@ -160,7 +160,7 @@ module _ (edits : List Edit) (tree : IsRevTree edits) (id : List ℕ) (parent : 
       → edit_of_draft edits (draft id parent deleted body) ≡ Ok (nameless (next ∷ older) deleted body)
   new_extends below new = so ∙ rw (low below, new) refl
 
-  -- the path is empty, or all that stands behind a known revision
+  -- the path is empty, or has a known revision and all revisions behind it
   stands : (parent : Option Revision) → Extends edits [] parent older
       → (older ≡ []) ⊎ ((revision : Revision) × IsKnown edits [] revision × IsFirst older revision
       × IsWalk edits [] older)

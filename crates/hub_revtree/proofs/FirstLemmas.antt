@@ -1,4 +1,4 @@
--- Which of some stems is the first with a revision, and what tells it.
+-- The first stem that has a revision, and the entries and others that lead to it.
 use Rattle.std.proofs.Common.{◌≡◌, ℕ, zero, suc, ◌+◌, ◌<◌, ◌≤◌, ◌⊎◌, List, length, take}
 use Rattle.std.proofs.Common.{Bool, true, false, inl, inr, refl, sym, ap, ◌∙◌, subst, arith}
 use Rattle.std.specs.Prelude.{Option, Some, None, cond, nat_eq, nat_lt, slice_get, unwrap_or}
@@ -23,18 +23,18 @@ use Rattle.hub_revtree.proofs.StemLemmas.{any_at, any_place, get_taken}
 no_number : (m : ℕ) → ◌≡◌ {A = Option ℕ} None (Some m) → ⊥
 no_number m q = absurd (cc)
 
--- ---- numbers that are put where there is none
+-- ---- numbers put at arguments without a number
 
 module _ {K : Type 0} (same : K → K → Bool) (exact : (x y : K) → same x y ≡ true → x ≡ y) (f g : K → Option ℕ)
     (a : K) (n : ℕ) (put : (x : K) → g x ≡ first_put same f a n x) where
-  -- what is there stays
+  -- an old number stays
   pub put_keeps : (x : K) (m : ℕ) → f x ≡ Some m → g x ≡ Some m
   put_keeps x m e = put x ∙ elim (cases_Bool (same a x)) [
     | inl t ↦ rw t (ap (λ o. Some (unwrap_or o n)) (ap f (exact a x t) ∙ e))
     | inr t ↦ rw t e
   ]
 
-  -- what comes is the number
+  -- a new number is the one that was put
   pub put_new : (x : K) (m : ℕ) → g x ≡ Some m → (f x ≡ Some m) ⊎ ((m ≡ n) × (a ≡ x) × (f a ≡ None))
   put_new x m e = elim (cases_Bool (same a x)) [
     | inl t ↦ from (f a) refl (rw t at (sym (put x) ∙ e)) (exact a x t)
@@ -49,7 +49,7 @@ module _ {K : Type 0} (same : K → K → Bool) (exact : (x y : K) → same x y 
   pub put_own : same a a ≡ true → g a ≡ Some (unwrap_or (f a) n)
   put_own t = put a ∙ rw t refl
 
--- keys that are level are one
+-- keys that are level are the same
 pub exact_keys : (x y : ℕ) → nat_eq x y ≡ true → x ≡ y
 exact_keys x y t = eqb-true x y t
 
@@ -61,7 +61,7 @@ exact_revisions revision other t =
 pub level_self : (revision : Revision) → eq_by_cmp revision_cmp revision revision ≡ true
 level_self revision = revisions_level.refl revision
 
--- where there is one, nothing changes
+-- where the argument has a number, no number changes
 pub put_nothing : {K : Type 0} (same : K → K → Bool) → ((x y : K) → same x y ≡ true → x ≡ y)
     → (f : K → Option ℕ) (a : K) (n m : ℕ) → f a ≡ Some m → (x : K) → f x ≡ first_put same f a n x
 put_nothing same exact f a n m e x = elim (cases_Bool (same a x)) [
@@ -69,12 +69,12 @@ put_nothing same exact f a n m e x = elim (cases_Bool (same a x)) [
   | inr t ↦ rw t refl
 ]
 
--- where there is none, the number is put
+-- where the argument has no number, this number is put
 pub put_one : {K : Type 0} (same : K → K → Bool) (f g : K → Option ℕ) (a : K) (n : ℕ) → f a ≡ None
     → ((x : K) → g x ≡ cond (same a x) (Some n) (f x)) → (x : K) → g x ≡ first_put same f a n x
 put_one same f g a n e put x = put x ∙ ap (λ o. cond (same a x) (Some (unwrap_or o n)) (f x)) (sym e)
 
--- and put back where there was one
+-- where the argument had a number, that number is put back
 pub put_back : {K : Type 0} (same : K → K → Bool) (f g h : K → Option ℕ) (a : K) (n m : ℕ) → f a ≡ Some m
     → ((x : K) → g x ≡ cond (same a x) (Some n) (f x)) → ((x : K) → h x ≡ cond (same a x) (Some m) (g x))
     → (x : K) → h x ≡ first_put same f a n x
@@ -85,18 +85,18 @@ put_back same f g h a n m e put back x = elim (cases_Bool (same a x)) [
 
 -- ---- one revision more
 
--- the stem n has revision too
+-- `more` says the same as `has`, and also that stem n has revision
 pub record IsOneMore (has more : ℕ → Revision → Type 0) (n : ℕ) (revision : Revision) : Type 0 where
   pub wide : (k : ℕ) (other : Revision) → has k other → more k other
   pub narrow : (k : ℕ) (other : Revision) → more k other → has k other ⊎ ((k ≡ n) × (other ≡ revision))
   pub own : more n revision
   pub bound : (k : ℕ) (other : Revision) → has k other → k ≤ n
 
--- no stem before n has revision
+-- no stem before stem n has revision
 abbrev pub IsFresh : (ℕ → Revision → Type 0) → ℕ → Revision → Type 0
 IsFresh has n revision = (j : ℕ) → j < n → ¬ has j revision
 
--- the number of x's first stem is told
+-- the entry or the other leads from revision to stem n
 abbrev pub IsToldAt : (ℕ → Option ℕ) → (Revision → Option ℕ) → ℕ → Revision → Type 0
 IsToldAt entry other n revision =
     ((key : ℕ) × IsKey revision.hash key × (entry key ≡ Some n)) ⊎ (other revision ≡ Some n)
@@ -176,13 +176,13 @@ least P (suc k) t = elim (cases_Bool (P 0)) [
     none f u i zero low g = both_ways _ u g
     none f u i (suc j) low g = i j (omega (arith, low)) g
 
--- where a stem has a revision, one is the first that has it
+-- where a stem has a revision, there is a first stem that has it
 pub first_exists : (stems : List Stem) (j : ℕ) (revision : Revision) → Has stems j revision
     → (f : ℕ) × (f ≤ j) × IsFirstWith (Has stems) f revision
 first_exists stems j revision h =
     let i = least (λ k. names (revisions_at stems k) revision) j h in (i.0, i.1, (i.2, i.3))
 
--- and no other is
+-- there is one first stem alone
 pub first_same : (has : ℕ → Revision → Type 0) (k m : ℕ) (revision : Revision) → IsFirstWith has k revision
     → IsFirstWith has m revision → k ≡ m
 first_same has k m revision i j = elim (cases_Bool (nat_eq k m)) [
@@ -202,7 +202,7 @@ first_same has k m revision i j = elim (cases_Bool (nat_eq k m)) [
       | inr u ↦ inr (above k m (ltb-false k m u) t)
     ]
 
--- what a place shows its stem has
+-- the stem of a place has the revision at that place
 pub has_there : (stems : List Stem) (k at : ℕ) (revision : Revision)
     → slice_get (revisions_at stems k) at ≡ Some revision → Has stems k revision
 has_there stems k at revision e =
@@ -222,7 +222,7 @@ has_low stems k revision h = from (slice_get stems k) refl h
     from None e t = absurd (cc)
     from (Some s) e t = slice_get_within stems k s e
 
--- the stems have what one of them has, and no more
+-- the stems have each revision that one of them has, and no other
 pub has_any : (stems : List Stem) (k : ℕ) (revision : Revision) → Has stems k revision
     → has_revision stems revision ≡ true
 has_any stems k revision h = from (slice_get stems k) refl h
@@ -313,7 +313,7 @@ one_to stems n at other there =
 module _ (stems : List Stem) (n at : ℕ) (revision : Revision)
     (there : slice_get (revisions_at stems n) at ≡ Some revision)
     (e f : ℕ → Option ℕ) (o p : Revision → Option ℕ) (t : AreTold (HasTo stems n at) e o) where
-  -- where the others have none, no earlier stem has it
+  -- where the others have no number, no earlier stem has the revision
   fresh_of : ((key m : ℕ) → IsKey revision.hash key → e key ≡ Some m → m < n → ¬ Has stems m revision)
       → o revision ≡ None → IsFresh (HasTo stems n at) n revision
   fresh_of absent none j low g =
@@ -351,7 +351,7 @@ module _ (stems : List Stem) (n at : ℕ) (revision : Revision)
               | inr h ↦ own ∙ ap Some h.0
             ]
 
-  -- its hash is no digest's text
+  -- a revision whose hash is no digest's text
   pub no_key : ((key : ℕ) → ¬ IsKey revision.hash key)
       → ((q : ℕ) → f q ≡ e q) →
       ((other : Revision) → p other ≡ first_put (eq_by_cmp revision_cmp) o revision n other)
@@ -392,7 +392,7 @@ module _ (stems : List Stem) (n at : ℕ) (revision : Revision)
     own_key : (q : ℕ) → IsKey revision.hash q → (m : ℕ) × (f q ≡ Some m) × (m ≤ n)
     own_key q i = (first, ap f (same_key revision.hash q key i is) ∙ entry_first, first_low)
 
-    -- where the others stay
+    -- the others stay as they were
     stays : ((x : Revision) → p x ≡ o x) → (IsFresh (HasTo stems n at) n revision → IsToldAt f p n revision)
         → AreTold (HasTo stems n (at + 1)) f p
     stays same own =
@@ -400,11 +400,11 @@ module _ (stems : List Stem) (n at : ℕ) (revision : Revision)
         (one_to stems n at revision there) e f o p t entry_keeps
         entry_new (λ x m q. same x ∙ q) (λ x m q. inl (sym (same x) ∙ q)) own_key own
 
-    -- the entry is its stem's
+    -- the entry is the number of the revision's stem
     pub own_entry : first ≡ n → ((x : Revision) → p x ≡ o x) → AreTold (HasTo stems n (at + 1)) f p
     own_entry own same = stays same (λ fresh. inl (key, is, entry_first ∙ ap Some own))
 
-    -- the entry is that of an earlier one that has it
+    -- the entry is the number of an earlier stem that has the revision
     pub known_entry : ¬ (first ≡ n) → Has stems first revision → ((x : Revision) → p x ≡ o x)
         → AreTold (HasTo stems n (at + 1)) f p
     known_entry apart has same =
@@ -417,7 +417,7 @@ module _ (stems : List Stem) (n at : ℕ) (revision : Revision)
           | inr u ↦ grind (arith, low, u)
         ]
 
-    -- the entry is that of another revision
+    -- the entry is the number of a stem with another revision
     pub other_entry : ¬ Has stems first revision
         → ((x : Revision) → p x ≡ first_put (eq_by_cmp revision_cmp) o revision n x)
         → AreTold (HasTo stems n (at + 1)) f p
@@ -430,7 +430,7 @@ module _ (stems : List Stem) (n at : ℕ) (revision : Revision)
         (one_to stems n at revision there) e f o p t entry_keeps entry_new (other_keeps puts absent)
         (other_new puts absent) own_key (λ fresh. inr (other_own puts absent fresh))
 
--- what is told of stems is told of the same by another word
+-- the entries and others lead to the stems of another test that says the same
 pub told_as : (has more : ℕ → Revision → Type 0) (e : ℕ → Option ℕ) (o : Revision → Option ℕ)
     → ((k : ℕ) (revision : Revision) → has k revision → more k revision)
     → ((k : ℕ) (revision : Revision) → more k revision → has k revision) → AreTold has e o → AreTold more e o
@@ -456,11 +456,11 @@ told_end stems n most e o long past t =
     told_as (HasTo stems n most) (Has stems) e o (to_has stems n most)
     (λ k x h. all_to stems n most k x long past h) t
 
--- ---- what a look finds
+-- ---- the result of a look
 
 module _ (stems : List Stem) (e : ℕ → Option ℕ) (o : Revision → Option ℕ)
     (t : AreTold (Has stems) e o) (revision : Revision) where
-  -- where the entry's stem has it
+  -- the entry's stem has the revision
   pub entry_place : (key m : ℕ) (place : Place) → IsKey revision.hash key → e key ≡ Some m → place.stem ≡ m
       → slice_get (revisions_at stems place.stem) place.at ≡ Some revision → IsFirstPlace stems revision place
   entry_place key m place is q same there = (
@@ -474,12 +474,12 @@ module _ (stems : List Stem) (e : ℕ → Option ℕ) (o : Revision → Option �
     ),
   )
 
-  -- where no entry is at its key
+  -- no entry is at the revision's key
   pub nowhere_keyed : (key : ℕ) → IsKey revision.hash key → e key ≡ None → has_revision stems revision ≡ false
   nowhere_keyed key is none =
       none_has stems revision (λ k h. let i = t.keyed k key revision h is in no_number i.0 (sym none ∙ i.1))
 
-  -- where the entry's stem does not have it, nor have the others
+  -- neither the entry's stem nor the others have the revision
   pub nowhere : ((key m : ℕ) → IsKey revision.hash key → e key ≡ Some m → ¬ Has stems m revision)
       → o revision ≡ None → has_revision stems revision ≡ false
   nowhere absent none = none_has stems revision (λ k h.

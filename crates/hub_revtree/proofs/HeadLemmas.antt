@@ -1,4 +1,4 @@
--- What is lent of an edit, among the branches and among the edits that they are.
+-- The tip of an edit, among the branches and among the edits that they are.
 use Rattle.std.proofs.Common.{◌≡◌, ◌≤◌, ℕ, List, [], ◌∷◌, length, take, Bool}
 use Rattle.std.proofs.Common.{Contains, inl, inr, refl, ap, ◌∙◌, subst, sym}
 use Rattle.std.specs.Prelude.{Option, Some, None, slice_get, find, option_map}
@@ -59,7 +59,7 @@ headed_by branches edits revision same =
     ∙ (sym (ap (find (is_head revision)) (all_of_one branches))
     ∙ ap (λ fs. find (is_head revision) (edits_of fs [])) same))
 
--- the path of an edit is the front of what the tree has of its revision
+-- the path of an edit is the front of the tree's path to its revision
 own_path : (edits : List Edit) → IsRevTree edits → (edit : Edit) (revision : Revision) → Contains edits edit
     → head_of edit ≡ Some revision
     → option_map (take (length edit.path)) (path_to edits revision) ≡ Some edit.path
@@ -70,7 +70,7 @@ own_path edits tree edit revision c head =
     let front = edit_front edits tree.legal edit revision own head in
     rw known (ap Some (rw known at front))
 
--- so of what is lent of it
+-- the same of the tip of the edit
 module _ {A : Type 0} (edits : List Edit) (tree : IsRevTree edits) (rev : A → Revision) (deleted : A → Bool)
     (body : A → List ℕ) (count : A → ℕ) (o : Option A) where
   lent_path : (maybe_edit : Option Edit) → ((edit : Edit) → maybe_edit ≡ Some edit → Contains edits edit)
@@ -120,7 +120,7 @@ long_in : (maybe_branch : Option Branch)
 long_in None = refl
 long_in (Some branch) = refl
 
--- and of how long their paths are
+-- the lengths of the edits' paths are those of the branches' paths
 pub numbered_long : (branches : List Branch) (edits : List Edit) (k : ℕ) → edits_in branches ≡ edits
     → option_map (λ b. length b.path) (slice_get branches k) ≡ option_map (λ e. length e.path)
     (slice_get edits k)
@@ -140,7 +140,7 @@ headed_long branches edits revision same =
     ∙ (sym (ap (find (is_head revision)) (all_of_one branches))
     ∙ ap (λ fs. find (is_head revision) (edits_of fs [])) same))
 
--- what is lent of the stem of a number, where there is one
+-- the tip of the stem of this number, where there is one
 module _ (stems : List Stem) (branches : List Branch) (edits : List Edit) (are : AreStemsOf stems branches)
     (same : edits_in branches ≡ edits) (k : ℕ) where
   tips : option_map (λ b. tip_of (edit_of b)) (slice_get (branches_of stems) k)
@@ -172,7 +172,7 @@ module _ (stems : List Stem) (branches : List Branch) (edits : List Edit) (are :
       → Some count ≡ option_map (λ e. length e.path) (slice_get edits k)
   stem_long stem count e is = long_edit stems are.stems k stem count e is ∙ lengths
 
--- what is lent of the stem that a revision heads, if there is one
+-- the tip of the stem that a revision heads, if there is one
 pub map_map : {A B C : Type 0} (o : Option A) (g : A → B) (f : B → C)
     → option_map (λ x. f (g x)) o ≡ option_map f (option_map g o)
 map_map None g f = refl

@@ -1,4 +1,4 @@
--- What the highest generation of stems shows of a revision.
+-- The highest generation of stems.
 use Rattle.std.proofs.Common.{◌≡◌, ℕ, ◌<◌, ◌≤◌, List, [], ◌∷◌, ◌++◌, drop, Bool, true}
 use Rattle.std.proofs.Common.{false, inl, inr, refl, sym, ap, ◌∙◌, subst, ◌||◌, arith}
 use Rattle.std.specs.Prelude.{Option, Some, None, slice_get, max}
@@ -18,7 +18,7 @@ use Rattle.hub_revtree.specs.Stem.{chains_of, has_revision, is_at, is_behind_new
 use Rattle.hub_revtree.proofs.StemLemmas.{named_in, one_stem_more}
 use Rattle.hub_revtree.proofs.StemLooks.{behind_in, first_there}
 
--- a path is up to its first generation
+-- a revision behind the first of a path is of a lower generation
 behind_below : (revisions : List Revision) (revision other : Revision) → IsPath revisions
     → slice_get revisions 0 ≡ Some revision
     → names (drop 1 revisions) other ≡ true → other.generation < revision.generation
@@ -40,7 +40,7 @@ named_up_to (y ∷ revisions) revision other f e n = elim (cases_Bool (is_same o
   | inr t ↦ let low = behind_below (y ∷ revisions) revision other f e (rw t at n) in omega (arith, low)
 ]
 
--- what stands behind a stem's newest revision is of a lower generation
+-- a revision that stands behind a stem's newest is of a lower generation
 pub behind_is_lower : (stems : List Stem) (k : ℕ) (stem : Stem) (revision other : Revision) → AreStems stems
     → slice_get stems k ≡ Some stem → slice_get stem.revisions 0 ≡ Some revision
     → is_behind_newest stems other stem ≡ true → other.generation < revision.generation

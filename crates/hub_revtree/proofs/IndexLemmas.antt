@@ -1,4 +1,4 @@
--- An index of nothing, and one of a stem more.
+-- An index of no stems, and one of a stem more.
 use Rattle.std.proofs.Common.{◌≡◌, ℕ, ◌+◌, ◌-◌, ◌<◌, List, get_or, length, min, take}
 use Rattle.std.proofs.Common.{Bool, true, false, refl, sym, ap, ◌∙◌, subst, arith}
 use Rattle.std.specs.Prelude.{Option, Some, None, IfSome, IfNone, is_some, slice_get}
@@ -65,7 +65,7 @@ pub none_there : {A : Type 0} (o : Option A) → is_some o ≡ false → o ≡ N
 none_there None t = refl
 none_there (Some x) t = absurd (cc)
 
--- what a stem that is read has at a place
+-- the revision at a place of a stem that is read
 pub read_there : (stems : List Stem) (k at : ℕ) (stem : Stem) (revision : Revision) → k < length stems
     → stem ≡ get_or stems k stem
     → slice_get stem.revisions at ≡ Some revision → slice_get (revisions_at stems k) at ≡ Some revision
@@ -82,7 +82,7 @@ pub read_long : (stems : List Stem) (k : ℕ) (stem : Stem) → k < length stems
     → length (revisions_at stems k) ≡ length stem.revisions
 read_long stems k stem low is = ap (λ o. length (revisions_in o)) (read_stem stems k stem low is)
 
--- what a look in a stem shows
+-- where a look in a stem finds a place, the stem has the revision
 pub placed_has : (stems : List Stem) (k : ℕ) (revision : Revision) (maybe_place : Option Place)
     → IfSome maybe_place (λ place. slice_get (revisions_at stems place.stem) place.at ≡ Some revision)
     → IfSome maybe_place (λ place. place.stem ≡ k) → is_some maybe_place ≡ true → Has stems k revision

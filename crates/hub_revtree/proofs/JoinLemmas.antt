@@ -1,4 +1,4 @@
--- What stems brought is what stands behind what in their branches; where a path meets the stored ones.
+-- A revision stands behind another in the branches where a stem brought it so; where a path meets the stems.
 use Rattle.std.proofs.Common.{◌≡◌, ℕ, zero, suc, ◌+◌, ◌<◌, List, [], ◌∷◌, ◌++◌, length, drop, take, append-nil}
 use Rattle.std.proofs.Common.{true, false, ◌⊎◌, inl, inr, refl, sym, ap, ◌∙◌, subst, option_map, arith}
 use Rattle.std.specs.Prelude.{Option, Some, None, IfSome, IfNone, is_some, slice_get, Contains}
@@ -63,7 +63,7 @@ next_more [] revisions revision other i = absurd i
 next_more (x ∷ others) revisions revision other (inl i) = inl (i.0, first_more others revisions other i.1)
 next_more (x ∷ others) revisions revision other (inr i) = inr (next_more others revisions revision other i)
 
--- a step of two lists is one of the first and the second's first, or of the second
+-- a step of two lists is one of the first list and the second's first, or one of the second list
 pub next_parts : (others revisions : List Revision) (revision other : Revision)
     → IsNext (others ++ revisions) revision other
     → IsNext (others ++ take 1 revisions) revision other ⊎ IsNext revisions revision other
@@ -78,7 +78,7 @@ next_parts (x ∷ y ∷ others) revisions revision other (inr i) =
       | inr j ↦ inr j
     ]
 
--- the last of what is left is the last
+-- the last of the rest of a list is the last of the list
 pub last_left : (n : ℕ) (revisions : List Revision) → n < length revisions
     → last_in (drop n revisions) ≡ last_in revisions
 last_left zero revisions low = refl
@@ -92,7 +92,7 @@ last_append [] revision revisions = refl
 last_append (other ∷ []) revision revisions = refl
 last_append (other ∷ z ∷ others) revision revisions = last_append (z ∷ others) revision revisions
 
--- whether the look found it
+-- a look finds a place of a revision where a stem has it, and only there
 pub is_placed : (stems : List Stem) (revision : Revision) (maybe_place : Option Place)
     → IsFound stems revision maybe_place → is_some maybe_place ≡ has_revision stems revision
 is_placed stems revision None f = sym f.none
@@ -116,7 +116,7 @@ module _ (stems : List Stem) (a : AreStems stems) where
       own_edit (edits_in bs) (all_of_one bs) (edit_of branch)
       (in_tree bs (record { generation = 0; hash = [] }) bs branch (there bs k branch e))
 
-  -- what a stem brought stands so in its branch
+  -- a revision that a stem brought behind another stands so in the stem's branch
   pub brought_behind : (revision other : Revision) → IsBrought stems revision other
       → IsBehind (edits_in bs) [] revision other
   brought_behind revision other (k, stem, e, n) =
@@ -136,7 +136,7 @@ module _ (stems : List Stem) (a : AreStems stems) where
       let f = first_from stems place r.0 a r.1 in
       ap one_of r.1 ∙ ap (take 1) (sym f.1)
 
-  -- what stands so in a chain is what a stem brought
+  -- a revision that stands behind another in a chain was brought so by a stem
   pub chain_brought : (n k : ℕ) (stem : Stem) → k < n → slice_get stems k ≡ Some stem
       → (revision other : Revision)
       → IsNext (chain_of (chains_of stems) stem).whole other revision → IsBrought stems revision other
@@ -178,7 +178,7 @@ module _ (stems : List Stem) (a : AreStems stems) where
       from k None q h = absurd (cc)
       from k (Some branch) q h = (k, branch, q, same_Some (edit_of branch) edit h)
 
-  -- so what stands directly behind a revision is what a stem brought
+  -- so a revision that stands directly behind another was brought so by a stem
   pub behind_brought : (revision other : Revision) → IsBehind (edits_in bs) [] revision other
       → IsBrought stems revision other
   behind_brought revision other (e, own, n) =
@@ -203,7 +203,7 @@ module _ (stems : List Stem) (a : AreStems stems) where
       ∙ any_at (λ s. names s.revisions revision) stems place.stem i.0 i.1
       (named i.0.revisions place.at revision (rw i.1 at placed)))
 
-  -- a chain's steps
+  -- the steps of a chain from a place on are steps of the edits
   pub from_steps : (place : Place) → IsWithin stems place → (revision other : Revision)
       → IsNext (chain_from (chains_of stems) (Some place)) revision other
       → IsBehind (edits_in bs) [] other revision
@@ -225,7 +225,7 @@ module _ (stems : List Stem) (a : AreStems stems) where
       (next_more (drop place.at i.0.revisions) rest revision other
       (subst (λ o. IsNext (drop place.at (revisions_in o)) revision other) i.1 n)))
 
-  -- nothing stands behind a revision that is not known
+  -- no revision stands behind an unknown one
   pub no_line : (revision : Revision) → has_revision stems revision ≡ false
       → line_to (edits_in bs) (Some revision) ≡ []
   no_line revision f =
@@ -234,7 +234,7 @@ module _ (stems : List Stem) (a : AreStems stems) where
       rw unknown refl
 
   module _ (legal : IsLegal (edits_in bs)) where
-    -- what is told of a revision
+    -- the revision that a stem brought behind another is the one directly behind it
     pub told_at : (s r : Revision) → IsBrought stems r s → behind_in s (edits_in bs) ≡ Some r
     told_at s r b =
         ap (behind_in s) (sym (all_of_one bs)) ∙ told_is (edits_in bs) legal s r (brought_behind r s b)
@@ -245,7 +245,7 @@ module _ (stems : List Stem) (a : AreStems stems) where
         ap (behind_in s) (sym (all_of_one bs))
         ∙ told_none (edits_in bs) legal s (λ r b. none r (behind_brought r s b))
 
-    -- what a look beyond tells
+    -- a look behind a revision finds the one directly behind it
     pub found_behind : (z : Revision) (o : Option Place)
         → IfSome o (λ p. IsWithin stems p
         × ((r : Revision) → rev_at stems (Some p) ≡ Some r → IsBrought stems r z))
@@ -254,8 +254,8 @@ module _ (stems : List Stem) (a : AreStems stems) where
     found_behind z (Some p) found none =
         let r = within_rev stems p found.0 in r.1 ∙ sym (told_at z r.0 (found.1 r.0 r.1))
 
-    -- the line of a place's revision is a list of steps that begins with it, and the line from what stands
-    -- behind its last
+    -- the line of a place's revision begins with a list of steps, and goes on with the line of the revision
+    -- behind the last of these
     steps_line : (p : Place) (r : Revision) → rev_at stems (Some p) ≡ Some r → (own rest : List Revision)
         → own ≡ r ∷ rest
         → ((s t : Revision) → IsNext own s t → IsBehind (edits_in bs) [] t s) → (o : Option Place)
@@ -269,7 +269,7 @@ module _ (stems : List Stem) (a : AreStems stems) where
         z.0 z.1 (rev_at stems o) (ap (behind_in z.0) (all_of_one bs) ∙ sym told)
         ∙ ap (λ q. q ++ line_to (edits_in bs) (rev_at stems o)) (sym is)
 
-    -- a chain that has as many revisions as its newest's generation ends with the first one
+    -- a chain with as many revisions as its newest's generation ends with generation 1
     pub chain_ends : (k : ℕ) (stem : Stem) (g : ℕ) → slice_get stems k ≡ Some stem
         → option_map (λ r. r.generation) (slice_get stem.revisions 0) ≡ Some g
         → g ≡ stem.reach → (n : ℕ) → n < length stem.revisions → (x : Revision)
@@ -318,7 +318,7 @@ module _ (stems : List Stem) (a : AreStems stems) where
                 let same : z ≡ y = cc in
                 (ap Some same, ap (λ (v : Revision). v.generation) (sym same) ∙ same_Some z.generation g h)
 
-    -- nothing stands behind a chain that ends with the first generation
+    -- no revision stands behind a chain that ends with generation 1
     pub nothing_beyond : (p : Place) (stem : Stem) (g : ℕ) → slice_get stems p.stem ≡ Some stem
         → IsWithin stems p → option_map (λ r. r.generation) (slice_get stem.revisions 0) ≡ Some g
         → g ≡ stem.reach → (x : Revision) → last_in (chain_from (chains_of stems) (Some p)) ≡ Some x
@@ -332,7 +332,7 @@ module _ (stems : List Stem) (a : AreStems stems) where
         sym (ap (behind_in x) (sym (all_of_one bs))
         ∙ told_none (edits_in bs) legal x (chain_ends p.stem stem g e newest long p.at low x last))
 
-    -- where the whole chain ends with the first generation, the line is what the chain has from the place on
+    -- where the whole chain ends with generation 1, the line is the chain from the place on
     pub chain_long : (o : Option Place) (p : Place) → o ≡ Some p → (stem : Stem) (g : ℕ)
         → slice_get stems p.stem ≡ Some stem → IsWithin stems p
         → option_map (λ r. r.generation) (slice_get stem.revisions 0) ≡ Some g → g ≡ stem.reach
@@ -347,7 +347,7 @@ module _ (stems : List Stem) (a : AreStems stems) where
         (nothing_beyond p stem g e w newest long))
         ∙ ap length (append-nil chain)
 
-    -- a walk goes on behind what a stem has from a place on
+    -- a walk goes on behind the revisions that a stem has from a place on
     module _ (o after : Option Place) (p : Place) (is : o ≡ Some p) (w : IsWithin stems p)
         (behind : (x : Revision) → last_in (own_from stems p) ≡ Some x
         → rev_at stems after ≡ behind_in x (edits_in bs)) where
@@ -360,7 +360,7 @@ module _ (stems : List Stem) (a : AreStems stems) where
           ∙ steps_line p r.0 r.1 (own_from stems p) _ (dropped_one (revisions_at stems p.stem) p.at r.0 r.1)
           (own_steps p w) after behind
 
-      -- as long as what it has, and what is told behind it
+      -- the length of the line is that of these revisions and of the line behind them
       pub walk_long : length (line_to (edits_in bs) (rev_at stems o))
           ≡ length (own_from stems p) + length (line_to (edits_in bs) (rev_at stems after))
       walk_long =

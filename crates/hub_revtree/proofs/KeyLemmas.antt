@@ -13,7 +13,7 @@ same_key hash a b i j =
     ∙ ap key_of (one_digest i.digest j.digest i.sized j.sized i.bytes j.bytes (sym i.text ∙ j.text))
     ∙ sym j.number
 
--- the key of what stands at a place
+-- the key of the revision at a place
 pub key_there : (revisions : List Revision) (k : ℕ) (revision other : Revision) (key : Option ℕ)
     → slice_get revisions k ≡ Some revision
     → HasKey revision.hash key → slice_get revisions k ≡ Some other → HasKey other.hash key

@@ -31,7 +31,7 @@ placed_first leaf (other ∷ leaves) = from (comes_before leaf other)
     from true = refl
     from false = refl
 
--- the best of the branches from one on, given the best of those after it
+-- the best leaf of some of the branches, where `all` says which heads are leaves
 abbrev pub best_of : List Branch → List Branch → Option Winner
 best_of all some = winner_of (best_first (leaves_among (edits_in all) (edits_in some)))
 
@@ -86,7 +86,7 @@ passed_over all some branch revision (Some winner) h same low =
     from true = same
     from false = kept
 
--- and one that is, and stands behind none, is the best
+-- a head that is above that best, and stands behind none, is the best
 pub passed_by : (all some : List Branch) (branch : Branch) (revision : Revision) (best : Option Winner)
     → slice_get branch.path 0 ≡ Some revision
     → list_any (λ c. is_behind_head revision (edit_of c)) all ≡ false → best_of all some ≡ best
@@ -97,7 +97,7 @@ passed_by all some branch revision None h leaf same high =
 passed_by all some branch revision (Some winner) h leaf same high =
     one_more all some branch revision h false leaf ∙ rw (same, high) refl
 
--- the branches from one on that are leaves, in their order
+-- the leaves of some of the branches, in their order
 abbrev pub found_of : List Branch → List Branch → List Winner
 found_of all some = winners_of (leaves_among (edits_in all) (edits_in some))
 
@@ -157,7 +157,7 @@ head_there all k leaf h = from (slice_get all k) refl h
     from None e q = absurd (cc)
     from (Some branch) e q = let f = first branch (slice_get branch.path 0) q in (branch, e, f.0, f.1)
 
--- before the newest there is no best leaf, and no edit has the number behind the last
+-- before the newest branch is read there is no best leaf, and no edit has the number behind the last
 pub none_yet : (all : List Branch) (from number : ℕ) → from ≡ length all → number ≡ length all
     → (best_of all (drop from all) ≡ None) × (option_and_then head_in (slice_get all number) ≡ None)
 none_yet all from number end past = (

@@ -1,4 +1,4 @@
--- Leaves in order: there is one such list of them.
+-- The order of leaves: there is one sorted list of them.
 use Rattle.std.proofs.Common.{◌≡◌, ℕ, suc, ◌+◌, ◌<◌, ◌≤◌, List, [], ◌∷◌, length, get_or, reverse, Bool}
 use Rattle.std.proofs.Common.{true, false, cond, inl, inr, sym, ◌∙◌, ap, ap₂, refl, Ordering, arith}
 use Rattle.std.specs.List.{All, sum_by}
@@ -17,7 +17,7 @@ use Rattle.hub_model.proofs.Order.{leaf_equal, order_total}
 use Rattle.hub_revtree.specs.declared.leaf.Winner.{Winner}
 use Rattle.hub_revtree.specs.Winner.{winners_of}
 
--- how leaves stand, the best first
+-- the order of leaves, the best first
 abbrev pub rank : Winner → Winner → Ordering
 rank winner other = leaf_cmp other.deleted other.rev winner.deleted winner.rev
 
@@ -44,17 +44,17 @@ exact winner other h =
     (sym (leaf_equal other.deleted other.rev winner.deleted winner.rev h))
     (sym (marks_equal other.deleted other.rev winner.deleted winner.rev h))
 
--- a leaf that is below none of these
+-- no leaf of the list is above this leaf
 abbrev UpTo : Winner → List Winner → Type 0
 UpTo other [] = Unit {0}
 UpTo other (winner ∷ winners) = (is_gt (rank other winner) ≡ false) × UpTo other winners
 
--- each leaf is below none that comes later
+-- no leaf of the list is above an earlier one
 abbrev Rises : List Winner → Type 0
 Rises [] = Unit {0}
 Rises (winner ∷ winners) = UpTo winner winners × Rises winners
 
--- the other way round
+-- the order of two leaves the other way round
 turned : (winner other : Winner) → rank winner other ≡ ordering_reverse (rank other winner)
 turned = rank_total.antisymm
 
@@ -79,7 +79,7 @@ tied Less ordering e t u = absurd (clash (sym (ap is_gt e) ∙ u))
 tied Equal ordering e t u = refl
 tied Greater ordering e t u = absurd (cc)
 
--- ---- what is put in its place keeps the order and the leaves
+-- ---- a leaf put in its place keeps the order and the leaves
 
 up_to_more : (x winner : Winner) (others : List Winner) → is_gt (rank x winner) ≡ false → UpTo winner others
     → UpTo x others
@@ -138,7 +138,7 @@ best_sum f (leaf ∷ leaves) =
 
 -- ---- two rising lists of the same leaves are one
 
--- one for each leaf above winner
+-- 1 for a leaf above winner, else 0
 abbrev below : Winner → Winner → ℕ
 below winner other = cond (is_gt (rank winner other)) 1 0
 
@@ -204,7 +204,7 @@ sorted_rises (winner ∷ winners) far = (
   sorted_rises winners (λ i j other l m. far (suc i) (suc j) other (omega arith) (omega arith)),
 )
 
--- the test that a sort of leaves is by
+-- the test by which leaves are sorted
 abbrev pub is_before : Winner → Winner → Bool
 is_before winner other = is_lt (rank winner other)
 

@@ -1,4 +1,4 @@
--- What stands behind a revision: told step by step, and by lists of steps.
+-- The revisions behind a revision: step by step, and by lists of steps.
 use Rattle.std.proofs.Common.{◌≡◌, ℕ, ◌+◌, ◌≤◌, List, [], ◌∷◌, ◌++◌, length, take, true}
 use Rattle.std.proofs.Common.{false, Contains, inl, inr, refl, sym, ap, ◌∙◌, subst, arith}
 use Rattle.std.specs.Prelude.{Option, Some, None, slice_get}
@@ -34,7 +34,7 @@ module _ (edits : List Edit) (legal : IsLegal edits) where
   HasSteps revisions =
       (revision other : Revision) → IsNext revisions revision other → IsBehind edits [] other revision
 
-  -- what stands directly behind a revision is what is told
+  -- the revision that stands directly behind another is the one that `behind_in` gives
   pub told_is : (revision other : Revision) → IsBehind edits [] other revision
       → behind_in revision (edits_of edits []) ≡ Some other
   told_is revision other b = from (behind_in revision (edits_of edits [])) refl
@@ -71,7 +71,7 @@ module _ (edits : List Edit) (legal : IsLegal edits) where
       behind_in_none (edits_of edits []) revision other q b.0 (in_edits edits [] b.0 b.1)
       (legal_histories edits legal b.0 b.1.0).falls b.2
 
-  -- steps, and the line of what is told behind the last one, are a walk
+  -- a list of steps, and the line of the revision behind its last, are a walk
   steps_walk : (revision : Revision) (revisions : List Revision) → HasSteps (revision ∷ revisions)
       → (other : Revision) → last_in (revision ∷ revisions) ≡ Some other → (maybe_revision : Option Revision)
       → behind_in other (edits_of edits []) ≡ maybe_revision
@@ -90,7 +90,7 @@ module _ (edits : List Edit) (legal : IsLegal edits) where
     steps_walk y revisions (λ s r n. steps s r (inr n)) other last maybe_revision told,
   )
 
-  -- so they are all that stands behind the first
+  -- so they are the line of the first
   pub line_front : (revision : Revision) (revisions : List Revision) → IsKnown edits [] revision
       → HasSteps (revision ∷ revisions)
       → (other : Revision) → last_in (revision ∷ revisions) ≡ Some other → (maybe_revision : Option Revision)
@@ -104,7 +104,7 @@ module _ (edits : List Edit) (legal : IsLegal edits) where
       ((legal_sound edits legal).tree []) w.1
       (steps_walk revision revisions steps other last maybe_revision told) w.0 refl)
 
-  -- the path of an edit is the front of all that stands behind its head
+  -- the path of an edit is the front of its head's line
   pub edit_front : (edit : Edit) (revision : Revision) → Edits edits [] edit → head_of edit ≡ Some revision
       → take (length edit.path) (line_to edits (Some revision)) ≡ edit.path
   edit_front edit revision own head = from edit.path refl head
@@ -123,7 +123,7 @@ module _ (edits : List Edit) (legal : IsLegal edits) where
           (line_front x revisions known steps z.0 z.1 (behind_in z.0 (edits_of edits [])) refl)
           ∙ take-append_seam (x ∷ revisions) (line_to edits (behind_in z.0 (edits_of edits [])))
 
-  -- steps fall
+  -- the generations fall along steps
   pub steps_fall : (revision : Revision) (revisions : List Revision) → IsKnown edits [] revision
       → HasSteps (revision ∷ revisions) → Falls revision revisions
   steps_fall revision [] known steps = known_above edits [] (legal_histories edits legal) revision known
@@ -134,7 +134,7 @@ module _ (edits : List Edit) (legal : IsLegal edits) where
             (λ s r n. steps s r (inr n)),
       )
 
-  -- nothing stands behind the first generation
+  -- no revision stands behind one of generation 1
   pub first_ends : (revision : Revision) → revision.generation ≡ 1 → (other : Revision)
       → ¬ IsBehind edits [] other revision
   first_ends revision first other b =
@@ -145,7 +145,7 @@ module _ (edits : List Edit) (legal : IsLegal edits) where
       (behind_known edits [] (legal_histories edits legal) other revision b) in
       absurd (omega arith)
 
--- the last of a path is so many generations down
+-- the last of a path is as many generations below the first as there are revisions behind the first
 pub last_down : (revision : Revision) (revisions : List Revision) (other : Revision)
     → Falls revision revisions → last_in (revision ∷ revisions) ≡ Some other
     → other.generation + length revisions ≡ revision.generation
@@ -155,7 +155,7 @@ last_down revision [] other f e =
     omega (arith, same)
 last_down revision (y ∷ revisions) other f e = omega (arith, last_down y revisions other f.1 e, f.0)
 
--- what stands behind a revision is no more than its generation
+-- the line of a revision has no more revisions than its generation
 pub line_short : (edits : List Edit) (revision : Revision) → IsLegal edits
     → length (line_to edits (Some revision)) ≤ revision.generation
 line_short edits revision legal = elim (cases_Bool (is_known edits [] revision)) [
@@ -209,7 +209,7 @@ path_history edits revision path tree h = elim (cases_Bool (is_known edits [] re
   | inr t ↦ absurd (let e = rw t at h in cc)
 ]
 
--- what no path names is missing
+-- the revisions that no path names are the missing ones
 pub missing_by : (branches : List Branch) (revs : List Revision)
     → unnamed_in branches revs ≡ unknown_revisions (edits_in branches) [] revs
 missing_by branches [] = refl

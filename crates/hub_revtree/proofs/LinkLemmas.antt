@@ -1,4 +1,4 @@
--- What stands behind a revision is in its first stem or in that of its link.
+-- The revision behind another is in the other's first stem, or in the stem of its link.
 use Rattle.std.proofs.Common.{◌≡◌, ℕ, zero, suc, ◌+◌, ◌<◌, ◌≤◌, ◌⊎◌, List, [], ◌∷◌, length}
 use Rattle.std.proofs.Common.{take, true, false, inl, inr, refl, sym, ap, ◌∙◌, subst, arith}
 use Rattle.std.specs.Prelude.{Option, Some, None, IfSome, IfNone, IsSome}
@@ -45,7 +45,7 @@ one_place (other ∷ revisions) i j revision f d e =
 
 -- ---- stems that go on
 
--- what has one behind it goes on
+-- a stem that brought a revision behind another goes on behind the other
 pub brought_goes : (stems : List Stem) → AreStems stems → (revision other : Revision)
     → (b : IsBrought stems revision other) → GoesOn stems b.0 other
 brought_goes stems a revision other b =
@@ -67,7 +67,7 @@ brought_goes stems a revision other b =
           b.1 revision b.2 b.3)
     ]
 
--- what goes on among the first stems does among all
+-- a stem that goes on among the first stems goes on among all
 goes_whole : (stems : List Stem) (n k : ℕ) (revision : Revision) → GoesOn (take n stems) k revision
     → GoesOn stems k revision
 goes_whole stems n k revision (s, at, e, there, more) =
@@ -189,7 +189,7 @@ module _ (stems : List Stem) (n at : ℕ) (revision : Revision)
             | inr i ↦ inr (i.0, sym i.1, g)
           ]
 
--- ---- what a look finds
+-- ---- the result of a look
 
 -- a revision that heads a stem heads the first one that has it
 module _ (stems : List Stem) (a : AreStems stems) (revision : Revision) where
@@ -243,7 +243,8 @@ module _ (stems : List Stem) (a : AreStems stems) (revision : Revision) where
           subst (λ (other : Revision). is_same revision other ≡ true) (sym (same_Some x revision e))
           (same_self revision)
 
-  -- nothing stands behind what no stem has, nor behind what ends in its first stem and has no link
+  -- no revision stands behind one that no stem has, nor behind one with which its first stem ends, without a
+  -- link
   pub nothing_behind : has_revision stems revision ≡ false → (other : Revision)
       → ¬ IsBrought stems other revision
   nothing_behind absent other b =
@@ -264,7 +265,7 @@ module _ (stems : List Stem) (a : AreStems stems) (revision : Revision) where
 pub link_low : (stems : List Stem) (k : ℕ) (revision : Revision) → GoesOn stems k revision → k < length stems
 link_low stems k revision g = slice_get_within stems k g.0 g.2
 
--- what a stem that has a revision at a place shows
+-- a stem, and whether it goes on behind a revision
 module _ (stems : List Stem) (a : AreStems stems) (k : ℕ) (stem : Stem)
     (e : slice_get stems k ≡ Some stem) (revision : Revision) where
   pub goes_absent : names stem.revisions revision ≡ false → ¬ GoesOn stems k revision
@@ -304,7 +305,7 @@ module _ (stems : List Stem) (a : AreStems stems) (k : ℕ) (stem : Stem)
         from None q = ends q
         from (Some p) q = tt
 
--- what holds where there is one, or none
+-- where there is a value, the statement holds that any value gives
 pub some_if : {A : Type 0} (o : Option A) (P : Type 0) → IfSome o (λ _. P) → is_some o ≡ true → P
 some_if None P h t = absurd (cc)
 some_if (Some x) P h t = h

@@ -1,4 +1,4 @@
--- What is noted of stems changes nothing else of them, and stays right as one stem more comes.
+-- The notes of stems change nothing else of them, and stay right as one stem more comes.
 use Rattle.std.proofs.Common.{◌≡◌, ◌≢◌, ℕ, zero, suc, ◌+◌, ◌-◌, ◌<◌, ◌≤◌, List, [], ◌∷◌}
 use Rattle.std.proofs.Common.{◌++◌, length, drop, take, map, Bool, true, false, ◌⊎◌}
 use Rattle.std.proofs.Common.{inl, inr, refl, sym, ap, ap₂, ◌∙◌, subst, ◌||◌, arith}
@@ -33,7 +33,7 @@ use Rattle.hub_revtree.proofs.StemLemmas.{any_at, any_place, get_front, get_last
 use Rattle.hub_revtree.proofs.StemLemmas.{get_taken, named_in, names_drop, or_assoc, within_stem}
 use Rattle.hub_revtree.proofs.StemLooks.{behind_in, first_named, first_there, head_at, some_path}
 
--- ---- what is noted changes nothing else
+-- ---- notes change nothing else
 
 revs_plain : (stems : List Stem) (k : ℕ) → revisions_at (map plain stems) k ≡ revisions_at stems k
 revs_plain [] k = refl
@@ -280,7 +280,7 @@ get_set_other (x ∷ xs) zero v (suc j) n = refl
 get_set_other (x ∷ xs) (suc k) v zero n = refl
 get_set_other (x ∷ xs) (suc k) v (suc j) n = get_set_other xs k v j (λ e. n (ap suc e))
 
--- the mark alone is set
+-- to set a note changes nothing else
 pub set_plain : (stems : List Stem) (k : ℕ) (other : Stem) → slice_get stems k ≡ Some other
     → map plain (slice_set stems k (with_note true other)) ≡ map plain stems
 set_plain [] k other e = absurd (cc)
@@ -291,7 +291,7 @@ pub first_test : (revisions : List Revision) (n : ℕ) (revision other : Revisio
     → slice_get revisions n ≡ Some revision → is_first other (drop n revisions) ≡ is_same other revision
 first_test revisions n revision other e = ap (is_first other) (dropped_one revisions n revision e)
 
--- two stems do not have one newest revision
+-- two stems do not have the same newest revision
 earlier_head : (stems : List Stem) → AreStems stems → (j k : ℕ) (stem other : Stem) (revision : Revision)
     → j < k
     → slice_get stems j ≡ Some stem → slice_get stems k ≡ Some other
@@ -348,7 +348,7 @@ noted_first stems others place stem a e first is P covers noted k t r f h =
           absurd (one_head stems a k place.stem t stem r other was e h there))
     ]
 
--- a revision behind a newest one is noted where it is a newest one
+-- a place that is not that of a newest revision needs no note
 pub noted_later : (stems : List Stem) (place : Place) (stem : Stem) → slice_get stems place.stem ≡ Some stem
     → ¬ (place.at ≡ 0) → Notes stems (λ r. is_at stems r (Some place)) stems
 noted_later stems place stem e later P covers noted k t r f h =
@@ -402,7 +402,7 @@ one_noted stems others rest revisions n revision some e same before now =
     dropped_one revisions (n - 1) revision e ∙ ap (λ m. revision ∷ drop m revisions) next)))
     (notes_on stems others rest (λ r. names (drop n revisions) r) (λ r. is_same r revision) same before now)
 
--- of a revision that no stem has there is none to note
+-- revisions that no stem has need no note
 pub unknown_noted : (stems : List Stem) (P : Revision → Bool)
     → ((revision : Revision) → P revision ≡ true → has_revision stems revision ≡ false) → Notes stems P stems
 unknown_noted stems P unknown T covers noted k t revision e h =
@@ -416,13 +416,13 @@ unknown_noted stems P unknown T covers noted k t revision e h =
 
 -- ---- one stem more
 
--- what was lent of a vector comes back
+-- the stems that were lent of a vector come back
 pub lent_back : (P : List Stem → Type 0) (stems rest : List Stem) (n : ℕ) → length stems ≡ n → P stems
     → P (take n (stems ++ rest))
 lent_back P stems rest n long p =
     subst P (sym (ap (λ k. take k (stems ++ rest)) (sym long) ∙ take-append_seam stems rest)) p
 
--- where a place is told, it is one of the stems
+-- where there is a place, it is one of the stems
 pub within_told : (stems : List Stem) (maybe_place : Option Place)
     → ((place : Place) → maybe_place ≡ Some place → IsWithin stems place)
     → IfSome maybe_place (IsWithin stems)
@@ -483,7 +483,7 @@ inner_more stems stem revision a w =
     turned false false true = refl
     turned false false false = refl
 
--- what stands behind a newest revision is known
+-- a revision that stands behind a newest one is known
 behind_known : (stems : List Stem) → AreStems stems → (revision : Revision) → is_inner stems revision ≡ true
     → has_revision stems revision ≡ true
 behind_known stems a revision t =
@@ -504,7 +504,7 @@ behind_known stems a revision t =
         (first_named (drop p.at j.0.revisions) revision
         (ap (λ maybe_place. is_first revision (drop p.at (revisions_in maybe_place))) (sym j.1) ∙ v)))
 
--- the newest revision of the newest stem stands behind none
+-- the newest revision of the newest stem stands behind no newest one
 newest_leads : (stems : List Stem) (stem : Stem) (revision : Revision) → AreStems stems
     → AreStems (stems ++ stem ∷ [])
     → slice_get stem.revisions 0 ≡ Some revision → is_inner (stems ++ stem ∷ []) revision ≡ false
@@ -559,7 +559,7 @@ marked_more stems others stem a more w same marked leaf notes k t r e h =
     there : is_inner (stems ++ stem ∷ []) r ≡ is_inner (others ++ stem ∷ []) r
     there = inner_same (stems ++ stem ∷ []) (others ++ stem ∷ []) (plain_more stems others stem same) r
 
--- ---- what the marks tell
+-- ---- the marks say which revisions are leaves
 
 module _ (stems : List Stem) (a : AreStems stems) (marked : AreMarked stems) where
   leaf_test : (revision : Revision) → (known behind : Bool) → has_revision stems revision ≡ known
@@ -570,7 +570,7 @@ module _ (stems : List Stem) (a : AreStems stems) (marked : AreMarked stems) whe
       ap (λ z. z && not (list_any (λ b. is_behind_head revision (edit_of b)) (branches_of stems)))
       (named_in stems a revision ∙ k) ∙ ap (λ z. known && not z) (behind_in stems a revision ∙ b)
 
-  -- a stem that a revision heads
+  -- the revision heads a stem
   pub found_leaf : (revision : Revision) (stem : Stem)
       → Some stem ≡ find (λ other. is_first revision other.revisions) stems
       → not stem.inner ≡ (list_any (λ b. names b.path revision) (branches_of stems)
@@ -584,7 +584,7 @@ module _ (stems : List Stem) (a : AreStems stems) (marked : AreMarked stems) whe
       sym (leaf_test revision true stem.inner known
       (sym (marked i.1.0 stem revision there (first_there 0 stem.revisions revision i.0))))
 
-  -- and where there is none
+  -- the revision heads no stem
   pub found_none : (revision : Revision) → None ≡ find (λ stem. is_first revision stem.revisions) stems
       → false ≡ (list_any (λ b. names b.path revision) (branches_of stems)
       && not (list_any (λ b. is_behind_head revision (edit_of b)) (branches_of stems)))

@@ -1,4 +1,4 @@
--- Whether a path agrees with the stored ones, and what its stem brings.
+-- Whether a path agrees with the stored ones, and the look at it that says so.
 use Rattle.std.proofs.Common.{◌≡◌, ◌≢◌, ℕ, zero, suc, ◌+◌, ◌-◌, ◌<◌, ◌≤◌, min, List, []}
 use Rattle.std.proofs.Common.{◌∷◌, ◌++◌, length, drop, take, true, false, ◌⊎◌, inl, inr}
 use Rattle.std.proofs.Common.{refl, sym, ap, ap₂, ◌∙◌, subst, option_map, arith}
@@ -26,9 +26,9 @@ use Rattle.hub_revtree.proofs.RunLemmas.{dropped_one}
 use Rattle.hub_revtree.proofs.StemLemmas.{named_in, within_rev}
 use Rattle.hub_revtree.proofs.TreeLemmas.{all_of_one, known_by}
 
--- ---- how far two lists are one
+-- ---- how far two lists are the same
 
--- lists that begin with one revision, and of which the steps agree, are one
+-- lists that begin with the same revision, and whose steps agree, are the same as far as both go
 pub common_agrees : (revision : Revision) (others revisions : List Revision)
     → ((s r other : Revision) → IsNext (revision ∷ others) s r → IsNext (revision ∷ revisions) s other
     → r ≡ other) → common (revision ∷ others) (revision ∷ revisions) ≢ None
@@ -114,8 +114,8 @@ take_first (suc n) (revision ∷ revisions) some = refl
 
 -- ---- the look at a path, up to a place
 
--- the path's steps so far agree with the stored ones, and of the last revision so far is told what is behind
--- it
+-- the path's steps so far agree with the stored ones, and `next` is the place of the stored revision behind
+-- the last one so far
 pub record Agrees (stems : List Stem) (path : List Revision) (at : ℕ) (next : Option Place) : Type 0 where
   pub steps : (s r other : Revision) → IsNext (take at path) s r
       → IsBehind (edits_in (branches_of stems)) [] other s → r ≡ other
@@ -125,8 +125,7 @@ pub record Agrees (stems : List Stem) (path : List Revision) (at : ℕ) (next : 
   pub within : IfSome next (IsWithin stems)
   pub short : at ≤ length path
 
--- the path's next revision stands at the place, or the place is the one told of what is behind the last so
--- far
+-- the path's next revision stands at the place, or the place is the one behind the last revision so far
 pub record Goes (stems : List Stem) (path : List Revision) (at : ℕ) (next : Option Place)
     (place : Place) : Type 0 where
   pub so_far : Agrees stems path at next
@@ -141,7 +140,7 @@ module _ (stems : List Stem) (a : AreStems stems) (legal : IsLegal (edits_in (br
   abbrev es : List Edit
   es = edits_in (branches_of stems)
 
-  -- what is behind a revision is had by a stem
+  -- a revision with another directly behind it is one of a stem's
   behind_had : (revision other : Revision) → IsBehind es [] other revision
       → has_revision stems revision ≡ true
   behind_had revision other (e, own, n) =
@@ -177,7 +176,7 @@ module _ (stems : List Stem) (a : AreStems stems) (legal : IsLegal (edits_in (br
           let t : ◌≡◌ {A = Option Revision} None (Some other) = ap (rev_at stems) (sym q) ∙ is in absurd (cc)
       from (Some p) q h = same_Some r other (sym h ∙ (ap (rev_at stems) (sym q) ∙ is))
 
-  -- more of the path, of which the steps agree
+  -- a longer part of the path, whose steps agree
   more_steps : (at n : ℕ) (next : Option Place) → Agrees stems path at next
       → ((r : Revision) → slice_get (take n (drop at path)) 0 ≡ Some r
       → IfSome next (λ p. rev_at stems (Some p) ≡ Some r))
@@ -308,7 +307,7 @@ module _ (stems : List Stem) (a : AreStems stems) (legal : IsLegal (edits_in (br
               ∙ last_append (take at path) r.0 (drop (suc p.at) (revisions_at stems p.stem))
               ∙ ap last_in (sym f)
 
-    -- a path that differs from it agrees with none
+    -- a path that differs from the stem does not agree with all
     pub differs : IsHistory path → common (take (length path - at) rest) chain ≡ None
         → false ≡ list_all (λ b. is_consistent path b.path) (branches_of stems)
     differs history none = elim (cases_Bool (list_all (λ b. is_consistent path b.path) (branches_of stems))) [
@@ -385,7 +384,7 @@ module _ (stems : List Stem) (a : AreStems stems) (legal : IsLegal (edits_in (br
                     ∙ placed)) in
                     sym (steps_agree all y.0 g.first r (step_at y.0 y.1) b)
 
-  -- a path whose steps agree with the stored ones agrees with all
+  -- a path whose steps agree with the stored ones agrees with all branches
   pub agree_all : ((revision r other : Revision) → IsNext path revision r → IsBehind es [] other revision
       → r ≡ other) → true ≡ list_all (λ branch. is_consistent path branch.path) (branches_of stems)
   agree_all steps =

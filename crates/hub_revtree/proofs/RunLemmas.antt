@@ -23,7 +23,7 @@ pub least : (revision : Revision) (revisions : List Revision) → Falls revision
 least revision [] f = f
 least revision (other ∷ revisions) f = omega (arith, f.0)
 
--- the revision that is read at a place
+-- the first revision of a list from a place on is the one at the place
 pub first_drop : (revisions : List Revision) (k : ℕ) (revision other : Revision)
     → slice_get revisions k ≡ Some other → is_first revision (drop k revisions) ≡ is_same revision other
 first_drop [] k revision other e = absurd (cc)
@@ -42,7 +42,7 @@ dropped_one [] k x e = absurd (cc)
 dropped_one (y ∷ xs) zero x e = ap (λ z. z ∷ xs) (same_Some y x e)
 dropped_one (y ∷ xs) (suc k) x e = dropped_one xs k x e
 
--- there are as many as digests
+-- there are as many revisions as digests
 pub as_many_digests : (n : ℕ) (ds : List (List ℕ)) → length (revisions_from n ds) ≡ length ds
 as_many_digests n [] = refl
 as_many_digests n (d ∷ ds) = ap suc (as_many_digests (n - 1) ds)
@@ -63,7 +63,7 @@ module _ (revisions : List Revision) (n : ℕ) (ds : List (List ℕ)) (is : revi
       from n (d ∷ e ∷ ds) (suc k) path low =
           omega (arith, path.0, from (n - 1) (e ∷ ds) k path.1 (omega arith))
 
-  -- the one at a place
+  -- the revision at a place
   pub digest_read : (k : ℕ) (d : List ℕ) → k < length revisions → d ≡ get_or ds k d
       → slice_get revisions k ≡ Some (record { generation = n - k; hash = encode_lower d })
   digest_read k d low read =
@@ -119,7 +119,7 @@ module _ (revisions : List Revision) (n : ℕ) (ds : List (List ℕ)) (is : revi
       from n (d ∷ ds) zero = ap (λ z. encode_lower d ∷ z) (from (n - 1) ds 0)
       from n (d ∷ ds) (suc k) = from (n - 1) ds k
 
-  -- the first of the digests
+  -- the first digests give the first revisions
   pub digests_cut : (k : ℕ) → revisions_from n (take k ds) ≡ take k revisions
   digests_cut k = from n ds k ∙ ap (take k) is
     where
@@ -138,14 +138,14 @@ texts_read revisions others k revision is low read =
     subst (λ z. slice_get z k ≡ Some revision) is
     (slice_get_read others _ k revision refl (omega (arith, low, same)) read)
 
--- the newest one, by its generation
+-- the newest revision, by its generation
 pub newest_of : (revisions : List Revision) (n : ℕ)
     → option_map (λ r. r.generation) (slice_get revisions 0) ≡ Some n
     → (revision : Revision) × (slice_get revisions 0 ≡ Some revision) × (revision.generation ≡ n)
 newest_of [] n e = absurd (cc)
 newest_of (revision ∷ revisions) n e = (revision, refl, same_Some revision.generation n e)
 
--- a revision stands where its generation tells, or nowhere
+-- a revision stands at the place that its generation gives, or nowhere
 module _ (revisions : List Revision) (path : IsPath revisions)
     (n : ℕ) (newest : option_map (λ revision. revision.generation) (slice_get revisions 0) ≡ Some n)
     (revision : Revision) where
@@ -176,7 +176,7 @@ module _ (revisions : List Revision) (path : IsPath revisions)
         (λ e. both_ways (is_first revision (drop k revisions)) (sym is)
         (first_drop revisions k revision revision e ∙ same_self revision))
 
--- one revision on
+-- one step along a list of revisions
 pub one_on : (revisions line : List Revision) (k : ℕ) (revision : Revision)
     → slice_get revisions k ≡ Some revision
     → (line ++ revision ∷ []) ++ drop (k + 1) revisions ≡ line ++ drop k revisions
@@ -235,7 +235,7 @@ digests_kept (other ∷ revisions) revision n ds k path first up e =
     ap (λ g. revisions_from g ds) (up ∙ ap (λ (z : Revision). z.generation) first)
     ∙ front_kept other revisions ds k path e
 
--- what a run on a line has
+-- the revisions of a run on a line
 pub line_whole : (revision : Revision) (revisions : List Revision) (ds : List (List ℕ))
     → IsPath (revision ∷ revisions)
     → map encode_lower ds ≡ map (λ r. r.hash) revisions
@@ -245,7 +245,7 @@ line_whole revision (other ∷ revisions) ds path e =
     let down : revision.generation - 1 ≡ other.generation = omega (arith, path.0) in
     digests_whole other revisions (revision.generation - 1) ds path.1 down e
 
--- and it is shorter than the generation of what stands on it
+-- the line is shorter than the generation of the revision on it
 pub line_short : (revision : Revision) (revisions : List Revision) (ds : List (List ℕ))
     → IsHistory (revision ∷ revisions)
     → map encode_lower ds ≡ map (λ other. other.hash) revisions → length ds < revision.generation
@@ -255,7 +255,7 @@ line_short revision revisions ds h e =
     ∙ length-map revisions (λ (other : Revision). other.hash) in
     omega (arith, as_many, within_generation (revision ∷ revisions) revision h refl)
 
--- the first of the first
+-- the first items of a front are those of the list
 take_fewer : {A : Type 0} (a b : ℕ) (xs : List A) → a ≤ b → take a (take b xs) ≡ take a xs
 take_fewer zero b xs l = refl
 take_fewer (suc a) zero xs l = absurd (omega (arith, l))
@@ -272,7 +272,7 @@ take_least a b xs = elim (cases_lt a b) [
       ap (λ k. take k xs) least ∙ sym (take_all a (take b xs) (omega (arith, m, length-take b xs)))
 ]
 
--- the first of a path, so many at most, whose digests are these
+-- a run that shares a line: the first revisions of a path, at most `most`, whose digests are these
 module _ (revisions : List Revision) (n most : ℕ) (d : List ℕ) (line : List (List ℕ))
     (is : revisions_from n (take most (d ∷ line)) ≡ revisions) where
   pub shared_length : length revisions ≡ min most (length line + 1)
@@ -297,7 +297,7 @@ module _ (revisions : List Revision) (n most : ℕ) (d : List ℕ) (line : List 
       (nat_eq revision.generation (n - k) && bytes_eq revision.hash (encode_lower e))
   shared_first k e revision low read = first_drop revisions k revision _ (shared_read k e low read)
 
-  -- where that is all of them, a line of all has their digests
+  -- where these are all revisions, a line of all has their digests
   pub shared_all : (o : Option (List (List ℕ))) → IfSome o (λ l. (l ≡ d ∷ line) × (length l ≤ most))
       → IfSome o (λ l. map encode_lower l ≡ map (λ revision. revision.hash) revisions)
   shared_all None h = tt
@@ -311,12 +311,12 @@ module _ (revisions : List Revision) (n most : ℕ) (d : List ℕ) (line : List 
       hashes n [] = refl
       hashes n (c ∷ ds) = ap (λ z. encode_lower c ∷ z) (hashes (n - 1) ds)
 
--- digests from a generation down are a path, where they are no more than that
+-- digests from a generation down are a path, where that generation is their number at least
 pub down_path : (n : ℕ) (d : List ℕ) (ds : List (List ℕ)) → length ds < n → IsPath (revisions_from n (d ∷ ds))
 down_path n d [] low = omega (arith, low)
 down_path n d (e ∷ ds) low = (omega (arith, low), down_path (n - 1) e ds (omega (arith, low)))
 
--- so are those on a line
+-- the digests of a shared line are a path too
 pub shared_path : (n : ℕ) (d : List ℕ) (line : List (List ℕ)) → length line < n
     → IsPath (revisions_from n (take n (d ∷ line)))
 shared_path n d line low =

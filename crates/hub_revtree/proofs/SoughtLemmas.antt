@@ -15,7 +15,7 @@ use Rattle.hex.specs.declared.error.FromHexError.{FromHexError}
 use Rattle.hex.proofs.HexLemmas.{decode_sized-encode_lower}
 use Rattle.hub_revtree.proofs.StemLemmas.{same_truth}
 
--- the number of the bytes up to a place is below what one at the next place is worth
+-- the number of the bytes up to a place is below the worth of 1 at the next place
 abbrev worth : (ℕ → ℕ) → ℕ → ℕ
 worth f k = sum_through (λ i. byte_worth i (f i)) k
 
@@ -26,7 +26,7 @@ below_next f small (suc k) =
     mul-le-mul_right (256 ^ suc k) (omega (arith, small (suc k))) in
     omega (arith, below_next f small k, own, pow-suc 256 (suc k))
 
--- so it tells each of them
+-- so the number gives each of the bytes
 same_times : (a b w s t : ℕ) → s < w → t < w → a * w + s ≡ b * w + t → a ≡ b
 same_times a b w s t low low' both =
     sym (div-mul-add a w s low) ∙ ap (λ n. n / w) both ∙ div-mul-add b w t low'

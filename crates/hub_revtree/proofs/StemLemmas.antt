@@ -1,4 +1,4 @@
--- What stems show of their branches.
+-- Stems and their branches.
 use Rattle.std.proofs.Common.{◌≡◌, ℕ, zero, suc, ◌+◌, ◌-◌, ◌<◌, ◌≤◌, List, [], ◌∷◌, ◌++◌, length}
 use Rattle.std.proofs.Common.{drop, take, map, option_map, add-one, Bool, true, false, ◌⊎◌, inl}
 use Rattle.std.proofs.Common.{inr, refl, sym, ap, ◌∙◌, subst, append_assoc, append-nil, ◌||◌, arith}
@@ -46,14 +46,14 @@ get_taken (suc n) k [] low = refl
 get_taken (suc n) zero (x ∷ xs) low = refl
 get_taken (suc n) (suc k) (x ∷ xs) low = get_taken n k xs (omega arith)
 
--- the last one
+-- the last element of a list
 pub split_at : {A : Type 0} (xs : List A) (k : ℕ) (x : A) → slice_get xs k ≡ Some x → length xs ≤ suc k
     → xs ≡ take k xs ++ x ∷ []
 split_at xs k x e past =
     sym (take-append-drop k xs)
     ∙ ap (λ z. take k xs ++ z) (dropped_one xs k x e ∙ ap (λ z. x ∷ z) (drop_all (suc k) xs past))
 
--- a front that reaches behind the first list
+-- a front that is longer than the first of two lists
 pub take_more : {A : Type 0} (n : ℕ) (xs ys : List A) → length xs ≤ n
     → take n (xs ++ ys) ≡ xs ++ take (n - length xs) ys
 take_more n xs ys low =
@@ -134,7 +134,7 @@ as_many_chains stems = omega (arith, length_after [] stems)
 pub as_many : (stems : List Stem) → length (branches_of stems) ≡ length stems
 as_many stems = length-map (chains_of stems) branch_of ∙ as_many_chains stems
 
--- from the end
+-- induction over a list from its end
 induct_after : (P : List Stem → Type 0)
     → ((stems : List Stem) (other : Stem) → P stems → P (stems ++ other ∷ []))
     → (stems others : List Stem) → P stems → P (stems ++ others)
@@ -178,7 +178,7 @@ pub rev_within : (stems : List Stem) (place : Place) (revision : Revision)
     → rev_at stems (Some place) ≡ Some revision → IsWithin stems place
 rev_within stems place revision e = slice_get_within (revisions_at stems place.stem) place.at revision e
 
--- it is the same one among more stems
+-- the place has the same revision among more stems
 rev_more : (stems others : List Stem) (place : Place) (revision : Revision)
     → rev_at stems (Some place) ≡ Some revision → rev_at (stems ++ others) (Some place) ≡ Some revision
 rev_more stems others place revision e =
@@ -228,7 +228,7 @@ front stems stem a = record {
     before k other e =
         take-append-le k stems (stem ∷ []) (let low = slice_get_within stems k other e in omega (arith, low))
 
--- what one stem more has to be
+-- the conditions of the next stem
 pub record IsNextStem (stems : List Stem) (stem : Stem) : Type 0 where
   pub falling : IsPath stem.revisions
   pub newest : (other : Revision) → slice_get stem.revisions 0 ≡ Some other → has_revision stems other ≡ false
@@ -241,7 +241,7 @@ pub record IsNextStem (stems : List Stem) (stem : Stem) : Type 0 where
       × ((place : Place) → stem.parent ≡ Some place → length stem.revisions < stem.count)
   pub reached : stem.reach ≡ length (chain_of (chains_of stems) stem).whole
 
--- one more
+-- the stems of a tree with the next one are the stems of a tree
 pub stems_more : (stems : List Stem) (stem : Stem) → AreStems stems → IsNextStem stems stem
     → AreStems (stems ++ stem ∷ [])
 stems_more stems stem a n = record {
@@ -370,7 +370,7 @@ rest_at stems place stem a e w =
     rw (chained_at stems a place.stem stem e)
     (drop-append-le place.at stem.revisions (chain_from (chains_of stems) stem.parent) (omega (arith, low)))
 
--- which begins with the revision there
+-- the chain from a place on begins with the revision there
 pub first_from : (stems : List Stem) (place : Place) (revision : Revision) → AreStems stems
     → rev_at stems (Some place) ≡ Some revision
     → (older : List Revision) × (chain_from (chains_of stems) (Some place) ≡ revision ∷ older)
@@ -383,7 +383,7 @@ first_from stems place revision a e =
           (dropped_one i.0.revisions place.at revision there),
     )
 
--- a stem's own path is the front of its edit's
+-- a stem's own path is the front of its edit's path
 pub own_front : (stems : List Stem) → AreStems stems → (k : ℕ) (stem : Stem) → slice_get stems k ≡ Some stem
     → (tail : List Revision) ×
     ((branch_of (chain_of (chains_of stems) stem)).path ≡ own_path stems stem ++ tail)
@@ -417,7 +417,7 @@ own_front stems a k stem e = from stem.parent refl
               ++ take (stem.count - length stem.revisions - 1) f.0) (sym r.1),
         )
 
--- a path's rest names no other revision
+-- the rest of a path names no revision that the path does not
 pub names_drop : (n : ℕ) (revisions : List Revision) (revision : Revision)
     → names (drop n revisions) revision ≡ true → names revisions revision ≡ true
 names_drop zero revisions revision h = h
@@ -425,7 +425,7 @@ names_drop (suc n) [] revision h = h
 names_drop (suc n) (other ∷ revisions) revision h =
     or_right (is_same revision other) (names revisions revision) (names_drop n revisions revision h)
 
--- nor does its front
+-- the front of a path names no revision that the path does not
 pub names_take : (n : ℕ) (revisions : List Revision) (revision : Revision)
     → names (take n revisions) revision ≡ true → names revisions revision ≡ true
 names_take zero revisions revision h = absurd (cc)
@@ -474,7 +474,7 @@ or_none : (a : Bool) → a ≡ (a || false)
 or_none true = refl
 or_none false = refl
 
--- a chain names what a stem has, and nothing else
+-- the chains name the revisions that the stems have, and no others
 named_after : (chains : List Chain) (stems : List Stem) (revision : Revision)
     → list_any (λ c. names c.whole revision) (chains_after chains stems)
     ≡ (list_any (λ c. names c.whole revision) chains || has_revision stems revision)
@@ -508,7 +508,7 @@ path_of_chain (chain ∷ chains) revision h =
           (path_of_chain chains revision (rw t at h))
     ]
 
--- and so does a path
+-- the paths name the revisions that the stems have, and no others
 pub named_in : (stems : List Stem) → AreStems stems → (revision : Revision)
     → list_any (λ b. names b.path revision) (branches_of stems) ≡ has_revision stems revision
 named_in stems a revision = same_truth _ _

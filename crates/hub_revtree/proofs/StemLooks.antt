@@ -1,4 +1,4 @@
--- What is looked for among stems is found among their branches.
+-- A look among stems finds the same as one among their branches.
 use Rattle.std.proofs.Common.{◌≡◌, ℕ, zero, suc, ◌+◌, ◌<◌, ◌≤◌, List, [], ◌∷◌, ◌++◌, length, get_or, drop}
 use Rattle.std.proofs.Common.{take, Bool, true, false, inl, inr, refl, sym, ap, ◌∙◌, subst, ◌||◌, arith}
 use Rattle.std.specs.Prelude.{Option, Some, None, slice_get, find, option_map, option_and_then}
@@ -38,7 +38,7 @@ pub first_named : (revisions : List Revision) (revision : Revision) → is_first
 first_named [] revision t = absurd (cc)
 first_named (other ∷ revisions) revision t = or_left (is_same revision other) (names revisions revision) t
 
--- what begins the rest of a path stands there
+-- the first revision of the rest of a path stands at that place
 pub first_there : (n : ℕ) (revisions : List Revision) (revision : Revision)
     → is_first revision (drop n revisions) ≡ true → slice_get revisions n ≡ Some revision
 first_there zero [] revision t = absurd (cc)
@@ -46,7 +46,7 @@ first_there zero (other ∷ revisions) revision t = ap Some (sym (same_is revisi
 first_there (suc n) [] revision t = absurd (cc)
 first_there (suc n) (other ∷ revisions) revision t = first_there n revisions revision t
 
--- what a path's rest names behind its first revision stands behind the path's
+-- a revision that the rest of a path names, but not as its first, stands behind the path's first
 names_behind : (n : ℕ) (revisions : List Revision) (revision : Revision)
     → names (drop n revisions) revision ≡ true
     → is_first revision (drop n revisions) ≡ false → names (drop 1 revisions) revision ≡ true
@@ -99,7 +99,7 @@ module _ (stems : List Stem) (a : AreStems stems) (revision : Revision) where
     first_of : is_first revision (chain_from (chains_of stems) s.parent) ≡ is_at stems revision s.parent
     first_of = first_at s.parent within
 
-  -- the one that a stem stands on is the last of its own path
+  -- the revision that a stem stands on is the last of the stem's own path
   at_own : (stem : Stem) → is_at stems revision stem.parent ≡ true
       → names (one_of (rev_at stems stem.parent)) revision ≡ true
   at_own stem t = from stem.parent t
@@ -200,7 +200,7 @@ module _ (stems : List Stem) (a : AreStems stems) (revision : Revision) where
       same_branch : (other c : Branch) → ◌≡◌ {A = Option Branch} (Some other) (Some c) → other ≡ c
       same_branch other c e = cc
 
--- what is lent of a stem
+-- the tip of a stem
 abbrev pub tip_in : Stem → Tip
 tip_in stem = record { rev = slice_get stem.revisions 0; deleted = stem.deleted; body = stem.body }
 
@@ -237,7 +237,7 @@ tip_at stems a k = from (slice_get stems k) refl
         rw (shown_at stems a k s e)
         (ap Some (tip_same (chains_of stems) s (a.falling k s e) (a.counted k s e).0))
 
--- its revision and mark
+-- the revision and the mark of this branch
 pub head_at : (stems : List Stem) → AreStems stems → (k : ℕ) (stem : Stem) (revision : Revision)
     → slice_get stems k ≡ Some stem → slice_get stem.revisions 0 ≡ Some revision
     → option_and_then head_in (slice_get (branches_of stems) k) ≡ Some
@@ -316,7 +316,7 @@ module _ (revision : Revision) where
       ≡ option_map tip_in (find (λ s. is_first revision s.revisions) stems)
   headed_in = from_end AreHeaded (λ a. refl) headed_more
 
--- a stem as it is lent
+-- the tip of a stem, by its parts
 pub tip_shown : (stem : Stem) (revision : Revision) (deleted : Bool) (body : List ℕ)
     → slice_get stem.revisions 0 ≡ Some revision
     → deleted ≡ stem.deleted → body ≡ stem.body → tip revision deleted body ≡ tip_in stem
@@ -352,7 +352,7 @@ pub none_headed : (stems : List Stem)
     → option_map (λ b. tip_of (edit_of b)) (find (λ b. is_first rev b.path) (branches_of stems)) ≡ None
 none_headed stems a rev e = headed_in rev stems a ∙ ap (option_map tip_in) (sym e)
 
--- no two stems have one newest revision
+-- no two stems have the same newest revision
 heads_differ : (stems : List Stem) → AreStems stems → (revision : Revision) (k : ℕ) (stem : Stem)
     → slice_get stems k ≡ Some stem
     → is_first revision stem.revisions ≡ true
@@ -376,7 +376,7 @@ find_here P (stem ∷ stems) zero other e t f =
 find_here P (stem ∷ stems) (suc k) other e t f =
     let g = or_false (P stem) (list_any P (take k stems)) f in rw g.0 (find_here P stems k other e t g.1)
 
--- so the stem of a number is found by its newest
+-- so the stem of a number is found by its newest revision
 pub head_found : (stems : List Stem) → AreStems stems → (revision : Revision) (k : ℕ) (stem : Stem)
     → slice_get stems k ≡ Some stem
     → is_first revision stem.revisions ≡ true → Some stem ≡ find (λ z. is_first revision z.revisions) stems
@@ -389,7 +389,7 @@ none_found P [] f = refl
 none_found P (stem ∷ stems) f =
     let g = or_false (P stem) (list_any P stems) f in rw g.0 (none_found P stems g.1)
 
--- a stem that is found is one
+-- a stem that is found by a revision has it as its newest
 pub found_head : (stems : List Stem) (rev : Revision) (stem : Stem)
     → Some stem ≡ find (λ other. is_first rev other.revisions) stems → slice_get stem.revisions 0 ≡ Some rev
 found_head stems rev stem e =
@@ -434,7 +434,7 @@ no_long stems k past =
     ap (option_map (λ (branch : Branch). length branch.path))
     (slice_get_past (branches_of stems) k (omega (arith, past, as_many stems)))
 
--- of the branch that a revision heads
+-- the length of the path of the branch that a revision heads
 abbrev AreLong : Revision → List Stem → Type 0
 AreLong revision stems =
     AreStems stems

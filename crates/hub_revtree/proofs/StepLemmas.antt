@@ -1,4 +1,4 @@
--- What a step along the stems finds.
+-- Steps along the stems: the revision directly behind another one.
 use Rattle.std.proofs.Common.{◌≡◌, ℕ, zero, suc, ◌+◌, ◌<◌, ◌≤◌, List, [], ◌∷◌, ◌++◌, length, true}
 use Rattle.std.proofs.Common.{false, inl, inr, refl, sym, ap, ap₂, ◌∙◌, subst, append-nil, arith}
 use Rattle.std.specs.Prelude.{Option, Some, None, IfSome, IfNone, slice_get, Contains}
@@ -18,7 +18,7 @@ use Rattle.hub_revtree.proofs.StemLemmas.{get_last}
 
 -- ---- steps of a stem's own path
 
--- two revisions at places one behind the other
+-- revisions at two places, one directly behind the other, are a step of the list
 pub next_at : (revisions : List Revision) (n : ℕ) (revision other : Revision)
     → slice_get revisions n ≡ Some revision
     → slice_get revisions (suc n) ≡ Some other → IsNext revisions revision other
@@ -27,7 +27,7 @@ next_at (y ∷ []) zero revision other e f = absurd (cc)
 next_at (y ∷ z ∷ revisions) zero revision other e f = inl (same_Some y revision e, same_Some z other f)
 next_at (y ∷ revisions) (suc n) revision other e f = inr (next_at revisions n revision other e f)
 
--- the last of a path is its least
+-- the last revision of a path has the lowest generation
 last_least : (revision : Revision) (revisions : List Revision) (other r : Revision) → Falls revision revisions
     → last_in (revision ∷ revisions) ≡ Some other
     → Contains (revision ∷ revisions) r → other.generation ≤ r.generation
@@ -65,7 +65,7 @@ last_at (other ∷ []) (suc n) revision e past = absurd (cc)
 last_at (other ∷ z ∷ revisions) zero revision e past = absurd (omega arith)
 last_at (other ∷ z ∷ revisions) (suc n) revision e past = last_at (z ∷ revisions) n revision e (omega arith)
 
--- nothing stands behind the last of a path
+-- no revision stands behind the last one of a path
 pub last_alone : (revisions : List Revision) (n : ℕ) (revision : Revision) → IsPath revisions
     → slice_get revisions n ≡ Some revision
     → length revisions ≤ suc n → (other : Revision) → ¬ IsNext revisions revision other
@@ -76,7 +76,7 @@ last_alone (y ∷ revisions) n revision f e past other i =
     let down = next_drops (y ∷ revisions) revision other f i in
     absurd (omega (arith, low, down))
 
--- what has another behind it is not the last
+-- a revision with another behind it is one of the list, not the one after the list
 next_in_front : (revisions : List Revision) (maybe_revision : Option Revision) (revision other : Revision)
     → IsNext (revisions ++ one_of maybe_revision) revision other → Contains revisions revision
 next_in_front [] None revision other n = absurd n
@@ -88,7 +88,7 @@ next_in_front (y ∷ revisions) maybe_revision revision other (inr n) =
 
 module _ (stems : List Stem) (a : AreStems stems) (k : ℕ) (s : Stem)
     (e : slice_get stems k ≡ Some s) (revision : Revision) where
-  -- a revision that the stem does not have
+  -- a revision that the stem does not have has none behind it there
   pub none_own : names s.revisions revision ≡ false → (other : Revision)
       → ¬ IsNext (own_path stems s) revision other
   none_own f other n =
@@ -96,7 +96,7 @@ module _ (stems : List Stem) (a : AreStems stems) (k : ℕ) (s : Stem)
       (next_in_front s.revisions (rev_at stems s.parent) revision other n))
 
   module _ (at : ℕ) (here : slice_get s.revisions at ≡ Some revision) where
-    -- the one behind it in the stem
+    -- the next revision of the stem stands behind this one
     pub inner_brought : (p : Place) → p ≡ record { stem = k; at = at + 1 } → at + 1 < length s.revisions
         → IsWithin stems p × ((r : Revision) → rev_at stems (Some p) ≡ Some r → IsBrought stems r revision)
     inner_brought p is low =
@@ -119,7 +119,7 @@ module _ (stems : List Stem) (a : AreStems stems) (k : ℕ) (s : Stem)
             → slice_get s.revisions (suc at) ≡ Some r
         one_more r f = let same : suc at ≡ at + 1 = omega arith in ap (slice_get s.revisions) same ∙ f
 
-    -- the one that the stem stands on
+    -- the revision that the stem stands on stands behind the stem's last
     pub parent_brought : length s.revisions ≤ at + 1 → IfSome s.parent
         (λ p. IsWithin stems p × ((r : Revision) → rev_at stems (Some p) ≡ Some r
         → IsBrought stems r revision))
@@ -167,7 +167,7 @@ module _ (stems : List Stem) (a : AreStems stems) (k : ℕ) (s : Stem)
             (ap (λ o. s.revisions ++ one_of (rev_at stems o)) q ∙ append-nil s.revisions)
             (subst (λ (z : Stem). IsNext (own_path stems z) revision r) (same_Some stem s (sym f ∙ e)) n))
 
--- what has another behind it is a stem's own
+-- a revision with another behind it in a stem is the stem's own
 pub brought_has : (stems : List Stem) (other revision : Revision) → (b : IsBrought stems other revision)
     → names (revisions_at stems b.0) revision ≡ true
 brought_has stems other revision (k, stem, e, n) =

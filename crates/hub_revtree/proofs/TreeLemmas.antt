@@ -1,4 +1,4 @@
--- What the branches of a tree show of it as a journal.
+-- The branches of a tree as a journal.
 use Rattle.std.proofs.Common.{◌≡◌, ℕ, List, [], ◌∷◌, Bool, true, false, ap}
 use Rattle.std.proofs.Common.{refl, sym, ◌∙◌, subst, ⊎_elim, not, inl, inr}
 use Rattle.std.specs.Prelude.{IfSome, IfNone, Option, Some, None, slice_get}
@@ -113,7 +113,7 @@ module _ (branches : List Branch) (path : List Revision) (revision : Revision)
         (and_from (is_history path) _ (is_history_from path history)
         (and_from _ _ (not_known path head new) (agree_by ∙ h)))
 
-    -- and no other
+    -- a path that does not agree with all is not acceptable
     pub contradicts : (deleted : Bool) (body : List ℕ) → all ≡ false
         → ¬ IsAcceptable (edits_in branches) (record { id = []; path = path; deleted = deleted; body = body })
     contradicts deleted body h a =
@@ -123,7 +123,7 @@ module _ (branches : List Branch) (path : List Revision) (revision : Revision)
         (record { id = []; path = path; deleted = deleted; body = body }) a) in
         both_ways _ h (sym agree_by ∙ (and_parts _ _ p.1).1)
 
--- what is lent of a branch
+-- an item with the tip of a branch has the branch's mark and members
 pub lent : {A : Type 0} (o : Option A) (rev : A → Revision) (deleted : A → Bool)
     (body : A → List ℕ) (maybe_branch : Option Branch)
     → option_map (λ e. tip (rev e) (deleted e) (body e)) o ≡ option_map
@@ -189,7 +189,7 @@ module _ (branches : List Branch) (revision : Revision) where
           (heads_from i.0.path (subst (λ (edit : Edit). IsHead edit revision) (sym i.2) m.2))
       from (Some b) q e = absurd (cc)
 
--- the same of what is lent of it
+-- an item with the tip of the branch that the revision heads has the revision's mark
 pub marks : {A : Type 0} (branches : List Branch) (revision : Revision) (o : Option A) (rev : A → Revision)
     (deleted : A → Bool) (body : A → List ℕ)
     → option_map (λ e. tip (rev e) (deleted e) (body e)) o
@@ -215,7 +215,7 @@ wins edits legal winner h = (winner_is edits [] legal winner.rev).1 (first (leav
     first [] q = absurd (cc)
     first (l ∷ leaves) q = ap (λ (other : Winner). other.rev) (same_Some _ winner q)
 
--- a tree without one has no edit
+-- a tree without a winner has no edit
 pub none_wins : (edits : List Edit) → IsRevTree edits → winner_of (leaves_of edits []) ≡ None → edits ≡ []
 none_wins [] tree h = refl
 none_wins (edit ∷ edits) tree h =
@@ -232,7 +232,7 @@ none_wins (edit ∷ edits) tree h =
     none [] q revision c = contains_none revision c
     none (l ∷ leaves) q revision c = absurd (cc)
 
--- the body of a head
+-- an item with that tip has the members of the edit that the revision heads
 pub body_by : {A : Type 0} (branches : List Branch) (edits : List Edit) (revision : Revision) (o : Option A)
     (rev : A → Revision) (deleted : A → Bool) (body : A → List ℕ)
     → edits_in branches ≡ edits

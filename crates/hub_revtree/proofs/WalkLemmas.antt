@@ -21,7 +21,7 @@ use Rattle.hub_revtree.proofs.LineLemmas.{has_last, line_short}
 use Rattle.hub_revtree.proofs.StemLemmas.{rev_within}
 use Rattle.hub_revtree.proofs.StepLemmas.{parent_brought}
 
--- what holds of the stored edits, by the stems
+-- the invariant of the stored edits, by the stems
 pub stored_by : (stems : List Stem) (spare : ℕ) (s : Storage)
     → s ≡ record { list = branches_of stems; stems = stems; spare = spare } → AreStems stems → AreMarked stems
     → IsLegal (edits_in (branches_of stems)) → AreStemsOf s.stems s.list
@@ -29,7 +29,7 @@ stored_by stems spare s is a m l =
     subst (λ (z : Storage). AreStemsOf z.stems z.list) (sym is)
     (record { stems = a; marked = m; shown = refl; legal = l })
 
--- where the last one of some revisions stands
+-- the place of the last of some revisions
 last_get : (revisions : List Revision) (x : Revision) → last_in revisions ≡ Some x
     → (n : ℕ) × (slice_get revisions n ≡ Some x) × (length revisions ≤ n + 1)
 last_get [] x e = absurd (cc)
@@ -56,7 +56,7 @@ module _ (s : Storage) (k : AreStemsOf s.stems s.list) where
   pub few_in : (rev : Revision) → length (line_to (edits_in s.list) (Some rev)) ≤ rev.generation
   few_in rev = line_short (edits_in s.list) rev k.legal
 
-  -- what is told behind a stem's last, and whether a path agrees with all, by the stems
+  -- the revision behind a stem's last, and whether a path agrees with all, by the stems
   pub told_in : (after : Option Place) (p : Place) → IsAfter s p after
       → (x : Revision) → last_in (own_from s.stems p) ≡ Some x
       → rev_at s.stems after ≡ behind_in x (edits_in (branches_of s.stems))
@@ -69,7 +69,7 @@ module _ (s : Storage) (k : AreStemsOf s.stems s.list) where
       subst (λ bs. b ≡ list_all (λ (branch : Branch). is_consistent path branch.path) bs) k.shown
       (subst (λ p. b ≡ list_all (λ (branch : Branch). is_consistent p branch.path) (branches_of s.stems)) same e)
 
-  -- what stands behind the last of a stem's own revisions
+  -- the revision behind the last of a stem's own revisions
   module _ (p : Place) (w : IsWithin s.stems p) (stem : Stem) (e : slice_get s.stems p.stem ≡ Some stem) where
     pub own_is : own_from s.stems p ≡ drop p.at stem.revisions
     own_is = ap (λ o. drop p.at (revisions_in o)) e
@@ -118,7 +118,7 @@ module _ (s : Storage) (k : AreStemsOf s.stems s.list) where
               let f = subst (IsFoundBehind s.stems z.0) q (found z.0 (ap last_in h ∙ z.1)) in
               f.place.0
 
-    -- where the whole chain ends with the first generation
+    -- where the whole chain ends with generation 1, the line is as long as the chain from the place on
     pub whole_long : (o : Option Place) (g : ℕ) → o ≡ Some p
         → option_map (λ r. r.generation) (slice_get stem.revisions 0) ≡ Some g → g ≡ stem.reach
         → length (line_to (edits_in s.list) (rev_at s.stems o))

@@ -32,7 +32,7 @@ use Rattle.hub_revtree.proofs.TreeLemmas.{first_of, none_wins, rev_tree, wins}
 abbrev leaf_as : Revision → Bool → Winner
 leaf_as revision d = record { rev = revision; deleted = d }
 
--- a leaf as one of a list
+-- a revision and a mark as a leaf of a list
 abbrev leaf_in : Revision → Bool → Leaf
 leaf_in revision d = record { rev = revision; edit = record { id = []; path = []; deleted = d; body = [] } }
 
@@ -66,7 +66,7 @@ module _ (edits : List Edit) (legal : IsLegal edits) (winner : Winner) where
           (subst (λ other. IsMarked edits [] other d) (sym (ap (λ (other : Winner). other.rev) same)) m))
           ∙ ap (λ (other : Winner). other.deleted) same
 
-  -- and a leaf with none above it is the winner
+  -- a leaf with no leaf above it is the winner
   pub above_wins : IsLeaf edits [] winner.rev → IsMarked edits [] winner.rev winner.deleted
       → IsHighest edits winner → winner_of (leaves_of edits []) ≡ Some winner
   above_wins leaf marked high =
@@ -121,7 +121,7 @@ module _ (other_journal : List Edit) (tree : IsRevTree other_journal) (edit : Ed
     )
   ]
 
-  -- its head wins where it is above the winner before
+  -- the newest edit's head wins where it is above the winner before
   pub new_wins : (best : Option Winner)
       → winner_of (leaves_of other_journal []) ≡ best
       → is_better_than (leaf_as revision edit.deleted) best ≡ true
@@ -153,7 +153,7 @@ module _ (other_journal : List Edit) (tree : IsRevTree other_journal) (edit : Ed
           (order_total.trans (leaf_in w.rev w.deleted) (leaf_in revision edit.deleted)
           (leaf_in other m) down less)
 
-  -- and else the winner before, where it stands behind nothing yet
+  -- else the winner before stays, where it stands behind no revision yet
   pub old_wins : (winner : Winner) → winner_of (leaves_of other_journal []) ≡ Some winner
       → is_gt (leaf_cmp edit.deleted revision winner.deleted winner.rev) ≡ false
       → names (drop 1 edit.path) winner.rev ≡ false
@@ -189,7 +189,7 @@ module _ (other_journal : List Edit) (tree : IsRevTree other_journal) (edit : Ed
             (λ z. names (drop 1 z) winner.rev ≡ false) q front in cc)
       ]
 
--- the branches with the newest, whose head this is, and the number of the winner's before it came
+-- the branches with the newest, whose head is `leaf`, and the number of the winner before it came
 module _ (branches : List Branch) (legal : IsLegal (edits_in branches)) (best : ℕ)
     (before : HasWinner (edits_in (earlier_branches branches))
     (option_and_then head_in (slice_get (earlier_branches branches) best)))
@@ -227,7 +227,7 @@ module _ (branches : List Branch) (legal : IsLegal (edits_in branches)) (best : 
       ∙ ap Some as_leaf
       )
 
-  -- there was none
+  -- there was no winner
   pub first_wins : n - 1 ≤ best
       → option_and_then head_in (slice_get branches (n - 1)) ≡ winner_of (leaves_of (edits_in branches) [])
   first_wins past =
@@ -242,12 +242,12 @@ module _ (branches : List Branch) (legal : IsLegal (edits_in branches)) (best : 
         ap (option_and_then head_in) (get_taken (length branches - 1) best branches (omega (arith, all, low)))
         ∙ there
 
-    -- the newest is above it
+    -- the newest edit's head is above the winner
     pub better_wins : is_gt (leaf_cmp leaf.deleted leaf.rev w.deleted w.rev) ≡ true
         → option_and_then head_in (slice_get branches (n - 1)) ≡ winner_of (leaves_of (edits_in branches) [])
     better_wins better = newest_wins (ap (is_better_than leaf) was ∙ better)
 
-    -- it stands behind nothing still, and the newest is not above it
+    -- the winner stands behind no revision still, and the newest edit's head is not above it
     pub still_wins : is_gt (leaf_cmp leaf.deleted leaf.rev w.deleted w.rev) ≡ false
         → list_any (λ c. is_behind_head w.rev (edit_of c)) branches ≡ false
         → option_and_then head_in (slice_get branches best) ≡ winner_of (leaves_of (edits_in branches) [])

@@ -15,14 +15,14 @@ pub record Branch : Type 0 where
 abbrev pub edit_of : Branch → Edit
 edit_of branch = record { id = []; path = branch.path; deleted = branch.deleted; body = branch.body }
 
--- several
+-- the edits of some branches
 abbrev pub edits_in : List Branch → List Edit
 edits_in branches = map edit_of branches
 
--- those of the revisions that no path of the branches names, in the same order
+-- the revisions that no path of the branches names, in the same order
 abbrev pub unnamed_in : List Branch → List Revision → List Revision
 unnamed_in branches revs = filter (λ r. not (list_any (λ b. names b.path r) branches)) revs
 
--- the branches that came before the newest; none where there is none
+-- the branches that came before the newest; none where there is no branch
 abbrev pub earlier_branches : List Branch → List Branch
 earlier_branches branches = take (length branches - 1) branches

@@ -25,7 +25,7 @@ leaf_of candidate =
       edit = record { id = []; path = []; deleted = candidate.deleted; body = [] };
     }
 
--- of any two one is the lesser, or they are level
+-- of any two candidates one is the lesser, or they are level
 pub candidates_total : IsTotalOrder candidate_cmp
 candidates_total = on_total leaf_of order_total
 

@@ -1,11 +1,11 @@
--- How far two lists of revisions are one (own). An example: 5-e 4-d and 5-e 4-d 3-c are one for 2, while
--- 5-e 4-d and 5-e 4-q are not, since both have a second one.
+-- How far two lists of revisions are the same (own). An example: 5-e 4-d and 5-e 4-d 3-c are the same for 2
+-- revisions. 5-e 4-d and 5-e 4-q differ, since their second revisions do.
 use Rattle.std.specs.Prelude.{ℕ, suc, List, [], ◌∷◌, Option, Some, None, option_map, if◌then◌else◌}
 use Rattle.hub_model.specs.Revision.{Revision, is_same}
 
--- How many revisions from the front on are one in both lists, where one list goes on where the other ends;
--- None where a revision differs before that. It is 2 for 5-e 4-d and 5-e 4-d 3-c, None for 5-e 4-d and
--- 5-e 4-q, and 0 for an empty list.
+-- How many revisions from the front on are the same in both lists, to the end of the shorter list; None where
+-- a revision differs before that end. It is 2 for 5-e 4-d and 5-e 4-d 3-c, None for 5-e 4-d and 5-e 4-q, and
+-- 0 for an empty list.
 abbrev pub common : List Revision → List Revision → Option ℕ
 common [] revisions = Some 0
 common (revision ∷ others) [] = Some 0

@@ -1,4 +1,4 @@
--- What an edit that is made here becomes in a tree (CouchDB API reference, PUT and DELETE of a document).
+-- The edit that a draft becomes in a tree (CouchDB API reference, PUT and DELETE of a document).
 use Rattle.std.specs.Prelude.{ℕ, List, [], ◌∷◌, Bool, if◌then◌else◌, nat_le, Option, Some, None, Result, Ok}
 use Rattle.std.specs.Prelude.{Err, ◌≡◌, unwrap_or}
 use Rattle.hub_model.specs.Revision.{Revision}
@@ -15,7 +15,7 @@ use Rattle.hub_revtree.specs.declared.fault.EditFault.TheVariants.{Conflict, Gen
 abbrev pub draft : List ℕ → Option Revision → Bool → List ℕ → Draft
 draft id rev deleted body = record { id = id; rev = rev; deleted = deleted; body = body }
 
--- the edit that a draft becomes on this path, its id left out; or why it becomes none
+-- the edit that a draft becomes on this path, its id left out; or the fault for which it becomes none
 abbrev pub edit_on_path : List Edit → Draft → Option (List Revision) → Result Edit EditFault
 edit_on_path edits draft None = Err Conflict
 edit_on_path edits draft (Some path) =
@@ -27,17 +27,17 @@ edit_on_path edits draft (Some path) =
 abbrev pub edit_of_draft : List Edit → Draft → Result Edit EditFault
 edit_of_draft edits draft = edit_on_path edits draft (extended_path edits [] (leaves_of edits []) draft.rev)
 
--- why no edit is made of a draft after these edits of its document: it has a next revision, and memory for it
--- was not to be had; or what becomes of it is this fault
+-- The reason why no edit is made of a draft after these edits of its document. NoMemory: the draft has a next
+-- revision, and memory for its edit was not to be had. Another fault is that of `edit_of_draft`.
 abbrev pub IsEditFault : List Edit → Draft → EditFault → Type 0
 IsEditFault edits this NoMemory = HasNextRevision edits (draft [] this.rev this.deleted this.body)
 IsEditFault edits this fault = edit_of_draft edits this ≡ Err fault
 
--- a known revision and all that stands behind it
+-- a revision and all revisions behind it, where it is known
 abbrev pub path_to : List Edit → Revision → Option (List Revision)
 path_to edits revision = if is_known edits [] revision then Some (line_of edits [] revision) else None
 
--- the same of one that may not be named: nothing where it is not, or is not known
+-- the same of a revision that may be missing, as a list: empty without a revision, and where it is unknown
 abbrev pub line_to : List Edit → Option Revision → List Revision
 line_to edits None = []
 line_to edits (Some revision) = unwrap_or (path_to edits revision) []

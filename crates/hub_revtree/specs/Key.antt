@@ -1,6 +1,6 @@
 -- Keys of revisions whose hashes are digests (own). An example: the hash 0100000000000000ffffffffffffffff is
--- the text of the digest whose first byte is 1, whose next seven are 0 and whose last eight are 255, and its
--- key is 1. The hash x has no key.
+-- the text of a digest. The first byte of the digest is 1, the next seven are 0 and the last eight are 255,
+-- so that its key is 1. The hash x has no key.
 use Rattle.std.specs.Prelude.{◌≡◌, ℕ, ◌%◌, ◌^◌, List, length, Option, Some, None}
 use Rattle.std.specs.Int.{w128, from_le_bytes}
 use Rattle.hex.specs.Hex.{IsBytes, encode_lower}
@@ -17,7 +17,7 @@ pub record IsKey (hash : List ℕ) (key : ℕ) : Type 0 where
   pub bytes : IsBytes digest
   pub number : key ≡ key_of digest
 
--- the hash's key, or none where it has none
+-- the key of the hash; None where the hash has none
 abbrev pub HasKey : List ℕ → Option ℕ → Type 0
 HasKey hash None = (key : ℕ) → ¬ IsKey hash key
 HasKey hash (Some key) = IsKey hash key

@@ -1,6 +1,6 @@
 -- The premises of a look at the stems of a tree (own). An example: the three stems of the example in `Stem`
--- are indexed without an index, and with one that tells each of their revisions. Place 1 of stem 0 is one of a
--- revision, 1-a; place 2 of stem 0 is none.
+-- are indexed without an index, and with one that leads to each of their revisions. Place 1 of stem 0 is that
+-- of a revision, 1-a; place 2 of stem 0 is that of none.
 use Rattle.std.specs.Prelude.{◌≡◌, ◌<◌, ◌≤◌, ◌-◌, ℕ, Bool, List, Option, Some, IfSome, IfNone, false, length}
 use Rattle.std.specs.Prelude.{slice_get, take}
 use Rattle.std.specs.List.{list_any}
@@ -22,14 +22,14 @@ pub record IsPlaceIn (list : List Stem) (place : Place) : Type 0 where
   pub stems : AreStems list
   pub within : IsWithin list place
 
--- these are stems of a tree, and the index is one of them, if there is one
+-- these are stems of a tree, and the index, if there is one, is an index of them
 pub record AreIndexed (list : List Stem) (told : Option Index) : Type 0 where
   pub stems : AreStems list
   pub index : IsIndexed told list
 
--- a stem with these revisions, standing so, may come behind the stems of a tree with its index, as above:
--- the revisions are a path; it stands on a place of the stems, or on nothing; and where it joins none, none
--- of its revisions is one of theirs
+-- A stem with this run and this standing may be the next one of the stems of a tree with its index, as above.
+-- The run is a path. The stem stands on a place of the stems, or on nothing. Where it joins none, none of its
+-- revisions is one of theirs.
 pub record MayCome (list : List Stem) (told : Option Index) (run : List Revision) (standing : Standing) :
     Type 0 where
   pub stems : AreStems list
@@ -38,10 +38,11 @@ pub record MayCome (list : List Stem) (told : Option Index) (run : List Revision
   pub within : IfSome standing.parent (IsWithin list)
   pub fresh : standing.joins ≡ false → list_any (has_revision list) run ≡ false
 
--- how a path that may be stored meets the stems: its edit's stem keeps the first of its revisions, so many, and
--- says whether it joins others; the next one, if there is one, stands at the place, whose chain has so many
--- revisions from there on, and the rest of the path with them. An example: the path 4-f 3-c 2-b 1-a meets the
--- three stems above after 1, at place 0 of stem 1, where 3 are left, and joins none.
+-- How a path that may be stored meets the stems. Its edit's stem keeps the first `at` revisions of the path.
+-- Where it joins none, none of these is one of the stems'. The path's next revision, if there is one, stands
+-- at the place. The chain of the place has `behind` revisions from there on, and the rest of the path is no
+-- longer. An example: the path 4-f 3-c 2-b 1-a meets the three stems above after 1 revision, at place 0 of
+-- stem 1, where the chain has 3 revisions left. It joins none.
 pub record IsMeeting (list : List Stem) (path : List Revision) (at : ℕ) (place : Option Place) (behind : ℕ)
     (joins : Bool) : Type 0 where
   pub kept : at ≤ length path

@@ -1,7 +1,7 @@
--- What is noted of the stems of a tree: whether the newest revision of each stands behind another
--- by now (own). An example: an edit with the path 2-b 1-a came first, then one with 3-c 2-b 1-a,
--- then one with 3-d 2-e 1-a. The newest revisions of their stems are 2-b, 3-c and 3-d. 2-b stands
--- behind 3-c, so that the first stem is noted as inner, and the two others are not.
+-- The notes of the stems of a tree: whether the newest revision of each stands behind another by now (own).
+-- An example: an edit with the path 2-b 1-a came first, then one with 3-c 2-b 1-a, then one with 3-d 2-e 1-a.
+-- The newest revisions of their stems are 2-b, 3-c and 3-d. 2-b stands behind 3-c, so that the first stem is
+-- noted as inner, and the two others are not.
 use Rattle.std.specs.Prelude.{◌≡◌, ℕ, List, map, slice_get, Some, Bool, true, false, ◌||◌}
 use Rattle.std.specs.List.{list_any}
 use Rattle.hub_model.specs.Journal.{IsLegal}
@@ -18,14 +18,14 @@ is_deletion DeletedLeaf = true
 is_deletion Inner = false
 is_deletion DeletedInner = true
 
--- whether it is that of an edit whose revision stands behind another
+-- whether a mark is that of an edit whose revision stands behind another
 abbrev pub is_passed : Mark → Bool
 is_passed Leaf = false
 is_passed DeletedLeaf = false
 is_passed Inner = true
 is_passed DeletedInner = true
 
--- a stem with this noted of it
+-- a stem with the note that it is inner, or that it is not
 abbrev pub with_note : Bool → Stem → Stem
 with_note inner stem =
     record {
@@ -39,7 +39,7 @@ with_note inner stem =
       body = stem.body;
     }
 
--- a stem without what is noted of it
+-- a stem without its note, as if it were not inner
 abbrev pub plain : Stem → Stem
 plain stem = with_note false stem
 
@@ -47,7 +47,7 @@ plain stem = with_note false stem
 abbrev pub is_inner : List Stem → Revision → Bool
 is_inner stems revision = list_any (is_behind_newest stems revision) stems
 
--- each stem is noted as inner where its newest revision passes the test
+-- each stem is noted as inner where its newest revision passes the test, and only there
 abbrev pub AreNoted : (Revision → Bool) → List Stem → Type 0
 AreNoted test stems =
     (k : ℕ) (stem : Stem) (revision : Revision) → slice_get stems k ≡ Some stem
@@ -58,22 +58,22 @@ AreNoted test stems =
 abbrev pub AreMarked : List Stem → Type 0
 AreMarked stems = AreNoted (is_inner stems) stems
 
--- If the stems before were noted by some test, which every revision passes that stands behind a newest one
--- of them, then the stems after are noted by that test or by `this`. An example: the stems before have
--- 2-b 1-a and 3-c, which stands on 2-b, and are noted as inner and not inner. Where `this` is true of 3-c
--- alone, since 4-d is to stand on it, the same two stems are noted as inner and inner.
+-- Take a test that a revision passes wherever it stands behind a newest one of the stems before. If the stems
+-- before are noted by that test, then the stems after are noted by that test or by `this`. An example: the
+-- stems before have 2-b 1-a and 3-c, which stands on 2-b, and are noted as inner and not inner. Where `this`
+-- is true of 3-c alone, since 4-d is to stand on it, the same two stems are noted as inner and inner.
 abbrev pub Notes : List Stem → (Revision → Bool) → List Stem → Type 0
 Notes before this after =
     (test : Revision → Bool) →
     ((revision : Revision) → is_inner before revision ≡ true → test revision ≡ true) → AreNoted test before
     → AreNoted (λ revision. this revision || test revision) after
 
--- the stems after are those before but for what is noted of them, and `this` is noted of them, as above
+-- the stems after are those before but for their notes, and `this` is noted of them, as above
 pub record NotesOnly (before : List Stem) (this : Revision → Bool) (after : List Stem) : Type 0 where
   pub plain : map plain after ≡ map plain before
   pub noted : Notes before this after
 
--- these are stems of a tree, noted so; their branches are these, and the edits of these are a legal journal
+-- these are stems of a tree with right notes; `branches` are their branches, whose edits are a legal journal
 pub record AreStemsOf (list : List Stem) (branches : List Branch) : Type 0 where
   pub stems : AreStems list
   pub marked : AreMarked list

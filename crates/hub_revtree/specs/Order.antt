@@ -4,7 +4,7 @@ use Rattle.std.specs.Cmp.{IsEquivalence, IsTotalOrder, eq_by_cmp_equiv, nat_cmp_
 use Rattle.std.specs.Cmp.Lexicographic.{nat_list_cmp_total}
 use Rattle.hub_model.specs.Revision.{Revision, revision_cmp}
 
--- of any two one is the lesser, or they are level
+-- of any two revisions one is the lesser, or they are level
 pub revisions_total : IsTotalOrder revision_cmp
 revisions_total =
     then_total (on_total (λ (revision : Revision). revision.generation) nat_cmp_total)

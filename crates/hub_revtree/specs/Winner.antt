@@ -24,8 +24,9 @@ IsHeadAt branches number head inner =
     (option_and_then head_in (slice_get branches number) ≡ Some head)
     × (list_any (λ b. is_behind_head head.rev (edit_of b)) branches ≡ inner)
 
--- what holds of a tree's edits and of the winner that it keeps. After edits with the paths 2-b 1-q, which
--- deletes, 2-a 1-q and 1-z the winner that is kept is 2-a; after the first of them alone it is 2-b, deleted.
+-- The winner that a tree keeps is that of its edits, and these are legal. After edits with the paths 2-b 1-q,
+-- which deletes, 2-a 1-q and 1-z the winner that is kept is 2-a. After the first of them alone it is 2-b,
+-- deleted.
 pub record HasWinner (edits : List Edit) (winner : Option Winner) : Type 0 where
   pub legal : IsLegal edits
   pub first : winner ≡ winner_of (leaves_of edits [])

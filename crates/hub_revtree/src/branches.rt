@@ -1,4 +1,4 @@
-//! The stored edits of a document, which share what stands behind them.
+//! The stored edits of a document. Each keeps the revisions that it brought, and shares those behind them.
 
 ghost use Rattle.std.specs.Prelude.{◌≡◌, ◌≤◌, ◌<◌, ◌+◌, ◌++◌, ◌∷◌, List, Some, [], ◌-◌, ◌^◌, length, map};
 ghost use Rattle.std.specs.Prelude.{min, take, false, find, not, ◌&&◌, option_map, option_and_then};
@@ -31,15 +31,15 @@ use hub_document::{Body, RevId};
 use std::alloc::{AllocError, Global};
 use std::marker::Model;
 
-/// The stored edits, in the order in which they came. An edit keeps the revisions that it brought, and
-/// shares those behind them with the edit that brought these. What a find costs stands at `RevTree`.
+/// The stored edits, in the order in which they came. An edit keeps the revisions that it brought, and shares
+/// those behind them with the edits that brought these. The comment of `RevTree` says the cost of a find.
 #[derive(Debug, Drop)]
 pub(crate) struct Branches {
     pub(crate) stems: Vec<Stem>,
-    /// The highest generation of their revisions; 0 where there is none.
+    /// The highest generation of the stems' revisions; 0 where there is no stem.
     pub(crate) highest: u16,
-    /// Where their revisions stand, and the newest one's path; None where they are few, and where it found no
-    /// memory.
+    /// The index of the stems' revisions, with the newest stem's line; None of fewer than 256 stems, and
+    /// where the memory for it was not to be had.
     pub(crate) index: Option<Box<Index>>,
 }
 
@@ -71,7 +71,7 @@ impl Model for Branches {
         × IsLegal (edits_in (branches_of a.stems.items)) };
 }
 
-/// The index as it is lent, if there is one.
+/// A reference to the index, if there is one.
 pub(crate) fn lent(index: &Option<Box<Index>>) -> Option<&Index>
     ensures { option_map (λ i. i.now) result ≡ option_map (λ i. i.value) index.now }
 {
@@ -81,8 +81,8 @@ pub(crate) fn lent(index: &Option<Box<Index>>) -> Option<&Index>
     }
 }
 
-// The run where it is of just so many, and the whole path, if it may be shared; else the first of the path's
-// revisions, so many, in its own memory. It takes none but for the path to be shared.
+// The path's first `count` revisions: the run where it has just these, else the path, cut in its own memory.
+// Also the digests of a whole path that may be shared. The sharing alone takes new memory.
 fn kept(run: Run, path: Run, count: usize) -> (Run, Option<Line>)
     requires some { 1 ≤ count }
     requires within { count ≤ length path }
@@ -97,7 +97,7 @@ fn kept(run: Run, path: Run, count: usize) -> (Run, Option<Line>)
     }
 }
 
-// The index without the path that it keeps.
+// The index without its shared line.
 fn without_line(index: Option<Box<Index>>) -> Option<Box<Index>>
     ensures candidates { candidates_in (option_map (λ i. i.value) result)
         ≡ candidates_in (option_map (λ i. i.value) index) }
@@ -113,7 +113,7 @@ fn without_line(index: Option<Box<Index>>) -> Option<Box<Index>>
     }
 }
 
-// How a path of so many revisions goes on behind those that its stem keeps.
+// How a path of `count` revisions goes on behind the revisions that its stem keeps.
 fn standing_of(met: &Meeting, count: usize) -> Standing
     requires kept { met.now.at ≤ count }
     requires short { count < 2 ^ 16 }
@@ -132,7 +132,7 @@ fn standing_of(met: &Meeting, count: usize) -> Standing
 }
 
 impl Branches {
-    /// No edits, and no memory for one.
+    /// The branches of no edit, without memory for an edit.
     pub(crate) fn new(alloc: Global) -> Branches
         ensures { result.list ≡ [] }
     {
@@ -143,14 +143,14 @@ impl Branches {
         }
     }
 
-    /// What each of them brought. Constant time.
+    /// The stems of the edits, in the same order. Constant time.
     pub(crate) fn stems(&self) -> &Vec<Stem>
         ensures { AreStemsOf result.now.items self.now.list }
     {
         &self.stems
     }
 
-    /// How many there are.
+    /// How many edits there are.
     pub(crate) fn len(&self) -> usize
         ensures length { result ≡ length self.now.list }
         ensures legal { IsLegal (edits_in self.now.list) }
@@ -158,8 +158,8 @@ impl Branches {
         self.stems.len()
     }
 
-    /// How many different revisions are kept. One step an edit, but for one that joins others: for it a look
-    /// an edit for each revision that it keeps.
+    /// How many different revisions the paths name, up to 2 ^ 64 - 1. One step for each edit. A stem that
+    /// joins others costs, for each revision that it keeps, a look at each earlier stem at most.
     pub(crate) fn revision_count(&self) -> usize
         ensures { result ≡ min (count_of (edits_in self.now.list)) (2 ^ 64 - 1) }
     {
@@ -171,7 +171,7 @@ impl Branches {
         count
     }
 
-    /// What the edit brought that the revision heads. One find.
+    /// The stem of the edit that the revision heads; None where it heads no edit. One find.
     pub(crate) fn headed(&self, rev: &RevId) -> Option<&Stem>
         ensures tip { option_map (λ s. tip rev.now s.now.deleted s.now.body) result
             ≡ option_map (λ b. tip_of (edit_of b)) (find (λ b. is_first rev.now b.path) self.now.list) }
@@ -193,8 +193,8 @@ impl Branches {
         }
     }
 
-    /// The same, where it stands behind the revision of no other edit. An inner one is not made. Constant
-    /// time.
+    /// The same for an edit whose revision is a leaf; None, and no revision is made, where it stands behind
+    /// another edit's head. Constant time.
     pub(crate) fn head_if_leaf(&self, at: usize) -> Option<Winner>
         requires { at < length self.now.list }
         ensures leaf { IfSome result (λ head. IsHeadAt self.now.list at head false) }
@@ -206,7 +206,7 @@ impl Branches {
         Some(self.head(at))
     }
 
-    /// The same, where there is an edit of this number. Constant time.
+    /// The revision and the mark of the edit of this number, if there is one. Constant time.
     pub(crate) fn head_if_any(&self, at: usize) -> Option<Winner>
         ensures { result ≡ option_and_then head_in (slice_get self.now.list at) }
     {
@@ -217,14 +217,14 @@ impl Branches {
         }
     }
 
-    /// Whether a path names the revision. One find; constant time where its generation is above all others.
+    /// Whether a path names the revision. One find; constant time above the highest generation of the stems.
     pub(crate) fn is_named(&self, rev: &RevId) -> bool
         ensures { result ≡ list_any (λ b. names b.path rev.now) self.now.list }
     {
         self.place(rev).is_some()
     }
 
-    /// Whether the revision of the edit of this number stands behind a head. Constant time.
+    /// Whether the revision of the edit of this number stands behind another edit's head. Constant time.
     pub(crate) fn is_head_inner(&self, at: usize) -> bool
         ensures { (w : Winner) → option_and_then head_in (slice_get self.now.list at) ≡ Some w
             → result ≡ list_any (λ b. stands_behind_head w.rev (edit_of b)) self.now.list }
@@ -235,7 +235,7 @@ impl Branches {
         }
     }
 
-    /// Whether a path names the revision, and it stands behind no head. One find.
+    /// Whether a path names the revision, and the revision stands behind no edit's head. One find.
     pub(crate) fn is_leaf(&self, rev: &RevId) -> bool
         ensures { result ≡ (list_any (λ b. names b.path rev.now) self.now.list
             && not (list_any (λ b. stands_behind_head rev.now (edit_of b)) self.now.list)) }
@@ -246,13 +246,13 @@ impl Branches {
         }
     }
 
-    /// Whether an edit of many revisions shares those that stand behind it with the next ones.
+    /// Whether an edit that is made here shares its path's digests with the next ones: it does with an index.
     pub(crate) fn shares_lines(&self) -> bool {
         self.index.is_some()
     }
 
-    /// The digests of the revision and of all that stands behind it, where it is that of the newest edit, and
-    /// these are kept to be shared. Constant time.
+    /// The digests of the revision and of all revisions behind it, where the revision is the newest edit's
+    /// and the index has these digests as a line to share. Constant time.
     pub(crate) fn newest_line(&self, rev: &RevId) -> Option<&Line>
         ensures { IfSome result (λ line.
             map encode_lower line.now ≡ map (λ r. r.hash) (line_to (edits_in self.now.list) (Some rev.now))) }
@@ -265,7 +265,7 @@ impl Branches {
         Some(line)
     }
 
-    /// The candidates for the best leaf, which are no longer kept; none where there is no index.
+    /// The candidates for the best leaf, taken out of the index, or those of no edit; None without an index.
     pub(crate) fn take_candidates(&mut self) -> Option<Candidates>
         ensures list { self.new.list ≡ self.old.list }
         ensures candidates { IfSome result (AreCandidates self.old.list) }
@@ -277,7 +277,7 @@ impl Branches {
         }
     }
 
-    /// Keeps the candidates for the best leaf, where there is an index.
+    /// Puts the candidates for the best leaf into the index, if there is one.
     pub(crate) fn put_candidates(&mut self, candidates: Candidates)
         requires { AreCandidates self.old.list candidates }
         ensures { self.new.list ≡ self.old.list }
@@ -287,7 +287,7 @@ impl Branches {
         }
     }
 
-    /// Makes room for one more edit: exactly for the first, since most documents have one.
+    /// Makes room for one more edit. The room for the first is exact, since most documents have one edit.
     pub(crate) fn make_room(&mut self) -> Result<(), AllocError>
         ensures list { self.new.list ≡ self.old.list }
         ensures room { OnOk result (1 ≤ self.new.spare) }
@@ -299,11 +299,11 @@ impl Branches {
         }
     }
 
-    /// Takes an edit, in the place that was made for it: it takes no new memory but for the index and for the
-    /// path that it shares, and goes on without these where there is none. The run is the front of its path;
-    /// where it is of just those that are new, it is kept, and the path is shared with the next edit or its
-    /// memory given back, else that memory is cut to what they need. It costs what `new_count` does, and what
-    /// `renewed` does; and where some of those revisions were known, a find for each of them.
+    /// Takes an edit, in the place that `make_room` made for it. It asks for memory for the index and the
+    /// shared path alone, and out of memory goes on without them. The run is a front of the path. Where the
+    /// run has just the revisions that the stem is to keep, the stem takes it, and the path is shared or its
+    /// memory given back. Else the path is cut to these revisions. The cost is that of `new_count` and of
+    /// `renewed`, and a find for each of these revisions where one of them was known.
     pub(crate) fn push(&mut self, path: Run, run: Run, deleted: bool, body: Body)
         requires acceptable { IsAcceptable (edits_in self.old.list) (nameless path deleted body) }
         requires front { run ≡ take (length run) path }
@@ -325,7 +325,7 @@ impl Branches {
     }
 }
 
-/// Those of the revisions that no path names, in the same order. It costs what `is_named` does for each.
+/// The revisions that no path names, in the same order. The cost is that of `is_named` for each revision.
 pub(crate) fn unnamed(
     alloc: Global,
     branches: &Branches,
@@ -344,8 +344,8 @@ pub(crate) fn unnamed(
     Ok(found)
 }
 
-/// The greatest generation of those of the revisions that no path names; 0 where there is none. It
-/// costs what `is_named` does for each.
+/// The greatest generation of the revisions that no path names; 0 where a path names each of them. The cost
+/// is that of `is_named` for each revision.
 pub(crate) fn highest_unnamed(branches: &Branches, revs: &[RevId]) -> u16
     ensures { result ≡ highest_of (unnamed_in branches.now.list revs.now) }
 {

@@ -21,10 +21,10 @@ use std::marker::Model;
 use std::mem::size_of;
 
 // A revision that may be the best leaf, and the number of its edit. It takes 40 bytes, and 68 more where its
-// hash is the text of no digest.
+// hash is no digest's text.
 #[derive(Debug, Drop)]
 struct Candidate {
-    // The revision alone.
+    // A run of the revision alone.
     rev: Run,
     number: u32,
     deleted: bool,
@@ -50,7 +50,7 @@ impl Model for Candidate {
 }
 
 impl Candidate {
-    // That of this edit.
+    // The candidate of the edit of this number, whose head and mark are `leaf`.
     fn new(alloc: Global, leaf: &Winner, number: u32) -> Result<Candidate, AllocError>
         ensures { IfOk result (λ candidate. candidate ≡ candidate_of number leaf.now) }
     {
@@ -62,7 +62,7 @@ impl Candidate {
         })
     }
 
-    // Its revision and mark.
+    // The candidate's revision and mark.
     fn leaf(&self) -> Winner
         ensures { result ≡ winner_in self.now }
     {
@@ -111,18 +111,18 @@ impl Ord for Candidate {
     }
 }
 
-/// The revisions of a tree's first edits, so many as were looked at, that were leaves then, in the
-/// order of leaves. Those that are leaves no more stay among them until they come to the top. For
-/// each it takes 40 to 80 bytes, and 68 more where its hash is the text of no digest.
+/// The heads of a tree's first edits that were leaves when they were looked at, in the order of leaves.
+/// `count` says how many edits those are. A candidate that is no leaf any more stays until it comes to the
+/// top. A candidate takes 40 to 80 bytes, and 68 more where its hash is no digest's text.
 #[derive(Debug, Drop)]
 pub(crate) struct Candidates {
     heap: BinaryHeap<Candidate>,
-    /// How many edits were looked at.
+    /// How many edits were looked at, from the first on.
     count: usize,
 }
 
 impl Candidates {
-    /// Those of no edit. It takes no memory.
+    /// The candidates of no edit. They take no memory.
     pub(crate) fn new(alloc: Global) -> Candidates
         ensures { (branches : List Branch) → AreCandidates branches result }
     {
@@ -132,7 +132,7 @@ impl Candidates {
         }
     }
 
-    /// Looks at all edits that came since the last time: where the revision of one is a leaf, it becomes a
+    /// Looks at all edits that came since the last call. Where an edit's revision is a leaf, it becomes a
     /// candidate. At most log n comparisons of revisions for each.
     pub(crate) fn add_newer(&mut self, branches: &Branches) -> Result<(), AllocError>
         requires { AreCandidates branches.now.list self.old }
@@ -151,9 +151,9 @@ impl Candidates {
         Ok(())
     }
 
-    /// The number of the best leaf's edit, where all edits were looked at; how many edits there
-    /// are, where there is none. It gives up each candidate above it, which is no leaf any more, at
-    /// log n comparisons of revisions each.
+    /// The number of the best leaf's edit, where all edits were looked at; where there is no leaf, the number
+    /// of edits. Each candidate above the best leaf is no leaf any more, and is given up, at log n
+    /// comparisons of revisions.
     pub(crate) fn best(&mut self, branches: &Branches) -> usize
         requires candidates { AreCandidates branches.now.list self.old }
         requires all { self.old.count ≡ length branches.now.list }

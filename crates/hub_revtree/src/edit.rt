@@ -1,4 +1,4 @@
-//! Edits that are made here.
+//! Edits whose revisions are made here.
 
 ghost use Rattle.std.specs.Prelude.{◌≡◌, ◌⊎◌, ◌≤◌, ◌<◌, ◌++◌, ◌∷◌, [], length, map, option_map};
 ghost use Rattle.std.specs.Prelude.{Some, None, Ok, Err, IfOk, IfErr, IfSome, IsTrue, OnOk};
@@ -18,7 +18,7 @@ use crate::tree::{Ready, RevTree};
 use hub_document::{Body, DigestRev, DocId, RevId, rev_of_edit};
 use std::alloc::{AllocError, Global};
 
-// The revision of an edit on this one, or on nothing.
+// The new revision of an edit on the parent, or on nothing; `GenerationLimit` on generation 65,535.
 fn next_rev(
     alloc: Global,
     id: &DocId,
@@ -50,8 +50,8 @@ fn generation(rev: &Option<RevId>) -> u16
 }
 
 impl RevTree {
-    // The revision that an edit extends, or nothing: the leaf that is named; without a name the winner where
-    // it is deleted, and nothing of a tree with no edit. One find where one is named.
+    // The revision that an edit extends: the named leaf, or without a name the winner where it is deleted. It
+    // is None without a name in a tree with no edit. All else is a conflict. One find for a named revision.
     fn extended(&self, parent: Option<RevId>) -> Result<Option<RevId>, EditFault>
         ensures line { option_map (line_to self.now.edits) (result_ok result)
             ≡ extended_in self.now.edits [] (leaves_of self.now.edits []) parent }
@@ -73,8 +73,8 @@ impl RevTree {
         Ok(Some(winner.rev))
     }
 
-    // The path with the revision in front of the known one, as digests; None where one of the revisions is
-    // kept otherwise.
+    // The path of the revision on the known one, as digests; None where a stem of the line keeps texts or
+    // shares its digests.
     fn digests_on(
         &self,
         alloc: Global,
@@ -95,9 +95,9 @@ impl RevTree {
         Ok(Some(Run::from_digests(rev.generation(), digests)))
     }
 
-    // The digests of the revision and of all that stands behind it, as a tree of many edits shares them; None
-    // in a tree of fewer, and where one of the revisions is kept otherwise. Constant time where the revision
-    // is that of the newest edit, and the tree keeps its path.
+    // The digests of the revision and of all revisions behind it, as a line that edits share. None in a tree
+    // with no index, and where a stem of the line keeps texts or shares its digests. Constant time where the
+    // revision is the newest edit's, and the index keeps its line.
     fn shared_line(&self, alloc: Global, rev: &RevId) -> Result<Option<Line>, AllocError>
         ensures { IfOk result (λ found. IfSome found
             (λ line. map encode_lower line ≡ map (λ r. r.hash) (line_to self.now.edits (Some rev.now)))) }
@@ -118,9 +118,9 @@ impl RevTree {
         Ok(Some(line))
     }
 
-    // The path with the revision in front of the one that it extends, if there is one: it shares what stands
-    // behind it where `shared_line` does, and else is in memory of its own size. A revision that stands alone
-    // takes none.
+    // The path of the revision on the one that it extends, if it extends one. The path shares the line that
+    // `shared_line` gives; without one it is in memory of its own size. A revision that extends nothing takes
+    // no memory.
     fn path_on(
         &self,
         alloc: Global,
@@ -147,13 +147,13 @@ impl RevTree {
         Ok(Run::whole(revisions))
     }
 
-    /// Looks what becomes of an edit that is made here, on the leaf that is named, or, without a
-    /// name, on nothing where the document is unknown and on its winner where that is deleted: the
-    /// edit with the revision that is made for it, with memory for it. `id` is the document's,
-    /// which the revision's hash has in it. It costs finds of the leaf and of the new revision, and
-    /// the lengths of the path and the body: of the path a copy of 16 bytes a revision where the
-    /// hashes are digests, else of 68. Where the leaf is the newest edit of 256 and more, and was
-    /// made on the one before it, it costs nothing of the path's length.
+    /// Makes an edit on the leaf `parent`, with its revision and its memory. Without a parent it is an edit
+    /// on the winner where that is deleted, and on nothing in a tree with no edit. All else is a conflict,
+    /// and so is a new revision that is known. `id` is the document's, and goes into the revision's hash. The
+    /// cost is a find of a named leaf, a find of the new revision, and the lengths of the path and the body.
+    /// The path is copied, with 16 bytes a revision where the hashes are digests, else with 68. Where the
+    /// leaf is the newest of 256 edits and more, and was made on the one before it, the path is shared
+    /// instead, and its length costs nothing.
     pub fn look_extend(
         &mut self,
         id: &DocId,
@@ -183,8 +183,8 @@ impl RevTree {
         Ok(ready)
     }
 
-    /// Makes an edit on the leaf that is named or chosen, and takes it. An error changes nothing. It
-    /// costs what `look_extend` and `adopt` do.
+    /// Makes an edit as `look_extend` does, and takes it. The reply is its revision. An error changes no
+    /// edit. The cost is that of `look_extend` and `adopt`.
     pub fn extend(
         &mut self,
         id: &DocId,

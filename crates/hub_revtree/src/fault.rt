@@ -1,22 +1,22 @@
-//! What becomes of an edit that is merged into a tree.
+//! The outcomes of an edit that is merged into a tree, and the faults of one that is made.
 
 use std::alloc::AllocError;
 
-/// What became of an edit.
+/// The outcome of an edit that was merged without a fault.
 #[derive(Clone, Copy, Debug, PartialEq, Eq)]
 pub enum Merged {
     /// The tree has it now.
     Added,
-    /// Its revision was known, and nothing changed.
+    /// The edit's revision was known, and nothing changed.
     Known,
 }
 
-/// Why an edit is not merged.
+/// The reason why an edit is not merged.
 #[derive(Clone, Copy, Debug, PartialEq, Eq)]
 pub enum MergeFault {
-    /// A growth was refused.
+    /// Memory was not to be had.
     NoMemory,
-    /// Its path gives a known revision another parent.
+    /// The edit's path gives a known revision another parent.
     Contradicts,
 }
 
@@ -31,14 +31,14 @@ impl From<AllocError> for MergeFault {
     }
 }
 
-/// Why an edit is not made.
+/// The reason why an edit is not made.
 #[derive(Clone, Copy, Debug, PartialEq, Eq)]
 pub enum EditFault {
-    /// A growth was refused.
+    /// Memory was not to be had.
     NoMemory,
-    /// No leaf is named or chosen, or the made revision is known.
+    /// The named revision is no leaf, an unnamed winner is not deleted, or the new revision is known.
     Conflict,
-    /// The revision that is extended has the last generation, 65,535.
+    /// The revision that the edit extends has the last generation, 65,535.
     GenerationLimit,
 }
 

@@ -10,21 +10,21 @@ use crate::stem::Stem;
 use crate::tree::RevTree;
 use hub_document::{Body, RevId};
 
-/// An edit that a tree has. `RevTree::path` gives what stands behind it by now: its path is the first of
-/// these, so many as `count` says.
+/// An edit that a tree has. `RevTree::path` gives its revision and all revisions that stand behind it by now.
+/// The edit's own path is the first `count` of these.
 #[derive(Clone, Copy, Debug)]
 pub struct StoredEdit<'a> {
-    /// Its revision.
+    /// The edit's revision.
     pub rev: RevId,
-    /// Whether it deletes the document.
+    /// Whether the edit deletes the document.
     pub deleted: bool,
-    /// Its members.
+    /// The edit's members.
     pub body: &'a Body,
-    /// How many revisions its path has.
+    /// How many revisions the edit's path has.
     pub count: u16,
 }
 
-// An edit as it is lent, with this revision.
+// The edit of a stem, with this revision as its head.
 fn stored(stem: &Stem, rev: RevId) -> StoredEdit<'_>
     ensures rev { result.rev ≡ rev }
     ensures deleted { result.deleted ≡ stem.now.deleted }
@@ -40,7 +40,7 @@ fn stored(stem: &Stem, rev: RevId) -> StoredEdit<'_>
 }
 
 impl RevTree {
-    /// The edit of this number, from 0 in the order in which they were taken. Constant time.
+    /// The edit of this number, from 0 in the order in which the edits came. Constant time.
     pub fn edit(&self, at: usize) -> Option<StoredEdit<'_>>
         ensures tip { option_map (λ e. tip e.rev e.deleted e.body.now) result
             ≡ option_map tip_of (slice_get self.now.edits at) }
@@ -52,8 +52,8 @@ impl RevTree {
         Some(stored(stem, stem.head()))
     }
 
-    /// The edit that the revision heads; None where it heads none, as an ancestor does that came
-    /// inside a history alone. One find.
+    /// The edit that the revision heads; None where it heads none. An ancestor heads none that came inside
+    /// another edit's path alone. One find.
     pub fn headed(&self, rev: &RevId) -> Option<StoredEdit<'_>>
         ensures tip { option_map (λ e. tip e.rev e.deleted e.body.now) result
             ≡ option_map tip_of (find (is_head rev.now) (edits_of self.now.edits [])) }

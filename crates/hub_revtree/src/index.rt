@@ -23,36 +23,36 @@ use hub_document::RevId;
 use std::alloc::{AllocError, Global};
 use std::collections::{BTreeMap, HashMap};
 
-// From so many stems on there is an index. A look at each of so many takes twice as long as one in the map,
-// and many documents with fewer edits shall have no more memory.
+// From this number of stems on there is an index. To look at each of them takes twice as long as one look in
+// the map. Many documents have fewer edits, and they shall take no memory for an index.
 const TURN: usize = 256;
 
-/// Which of the stems is the first that has each revision. A look costs constant time where the revision's
-/// hash is a digest's text and no earlier stem has another one with the same first eight bytes; else at most
-/// log n comparisons of revisions, where n counts those of which this does not hold.
+/// The first stem that has each revision. A look takes constant time where the revision's hash is a digest's
+/// text, and no earlier stem has another one with the same first eight bytes. Else it costs at most log n
+/// comparisons of revisions, where n is the number of `others`.
 #[derive(Debug, Drop)]
 pub(crate) struct Firsts {
     /// From the key of a digest to the number of the first stem that has a revision with that key. It takes
-    /// some 30 to 60 bytes for each of them.
+    /// some 30 to 60 bytes for each key.
     stems: HashMap<u64, u32>,
-    /// From the other revisions to the first stem that has each. It takes some 100 to 200 bytes for each, and
-    /// none before there is one.
+    /// From each revision to which `stems` does not lead to the number of the first stem that has it. It
+    /// takes some 100 to 200 bytes for each, and none while there is none.
     others: BTreeMap<RevKey, u32>,
 }
 
-/// What a tree of many edits has so that looks need not pass over all of them.
+/// The index of a tree with many edits, so that a look need not pass over all of them.
 #[derive(Debug, Drop)]
 pub(crate) struct Index {
     /// The first stem that has each revision.
     pub(crate) firsts: Firsts,
-    /// From a revision behind which nothing stands in the first stem that has it to one in which something
-    /// does. It takes some 100 to 200 bytes for each.
+    /// From a revision with which the chain of its first stem ends to the number of a stem that goes on
+    /// behind it. It takes some 100 to 200 bytes for each.
     links: BTreeMap<RevKey, u32>,
-    /// The newest stem's newest revision and all that stands behind it, for the next one that stands on it;
-    /// None where it was not made so, and where the memory for it was not to be had.
+    /// The digests of the newest stem's newest revision and of all revisions behind it, for the next edit on
+    /// it. None where the newest edit was not made on a shared line, and out of memory.
     pub(crate) line: Option<Line>,
-    /// What was looked at so that the best leaf is found soon; None before one was sought that
-    /// costs a look at each edit, and where the memory for it was not to be had.
+    /// The candidates for the best leaf. None before the first search for it that takes more than constant
+    /// time, and out of memory.
     pub(crate) candidates: Option<Candidates>,
 }
 
@@ -63,7 +63,7 @@ fn number_at(map: &BTreeMap<RevKey, u32>, rev: &RevId) -> Option<u32>
     map.get(&RevKey { rev: *rev }).copied()
 }
 
-// Puts the number at the revision, where the map has none there. At most log n comparisons of revisions.
+// Puts the number at the revision, where the map has none there. Two looks of log n comparisons at most.
 fn put_at(map: &mut BTreeMap<RevKey, u32>, rev: &RevId, number: u32) -> Result<(), AllocError>
     ensures { OnOk result
         ((r : Revision)
@@ -77,7 +77,7 @@ fn put_at(map: &mut BTreeMap<RevKey, u32>, rev: &RevId, number: u32) -> Result<(
     Ok(())
 }
 
-/// The number of a stem, as it is kept beside keys.
+/// The number of a stem as 32 bits, for the index and the candidates; an error from 2 ^ 32 on.
 pub(crate) fn kept_number(number: usize) -> Result<u32, AllocError>
     ensures { IfOk result (λ kept. kept ≡ number) }
 {
@@ -88,8 +88,8 @@ pub(crate) fn kept_number(number: usize) -> Result<u32, AllocError>
 }
 
 impl Firsts {
-    // Puts the stem's number under the key where there is none, and answers the one that is there. Constant
-    // time.
+    // Puts the stem's number under the key, where the key has none. The reply is the number that the key then
+    // has. Constant time.
     fn put(&mut self, key: u64, number: u32) -> Result<u32, AllocError>
         ensures first { IfOk result (λ first. first ≡ unwrap_or (entry_in self.old key) number) }
         ensures entries { OnOk result
@@ -104,8 +104,8 @@ impl Firsts {
         Ok(first)
     }
 
-    // Takes in the revision at this place of the newest stem, which has this number. Constant time where the
-    // key of its hash is a new one; else at most log n comparisons of revisions.
+    // Takes in the revision at this place of the newest stem, whose number this is. Constant time where its
+    // key is new, or the key's stem has the revision; else at most log n comparisons of revisions.
     fn add_at(&mut self, stems: &[Stem], number: u32, at: usize) -> Result<(), AllocError>
         requires last { IsOfLast stems.now number at }
         requires told { AreTold (HasTo stems.now number at) (entry_in self.old) (other_in self.old) }
@@ -127,9 +127,9 @@ impl Firsts {
         put_at(&mut self.others, &rev, number)
     }
 
-    /// Where the revision stands in the first of the stems that has it; None where none has it. Constant time
-    /// where its hash is a digest's text and that stem is the first with its first eight bytes; else at most
-    /// log n comparisons of revisions.
+    /// The place of the revision in the first stem that has it; None where no stem has it. Constant time
+    /// where its hash is a digest's text and the key's stem has the revision, or no stem has the key. Else at
+    /// most log n comparisons of revisions.
     pub(crate) fn place(&self, stems: &[Stem], rev: &RevId) -> Option<Place>
         requires { AreToldOf stems.now self.now }
         ensures found { IfSome result (IsFirstPlace stems.now rev.now) }
@@ -149,8 +149,8 @@ impl Firsts {
         }
     }
 
-    // Links the revision at this place of the newest stem, where its first stem does not go on behind it, and
-    // this one does. It costs a find, and at most log n comparisons of revisions.
+    // Links the revision at this place of the newest stem to that stem, where it goes on behind the revision
+    // and the revision's first stem does not. The cost is a find, and at most log n comparisons of revisions.
     fn link_at(
         &self,
         links: &mut BTreeMap<RevKey, u32>,
@@ -178,8 +178,8 @@ impl Firsts {
 }
 
 impl Index {
-    // Takes in the newest of the stems, of all others of which it is an index. It costs what
-    // `add_at` does for each of its revisions, and where it joins others what `link_at` does.
+    // Takes in the newest stem; this is an index of all stems before it. The cost is that of `add_at` for
+    // each of the stem's revisions, and, where it joins others, that of `link_at` for each.
     fn add(&mut self, stems: &[Stem]) -> Result<(), AllocError>
         requires { IsIndexBefore self.old stems.now }
         ensures index { OnOk result (IsIndex self.new stems.now) }
@@ -200,8 +200,8 @@ impl Index {
         Ok(())
     }
 
-    /// The number of a later stem that goes on behind the revision, where the first one that has it does not.
-    /// At most log n comparisons of revisions.
+    /// The number of a later stem that goes on behind the revision, where the first stem that has it does
+    /// not. At most log n comparisons of revisions.
     pub(crate) fn link(&self, rev: &RevId) -> Option<usize>
         ensures { result ≡ link_in self.now rev.now }
     {
@@ -212,7 +212,7 @@ impl Index {
     }
 }
 
-// An index of no stems, with room for so many keys.
+// An index of no stems, with room for `capacity` keys.
 fn empty(alloc: Global, capacity: usize) -> Result<Index, AllocError>
     ensures index { IfOk result (λ i. IsIndex i []) }
     ensures candidates { IfOk result (λ i. i.candidates ≡ None) }
@@ -229,7 +229,7 @@ fn empty(alloc: Global, capacity: usize) -> Result<Index, AllocError>
     })
 }
 
-// An index of the stems. It costs what `add` does for each.
+// An index of the stems. The cost is that of `add` for each of them.
 fn built(alloc: Global, stems: &[Stem]) -> Result<Box<Index>, AllocError>
     requires { AreStems stems.now }
     ensures index { IfOk result (λ i. IsIndex i.value stems.now) }
@@ -242,7 +242,7 @@ fn built(alloc: Global, stems: &[Stem]) -> Result<Box<Index>, AllocError>
     Ok(Box::new(alloc, index)?)
 }
 
-// An index of the stems where they are so many that it is time for one, and there is memory for it.
+// A new index of the stems, where their number is a power of two from `TURN` on, and there is memory for it.
 fn begun(alloc: Global, stems: &[Stem], line: Option<Line>) -> Option<Box<Index>>
     requires { AreStems stems.now }
     ensures index { IfSome result (λ i. IsIndex i.value stems.now) }
@@ -261,10 +261,10 @@ fn begun(alloc: Global, stems: &[Stem], line: Option<Line>) -> Option<Box<Index>
     }
 }
 
-/// The index of the stems, of one of all but the newest, with the newest one's path where it is given. Where
-/// there was none it is built, if the stems are so many, and at most once for each doubling of their number.
-/// Where the memory for it is not to be had there is none, until their number is a power of two again, and
-/// looks take longer. It costs what `add` does for the newest stem, or that for each where it is built.
+/// The index of the stems, from the one of all but the newest, with the newest stem's line where it is given.
+/// Without an earlier index `begun` may build one, at most once for each doubling of the number of stems. Out
+/// of memory there is no index until that number is a power of two again, and looks take longer. The cost is
+/// that of `add` for the newest stem, or for each stem where the index is built.
 pub(crate) fn renewed(
     alloc: Global,
     index: Option<Box<Index>>,

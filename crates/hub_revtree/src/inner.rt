@@ -1,4 +1,4 @@
-//! Which of the stems' newest revisions stand behind others.
+//! Notes of the stems whose newest revisions stand behind others.
 
 ghost use Rattle.std.specs.Prelude.{◌≡◌, ◌<◌, ◌≤◌, ◌||◌, Some, drop, false, length, option_map};
 ghost use Rattle.std.specs.Prelude.{slice_get, slice_set, true, vec_capacity, vec_len};
@@ -22,7 +22,7 @@ fn note(stems: &mut [Stem], number: usize)
     stems[number].pass();
 }
 
-// Notes the stem of the place as inner, where the revision there is its newest. Constant time.
+// Notes the stem of the place as inner, where the place is that of its newest revision. Constant time.
 fn note_at(stems: &mut [Stem], place: Place)
     requires { IsPlaceIn stems.old place }
     ensures { NotesOnly stems.old (λ r. is_at stems.old r (Some place)) stems.new }
@@ -32,8 +32,8 @@ fn note_at(stems: &mut [Stem], place: Place)
     }
 }
 
-// Notes the stems as inner whose newest revisions are among these behind the first, where one of these may be
-// known. A find for each of these.
+// Notes the stems as inner whose newest revisions are in the run behind its first. Where the run joins none,
+// no stem has a revision of it, and nothing is done. Else a find for each of these revisions.
 fn note_joined(stems: &mut [Stem], index: Option<&Index>, run: &Run, joins: bool)
     requires indexed { AreIndexed stems.old (option_map (λ i. i.now) index) }
     requires some { 1 ≤ length run.now }
@@ -50,8 +50,8 @@ fn note_joined(stems: &mut [Stem], index: Option<&Index>, run: &Run, joins: bool
     }
 }
 
-/// Notes the stems as inner whose newest revisions stand behind that of the stem with these revisions, which
-/// is to come behind them. Constant time where it joins none; else a find for each of the revisions.
+/// Notes the stems as inner whose newest revisions stand behind that of the next stem, which has this run and
+/// this standing. Constant time where the next stem joins none; else a find for each revision of the run.
 pub(crate) fn note_inner(
     stems: &mut Vec<Stem>,
     index: Option<&Index>,

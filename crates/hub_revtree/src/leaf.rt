@@ -14,16 +14,16 @@ use hub_document::RevId;
 use std::alloc::{AllocError, Global};
 use std::cmp::Ordering;
 
-/// A document's winner.
+/// The revision and the mark of a document's winner, or of another edit's head.
 #[derive(Clone, Copy, Debug, PartialEq, Eq)]
 pub struct Winner {
-    /// Its revision.
+    /// The revision.
     pub rev: RevId,
-    /// Whether it is deleted.
+    /// Whether the revision's edit deletes the document.
     pub deleted: bool,
 }
 
-/// The greater generation is above, then the greater hash in the order of its bytes.
+/// How revisions compare: the greater generation is above, then the greater hash in the order of its bytes.
 pub(crate) fn revision_order(rev: &RevId, other: &RevId) -> Ordering
     ensures { result ≡ revision_cmp rev.now other.now }
 {
@@ -32,7 +32,7 @@ pub(crate) fn revision_order(rev: &RevId, other: &RevId) -> Ordering
         .then_with(|| rev.hash().cmp(other.hash()))
 }
 
-/// A leaf that is not deleted is above a deleted one, then the greater revision is above.
+/// How leaves compare: one that is not deleted is above a deleted one, then the greater revision is above.
 pub(crate) fn leaf_order(leaf: &Winner, other: &Winner) -> Ordering
     ensures { result ≡ leaf_cmp leaf.now.deleted leaf.now.rev other.now.deleted other.now.rev }
 {
@@ -43,7 +43,7 @@ pub(crate) fn leaf_order(leaf: &Winner, other: &Winner) -> Ordering
     }
 }
 
-// Whether a leaf is above the best so far.
+// Whether a leaf is above the best one so far, if there is one.
 fn is_better(leaf: &Winner, best: &Option<Winner>) -> bool
     ensures { result ≡ is_better_than leaf.now best.now }
 {
@@ -53,8 +53,7 @@ fn is_better(leaf: &Winner, best: &Option<Winner>) -> bool
     }
 }
 
-/// The number of the edit whose revision is the best of those that stand behind no head; where there is
-/// none, how many edits there are. One step an edit.
+/// The number of the best leaf's edit; where there is no leaf, the number of edits. One step for each edit.
 pub(crate) fn best_leaf(branches: &Branches) -> usize
     ensures { option_and_then head_in (slice_get branches.now.list result)
         ≡ winner_of (best_first (leaves_among (edits_in branches.now.list) (edits_in branches.now.list))) }
@@ -74,8 +73,8 @@ pub(crate) fn best_leaf(branches: &Branches) -> usize
     number
 }
 
-// The same by the candidates; None where there is no memory for them. Each edit becomes a candidate
-// once at most, and is given up once, at log n comparisons of revisions each time.
+// The number of the best leaf's edit by the candidates; None without an index, and out of memory. Each edit
+// becomes a candidate once at most, and is given up once, at log n comparisons of revisions each time.
 fn best_candidate(branches: &mut Branches) -> Option<usize>
     ensures list { branches.new.list ≡ branches.old.list }
     ensures best { IfSome result (λ best. option_and_then head_in (slice_get branches.old.list best)
@@ -90,10 +89,10 @@ fn best_candidate(branches: &mut Branches) -> Option<usize>
     Some(best)
 }
 
-/// The same where only the newest edit has come since the winner's edit had this number. Constant
-/// time where the newest edit wins, or the winner is not what it stands on. Else it costs what
-/// `best_candidate` does where the edits have an index, and memory for candidates, and where not
-/// what `best_leaf` does.
+/// The number of the best leaf's edit, where `best` was that before the newest edit came. Constant time where
+/// the newest edit wins, or the winner is not an ancestor of its revision. Else the cost is that of
+/// `best_candidate` where the edits have an index, and memory for candidates; and where not, that of
+/// `best_leaf`.
 pub(crate) fn best_with_newest(branches: &mut Branches, best: usize) -> usize
     requires some { 0 < length branches.old.list }
     requires winner { HasWinner (edits_in (earlier_branches branches.old.list))
@@ -120,8 +119,8 @@ pub(crate) fn best_with_newest(branches: &mut Branches, best: usize) -> usize
     best
 }
 
-// Puts leaves in order, the best first: the same as the definition does. A sort in place: their number times
-// its logarithm.
+// Puts the leaves in order, the best first, as the definition `best_first` does. It sorts in place: the cost
+// is their number times its logarithm.
 fn put_in_order(leaves: &mut [Winner])
     ensures { (found : List Leaf) → leaves.old ≡ reverse (winners_of found)
         → leaves.new ≡ winners_of (best_first found) }
@@ -129,7 +128,7 @@ fn put_in_order(leaves: &mut [Winner])
     leaves.sort_unstable_by(|leaf, other| leaf_order(other, leaf));
 }
 
-/// The edits' revisions that stand behind no head, best first. One step an edit, and a sort of the leaves.
+/// The leaves with their marks, best first. One step for each edit, and a sort of the leaves.
 pub(crate) fn best_leaves(alloc: Global, branches: &Branches) -> Result<Vec<Winner>, AllocError>
     ensures { IfOk result (λ leaves. leaves.items ≡ winners_of (best_first (leaves_among
         (edits_in branches.now.list) (edits_in branches.now.list)))) }
@@ -157,7 +156,7 @@ fn is_leaf_below(branches: &Branches, at: usize, generation: u16) -> bool
     head.rev.generation() < generation && !branches.is_head_inner(at)
 }
 
-/// Whether a leaf is of a generation below this one. One step an edit.
+/// Whether a leaf is of a generation below this one. One step for each edit.
 pub(crate) fn has_leaf_below(branches: &Branches, generation: u16) -> bool
     ensures { result ≡ list_any (λ b.
         has_below generation (with_leaf (edits_in branches.now.list) (edit_of b) b.path []))

@@ -1,5 +1,5 @@
-//! The tree of one document's revisions: which are known, which stand at its ends, and which of
-//! them wins (CouchDB API reference, document revisions and conflicts).
+//! The tree of one document's revisions: its known revisions, its leaves and its winner (CouchDB API
+//! reference, document revisions and conflicts).
 #![tactic(auto)]
 
 mod branches;

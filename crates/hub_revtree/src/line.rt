@@ -9,7 +9,7 @@ use std::sync::Arc;
 /// The digests of a path's revisions, newest first, which several edits may share.
 #[derive(Debug, Drop)]
 pub(crate) struct Line {
-    /// Oldest first, so that a newer one comes behind them.
+    /// Oldest first, so that a newer digest is appended.
     digests: Arc<Vec<[u8; 16]>>,
 }
 
@@ -22,7 +22,7 @@ impl Model for Line {
 }
 
 impl Line {
-    /// The line of these digests, newest first. It costs their number.
+    /// The line of these digests, newest first. The cost is their number.
     pub(crate) fn new(alloc: Global, mut digests: Vec<[u8; 16]>) -> Result<Line, AllocError>
         ensures { IfOk result (λ line. line ≡ digests.items) }
     {
@@ -32,14 +32,14 @@ impl Line {
         })
     }
 
-    /// How many there are. Constant time.
+    /// How many digests the line has. Constant time.
     pub(crate) fn len(&self) -> usize
         ensures { result ≡ length self.now }
     {
         self.digests.len()
     }
 
-    /// The digest at this place, counted from the newest. Constant time.
+    /// The digest at this place, counted from 0 for the newest. Constant time.
     pub(crate) fn at(&self, place: usize) -> &[u8; 16]
         requires { place < length self.now }
         ensures { slice_get self.now place ≡ Some result.now }
@@ -47,7 +47,7 @@ impl Line {
         &self.digests[self.digests.len() - 1 - place]
     }
 
-    /// The same line once more. Constant time; it takes no memory.
+    /// A second value of the same line, which shares its memory. Constant time; it takes no memory.
     pub(crate) fn share(&self) -> Result<Line, AllocError>
         ensures { IfOk result (λ line. line ≡ self.now) }
     {
@@ -56,8 +56,8 @@ impl Line {
         })
     }
 
-    /// The line with a newer digest, in the memory that it has; None where another one shares that, and where
-    /// there is no more memory to be had. Constant time, but that the memory grows by doubling.
+    /// The line with a newer digest in front, in its own memory; None where another value shares that memory,
+    /// and out of memory. Constant time, but that the memory grows by doubling.
     pub(crate) fn with_newer(mut self, digest: [u8; 16]) -> Option<Line>
         ensures { IfSome result (λ line. line ≡ digest ∷ self) }
     {

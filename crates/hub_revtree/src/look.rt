@@ -1,4 +1,4 @@
-//! What a tree is asked.
+//! Questions to a tree.
 
 ghost use Rattle.std.specs.Prelude.{◌≡◌, [], IfOk, OnErr, filter, find, nat_lt, option_map};
 ghost use Rattle.hub_model.specs.Journal.{IsKnown};
@@ -13,7 +13,7 @@ use crate::tree::RevTree;
 use hub_document::{Body, Path, RevId, Revisions};
 use std::alloc::{AllocError, Global};
 
-// Those of the revisions that are of a generation below this one, in the same order.
+// The revisions of a generation below this one, in the same order.
 fn below(alloc: Global, revs: &[RevId], generation: u16) -> Result<Vec<RevId>, AllocError>
     ensures { IfOk result (λ found. found.items ≡ filter (λ r. nat_lt r.generation generation) revs.now) }
 {
@@ -24,7 +24,8 @@ fn below(alloc: Global, revs: &[RevId], generation: u16) -> Result<Vec<RevId>, A
 }
 
 impl RevTree {
-    /// The leaves, best first. One step an edit, and a sort of the leaves: their number times its logarithm.
+    /// The leaves, best first. One step for each edit, and a sort of the leaves: their number times its
+    /// logarithm.
     pub fn leaves(&self, alloc: Global) -> Result<Revisions, AllocError>
         ensures ok { IfOk result (λ revs. revs ≡ revisions_of (leaves_of self.now.edits [])) }
         ensures memory { OnErr result (¬ (self.now.edits ≡ [])) }
@@ -37,10 +38,9 @@ impl RevTree {
         Ok(Revisions::new(revs))
     }
 
-    /// A known revision and all that stands behind it, in memory of its own, with room for these alone;
-    /// None of one that is not known. It costs two finds, the length of the path, and for each join of the
-    /// path two looks for the edit that goes on: each two looks in the index, or a look at each edit where
-    /// there is none.
+    /// A known revision and all revisions behind it, in memory of just their size; None of an unknown
+    /// revision. The cost is two finds, the path's length, and at each join of the path two looks for the
+    /// stem that goes on. Such a look is two looks in the index, or without an index one at each edit.
     pub fn path(&self, alloc: Global, rev: &RevId) -> Result<Option<Path>, AllocError>
         ensures ok { IfOk result (λ path. path ≡ path_to self.now.edits rev.now) }
         ensures memory { OnErr result (IsKnown self.now.edits [] rev.now) }
@@ -55,8 +55,8 @@ impl RevTree {
         Ok(Some(Path::new(revisions)))
     }
 
-    /// The members of the edit that the revision heads; None where it heads none, as an ancestor
-    /// does that came inside a history alone. One find.
+    /// The members of the edit that the revision heads; None where it heads none. An ancestor heads none that
+    /// came inside another edit's path alone. One find.
     pub fn body(&self, rev: &RevId) -> Option<&Body>
         ensures { option_map (λ b. b.now) result
             ≡ option_map (λ e. e.body) (find (is_head rev.now) self.now.edits) }
@@ -67,7 +67,7 @@ impl RevTree {
         }
     }
 
-    /// Of these revisions those that are not known, in the same order. It costs what `knows` does for each.
+    /// The unknown ones of these revisions, in the same order. The cost is that of `knows` for each.
     pub fn missing(&self, alloc: Global, revs: &[RevId]) -> Result<Revisions, AllocError>
         ensures ok { IfOk result (λ found. found ≡ missing_from self.now.edits [] revs.now) }
         ensures memory { OnErr result (¬ (missing_from self.now.edits [] revs.now ≡ [])) }
@@ -76,9 +76,9 @@ impl RevTree {
         Ok(Revisions::new(found))
     }
 
-    /// The leaves of a generation below the greatest missing one of these revisions, best first:
-    /// those that a replicator may already have of what stands behind them. It costs what `missing`
-    /// and `leaves` do, and takes memory only where there is such a leaf.
+    /// The leaves of a generation below the greatest missing one of these revisions, best first. Each may be
+    /// an ancestor of a missing revision. The cost is that of `missing` and `leaves`. Memory is taken only
+    /// where there is such a leaf.
     pub fn possible_ancestors(&self, alloc: Global, revs: &[RevId]) -> Result<Revisions, AllocError>
         ensures ok { IfOk result (λ found. found ≡ ancestors_from self.now.edits [] revs.now) }
         ensures memory { OnErr result (¬ (ancestors_from self.now.edits [] revs.now ≡ [])) }

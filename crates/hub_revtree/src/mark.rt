@@ -1,4 +1,4 @@
-//! What is noted of an edit in one byte.
+//! The marks of edits, in one byte each.
 
 ghost use Rattle.std.specs.Prelude.{◌≡◌, false, true};
 ghost use Rattle.hub_revtree.specs.Mark.{is_deletion, is_passed};
@@ -14,7 +14,7 @@ pub(crate) enum Mark {
 }
 
 impl Mark {
-    /// That of an edit whose revision is a leaf.
+    /// The mark of an edit whose revision is a leaf.
     pub(crate) fn of_leaf(deleted: bool) -> Mark
         ensures deletes { is_deletion result ≡ deleted }
         ensures inner { is_passed result ≡ false }
@@ -46,7 +46,7 @@ impl Mark {
         }
     }
 
-    /// The mark once the revision is inner.
+    /// The mark of the same edit, once its revision is inner.
     pub(crate) fn passed(self) -> Mark
         ensures deletes { is_deletion result ≡ is_deletion self }
         ensures inner { is_passed result ≡ true }

@@ -19,24 +19,24 @@ use hub_document::{Changes, DigestRev, RevId};
 use std::alloc::{AllocError, Global};
 use std::marker::Model;
 
-// How revisions are kept, newest first. A digest stands for the hash that is its hexadecimal text.
+// The forms in which a run keeps its revisions, newest first. A digest stands for its hexadecimal text.
 #[derive(Debug, Drop)]
 enum RunRepr {
     // One revision: its generation, and its digest.
     One(u16, [u8; 16]),
-    // The newest one's generation, and the digests of all. The generations fall by one.
+    // The generation of the newest revision, and the digests of all. The generations fall by one.
     Digests(u16, Vec<[u8; 16]>),
-    // The first of a path, so many at most: its newest one's generation, and how many; its newest digest, and
-    // those behind it, which other edits share.
+    // The first revisions of a path: the newest generation, how many they are at most, the newest digest, and
+    // the line of the digests behind it, which other edits share.
     Shared(u16, u16, [u8; 16], Line),
     // The revisions themselves.
     Texts(Vec<RevId>),
 }
 
-/// Revisions, newest first, of which each is the parent of the one before it. One whose hash is 32 lower-case
-/// hexadecimal digits takes 16 bytes, and where it stands alone no memory of its own; where a hash is
-/// another, each takes 68 bytes. A path may share the digests behind its newest one with others. The value
-/// itself takes 32 bytes.
+/// Revisions, newest first, of which each is the parent of the one before it. Where all hashes are 32
+/// lower-case hexadecimal digits, a revision takes 16 bytes, and a lone one none outside the run. Else each
+/// takes 68 bytes. A path may share the digests behind its newest revision with other paths. The value itself
+/// takes 32 bytes.
 #[derive(Debug, Drop)]
 pub(crate) struct Run {
     kept: RunRepr,
@@ -56,7 +56,7 @@ impl Model for Run {
     ghost invariant = { λ a. IsPath (kept_in a.kept) };
 }
 
-// The digests whose texts the hashes are; None where a hash is another text. It costs their number.
+// The digests whose texts the hashes are; None where a hash is another text. The cost is their number.
 fn digests_of(alloc: Global, revisions: &[RevId]) -> Result<Option<Vec<[u8; 16]>>, AllocError>
     ensures { IfOk result
         (λ found.
@@ -72,7 +72,7 @@ fn digests_of(alloc: Global, revisions: &[RevId]) -> Result<Option<Vec<[u8; 16]>
     Ok(Some(digests))
 }
 
-// The first of a list, so many, in its own memory, which gives the rest back.
+// The first `count` items of a list, in the list's own memory. The rest of this memory is given back.
 fn cut_list<T: Drop>(mut list: Vec<T>, count: usize) -> Vec<T>
     ensures { result.items ≡ take count list.items }
 {
@@ -81,14 +81,14 @@ fn cut_list<T: Drop>(mut list: Vec<T>, count: usize) -> Vec<T>
     list
 }
 
-// The lesser of both.
+// The lesser of both numbers.
 fn least(most: u16, count: usize) -> u16
     ensures { result ≡ min count most }
 {
     usize::from(most).min(count) as u16
 }
 
-// The digest at this place of a path, of the newest one and those behind it. Constant time.
+// The digest at this place of a path: the newest digest, or one of the line behind it. Constant time.
 fn digest_at<'a>(newest: &'a [u8; 16], line: &'a Line, place: usize) -> &'a [u8; 16]
     requires { place ≤ length line.now }
     ensures { slice_get (newest.now ∷ line.now) place ≡ Some result.now }
@@ -100,8 +100,8 @@ fn digest_at<'a>(newest: &'a [u8; 16], line: &'a Line, place: usize) -> &'a [u8;
     }
 }
 
-// The newest digest and those behind it as one line, where so many at most are all of them. It takes memory
-// as `Line::with_newer` does.
+// The newest digest and the line behind it as one line; None where they are more than `most`. It takes memory
+// as `Line::with_newer` does, and is None where that is.
 fn all_of(most: u16, newest: [u8; 16], line: Line) -> Option<Line>
     ensures { IfSome result (λ all. (all ≡ newest ∷ line) × (length all ≤ most)) }
 {
@@ -111,7 +111,7 @@ fn all_of(most: u16, newest: [u8; 16], line: Line) -> Option<Line>
     line.with_newer(newest)
 }
 
-// The digests of all revisions that are kept, where these are shared and are a whole path.
+// The digests of all revisions of a form that shares them and has a whole path; else None.
 fn line_in(kept: RunRepr) -> Option<Line>
     ensures { IfSome result (λ line. map encode_lower line ≡ map (λ r. r.hash) (kept_in kept)) }
 {
@@ -121,7 +121,7 @@ fn line_in(kept: RunRepr) -> Option<Line>
     }
 }
 
-// What keeps the first of the revisions, so many. It takes no memory.
+// The form that keeps the first `count` revisions. It takes no memory.
 fn cut_kept(kept: RunRepr, count: usize) -> RunRepr
     requires { 1 ≤ count }
     ensures { kept_in result ≡ take count (kept_in kept) }
@@ -145,8 +145,8 @@ fn is_of(generation: u16, digest: &[u8; 16], sought: &Sought) -> bool
 }
 
 impl Run {
-    /// The first of a path's revisions, so many. It takes memory of just the size that they need; none
-    /// where there is one whose hash is a digest's text. It costs their number.
+    /// The first `count` revisions of a path, in memory of just their size. One revision whose hash is a
+    /// digest's text takes none. The cost is their number.
     pub(crate) fn front(alloc: Global, revisions: &[RevId], count: usize) -> Result<Run, AllocError>
         requires path { IsPath revisions.now }
         requires within { (1 ≤ count) × (count ≤ length revisions.now) }
@@ -166,7 +166,7 @@ impl Run {
         }
     }
 
-    /// One revision. It takes no memory.
+    /// The run of one revision. It takes no memory.
     pub(crate) fn of_one(rev: &DigestRev) -> Run
         ensures { result ≡ rev.now ∷ [] }
     {
@@ -175,7 +175,7 @@ impl Run {
         }
     }
 
-    /// All of them, in their own vector. It takes no memory.
+    /// The run of all these revisions, in their own vector. It takes no memory.
     pub(crate) fn whole(revisions: Vec<RevId>) -> Run
         requires { IsPath revisions.items }
         ensures { result ≡ revisions.items }
@@ -196,7 +196,7 @@ impl Run {
         }
     }
 
-    /// The revision in front of the path with the digests of the line, which it shares. It takes no memory.
+    /// The revision in front of the path of the line, which the run shares. It takes no memory.
     pub(crate) fn on(rev: &DigestRev, line: Line) -> Run
         requires { length line < rev.now.generation }
         ensures { result ≡ rev.now ∷ revisions_from (rev.now.generation - 1) line }
@@ -207,16 +207,16 @@ impl Run {
         }
     }
 
-    /// The digests of all of them, where they are a whole path on a line that is not shared any more; this
-    /// takes memory only as `Line::with_newer` does. None of others.
+    /// The digests of all revisions of a run that has a whole path on a line, where no other value shares the
+    /// line any more. It takes memory only as `Line::with_newer` does. None of any other run.
     pub(crate) fn into_line(self) -> Option<Line>
         ensures { IfSome result (λ line. map encode_lower line ≡ map (λ r. r.hash) self) }
     {
         line_in(self.kept)
     }
 
-    /// The first of them, so many, in the memory that they all have, which gives the rest of it back where no
-    /// other edit shares it: it takes none.
+    /// The first `count` revisions, in the run's own memory. The rest of that memory is given back, where no
+    /// other edit shares it. No memory is taken.
     pub(crate) fn cut(self, count: usize) -> Run
         requires { 1 ≤ count }
         ensures { result ≡ take count self }
@@ -226,7 +226,7 @@ impl Run {
         }
     }
 
-    /// How many there are. Constant time.
+    /// How many revisions the run has. Constant time.
     pub(crate) fn len(&self) -> usize
         ensures { result ≡ length self.now }
     {
@@ -240,7 +240,7 @@ impl Run {
         }
     }
 
-    /// The newest one's generation.
+    /// The generation of the newest revision.
     pub(crate) fn generation(&self) -> u16
         ensures { option_map (λ r. r.generation) (slice_get self.now 0) ≡ Some result }
     {
@@ -252,7 +252,7 @@ impl Run {
         }
     }
 
-    /// The revision at this place, counted from the newest. Constant time.
+    /// The revision at this place, counted from 0 for the newest. Constant time.
     pub(crate) fn at(&self, place: usize) -> RevId
         requires { place < length self.now }
         ensures { slice_get self.now place ≡ Some result }
@@ -269,8 +269,8 @@ impl Run {
         }
     }
 
-    /// The key of the digest of the revision at this place; None where its hash is the text of none. Constant
-    /// time.
+    /// The key of the digest of the revision at this place; None where the revision's hash is no digest's
+    /// text. Constant time.
     pub(crate) fn key_at(&self, place: usize) -> Option<u64>
         requires { place < length self.now }
         ensures { (r : Revision) → slice_get self.now place ≡ Some r → HasKey r.hash result }
@@ -283,7 +283,7 @@ impl Run {
         }
     }
 
-    /// The newest revision alone, as a row lists it. It takes memory only where a hash is no digest's text.
+    /// The newest revision alone, as a row lists it. It takes memory only where its hash is no digest's text.
     pub(crate) fn newest(&self, alloc: Global) -> Result<Changes, AllocError>
         ensures ok { IfOk result (λ changes. changes ≡ take 1 self.now) }
         ensures memory { OnErr result (IsSomeAnd (slice_get self.now 0) (λ r. ¬ IsDigestText r.hash)) }
@@ -302,7 +302,7 @@ impl Run {
         }
     }
 
-    /// Whether the revision is the one at this place. It compares no hashes where the generations differ.
+    /// Whether this is the revision at the place. It compares no hashes where the generations differ.
     pub(crate) fn is_at(&self, place: usize, sought: &Sought) -> bool
         requires { place < length self.now }
         ensures { result ≡ is_first sought.now (drop place self.now) }
@@ -321,7 +321,7 @@ impl Run {
         }
     }
 
-    /// Where the revision stands, counted from the newest. Constant time.
+    /// The place of the revision in the run, counted from 0 for the newest, if it has one. Constant time.
     pub(crate) fn position(&self, sought: &Sought) -> Option<u16>
         ensures found { IfSome result (λ k. slice_get self.now k ≡ Some sought.now) }
         ensures absent { IfNone result (names self.now sought.now ≡ false) }
@@ -342,8 +342,8 @@ impl Run {
         self.is_at(usize::from(place), sought).then_some(place)
     }
 
-    /// Puts the revision at this place, and those behind it, behind what the vector holds. It costs their
-    /// number.
+    /// Appends the revision at this place, and those behind it, to the vector. The cost is their number. Out
+    /// of memory, the vector may have some of them.
     pub(crate) fn append_from(&self, at: usize, line: &mut Vec<RevId>) -> Result<(), AllocError>
         ensures { OnOk result (line.new.items ≡ line.old.items ++ drop at self.now) }
     {
@@ -353,8 +353,8 @@ impl Run {
         Ok(())
     }
 
-    /// Puts the digests of the revision at this place, and of those behind it, behind what the vector holds;
-    /// false, and nothing, where they are kept otherwise, or shared. It costs a copy of 16 bytes for each.
+    /// Appends the digests of the revision at this place, and of those behind it, to the vector; false, and
+    /// nothing, where the run keeps texts or shares digests. Each digest costs a copy of 16 bytes.
     pub(crate) fn append_digests(
         &self,
         at: usize,
@@ -374,8 +374,8 @@ impl Run {
         Ok(true)
     }
 
-    /// For how many the revisions from this place on are these, as far as both go; None where one of them
-    /// differs. It costs their number.
+    /// How many revisions from this place on are the same as these, to the end of the shorter list; None
+    /// where one of them differs. The cost is their number.
     pub(crate) fn common(&self, at: usize, revisions: &[RevId]) -> Option<usize>
         requires { at ≤ length self.now }
         ensures { result ≡ common_of revisions.now (drop at self.now) }

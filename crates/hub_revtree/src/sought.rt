@@ -8,22 +8,22 @@ ghost use Rattle.hub_revtree.specs.Sought.{IsFormOf};
 use hub_document::RevId;
 use std::marker::Model;
 
-// From so many looks on a digest is made for them: to make it takes about as long as so many without it.
+// The number of looks from which on a digest is made: making it takes about as long as so many without it.
 const MANY: usize = 16;
 
-// What is made of a hash.
+// The digest that is made of a hash for many looks.
 #[derive(Drop)]
 enum Form {
-    // The digest whose text it is.
+    // The digest whose text the hash is.
     Digest([u8; 16]),
-    // It is the text of no digest.
+    // The hash is no digest's text.
     Other,
-    // Nothing is made of it.
+    // No digest is made of the hash.
     Unmade,
 }
 
-/// A revision that is looked for. For many looks its digest is made once, and each compares 16 bytes; for a
-/// few each compares the digits.
+/// A revision that is looked for. For many looks its digest is made once, and each look compares 16 bytes.
+/// For few looks no digest is made, and each compares the hexadecimal digits.
 #[derive(Drop)]
 pub(crate) struct Sought<'a> {
     rev: &'a RevId,
@@ -41,7 +41,7 @@ impl<'a> Model for Sought<'a> {
     ghost invariant = { λ a. IsFormOf a.form a.rev.now.hash };
 }
 
-// What is made of a hash for many looks.
+// The form of the revision's hash for many looks.
 fn form_of(rev: &RevId) -> Form
     ensures { IsFormOf result rev.now.hash }
 {
@@ -52,7 +52,7 @@ fn form_of(rev: &RevId) -> Form
 }
 
 impl<'a> Sought<'a> {
-    /// The revision, for a look among so many. Where the number is known, this costs nothing.
+    /// The revision, for this number of looks. Where that is a constant below `MANY`, this costs nothing.
     #[inline(always)]
     pub(crate) fn among(rev: &'a RevId, looks: usize) -> Sought<'a>
         ensures { result ≡ rev.now }
@@ -76,7 +76,7 @@ impl<'a> Sought<'a> {
         self.rev
     }
 
-    /// Whether its hash is the hexadecimal text of the digest, in lower-case digits.
+    /// Whether the revision's hash is the hexadecimal text of the digest, in lower-case digits.
     pub(crate) fn has_digest(&self, digest: &[u8; 16]) -> bool
         ensures { result ≡ bytes_eq self.now.hash (encode_lower digest.now) }
     {

@@ -1,4 +1,4 @@
-//! What one edit of a tree brought.
+//! The part of one edit that a tree keeps.
 
 ghost use Rattle.std.specs.Prelude.{◌≡◌, ◌≤◌, ◌<◌, ◌++◌, Some, false, true, drop, length, map, option_map};
 ghost use Rattle.std.specs.Prelude.{slice_get, take, IfSome, IfNone, IfOk, IsSomeAnd, IsTrue, OnErr, OnOk};
@@ -18,30 +18,30 @@ use std::alloc::{AllocError, Global};
 use std::marker::Model;
 use std::mem::size_of;
 
-/// Where a revision stands: among the revisions of the stem of this number, at this place from the
-/// newest.
+/// The place of a revision: the number of a stem that has it, and its position among that stem's revisions,
+/// from 0 for the newest.
 #[derive(Clone, Copy)]
 pub(crate) struct Place {
     pub(crate) stem: usize,
     pub(crate) at: u16,
 }
 
-/// What an edit brought: the first of its path's revisions, newest first, up to the last that was unknown, or
-/// behind which no other edit had the next one; where the revision behind them stands, whose chain has the
-/// rest of the edit's path; how many revisions the path has; whether it deletes the document, and whether
-/// its revision is inner; and the members. It takes 72 bytes, and what the revisions and the members take.
+/// The revisions that an edit brought, newest first, with its mark and its members. They are the first of the
+/// edit's path, up to the last that was unknown, or with which a chain ended before the path did. The rest of
+/// the path is the front of a chain, from the place on that the stem stands on. A stem takes 72 bytes, and
+/// the memory of the revisions and the members.
 #[derive(Debug, Drop)]
 pub(crate) struct Stem {
     run: Run,
     body: Body,
-    /// The number of the stem that it stands on, and the place there; 0 where it stands on none.
+    /// The number of the stem on which this one stands, and the place there; both 0 where it stands on none.
     below: usize,
     at: u16,
     /// How many revisions the edit's path has.
     count: u16,
-    /// How many revisions its chain has: more than its own where it stands on one.
+    /// How many revisions the stem's chain has: more than the stem where it stands on another.
     reach: u16,
-    /// Whether one of its own revisions was known before.
+    /// Whether an earlier stem has one of this stem's revisions.
     joins: bool,
     mark: Mark,
 }
@@ -49,13 +49,13 @@ pub(crate) struct Stem {
 /// How an edit's path goes on behind the revisions that its stem keeps.
 #[derive(Clone, Copy)]
 pub(crate) struct Standing {
-    /// Where the next revision stands, if there is one that an edit brought.
+    /// The place of the path's next revision; None where the stem keeps the whole path.
     pub(crate) parent: Option<Place>,
     /// How many revisions the path has.
     pub(crate) count: u16,
-    /// How many revisions the chain has.
+    /// How many revisions the stem's chain has.
     pub(crate) reach: u16,
-    /// Whether one of the stem's revisions was known before.
+    /// Whether an earlier stem has one of the stem's revisions.
     pub(crate) joins: bool,
 }
 
@@ -85,7 +85,7 @@ impl Model for Stem {
 }
 
 impl Stem {
-    /// The stem of these, whose newest revision is a leaf.
+    /// The stem of these revisions, mark and members; it is noted as a leaf.
     pub(crate) fn new(run: Run, standing: Standing, deleted: bool, body: Body) -> Stem
         requires path { IsPath run }
         requires stands { IfSome standing.parent (λ _. length run < standing.reach) }
@@ -114,7 +114,7 @@ impl Stem {
         }
     }
 
-    /// Where the revision behind its own stands, if there is one. Constant time.
+    /// The place of the revision behind the stem's last: the stem stands on it, if on any. Constant time.
     pub(crate) fn parent(&self) -> Option<Place>
         ensures { result ≡ self.now.parent }
     {
@@ -132,22 +132,22 @@ impl Stem {
         self.count
     }
 
-    /// How many revisions its chain has.
+    /// How many revisions the stem's chain has.
     pub(crate) fn reach(&self) -> u16
         ensures { result ≡ self.now.reach }
     {
         self.reach
     }
 
-    /// Whether one of its own revisions was known before.
+    /// Whether an earlier stem has one of this stem's revisions.
     pub(crate) fn joins(&self) -> bool
         ensures { result ≡ self.now.joins }
     {
         self.joins
     }
 
-    /// Whether the edit deletes the document, and whether its newest revision is inner: it stands behind that
-    /// of another stem by now.
+    /// Whether the edit deletes the document, and whether the stem's newest revision is inner: it stands
+    /// behind that of another stem by now.
     pub(crate) fn mark(&self) -> Mark
         ensures deletes { is_deletion result ≡ self.now.deleted }
         ensures inner { is_passed result ≡ self.now.inner }
@@ -155,35 +155,35 @@ impl Stem {
         self.mark
     }
 
-    /// Notes that its newest revision is inner.
+    /// Notes that the stem's newest revision is inner.
     pub(crate) fn pass(&mut self)
         ensures { self.new ≡ with_note true self.old }
     {
         self.mark = self.mark.passed();
     }
 
-    /// The members.
+    /// The edit's members.
     pub(crate) fn body(&self) -> &Body
         ensures { result.now ≡ self.now.body }
     {
         &self.body
     }
 
-    /// The revisions that are its own.
+    /// The stem's own revisions.
     pub(crate) fn run(&self) -> &Run
         ensures { result.now ≡ self.now.revisions }
     {
         &self.run
     }
 
-    /// The newest of them. Constant time.
+    /// The newest of the stem's revisions. Constant time.
     pub(crate) fn head(&self) -> RevId
         ensures { slice_get self.now.revisions 0 ≡ Some result }
     {
         self.run.at(0)
     }
 
-    /// Whether the revision is the newest. Constant time.
+    /// Whether the revision is the stem's newest. Constant time.
     pub(crate) fn is_head(&self, sought: &Sought) -> bool
         ensures { result ≡ is_first sought.now self.now.revisions }
     {

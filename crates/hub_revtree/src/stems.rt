@@ -26,7 +26,7 @@ use crate::stem::{Place, Stem};
 use hub_document::{Path, RevId};
 use std::alloc::AllocError;
 
-/// Where the revision stands in the stem of this number, if it does. Constant time.
+/// The place of the revision in the stem of this number; None where that stem lacks it. Constant time.
 pub(crate) fn place_in(stems: &[Stem], number: usize, rev: &RevId) -> Option<Place>
     ensures found { IfSome result (StandsAt stems.now rev.now) }
     ensures stem { IfSome result (λ place. place.stem ≡ number) }
@@ -41,10 +41,10 @@ pub(crate) fn place_in(stems: &[Stem], number: usize, rev: &RevId) -> Option<Pla
     }
 }
 
-/// Where the revision stands; None where no edit brought it. With an index it is a look there, and
-/// the place is that in the first stem that has the revision: constant time for digests that differ
-/// in their first eight bytes, else at most log n comparisons of revisions. Without one it is one
-/// look an edit, from the newest on up to the one that brought it.
+/// A place of the revision; None where no stem has it. With an index it is the place in the first stem that
+/// has the revision. That takes constant time for digests that differ in their first eight bytes, else at
+/// most log n comparisons of revisions. Without an index it is one look for each stem, from the newest on up
+/// to one that has the revision.
 pub(crate) fn place_of(stems: &[Stem], index: Option<&Index>, rev: &RevId) -> Option<Place>
     requires { AreIndexed stems.now (option_map (λ i. i.now) index) }
     ensures { IsFound stems.now rev.now result }
@@ -61,9 +61,9 @@ pub(crate) fn place_of(stems: &[Stem], index: Option<&Index>, rev: &RevId) -> Op
     None
 }
 
-/// The stem whose newest revision this is. With an index it is the first one that has the revision, since no
-/// stem's newest revision is one of an earlier stem, and costs what `place_of` does; else one look an edit,
-/// from the newest on up to that one.
+/// The stem whose newest revision this is; None where there is none. With an index it is the first stem that
+/// has the revision, since no stem's newest revision is one of an earlier stem. The cost then is that of
+/// `place_of`. Without an index the stems are read from the newest on, up to this one.
 pub(crate) fn headed<'a>(stems: &'a [Stem], index: Option<&Index>, rev: &RevId) -> Option<&'a Stem>
     requires { AreIndexed stems.now (option_map (λ i. i.now) index) }
     ensures { option_map (λ s. s.now) result ≡ find (λ s. is_first rev.now s.revisions) stems.now }
@@ -90,7 +90,7 @@ pub(crate) fn headed<'a>(stems: &'a [Stem], index: Option<&Index>, rev: &RevId) 
     None
 }
 
-/// Whether the revision is the newest of the newest stem. Constant time.
+/// Whether the revision is the newest one of the stem that came last. Constant time.
 pub(crate) fn is_newest(stems: &[Stem], rev: &RevId) -> bool
     ensures { result ≡ is_first rev.now (revisions_at stems.now (length stems.now - 1)) }
 {
@@ -100,7 +100,7 @@ pub(crate) fn is_newest(stems: &[Stem], rev: &RevId) -> bool
     }
 }
 
-/// The place directly behind the revision in what the stem of this number brought. Constant time.
+/// The place behind the revision in the stem of this number; behind its last, its parent. Constant time.
 pub(crate) fn behind_in(stems: &[Stem], number: usize, sought: &Sought) -> Option<Place>
     requires { IsNumberIn stems.now number }
     ensures found { IfSome result (IsBehind stems.now sought.now) }
@@ -123,9 +123,9 @@ pub(crate) fn behind_in(stems: &[Stem], number: usize, sought: &Sought) -> Optio
     }
 }
 
-/// The place directly behind the revision in what a stem brought. With an index it costs what
-/// `place_of` does, and where the first stem that has the revision has none behind it one more look
-/// there, at most log n comparisons of revisions; else one look a stem.
+/// The place directly behind the revision, as `behind_in` finds it in a stem. With an index the cost is that
+/// of `place_of`. Where the chain of the first stem with the revision ends there, a look at the links is
+/// added, at most log n comparisons of revisions. Without an index it is one look for each stem at most.
 pub(crate) fn place_behind(stems: &[Stem], index: Option<&Index>, rev: &RevId) -> Option<Place>
     requires { AreIndexed stems.now (option_map (λ i. i.now) index) }
     ensures found { IfSome result (IsBehind stems.now rev.now) }
@@ -148,21 +148,21 @@ pub(crate) fn place_behind(stems: &[Stem], index: Option<&Index>, rev: &RevId) -
     None
 }
 
-/// How a path that may be stored meets the stored ones.
+/// How a path that may be stored meets the stems.
 #[derive(Clone, Copy)]
 pub(crate) struct Meeting {
-    /// How many of its revisions its edit's stem keeps.
+    /// How many of the path's revisions the stem of its edit keeps.
     pub(crate) at: usize,
-    /// Where the next one stands, if there is one.
+    /// The place of the path's next revision; None where the stem keeps the whole path.
     pub(crate) place: Option<Place>,
-    /// How many revisions the chain has from there on; 0 where there is none.
+    /// How many revisions the chain has from that place on; 0 without a place.
     pub(crate) behind: usize,
-    /// Whether one of those that are kept was known.
+    /// Whether an earlier stem has one of the revisions that the stem keeps.
     pub(crate) joins: bool,
 }
 
-/// How many of the revisions that the stem of this number keeps none of the earlier ones has. Constant time
-/// where it joins none; else a look an edit for each of them.
+/// How many revisions of the stem of this number no earlier stem has. Constant time where the stem joins
+/// none; else, for each revision of the stem, a look at each earlier stem at most.
 pub(crate) fn new_in(stems: &[Stem], number: usize) -> usize
     requires { IsNumberIn stems.now number }
     ensures { (stem : StemModel) → slice_get stems.now number ≡ Some stem
@@ -183,8 +183,8 @@ pub(crate) fn new_in(stems: &[Stem], number: usize) -> usize
 }
 
 impl Branches {
-    /// Where the revision stands. It costs what `place_of` does; constant time where its generation is above
-    /// all others.
+    /// A place of the revision; None where no stem has it. The cost is that of `place_of`, and constant time
+    /// above the highest generation of the stems.
     pub(crate) fn place(&self, rev: &RevId) -> Option<Place>
         ensures place { IsFound self.now.stems rev.now result }
         ensures stored { AreStemsOf self.now.stems self.now.list }
@@ -197,7 +197,7 @@ impl Branches {
         place_of(self.stems.as_slice(), lent(&self.index), rev)
     }
 
-    // How many revisions the chain has from the place on. Constant time.
+    // How many revisions the chain of the place's stem has from the place on. Constant time.
     fn reach_from(&self, place: Place) -> usize
         requires { IsWithin self.now.stems place }
         ensures { result ≡ length (chain_from (chains_of self.now.stems) (Some place)) }
@@ -205,8 +205,8 @@ impl Branches {
         usize::from(self.stems[place.stem].reach()) - usize::from(place.at)
     }
 
-    /// The place directly behind the last of the revisions in what a stem brought. Constant time where the
-    /// last is of the first generation; else it costs what `place_behind` does.
+    /// The place directly behind the run's last revision, as `place_behind` finds it. Constant time where
+    /// that revision is of generation 1; else the cost is that of `place_behind`.
     pub(crate) fn behind_last(&self, run: &Run) -> Option<Place>
         requires { IsPath run.now }
         ensures { (x : Revision) → last_in run.now ≡ Some x → IsFoundBehind self.now.stems x result }
@@ -219,8 +219,8 @@ impl Branches {
         place_behind(stems, lent(&self.index), &run.at(count - 1))
     }
 
-    // Where the revision stands that is directly behind the last one of the stem of the place, if there is
-    // one. Constant time where the stem stands on another; else it costs what `behind_last` does.
+    // The place directly behind the last revision of the place's stem, if there is one. Constant time where
+    // the stem stands on another; else the cost is that of `behind_last`.
     fn after(&self, place: Place) -> Option<Place>
         requires { IsWithin self.now.stems place }
         ensures { IsAfter self.now place result }
@@ -232,9 +232,9 @@ impl Branches {
         }
     }
 
-    /// How many revisions this one and all that stand behind it are; 0 where no path names it. It costs a
-    /// find; and where the chain of the revision ends above the first generation a step a stem, and for each
-    /// chain what `behind_last` does.
+    /// The number of revisions from this one on to the last one behind it; 0 where no path names it. The cost
+    /// is a find. Where the revision's chain ends above generation 1, a step for each stem of the line is
+    /// added, and that of `behind_last` for each chain.
     pub(crate) fn line_length(&self, rev: &RevId) -> u16
         ensures { result ≡ length (line_to (edits_in self.now.list) (Some rev.now)) }
     {
@@ -252,9 +252,9 @@ impl Branches {
         count as u16
     }
 
-    /// Puts the revision and all that stands behind it behind what the vector holds; nothing where no path
-    /// names it. It costs a find, the length of what it puts there, a step a stem, and for each chain what
-    /// `behind_last` does.
+    /// Appends the revision and all revisions behind it to the vector; nothing where no path names it. The
+    /// cost is a find, the number of these revisions, a step for each stem, and that of `behind_last` for
+    /// each chain. Out of memory, the vector may have some of them.
     pub(crate) fn append_line(&self, rev: &RevId, line: &mut Vec<RevId>) -> Result<(), AllocError>
         ensures { OnOk result
             (line.new.items ≡ line.old.items ++ line_to (edits_in self.now.list) (Some rev.now)) }
@@ -269,8 +269,8 @@ impl Branches {
         Ok(())
     }
 
-    /// Puts the digests of the same revisions behind what the vector holds; false, and nothing or some of
-    /// them, where one is kept otherwise. It costs what `append_line` does, with a copy of 16 bytes for each.
+    /// Appends the digests of the same revisions to the vector; false, and perhaps some of them, where a stem
+    /// shares digests or keeps texts. The cost is that of `append_line`, with a copy of 16 bytes for each.
     pub(crate) fn append_digests(
         &self,
         rev: &RevId,
@@ -293,7 +293,7 @@ impl Branches {
         Ok(true)
     }
 
-    // Where a revision of a path stands: at this place, if one is told, else where it is found.
+    // The place of a revision of a path: the place `told` if there is one, else one that `place` finds.
     fn place_or_told(&self, told: Option<Place>, rev: &RevId) -> Option<Place>
         requires { IfSome told (IsWithin self.now.stems) }
         ensures told { IfSome told (λ place. result ≡ Some place) }
@@ -307,10 +307,10 @@ impl Branches {
         }
     }
 
-    /// Of a path that agrees with all stored ones, how many of its revisions its edit is to keep: all up to
-    /// the last that is new, or behind which no edit has the next one. None where it does not agree. It costs
-    /// what `place` does for each revision that no path names; and the path's length; and what `behind_last`
-    /// does for each chain behind which it goes on.
+    /// How many of the path's revisions its edit is to keep; None where the path disagrees with a stored one.
+    /// These are all revisions up to the last that is new, or with which a chain ends before the path does.
+    /// The cost is the path's length, that of `place` for each new revision, and that of `behind_last` for
+    /// each such chain.
     pub(crate) fn new_count(&self, path: &Path) -> Option<usize>
         requires { IsHistory path.now }
         ensures agrees { is_some result ≡ list_all (λ b. agrees_with path.now b.path) self.now.list }
@@ -345,8 +345,8 @@ impl Branches {
         Some(revisions.len())
     }
 
-    /// How a path that may be stored meets the stored ones: what is left of it behind those that its stem
-    /// keeps is the front of one chain. It costs what `place` does for each revision that no path names.
+    /// How a path that may be stored meets the stems: behind the revisions that its stem keeps, it is the
+    /// front of one chain. The cost is that of `place` for each new revision and for each chain on the way.
     pub(crate) fn met_by(&self, path: &Run) -> Meeting
         ensures { IsMeeting self.now.stems path.now result.at result.place result.behind result.joins }
     {

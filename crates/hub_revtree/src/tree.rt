@@ -21,21 +21,21 @@ use hub_document::{Body, Changes, Path, RevId, Revisions};
 use std::alloc::{AllocError, Global};
 use std::marker::Model;
 
-/// The stored edits of one document, in the order in which they came, and their winner. The document's
-/// id stands elsewhere.
+/// The stored edits of one document, in the order in which they came, and their winner. The document's id
+/// stands elsewhere.
 ///
-/// A find of a revision costs one look an edit, from the newest on up to the one that brought it. From 256
-/// edits on a tree has an index of its revisions, if it finds memory for it. Then a find takes constant time
-/// where the hash is a digest's text and no other revision with its first eight bytes came before; else it
-/// costs at most log n comparisons of revisions.
-/// Then edits on one another share their path, too, so that one on the newest of a line takes constant time.
+/// A find of a revision takes one step for each edit, from the newest on, up to the one that brought the
+/// revision. From 256 edits on a tree has an index of its revisions, if it finds memory for it. Then a find
+/// takes constant time where the hash is a digest's text, and no other revision with the digest's first eight
+/// bytes came before. Else it costs at most log n comparisons of revisions. With an index, edits on one
+/// another share their path too, so that an edit on the newest revision of a line takes constant time.
 ///
-/// Of each edit the tree notes in one bit whether its revision stands behind another by now, so that a look
-/// whether it is a leaf takes constant time.
+/// One bit for each edit says whether its revision stands behind that of another edit by now. So to ask
+/// whether an edit's revision is a leaf takes constant time.
 #[derive(Debug)]
 pub struct RevTree {
     branches: Branches,
-    /// The number of the winner's edit; 0 where there is none.
+    /// The number of the winner's edit; 0 in a tree with no edit.
     best: usize,
 }
 
@@ -64,7 +64,7 @@ impl Model for RevTree {
 #[derive(Debug, Drop)]
 pub struct Ready {
     path: Run,
-    /// Those of the path's revisions that were new at the look, in the form in which the tree keeps them.
+    /// The front of the path that the tree is to keep, as the look made it.
     run: Run,
     deleted: bool,
     body: Body,
@@ -113,8 +113,8 @@ impl RevTree {
         }
     }
 
-    // The edit on a path, of which the run is the front, with a place for it. A path has no more revisions
-    // than its head's generation.
+    // The edit on a path, with a place in the tree for it. The run is the front of the path. A path has no
+    // more revisions than its head's generation.
     pub(crate) fn ready_with(
         &mut self,
         path: Run,
@@ -136,36 +136,36 @@ impl RevTree {
         })
     }
 
-    /// How many edits there are.
+    /// How many edits the tree has.
     pub fn len(&self) -> usize
         ensures { result ≡ length self.now.edits }
     {
         self.branches.len()
     }
 
-    /// How many different revisions the paths name: what the tree keeps, since paths share what they
-    /// have in common. One step an edit.
+    /// How many different revisions the paths name; a revision that paths have in common counts once. It
+    /// costs one step for each edit, and more for an edit that joins others (`Branches::revision_count`).
     pub fn nodes(&self) -> usize
         ensures { result ≡ min (revision_count self.now.edits) (2 ^ 64 - 1) }
     {
         self.branches.revision_count()
     }
 
-    /// Whether there is no edit.
+    /// Whether the tree has no edit.
     pub fn is_empty(&self) -> bool
         ensures { IsTrue result ↔ (self.now.edits ≡ []) }
     {
         self.branches.len() == 0
     }
 
-    /// Whether a path names the revision. One find; constant time where its generation is above all others.
+    /// Whether a path names the revision. One find; constant time above the highest generation of the tree.
     pub fn knows(&self, rev: &RevId) -> bool
         ensures { IsTrue result ↔ IsKnown self.now.edits [] rev.now }
     {
         self.branches.is_named(rev)
     }
 
-    /// Whether the edit that the revision heads deletes the document. One find.
+    /// Whether the edit that the revision heads deletes the document; None where it heads no edit. One find.
     pub fn deleted(&self, rev: &RevId) -> Option<bool>
         ensures mark { IfSome result (IsMarked self.now.edits [] rev.now) }
         ensures none { IfNone result ((mark : Bool) → ¬ IsMarked self.now.edits [] rev.now mark) }
@@ -176,7 +176,7 @@ impl RevTree {
         }
     }
 
-    /// The best leaf, with its mark. Constant time.
+    /// The best leaf and its mark; None in a tree with no edit. Constant time.
     pub fn best(&self) -> Option<Winner>
         ensures best { result ≡ winner_of (leaves_of self.now.edits []) }
         ensures tree { IsRevTree self.now.edits }
@@ -184,8 +184,8 @@ impl RevTree {
         self.branches.head_if_any(self.best)
     }
 
-    /// The revision of the best leaf, as a row lists it; none of a tree with no edit. It takes memory only
-    /// where its hash is no digest's text. Constant time.
+    /// The revision of the best leaf, as a row lists it; an empty list in a tree with no edit. It takes
+    /// memory only where the revision's hash is no digest's text. Constant time.
     pub fn winner_alone(&self, alloc: Global) -> Result<Changes, AllocError>
         ensures ok { IfOk result (λ changes. changes ≡ take 1 (revisions_of (leaves_of self.now.edits []))) }
         ensures memory { OnErr result
@@ -198,7 +198,7 @@ impl RevTree {
         }
     }
 
-    /// The members of the best leaf's document; None of a tree with no edit. Constant time.
+    /// The members of the best leaf's edit; None in a tree with no edit. Constant time.
     pub fn winner_body(&self) -> Option<&Body>
         ensures { option_map (λ b. b.now) result ≡ doc_of true (leaves_of self.now.edits []) }
     {
@@ -206,7 +206,7 @@ impl RevTree {
         Some(stem.body())
     }
 
-    /// Whether the best leaf deletes the document; false of a tree with no edit. Constant time.
+    /// Whether the best leaf's edit deletes the document; false in a tree with no edit. Constant time.
     pub fn is_deleted(&self) -> bool
         ensures mark { result ≡ is_deleted (leaves_of self.now.edits []) }
         ensures tree { IsRevTree self.now.edits }
@@ -217,7 +217,7 @@ impl RevTree {
         }
     }
 
-    /// The revision of the best leaf; None of a tree with no edit. Constant time.
+    /// The revision of the best leaf; None in a tree with no edit. Constant time.
     pub fn winner(&self) -> Option<RevId>
         ensures winner { IfSome result (IsWinner self.now.edits []) }
         ensures none { IsNone result ↔ (self.now.edits ≡ []) }
@@ -227,10 +227,10 @@ impl RevTree {
         Some(winner.rev)
     }
 
-    /// Looks what becomes of an edit: `None` where its revision is known, else the edit, with
-    /// memory for it: a place, and those of the path's revisions that are new. It costs a find for each of
-    /// these, but for those of a generation above all others, and for the first that is known; and the path's
-    /// length.
+    /// Looks whether the tree can take an edit. The reply is `None` where the edit's revision is known. Else
+    /// it is the edit with memory: a place in the tree, and the front of the path that the tree is to keep.
+    /// The cost is the path's length and some finds. Each new revision up to the highest generation of the
+    /// tree costs one, and so do the first known revision and each chain at whose end the path goes on.
     pub fn look_merge(
         &mut self,
         path: Path,
@@ -257,20 +257,19 @@ impl RevTree {
         Ok(Some(ready))
     }
 
-    /// Takes an edit that `look_merge` or `look_extend` made ready. It takes memory for the index,
-    /// for a path that is shared and for candidates for the winner, and where there is none to be
-    /// had the tree goes on without these, which changes no answer. It gives back the path's: the
-    /// tree keeps the revisions that are new as the look made them. Where the look found more or
-    /// fewer, as it may in a tree that is not this one, the path's memory is cut to them instead.
-    /// It costs what `look_merge` does.
+    /// Takes an edit that `look_merge` or `look_extend` made ready. It asks for memory for the index, a
+    /// shared path and the candidates for the winner. Out of memory, the tree goes on without them, and no
+    /// answer changes. The tree keeps the front of the path as the look made it, and the path's memory is
+    /// given back or shared. In another tree than that of the look this front may be longer or shorter. Then
+    /// the path is cut to it instead, in its own memory. The cost is that of `look_merge`.
     ///
-    /// The winner takes constant time where it is the edit's revision, or the old one which the
-    /// edit does not stand on; else it is found anew. This costs a tree with an index at most log n
-    /// comparisons of revisions for each edit that it ever takes, since each becomes a candidate
-    /// once at most, and is given up once. It costs a tree without one, or without memory for the
-    /// candidates, one step an edit. So an edit that `look_extend` made on the newest one of a line
-    /// takes constant time, but that its path's memory is given back, and that the index and the
-    /// shared path grow, or are made.
+    /// The winner takes constant time where it is the new edit's revision, or the old winner, on which the
+    /// edit does not stand. Else there is a search for the best leaf. An edit becomes a candidate once at
+    /// most, and is given up once. So with an index these searches cost at most log n comparisons of
+    /// revisions for each edit that ever comes. Without an index, or memory for the candidates, a search
+    /// costs one step for each edit. So an edit that `look_extend` made on the newest revision of a line
+    /// takes constant time, save for two things. The path's memory is given back, and the index and the
+    /// shared path are made or grow.
     pub fn adopt(&mut self, ready: Ready)
         requires acceptable { IsAcceptable self.old.edits ready }
         requires room { length ready.path ≤ self.old.room }
@@ -286,8 +285,8 @@ impl RevTree {
         self.best = best_with_newest(&mut self.branches, self.best);
     }
 
-    /// Takes an edit, where its revision is new and its path contradicts no stored one. It costs
-    /// what `look_merge` and `adopt` do.
+    /// Takes an edit whose revision is new and whose path contradicts no stored path. Where the revision is
+    /// known, and after an error, the tree has its old edits. The cost is that of `look_merge` and `adopt`.
     pub fn merge(&mut self, path: Path, deleted: bool, body: Body) -> Result<Merged, MergeFault>
         ensures added { result ≡ Ok Merged.Added → IsAcceptable self.old.edits (nameless path deleted body)
             × (self.new.edits ≡ self.old.edits ++ nameless path deleted body ∷ []) }

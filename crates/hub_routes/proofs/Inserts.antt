@@ -1,4 +1,4 @@
--- What an insert does.
+-- The rows after an insert.
 use Rattle.std.proofs.Common.{◌≡◌, Result, Ok, Err}
 use Rattle.matchit.specs.declared.error.InsertError.{InsertError}
 use Rattle.matchit.specs.Route.{Scan}

@@ -1,4 +1,4 @@
--- Where requests go.
+-- The routes of requests.
 use Rattle.std.proofs.Common.{◌≡◌, ◌⊎◌, Result, inl, inr, Ok, Err}
 use Rattle.std.proofs.Common.{ℕ, ◌+◌, ◌-◌, ◌≤◌, Bool, true, false, cond, List, [], length, take}
 use Rattle.std.proofs.Common.{drop, take_all, Some, None, refl, sym, ap, ◌∙◌, arith}
@@ -28,7 +28,7 @@ none_of false n e = refl
 place_is : (p : ℕ → Bool) (xs : List ℕ) (i : ℕ) → position p xs ≡ Some i → position_or_len p xs ≡ i
 place_is p xs i e = some_of _ _ i e
 
--- what a found place cuts
+-- the front and the rest of a list, cut at the first element that passes
 pub cut_before : (p : ℕ → Bool) (xs : List ℕ) (i : ℕ) → position p xs ≡ Some i → take i xs ≡ before_first p xs
 cut_before p xs i e = ap (λ n. take n xs) (sym (place_is p xs i e))
 
@@ -42,7 +42,7 @@ cut_after p xs i e =
 past : (p : ℕ → Bool) (xs : List ℕ) → position p xs ≡ None → length xs ≤ position_or_len p xs
 past p xs e = let h = none_of _ _ e in grind (arith, nat_tests, h)
 
--- and where there is none
+-- a list in which no element passes is its own front, and has no rest
 pub all_before : (p : ℕ → Bool) (xs : List ℕ) → position p xs ≡ None → xs ≡ before_first p xs
 all_before p xs e = sym (take_all _ xs (past p xs e))
 
@@ -51,24 +51,24 @@ none_after p xs e =
     let h = past p xs e in
     let end : [] ≡ drop (position_or_len p xs + 1) xs = grind (arith, common_steps, h) in end
 
--- whatever the error
+-- a proved statement holds at any error
 pub at_any_error : {A E : Type 0} (r : Result A E) (P : Type 0) → P → OnErr r P
 at_any_error (Ok x) P p = tt
 at_any_error (Err e) P p = p
 
--- a request whose path has no room
+-- out of memory for the kind of a path
 pub path_has_no_room : (asked : PlainRequest) (r : Result Route RouteFault) → r ≡ Err NoMemory
     → NeedsRoomForKind (path_of asked.target) → GoesTo asked r
 path_has_no_room asked r none room = rw none (kind room)
 
--- a request whose name has no room, or is no text
+-- a name that is out of memory, or is no text
 pub name_refuses : (a : PlainRequest) (k : Kind) (fault : RouteFault) → IsServed a k
     → ((fault ≡ NoMemory) × HasPercent (name_part (path_of a.target)))
     ⊎ ((fault ≡ BadName) × (¬ IsUtf8 (database_of a))) → GoesTo a (Err fault)
 name_refuses a k fault asked (inl (none, room)) = rw none (name k asked room)
 name_refuses a k fault asked (inr (bad, other)) = rw bad (k, asked, other)
 
--- a request whose id has no room, or is refused
+-- an id that is out of memory, or is refused
 pub id_refuses : (a : PlainRequest) (k : Kind) (fault : RouteFault) → IsServed a k → IsUtf8 (database_of a)
     → ((fault ≡ NoMemory) × (has_document k ≡ true) × HasPercent (id_part (path_of a.target)))
     ⊎ ((fault ≡ BadId) × IsBadId k (document_of a)) → GoesTo a (Err fault)

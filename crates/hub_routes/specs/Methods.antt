@@ -1,4 +1,4 @@
--- What methods ask of paths (CouchDB API reference, the methods of each path; RFC 9110, section 9.1).
+-- The calls of methods and paths (CouchDB API reference, the methods of each path; RFC 9110, section 9.1).
 use Rattle.std.specs.Prelude.{ℕ, Bool, true, false, List, Option, Some, None, if◌then◌else◌}
 use Rattle.std.specs.Prelude.{bytes_eq, codes}
 use Rattle.hub_document.specs.Ids.{is_id}
@@ -23,7 +23,7 @@ method_of name =
     else (if bytes_eq name (codes "DELETE") then Delete
     else Other))))
 
--- what a method asks of a path of this kind; None where the path does not take the method
+-- the call of a method on a path of this kind; None where the path does not take the method
 unfoldable pub asked_of : Kind → Method → Option Call
 asked_of kind.Welcome Get = Some Welcome
 asked_of kind.AllDbs Get = Some AllDbs
@@ -50,12 +50,12 @@ has_document kind.Document = true
 has_document kind.Local = true
 has_document kind = false
 
--- a document that is no local one is asked for by the id of a document
+-- a document of this kind may have this id: a document that is no local one needs the id of a document
 abbrev pub takes_id : Kind → List ℕ → Bool
 takes_id kind.Document id = is_id id
 takes_id kind id = true
 
--- a request for a path of this kind needs a length
+-- a request for a path of this kind needs a Content-Length
 abbrev pub takes_body : Kind → Bool
 takes_body kind.BulkDocs = true
 takes_body kind.RevsDiff = true

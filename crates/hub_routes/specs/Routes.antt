@@ -1,5 +1,5 @@
--- Where requests go (CouchDB API reference, the paths of the server, databases and documents; own for the
--- order of refusals).
+-- The routes of requests (CouchDB API reference, the paths of the server, databases and documents; own for
+-- the order of refusals).
 use Rattle.std.specs.Prelude.{◌≡◌, ◌⊎◌, ℕ, true, false, List, [], Some, None, Result, Ok, Err, IsSome}
 use Rattle.std.specs.Prelude.{if◌then◌else◌}
 use Rattle.std.specs.Cow.{cow_str_bytes}
@@ -22,28 +22,28 @@ database_of asked = name_of (path_of asked.target)
 abbrev pub document_of : PlainRequest → List ℕ
 document_of asked = id_of (path_of asked.target)
 
--- the path of a request is of this kind, which takes its method
+-- the path of a request is of this kind, and the kind takes the request's method
 pub record IsServed (asked : PlainRequest) (kind : Kind) : Type 0 where
   pub path : kind_of (path_of asked.target) ≡ Some kind
   pub method : IsSome (asked_of kind (method_of asked.method))
 
--- where a path of this kind names one document, the id is a text by which it may be asked for
+-- where a path of this kind names one document, the id is a text, and such a document may have it
 abbrev pub IsGoodId : Kind → List ℕ → Type 0
 IsGoodId kind id = (has_document kind ≡ true) → IsUtf8 id × (takes_id kind id ≡ true)
 
--- it names one document, and the id is no text, or may not be asked for so
+-- a path of this kind names one document, and the id is no text, or no such document may have it
 abbrev pub IsBadId : Kind → List ℕ → Type 0
 IsBadId kind id = (has_document kind ≡ true) × ((¬ IsUtf8 id) ⊎ (takes_id kind id ≡ false))
 
--- What may run out of memory: finding the kind of the path, and decoding a name, or the id of one document.
--- A text without escapes is lent, and so is a query.
+-- The steps that may run out of memory: the search for the kind of the path, and the decoding of the name or
+-- of one document's id. A text without escapes is lent, and so is a query.
 pub data NeedsRoom (asked : PlainRequest) : Type 0 where
   kind : NeedsRoomForKind (path_of asked.target) → NeedsRoom asked
   name : (k : Kind) → IsServed asked k → HasPercent (name_part (path_of asked.target)) → NeedsRoom asked
   document : (k : Kind) → IsServed asked k → has_document k ≡ true → IsUtf8 (database_of asked)
       → HasPercent (id_part (path_of asked.target)) → NeedsRoom asked
 
--- this is the route of a request: what the table and the method say, with the parts of the request
+-- the route of a request: the call by the table and the method, with the parts of the request
 pub record IsRoute (a : PlainRequest) (route : Route) : Type 0 where
   pub kind : Kind
   pub path : kind_of (path_of a.target) ≡ Some kind
@@ -54,7 +54,7 @@ pub record IsRoute (a : PlainRequest) (route : Route) : Type 0 where
   pub good : IsGoodId kind (document_of a)
   pub query : route.query.now ≡ query_of a.target
 
--- where a request goes, or why nowhere
+-- the route of a request, or the fault that refuses it
 abbrev pub GoesTo : PlainRequest → Result Route RouteFault → Type 0
 GoesTo asked (Ok route) = IsRoute asked route
 GoesTo asked (Err NoMemory) = NeedsRoom asked

@@ -10,20 +10,20 @@ use Rattle.hub_routes.specs.declared.kind.Kind.{Kind}
 use Rattle.hub_routes.specs.declared.kind.Kind.TheVariants.{Welcome, AllDbs, DbUpdates, Database, BulkDocs}
 use Rattle.hub_routes.specs.declared.kind.Kind.TheVariants.{Changes, RevsDiff, FullCommit, Document, Local}
 
--- routes with what each names
+-- routes, each with its kind
 abbrev pub Routes : Type 0
 Routes = RowsOf (RouteOf Kind)
 
--- the rows with a route that reads well
+-- the rows, with one more where its route reads well
 abbrev pub with_scan : Result Scan InsertError → Kind → Routes → Routes
 with_scan (Ok s) kind rows = placed (s.pattern, route_from s kind) rows
 with_scan (Err e) kind rows = rows
 
--- the rows with one more
+-- the rows, with the route of this text
 unfoldable pub with_route : List ℕ → Kind → Routes → Routes
 with_route text kind rows = with_scan (parse_route text) kind rows
 
--- the routes in order
+-- the table, with its routes in the router's order: they are added from the last line to the first
 unfoldable pub table : Routes
 table =
     with_route (codes "/{db}/_local/{name}") Local
@@ -44,6 +44,6 @@ abbrev pub kind_of : Option (RouteOf Kind) → Option Kind
 kind_of None = None
 kind_of (Some r) = Some r.value
 
--- what a path names by the table
+-- the kind of a path by the table
 abbrev pub kind_at : List ℕ → Option Kind
 kind_at path = kind_of (first table path)

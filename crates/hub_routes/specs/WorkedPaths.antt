@@ -1,4 +1,4 @@
--- What the definitions say of some paths (CouchDB API reference, the paths of the server, databases and
+-- The definitions, worked out for some paths (CouchDB API reference, the paths of the server, databases and
 -- documents).
 use Rattle.std.specs.Prelude.{◌≡◌, ◌++◌, ℕ, List, Some, None, false, codes}
 use Rattle.percent_encoding.specs.Percent.{percent_decode}
@@ -30,7 +30,7 @@ pub record KindsOfPaths : Type 0 where
   pub no_design : kind_at (codes "/d/_design/") ≡ None
   pub no_local : kind_at (codes "/d/_local/") ≡ None
 
--- some paths have these ids and kinds, once their ids are read
+-- some paths have these ids and kinds, once their ids are decoded
 pub record IdsOfPaths : Type 0 where
   pub plain : id_of (codes "/d/a%2Fb+c") ≡ codes "a/b+c"
   pub plain_kind : kind_of (codes "/d/a%2Fb+c") ≡ Some Document
@@ -48,7 +48,7 @@ pub record IdsOfPaths : Type 0 where
   pub no_local_kind : kind_of (codes "/d/_local%2F") ≡ Some Document
   pub no_document : kind_of (codes "/d/") ≡ Some Database
 
--- of a name behind `_design/` or `_local/` the escapes are read, and the rest stands as it is
+-- the escapes of a name behind `_design/` or `_local/` are read, and the rest of the id stays as it is
 pub record IdsOfPrefixes : Type 0 where
   pub design : (name : List ℕ)
       → id_of (codes "/d/_design/" ++ name) ≡ codes "_design/" ++ percent_decode name

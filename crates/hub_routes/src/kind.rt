@@ -1,4 +1,4 @@
-//! What paths name (CouchDB API reference, the paths of the server, databases and documents).
+//! The kinds of paths (CouchDB API reference, the paths of the server, databases and documents).
 
 ghost use Rattle.std.specs.Prelude.{◌≡◌, IfOk, OnOk, codes};
 ghost use Rattle.hub_routes.specs.Table.{with_route, table};
@@ -8,7 +8,7 @@ use crate::path::is_local;
 use matchit::Router;
 use std::alloc::{AllocError, Global};
 
-/// What a path names.
+/// The kind of a path, by the thing that it names.
 #[derive(Clone, Copy, PartialEq, Eq)]
 pub enum Kind {
     /// The hub.
@@ -19,13 +19,13 @@ pub enum Kind {
     DbUpdates,
     /// A database.
     Database,
-    /// Where documents are stored.
+    /// The place where a batch of documents is stored.
     BulkDocs,
     /// The feed of changes.
     Changes,
-    /// Where missing revisions are asked for.
+    /// The place where missing revisions are asked for.
     RevsDiff,
-    /// Where a commit is asked for.
+    /// The place where a commit is asked for.
     FullCommit,
     /// A document, or a design document.
     Document,
@@ -33,7 +33,7 @@ pub enum Kind {
     Local,
 }
 
-// Each route reads well, and no two of them conflict, so that memory alone may lack.
+// Adds a route. Each route reads well and no two of them conflict, so the only error is out of memory.
 fn add(router: &mut Router<Kind>, route: &str, kind: Kind) -> Result<(), AllocError>
     ensures { OnOk result (router.new ≡ with_route route.now kind router.old) }
 {
@@ -60,7 +60,7 @@ fn add_names(router: &mut Router<Kind>) -> Result<(), AllocError>
     Ok(())
 }
 
-// Adds the paths of what a database has.
+// Adds the paths of a database's parts.
 fn add_parts(router: &mut Router<Kind>) -> Result<(), AllocError>
     ensures { OnOk result (router.new
         ≡ with_route (codes "/{db}/_local/{name}") Kind.Local
@@ -81,8 +81,8 @@ fn add_parts(router: &mut Router<Kind>) -> Result<(), AllocError>
     Ok(())
 }
 
-// The paths of the hub stand beside those of databases, so that none of them is taken for the name
-// of a database.
+// Builds the table. The paths of the hub stand beside those of databases, so that none of them is taken for
+// the name of a database.
 pub fn table(alloc: Global) -> Result<Router<Kind>, AllocError>
     ensures { IfOk result (λ r. r ≡ table) }
 {
@@ -92,7 +92,7 @@ pub fn table(alloc: Global) -> Result<Router<Kind>, AllocError>
     Ok(router)
 }
 
-/// The kind of a path whose id has these bytes: a slash that was escaped tells kinds apart too.
+/// The kind of a path whose decoded id has these bytes: a local document is found by an escaped slash too.
 pub fn refined(kind: Kind, id: &[u8]) -> Kind
     ensures { result ≡ kind_by_id kind id.now }
 {

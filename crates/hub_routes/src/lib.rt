@@ -1,4 +1,4 @@
-//! Where requests go.
+//! The routes of requests.
 #![tactic(auto)]
 
 mod kind;

@@ -1,4 +1,4 @@
-//! What methods ask of paths (CouchDB API reference, the methods of each path).
+//! The calls of methods and paths (CouchDB API reference, the methods of each path).
 
 ghost use Rattle.std.specs.Prelude.{◌≡◌, bytes_eq};
 ghost use Rattle.hub_routes.specs.Methods.{method_of, asked_of, has_document, takes_id, takes_body};
@@ -20,7 +20,7 @@ pub enum Method {
     Post,
     /// `DELETE`
     Delete,
-    /// Any other, also one of these in small letters.
+    /// Any other method, also one of these in small letters.
     Other,
 }
 
@@ -50,7 +50,7 @@ pub fn method_of(name: &[u8]) -> Method
     }
 }
 
-/// What the method asks of a path of this kind; none where the path does not take it.
+/// The call of a method on a path of this kind; `None` where the path does not take the method.
 #[tactic(auto, unfolding(crate::specs::Methods::asked_of))]
 pub fn asked_of(kind: Kind, method: Method) -> Option<Call>
     ensures { result ≡ asked_of kind method }
@@ -82,14 +82,14 @@ pub fn has_document(kind: Kind) -> bool
     matches!(kind, Kind::Document | Kind::Local)
 }
 
-/// Whether a document of this kind may be asked for by an id.
+/// Whether a document of this kind may have this id. Every kind but `Document` takes any id.
 pub fn takes_id(kind: Kind, id: &[u8]) -> bool
     ensures { result ≡ takes_id kind id.now }
 {
     kind != Kind::Document || is_id(id)
 }
 
-/// Whether a request for it needs a length.
+/// Whether a request for a path of this kind needs a `Content-Length`.
 pub fn takes_body(kind: Kind) -> bool
     ensures { result ≡ takes_body kind }
 {

@@ -20,7 +20,7 @@ fn index_of(bytes: &[u8], at: u8) -> Option<usize>
     bytes.iter().position(|b| *b == at)
 }
 
-/// What stands before the first such byte, and what stands behind it.
+/// The bytes before the first byte `at`, and the bytes behind it; all bytes and none where `at` is absent.
 pub fn cut(bytes: &[u8], at: u8) -> (&[u8], &[u8])
     ensures before { result.0.now ≡ before_first (λ b. b == at) bytes.now }
     ensures after { result.1.now ≡ after_first (λ b. b == at) bytes.now }
@@ -31,7 +31,7 @@ pub fn cut(bytes: &[u8], at: u8) -> (&[u8], &[u8])
     }
 }
 
-/// The part that names the database, and what stands behind it and its slash, as they were sent.
+/// The part of a path that names the database, and the part behind its slash, as they were sent.
 pub fn parts(path: &[u8]) -> (&[u8], &[u8])
     ensures name { result.0.now ≡ name_part path.now }
     ensures id { result.1.now ≡ id_part path.now }
@@ -42,8 +42,8 @@ pub fn parts(path: &[u8]) -> (&[u8], &[u8])
     }
 }
 
-/// The bytes that a part is once its escapes are read. A part without escapes is lent, and takes no
-/// memory; else the bytes are one allocation.
+/// The bytes of a part with its escapes read. A part without escapes is lent, and takes no memory. Another
+/// part is one allocation.
 pub fn decoded<'p>(alloc: Global, part: &'p [u8]) -> Result<CowSlice<'p, u8>, AllocError>
     ensures value { IfOk result (λ bytes. cow_slice_items bytes ≡ percent_decode part.now) }
     ensures memory { OnErr result (HasPercent part.now) }
@@ -51,7 +51,7 @@ pub fn decoded<'p>(alloc: Global, part: &'p [u8]) -> Result<CowSlice<'p, u8>, Al
     percent_decode(part).into_cow(alloc)
 }
 
-/// The text that these bytes are; none where they are no UTF-8. It takes no memory.
+/// These bytes as a text; `None` where they are no UTF-8. It takes no memory.
 pub fn text_of<'p>(bytes: CowSlice<'p, u8>) -> Option<CowStr<'p>>
     ensures value { IfSome result (λ s. cow_str_bytes s ≡ cow_slice_items bytes.entry) }
     ensures text { OnSome result (IsUtf8 (cow_slice_items bytes.entry)) }

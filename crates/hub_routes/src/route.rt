@@ -1,4 +1,4 @@
-//! Routes, and why there may be none.
+//! Routes, and the faults of requests without one.
 
 ghost use Rattle.std.specs.Prelude.{◌≡◌};
 
@@ -6,7 +6,7 @@ use hub_http::Refusal;
 use std::alloc::AllocError;
 use std::borrow::CowStr;
 
-/// What a request asks for.
+/// The call that a request asks for.
 #[derive(Clone, Copy, Debug, PartialEq, Eq)]
 pub enum Call {
     /// `GET /`
@@ -41,19 +41,19 @@ pub enum Call {
     PutLocal,
 }
 
-/// Where a request goes: a call, with what the request lends to it. The name and the id are parts of the path
-/// with their escapes read (an id may have any length), and are still to be looked up. Each is a text of its
-/// own only where an escape was read in it.
+/// The route of a request: a call, with the parts that the request lends to it. The name and the id are parts
+/// of the path with their escapes read, and are still to be looked up. An id may have any length. The name or
+/// the id is a text of its own only where an escape was read in it.
 #[derive(Drop)]
 pub struct Route<'r> {
-    /// What is asked for.
+    /// The call that is asked for.
     pub call: Call,
     /// The name of the database: the first part of the path.
     pub db: CowStr<'r>,
-    /// The document's id, with `_design/` or `_local/` where it has that. It is empty where the call asks for
-    /// no document.
+    /// The document's id, with `_design/` or `_local/` where the id has that. It is empty where the call asks
+    /// for no document.
     pub id: CowStr<'r>,
-    /// What stands behind the first `?` of the target, as it was sent; empty where there is none.
+    /// The bytes behind the first `?` of the target, as they were sent; empty where there is no `?`.
     pub query: &'r [u8],
 }
 
@@ -62,7 +62,7 @@ pub struct Route<'r> {
 pub enum RouteFault {
     /// No memory was found.
     NoMemory,
-    /// Nothing that is served has this path.
+    /// No route of the table has this path.
     Missing,
     /// The path does not take this method.
     MethodNotAllowed,

@@ -1,4 +1,4 @@
-//! Where requests go (CouchDB API reference, the paths of the server, databases and documents).
+//! The routes of requests (CouchDB API reference, the paths of the server, databases and documents).
 
 ghost use Rattle.std.specs.Prelude.{◌≡◌, ◌⊎◌, [], if◌then◌else◌, IfSome, IfOk, IfErr, OnOk, OnErr};
 ghost use Rattle.std.specs.Prelude.{true, option_map};
@@ -23,7 +23,7 @@ use percent_encoding::{AsciiSet, percent_encode};
 use std::alloc::{AllocError, Global};
 use std::borrow::{CowSlice, CowStr};
 
-// What a path names, and its id where that was read to tell it.
+// The kind of a path, and its id where that was decoded to tell the kind.
 #[derive(Drop)]
 struct Named<'p> {
     kind: Kind,
@@ -38,8 +38,8 @@ fn target_of(request: &Request) -> (&[u8], &[u8])
     cut(request.target.as_slice(), b'?')
 }
 
-// The id of the document that a path of this kind names, where it may be asked for so; empty where there is
-// none. An id that was read already is not read again.
+// The id of the document that a path of this kind names. It is empty where the path names none, and `BadId`
+// where no such document may have it. An id in `read` is decoded already, and is not decoded again.
 fn document_id<'p>(
     alloc: Global,
     kind: Kind,
@@ -80,7 +80,7 @@ fn database_name<'p>(alloc: Global, name: &'p [u8]) -> Result<CowStr<'p>, RouteF
     Ok(db)
 }
 
-/// The table of routes. One serves every session.
+/// The table of routes. One table serves every session.
 #[derive(Drop)]
 pub struct Routes {
     router: Router<Kind>,
@@ -101,7 +101,7 @@ impl Routes {
         Some(*found.value)
     }
 
-    // What the table says that a path names. Its bytes outside ASCII are escaped for that.
+    // The kind of a path by the table. The path's bytes outside ASCII are escaped for the look.
     #[tactic(auto, unfolding(crate::specs::Paths::ascii_path))]
     fn kind_by_table(&self, alloc: Global, path: &[u8]) -> Result<Option<Kind>, AllocError>
         ensures kind { IfOk result (λ kind. kind ≡ kind_at (ascii_path path.now)) }
@@ -111,7 +111,7 @@ impl Routes {
         Ok(self.kind_at(text.as_str()))
     }
 
-    // What a path names, which has this part for an id. That is read only where it may be a local document's.
+    // The kind of a path whose id is `part`. The id is decoded only where it may be a local document's.
     fn named<'p>(
         &self,
         alloc: Global,
@@ -137,11 +137,10 @@ impl Routes {
         }
     }
 
-    /// Where a request goes, with what it lends. The first of these refuses it: no such path; a
-    /// method that the path does not take; a name that is no text; a length that is missing; an id
-    /// that is no text or that no document may have. It costs the target's length, and copies
-    /// nothing: memory is taken where a name or an id has an escape, once for each, and where the
-    /// path has bytes outside ASCII.
+    /// The route of a request. The first of these faults refuses the request: no such path; a method that the
+    /// path does not take; a name that is no text; a missing length; an id that is no text or that no
+    /// document may have. The cost is the target's length, and nothing is copied. Memory is taken once for a
+    /// name with an escape, once for an id with an escape, and for a path with bytes outside ASCII.
     pub fn route<'r>(&self, alloc: Global, request: &'r Request) -> Result<Route<'r>, RouteFault>
         ensures { GoesTo (asked_by request.now) result }
     {

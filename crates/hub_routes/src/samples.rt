@@ -1,18 +1,18 @@
-//! What the definitions say of some paths.
+//! The definitions, worked out for some paths.
 
 ghost use Rattle.hub_routes.specs.WorkedPaths.{KindsOfPaths, IdsOfPaths, IdsOfPrefixes};
 
-/// What the table says of some paths.
+/// The kinds of some paths by the table.
 pub fn sample_paths()
     ensures { KindsOfPaths }
 {}
 
-/// What some paths name once their ids are read.
+/// The ids and kinds of some paths, with the ids decoded.
 pub fn sample_ids()
     ensures { IdsOfPaths }
 {}
 
-/// The escapes of a name behind `_design/` or `_local/` are read, and the rest stands as it is.
+/// The escapes of a name behind `_design/` or `_local/` are read, and the rest of the id stays as it is.
 pub fn prefixes_stay()
     ensures { IdsOfPrefixes }
 {}

@@ -6,21 +6,21 @@ use hub_service::Pumping;
 use hub_shared::{Clock, Gate, HostFeed, Point};
 use std::sync::Wait;
 
-/// By workers: the worker that steps a connection hands its feed on too. Nobody waits for a feed: one that
-/// has nothing to hand is asked again once its database has news, or its time has come.
+/// By workers: the worker that steps a connection also hands its feed. Nobody waits for a feed: a feed with
+/// nothing to hand is asked again once its host has news, or its time has come.
 #[derive(Drop)]
 pub struct ByWorkers<'h, R, G, K> {
     rt: &'h R,
-    /// What a request passes.
+    /// The gate that requests and holdings pass.
     gate: &'h G,
-    /// What tells when a heartbeat is due, or a feed's end.
+    /// The clock by which a heartbeat is due, or a feed's end.
     clock: &'h K,
     /// The connection's number.
     number: u64,
 }
 
 impl<'h, R, G, K> ByWorkers<'h, R, G, K> {
-    /// What hands the feeds of the connection of this number.
+    /// The pumping of the connection of this number.
     pub(crate) fn new(rt: &'h R, gate: &'h G, clock: &'h K, number: u64) -> ByWorkers<'h, R, G, K> {
         ByWorkers {
             rt,

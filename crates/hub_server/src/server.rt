@@ -13,16 +13,16 @@ use std::net::{Net, TcpListener};
 use std::sync::Wait;
 use std::thread::Threads;
 
-/// Serves so many connections of a hub without databases, by as many workers as there are processors, and
-/// comes back once all have ended. Connections are numbered from 1 as they are accepted; each passes
-/// `Point::Request` of its number at the gate before each answer. A connection is a value of one worker, in
-/// turn, and has no thread of its own. Where one holds its worker's thread for more than some milliseconds,
-/// at a gate, behind a lock or by a long request, another thread goes on with the worker's others. A
-/// connection for which there is no memory is closed unanswered. One whose next request is not whole within
-/// ten minutes behind the answer before, and one whose client takes no byte of an answer within ten
-/// minutes, is closed too. An error says that there was no memory, no thread or no descriptor to begin
-/// with, or that no connection could be accepted while none was open. Where none can be accepted beside
-/// those that are open, the next one waits until one of them has ended.
+/// Serves so many connections of a hub without databases, by a worker a processor and at least two, and comes
+/// back once all have ended. Connections are numbered from 1 as they are accepted; each passes
+/// `Point::Request` of its number at the gate before each answer. Workers get connections in turn, and a
+/// connection has no thread of its own. A connection may hold its worker's thread at a gate, at a lock or by
+/// a long request: after some milliseconds another thread goes on with the worker's others. A connection for
+/// which there is no memory is closed unanswered. A connection is closed too whose next request is not whole
+/// within ten minutes after the last answer, or whose client takes no byte of an answer for ten minutes. An
+/// error says that there was no memory, thread or descriptor to begin with, or that no connection could be
+/// accepted while none was open. Where no connection can be accepted beside the open ones, the next
+/// connection waits until one of these has ended.
 pub fn run_server<R, G, K>(
     rt: &R,
     alloc: Global,

@@ -9,7 +9,7 @@ use hub_workers::MakeService;
 use std::alloc::Global;
 use std::sync::Wait;
 
-/// What the connections to a hub share.
+/// The values that the connections to a hub share. It makes the services of these connections.
 #[derive(Drop)]
 pub(crate) struct HubServices<'h, R, G, K> {
     pub(crate) rt: &'h R,

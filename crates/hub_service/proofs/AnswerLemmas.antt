@@ -1,4 +1,4 @@
--- What the answer to a document tells.
+-- The laws of answers about a document.
 use Rattle.std.proofs.Common.{◌≡◌, ℕ, List, Bool, true, false, refl, sym, ◌∙◌, subst, inl, inr}
 use Rattle.std.specs.Prelude.{Option, Some, None, Result, Ok, Err, if◌then◌else◌}
 use Rattle.hub_model.specs.Journal.{Edit}
@@ -92,7 +92,7 @@ got_is_there name id query asked body r status plain answers says =
       | inr want ↦ absurd (no_error r status body refusal.NoMemory says want)
     ]
 
--- what a stored edit is answered
+-- an edit that is answered with a body was stored, and the body tells its revision
 edited : (outcome : Outcome Revision) (id : List ℕ) (r : Result Response Refusal) (n : ℕ) (a : List ℕ)
     → Says r (Body n a) → Says r (says_edit 201 id outcome)
     → (n ≡ 201) × ((rev : Revision) × (outcome ≡ Stored rev) × (a ≡ edit_body id rev))

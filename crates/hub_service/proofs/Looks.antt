@@ -1,4 +1,4 @@
--- What one look at a database is answered.
+-- The answers to calls that look at a database, as some database says them.
 use Rattle.std.proofs.Common.{◌≡◌, ◌<◌, ◌^◌, ℕ, zero, suc, List, [], ◌∷◌, Bool, true, false}
 use Rattle.std.proofs.Common.{◌⊎◌, inl, inr, refl, sym, ap, ◌∙◌, subst, length, take, arith}
 use Rattle.std.specs.Prelude.{Option, Some, None, Result, Ok, Err, IfOk, IfErr}
@@ -56,7 +56,7 @@ use Rattle.hub_service.specs.Said.{CallAnswer, Body, Refusing, IsSaid, IsWant, S
 use Rattle.hub_service.specs.declared.response.Response.{Response}
 use Rattle.hub_service.specs.declared.response.Response.TheVariants as response
 
--- ---- a database that is there anyway
+-- ---- some database, for answers without a look
 
 abbrev some_limits : Limits
 some_limits = record {
@@ -103,21 +103,21 @@ some_database =
       life = 1;
     }
 
--- ---- what is said
+-- ---- answers
 
--- what is said is said, or memory was missing
+-- an answer was said, or memory was missing
 pub said_or_want : (said : CallAnswer) (r : Result Response Refusal) → IsSaid said r → Says r said ⊎ IsWant r
 said_or_want (Body status body) r is = is
 said_or_want (Refusing refusal) r is = inl is
 
--- what says a refusal is that refusal
+-- a response that says a refusal is that refusal
 pub is_refused : (r : Result Response Refusal) (refusal : Refusal) → Says r (Refusing refusal)
     → r ≡ Err refusal
 is_refused (Err x) refusal is = ap Err is
 is_refused (Ok (response.Body status body)) refusal is = absurd is
 is_refused (Ok (response.Stream mode sent)) refusal is = absurd is
 
--- what is said without a look is what any database says
+-- an answer without a look is the answer of any database
 pub read_anyway : (says : Database → CallAnswer) (said : CallAnswer) (r : Result Response Refusal) → Says r said
     → ((db : Database) → said ≡ says db) → IsRead says r
 read_anyway says said r is same =
@@ -130,7 +130,7 @@ written_anyway does said r is same =
 
 -- ---- reading
 
--- what was found is said
+-- the answer with the result of a look is the answer of the database that was looked at
 pub found_read : {A : Type 0} (found : Database → A → Type 0) (says : Database → CallAnswer) (a : A) (said : CallAnswer)
     (r : Result Response Refusal) → IsFound found (Ok a) → IsSaid said r
     → ((db : Database) → found db a → said ≡ says db) → IsRead says r
@@ -147,7 +147,7 @@ found_read found says a said r has is same = by (said_or_want said r is)
           held = subst (Says r) (same has.db has.held.1 ∙ sym standing) is;
         })
 
--- where nothing was found that is said
+-- the refusal of a look that found nothing is the answer of a deleted database, or memory was missing
 pub unfound_read : {A : Type 0} (found : Database → A → Type 0) (says : Database → CallAnswer) (refusal : Refusal)
     → IsFound found (Err refusal) → IsRead says (Err refusal)
 unfound_read found says refusal (inl want) = inr (ap Err want)
@@ -156,7 +156,7 @@ unfound_read found says refusal (inr is) =
     ap (λ b. if b then Refusing Deleted else says is.1.db) is.1.held in
     inl (record { db = is.1.db; legal = is.1.legal; held = subst (Says (Err refusal)) (sym gone) is.0 })
 
--- a look that gave this found it, as a closure gives it of each database that stands
+-- a look that gave a value found it, where the closure gives such a value of each database that stands
 pub look_found : {A : Type 0} (gives : Bor Database → Result A DbFault → Type 0)
     (found : Database → A → Type 0) (a : A)
     → IsLooked (λ db given. (lent : Bor Database) × gives lent given × (lent.now ≡ db)) (Ok a)
@@ -175,7 +175,7 @@ look_found {A} gives found a (inr is) finds =
         subst (IsFound found) (sym same) (record { db = is.db; legal = is.legal; held = said_unless_deleted })
     by (Err e) same said_unless_deleted = absurd (cc)
 
--- and where it gave nothing, the database was deleted, or memory was missing
+-- a look that gave no value found a deleted database, or memory was missing
 pub look_unfound : {A : Type 0} (gives : Bor Database → Result A DbFault → Type 0)
     (found : Database → A → Type 0) (needs : Database → Type 0) (refusal : Refusal)
     → IsLooked (λ db given. (lent : Bor Database) × gives lent given × (lent.now ≡ db)) (Err refusal)
@@ -198,7 +198,8 @@ look_unfound {A} gives found needs refusal (inr is) fails =
     by (Ok b) same fault = absurd (cc)
     by (Err e) same fault = subst (IsFound found) (sym same) (gone e fault)
 
--- a look finds what a closure gives of each database that stands, and of one that was deleted it tells that
+-- a look finds the value that a closure gives of a database that stands; or the database was deleted, or
+-- memory was missing
 pub looked_found : {A : Type 0} (gives : Bor Database → Result A DbFault → Type 0)
     (found : Database → A → Type 0) (needs : Database → Type 0) (r : Result A Refusal)
     → IsLooked (λ db given. (lent : Bor Database) × gives lent given × (lent.now ≡ db)) r
@@ -234,7 +235,7 @@ pub stored_whole : (new_edits : Bool) (docs : List Doc) (given : Result Written 
 stored_whole new_edits docs (Ok local_after_write) stored lapsed = record { stored = stored; lapsed = lapsed }
 stored_whole new_edits docs (Err e) stored lapsed = tt
 
--- an edit that was refused is answered as that
+-- an edit that was refused is answered with its refusal
 pub edit_refused : (status : ℕ) (doc : Doc) (refusal : Refusal) → IsEdited doc (Err refusal)
     → IsWritten (λ db. edits status db doc) (Err refusal)
 edit_refused status doc refusal (inl want) = inr (inl (ap Err want))
@@ -245,7 +246,7 @@ edit_refused status doc refusal (inr is) =
       held = subst (λ o. Says (Err refusal) (says_edit status doc.id o)) (sym is.held.2) is.held.1;
     })
 
--- what was stored is what some database says, which has it then
+-- the answer to a stored edit is the answer of some database
 edit_made : (status : ℕ) (doc : Doc) (edited : Edited) (r : Result Response Refusal)
     → IsEdited doc (Ok edited) → IsSaid (Body status (edit_body doc.id edited.rev)) r
     → IsWritten (λ db. edits status db doc) r
@@ -267,7 +268,7 @@ edit_lapsed status doc edited note_fault.SequenceFull is =
       record { db = is.db; legal = is.legal; held = (edited.rev, (0, omega arith, is.held)) },
     ))
 
--- an edit that was answered by whether it was noted
+-- the answer to a stored edit, by whether the edit was noted
 edit_noted : (status : ℕ) (doc : Doc) (edited : Edited) (lapsed : Option NoteFault)
     (r : Result Response Refusal) → IsEdited doc (Ok edited)
     → IsSaid (says_noted lapsed (Body status (edit_body doc.id edited.rev))) r
@@ -277,7 +278,7 @@ edit_noted status doc edited (Some fault) r is said =
     subst (IsWritten (λ db. edits status db doc)) (sym (is_refused r (of_note_fault fault) said))
     (edit_lapsed status doc edited fault is)
 
--- an edit that was stored is answered by what the write did
+-- the answer to a stored edit, by the result of the write
 pub edit_said : (status : ℕ) (doc : Doc) (edited : Edited) (r : Result Response Refusal)
     → IsEdited doc (Ok edited)
     → IsSaid (says_noted edited.lapsed (Body status (edit_body doc.id edited.rev))) r
@@ -286,7 +287,7 @@ edit_said status doc edited r is said = edit_noted status doc edited edited.laps
 
 -- ---- local documents
 
--- what was kept is said
+-- the answer to a local document that was kept
 pub kept_read : (doc : LocalDoc) (count : ℕ) (r : Result Response Refusal) → IsKept doc (Ok count)
     → ((db : Database) → count ≡ (local_after_write db.locals doc).count → IsSaid (local_reply (local_after_write db.locals doc)) r)
     → IsRead (λ db. local_reply (local_after_write db.locals doc)) r
@@ -304,7 +305,7 @@ kept_read doc count r (db, standing, is) says =
               (sym (ap (λ b. if b then Refusing Deleted else local_reply (local_after_write db.locals doc)) standing)) said;
         })
 
--- a local document was kept, or it is told why not
+-- a local document was kept, or the fault says why not
 pub kept_or_not : (doc : LocalDoc) (given : Result ℕ DbFault)
     → IfOk given (λ count. (db : Database) × (db.deleted ≡ false) × (count ≡ (local_after_write db.locals doc).count))
     → IfErr given (λ e. (db : Database) × IsLocalFault db doc e) → IsKept doc (with_refusal given)
@@ -314,7 +315,7 @@ kept_or_not doc (Err e) kept (db, inr (standing, inl want)) = inl (ap of_db_faul
 kept_or_not doc (Err e) kept (db, inr (standing, inr full)) =
     inr (inr (ap of_db_fault full.0, (db, standing, full.1)))
 
--- a count that was told is that of a document that is kept
+-- a count below 2^64 is answered as the count of the local document that is kept
 pub kept_said : (db : Database) (doc : LocalDoc) (count : ℕ) (r : Result Response Refusal) → count < 2 ^ 64
     → IsSaid (Body 201 (local_edit_body doc.id count)) r → count ≡ (local_after_write db.locals doc).count
     → IsSaid (local_reply (local_after_write db.locals doc)) r
@@ -325,7 +326,7 @@ kept_said db doc count r few said is =
     (sym some)
     (subst (λ n. IsSaid (Body 201 (local_edit_body doc.id n)) r) is said)
 
--- why nothing was kept is said
+-- the refusal of a local document that was not kept
 pub unkept_read : (doc : LocalDoc) (refusal : Refusal) → IsKept doc (Err refusal)
     → IsRead (λ db. local_reply (local_after_write db.locals doc)) (Err refusal)
 unkept_read doc refusal (inl want) = inr (ap Err want)
@@ -349,7 +350,7 @@ unkept_read doc refusal (inr (inr (full, (db, standing, many)))) =
           (le-leb (2 ^ 64) (local_after_write db.locals doc).count many))) full;
     })
 
--- ---- what is looked at on the way
+-- ---- values that are there
 
 pub some_is_some : {A : Type 0} (o : Option A) (a : A) → o ≡ Some a → IsSome o
 some_is_some o a is = subst IsSome (sym is) cc
@@ -361,7 +362,7 @@ pub put_as : (p : Result Doc DocFault) (doc : Doc) (r : Result Response Refusal)
     → IsWritten (λ db. edits 201 db doc) r → IsWritten (λ db. puts_doc db p) r
 put_as p doc r is w = subst (λ p. IsWritten (λ db. puts_doc db p) r) (sym is) w
 
--- and a fault of it is told without a look
+-- a document that could not be read is refused without a look
 pub put_refused : (p : Result Doc DocFault) (fault : DocFault) (refusal : Refusal)
     → (fault ≡ doc_fault.NoMemory) ⊎ (p ≡ Err fault) → refusal ≡ of_doc_fault fault
     → IsWritten (λ db. puts_doc db p) (Err refusal)
@@ -370,12 +371,12 @@ put_refused p fault refusal (inr same) is =
     written_anyway (λ db. puts_doc db p) (Refusing refusal) (Err refusal) refl
     (λ db. ap Refusing is ∙ sym (ap (λ p. (puts_doc db p).said) same))
 
--- all that is taken of a list is the list
+-- the front of a list of all its length is the list
 take_whole : {A : Type 0} (xs : List A) → take (length xs) xs ≡ xs
 take_whole [] = refl
 take_whole (x ∷ xs) = ap (λ l. x ∷ l) (take_whole xs)
 
--- a text that was made is said
+-- the answer with a body that was made, or memory was missing for the body
 pub said_text : {B E : Type 0} (items : B → List ℕ) (status : ℕ) (text : List ℕ) (b : Result B E)
     (r : Result Response Refusal)
     → IfOk b (λ b. items b ≡ text) → IfOk b (λ b. IsSaid (Body status (items b)) r) → OnErr b (IsWant r)
@@ -383,14 +384,14 @@ pub said_text : {B E : Type 0} (items : B → List ℕ) (status : ℕ) (text : L
 said_text items status text (Ok b) r is said want = subst (λ t. IsSaid (Body status t) r) is said
 said_text items status text (Err e) r is said want = inr want
 
--- what is told of each that is such is told of this one
+-- a statement about each such value is a statement about this one
 pub told_of : {B E I : Type 0} (is_such : I → Type 0) (told : B → I → Type 0) (b : Result B E) (one : I)
     → is_such one
     → IfOk b (λ x. (other : I) → is_such other → told x other) → IfOk b (λ x. told x one)
 told_of is_such told (Ok x) one such all = all one such
 told_of is_such told (Err e) one such all = tt
 
--- what became of each document of a batch that did not stop
+-- the outcomes of the documents of a batch that did not stop
 batch_outcomes : (new_edits : Bool) (docs : List Doc) (batch : Batch)
     → (w : IsStoredBy false 0 (record { parts = 0; count = 0 }) new_edits docs batch)
     → batch.stopped ≡ false
@@ -399,7 +400,7 @@ batch_outcomes new_edits docs batch w goes =
     w.replies ∙ ap (λ l. (docs_result new_edits w.db.deleted w.db.limits.journal w.db.journal l).outcomes)
     (ap (λ n. take n docs) (w.whole goes) ∙ take_whole docs)
 
--- a batch that was written is what some database says
+-- the answer to a batch that did not stop is the answer of some database
 batch_written : (new_edits : Bool) (items : Items) (batch : Batch) (r : Result Response Refusal)
     → IsStoredBy false 0 (record { parts = 0; count = 0 }) new_edits (read_docs (readings new_edits items))
     batch
@@ -418,7 +419,8 @@ batch_written new_edits items batch r w goes (inl is) =
           (batch_outcomes new_edits _ batch w goes) is;
     })
 
--- what stands in a list stands in a longer one
+-- a stored revision of a list is also in a list with the same first entry, where that holds of the entries
+-- behind
 stored_behind : (rev : Revision) (o : Outcome Revision) (os ps : List (Outcome Revision))
     → (Contains os (Stored rev) → Contains ps (Stored rev)) → Contains (o ∷ os) (Stored rev)
     → Contains (o ∷ ps) (Stored rev)
@@ -427,11 +429,11 @@ stored_behind rev o os ps more (suc k, few, is) =
     let there = more (k, omega (arith, few), is) in
     (suc there.0, omega (arith, there.1), there.2)
 
--- nothing stands in an empty list
+-- an empty list has no stored revision
 none_stored : {A : Type 0} (rev : Revision) → Contains [] (Stored rev) → A
 none_stored rev (k, few, is) = absurd (omega (arith, few))
 
--- what is stored of a front of documents is stored of them all
+-- a revision that is stored of a front of documents is stored of them all
 stored_of_front : (store : List Edit → Doc → Stores) (deleted : Bool) (journal : List Edit) (n : ℕ)
     (docs : List Doc) (rev : Revision)
     → Contains (stores_all store deleted journal (take n docs)).outcomes (Stored rev)
@@ -448,7 +450,7 @@ stored_of_front store false journal (suc n) (doc ∷ docs) rev has =
     (stores_all store false K docs).outcomes
     (stored_of_front store false K n docs rev) has
 
--- a batch whose notice lapsed has a document that was stored, where it was written whole as where it stopped
+-- a batch whose notice lapsed has a document that was stored, whether the batch was written whole or stopped
 batch_lapsed : (new_edits : Bool) (items : Items) (batch : Batch) (fault : NoteFault)
     → IsStoredBy false 0 (record { parts = 0; count = 0 }) new_edits (read_docs (readings new_edits items))
     batch
@@ -472,7 +474,7 @@ batch_lapsed new_edits items batch note_fault.SequenceFull w some =
       },
     ))
 
--- a batch that was answered by whether it stopped
+-- the answer to a batch, by whether it stopped
 batch_stopped : (new_edits : Bool) (items : Items) (batch : Batch) (stopped : Bool)
     (r : Result Response Refusal)
     → IsStoredBy false 0 (record { parts = 0; count = 0 }) new_edits (read_docs (readings new_edits items))
@@ -484,7 +486,7 @@ batch_stopped : (new_edits : Bool) (items : Items) (batch : Batch) (stopped : Bo
 batch_stopped new_edits items batch true r w is said = inr (inl (is_refused r NoMemory said))
 batch_stopped new_edits items batch false r w is said = batch_written new_edits items batch r w is said
 
--- a batch that was answered by whether it was noted
+-- the answer to a batch, by whether it was noted
 batch_noted : (new_edits : Bool) (items : Items) (batch : Batch) (lapsed : Option NoteFault)
     (r : Result Response Refusal)
     → IsStoredBy false 0 (record { parts = 0; count = 0 }) new_edits (read_docs (readings new_edits items))
@@ -501,7 +503,7 @@ batch_noted new_edits items batch (Some fault) r w some is =
     (sym (is_refused r (of_note_fault fault) is))
     (batch_lapsed new_edits items batch fault w (some cc))
 
--- a batch is answered by what the write did
+-- the answer to a batch, by the result of the write
 pub batch_said : (new_edits : Bool) (items : Items) (written : Written) (r : Result Response Refusal)
     → IsStored new_edits (read_docs (readings new_edits items)) written
     → IsSaid (says_noted written.lapsed
@@ -517,20 +519,20 @@ pub stored_as : (b : Result bulk.Batch Refusal) (batch : bulk.Batch) (r : Result
     → IsWritten (λ db. batch_reply db (Ok batch)) r → IsWritten (λ db. batch_reply db b) r
 stored_as b batch r is w = subst (λ b. IsWritten (λ db. batch_reply db b) r) (sym is) w
 
--- and its refusal is told without a look
+-- a batch that could not be read is refused without a look
 pub store_refused : (b : Result bulk.Batch Refusal) (refusal : Refusal) → b ≡ Err refusal
     → IsWritten (λ db. batch_reply db b) (Err refusal)
 store_refused b refusal is =
     written_anyway (λ db. batch_reply db b) (Refusing refusal) (Err refusal) refl
     (λ db. sym (ap (λ b. (batch_reply db b).said) is))
 
--- a body is the batch that its value is
+-- the batch in a body is the batch in its JSON value
 pub stored_of_body : (body : List ℕ) (r : Result Response Refusal) (content : Data)
     → json_of body ≡ Some content
     → IsWritten (λ db. batch_reply db (batch_of content)) r → IsWritten (λ db. batch_reply db (batch_in body)) r
 stored_of_body body r content is w = subst (λ o. IsWritten (λ db. batch_reply db (batch_if o)) r) (sym is) w
 
--- and a body that has no value is told as that
+-- a body that is no JSON value is refused without a look
 pub store_unread : (body : List ℕ) (fault : DocFault) (refusal : Refusal)
     → (fault ≡ doc_fault.NoMemory) ⊎ ((fault ≡ doc_fault.NotJson) × (json_of body ≡ None))
     → refusal ≡ of_doc_fault fault
@@ -539,14 +541,14 @@ store_unread body fault refusal (inl want) is = inr (inl (ap Err (is ∙ ap of_d
 store_unread body fault refusal (inr (bad, none)) is =
     store_refused (batch_in body) refusal (ap batch_if none ∙ ap Err (sym (is ∙ ap of_doc_fault bad)))
 
--- ---- what a body asks for
+-- ---- bodies that ask
 
--- what a body asks for is read
+-- the answer to a body that was read
 pub read_as : {A : Type 0} (says : Database → Result A DocFault → CallAnswer) (p : Result A DocFault) (a : A)
     (r : Result Response Refusal) → p ≡ Ok a → IsRead (λ db. says db (Ok a)) r → IsRead (λ db. says db p) r
 read_as says p a r is given = subst (λ p. IsRead (λ db. says db p) r) (sym is) given
 
--- and its fault is told without a look
+-- a body that could not be read is refused without a look
 pub read_refused : {A : Type 0} (says : Database → Result A DocFault → CallAnswer)
     (p : Result A DocFault) (fault : DocFault)
     (refusal : Refusal) → ((db : Database) → says db (Err fault) ≡ Refusing (of_doc_fault fault))
@@ -559,7 +561,7 @@ read_refused says p fault refusal refused (inr same) is =
 
 -- ---- beginning a feed
 
--- where nothing was found downwards, that is why nothing begins
+-- a look that found nothing for a list that goes downwards says why nothing begins
 pub unfound_feed : {A : Type 0} (found : Database → A → Type 0) (asked : FeedAsked) (refusal : Refusal)
     → asked.descending ≡ true → IsFound found (Err refusal) → IsUnopened asked refusal ⊎ (refusal ≡ NoMemory)
 unfound_feed found asked refusal down (inl want) = inr want
@@ -572,7 +574,7 @@ unfound_feed found asked refusal down (inr (gone, is)) =
           ∙ ap (λ b. if b then Deleted else NoMemory) is.held);
     })
 
--- why a feed was not opened
+-- a feed that was not opened has its reason
 pub unopened_feed : (asked : FeedAsked) (fault : OpenFault) (refusal : Refusal) → asked.descending ≡ false
     → (fault ≡ open_fault.NoMemory) ⊎ HasDatabase (λ db. fault ≡ opening_fault (hosted_of db))
     → refusal ≡ of_open_fault fault → IsUnopened asked refusal ⊎ (refusal ≡ NoMemory)
@@ -596,13 +598,13 @@ opened_or_told counts all_parts state (Ok feed) told = tt
 opened_or_told counts all_parts state (Err e) (db, found, told) =
     inr (record { db = db; legal = found.legal; held = told })
 
--- what parameters ask is begun
+-- the feed that parameters ask for is begun
 pub read_feed : (begins : FeedAsked → Result Response Refusal → Type 0) (needs : Type 0)
     (p : Result FeedAsked ParamFault) (asked : FeedAsked) (r : Result Response Refusal)
     → p ≡ Ok asked → begins asked r → BeginsRead begins needs p r
 read_feed begins needs p asked r is begun = subst (λ p. BeginsRead begins needs p r) (sym is) begun
 
--- and their fault is told, or memory was missing to read them
+-- parameters that could not be read are refused, or memory was missing to read them
 pub unread_feed : (begins : FeedAsked → Result Response Refusal → Type 0) (needs : Type 0)
     (p : Result FeedAsked ParamFault) (fault : ParamFault) (refusal : Refusal)
     → ((asked : FeedAsked) → begins asked (Err NoMemory)) → (fault ≡ param.NoMemory) ⊎ (p ≡ Err fault)

@@ -1,4 +1,4 @@
--- What a stream shows is the front of a list that is rightly handed.
+-- The items of a stream are the front of a list that is rightly handed.
 use Rattle.std.proofs.Common.{◌≡◌, ℕ, List, [], ◌∷◌, ◌++◌, true, false, refl}
 use Rattle.std.proofs.Common.{sym, ap, ◌∙◌, subst, append_assoc, append-nil}
 use Rattle.std.specs.Prelude.{◌≢◌, Option, Some, None, map, if◌then◌else◌}
@@ -27,7 +27,7 @@ use Rattle.hub_service.specs.Laws.{CompleteUpdatesAreRight, CompleteListIsWhole,
 use Rattle.hub_service.specs.declared.sent.Sent.{Sent}
 use Rattle.hub_service.specs.declared.sent.Sent.TheVariants.{Listed, Changes, Updates}
 
--- nothing stands behind an end
+-- no item stands behind an end
 nothing_behind : {R : Type 0} (place : ℕ) (xs : List (Item R)) (item : Item R) (rest : List (Item R))
     → is_end item ≡ true → EndsAt place (xs ++ item ∷ rest) → rest ≡ []
 nothing_behind place [] (Row row) rest end ends = absurd (cc)
@@ -39,7 +39,7 @@ nothing_behind place (End l p ∷ []) item rest end ends = absurd (let e : item 
 nothing_behind place (End l p ∷ x ∷ xs) item rest end ends =
     absurd (let e : x ∷ xs ++ item ∷ rest ≡ [] = ends.1 in cc)
 
--- what was sent of a feed of one kind, behind what was taken before
+-- the items that were sent of a feed of one kind, after the items that were taken before
 record IsSentOf {R : Type 0} (wrap : Item R → StreamItem) (right : Label → List (Item R) → Type 0)
     (feed : FeedState R) (items : List StreamItem) (end : StreamEnd) : Type 0 where
   handed : List (Item R)
@@ -48,7 +48,7 @@ record IsSentOf {R : Type 0} (wrap : Item R → StreamItem) (right : Label → L
   front : right feed.label (feed.taken ++ (handed ++ rest))
   whole : end ≡ Complete → rest ≡ []
 
--- how a stream of one kind goes on
+-- one step of a stream of one kind, with its item
 record IsStep {R : Type 0} (wrap : Item R → StreamItem) (sent : FeedState R → Sent)
     (right : Label → List (Item R) → Type 0)
     (feed : FeedState R) (streamed : StreamItem) (mid : Option Sent) : Type 0 where
@@ -58,7 +58,7 @@ record IsStep {R : Type 0} (wrap : Item R → StreamItem) (sent : FeedState R �
   behind : mid ≡ if stream.is_end streamed then None else Some (sent (behind_item feed item))
   allowed : IsAllowedBeginning right (receiver_of (behind_item feed item))
 
--- what a stream hands of a feed of one kind, by how it goes on
+-- the items that a stream sends of a feed of one kind, by its steps
 module _ {R : Type 0} (wrap : Item R → StreamItem) (sent : FeedState R → Sent)
     (right : Label → List (Item R) → Type 0)
     (step : (feed : FeedState R) (item : StreamItem) (mid : Option Sent)
@@ -70,7 +70,7 @@ module _ {R : Type 0} (wrap : Item R → StreamItem) (sent : FeedState R → Sen
       → right label ((taken ++ i ∷ []) ++ items) → right label (taken ++ i ∷ items)
   grown label taken i items r = subst (right label) (append_assoc taken (i ∷ []) items) r
 
-  -- an item that is no End, and what is sent behind it
+  -- an item that is no End, and the items that are sent after it
   one_more : (feed : FeedState R) (item : StreamItem) (items : List StreamItem) (end : StreamEnd)
       (mid : Option Sent) (s : IsStep wrap sent right feed item mid)
       → IsSentOf wrap right (behind_item feed s.item) items end → IsSentOf wrap right feed (item ∷ items) end
@@ -99,7 +99,7 @@ module _ {R : Type 0} (wrap : Item R → StreamItem) (sent : FeedState R → Sen
             nothing_behind e.0 feed.taken s.item s.allowed.0 (sym s.ends ∙ is) e.1;
       }
 
-  -- nothing more
+  -- no more items
   none_more : (feed : FeedState R) (end : StreamEnd) → IsAllowedBeginning right (receiver_of feed)
       → (end ≡ Complete → ⊥) → IsSentOf wrap right feed [] end
   none_more feed end allowed stops = record {
@@ -116,14 +116,14 @@ module _ {R : Type 0} (wrap : Item R → StreamItem) (sent : FeedState R → Sen
   step_from feed maybe_sent item mid is given =
       step feed item mid (subst (λ o. Gives o (Some item) mid) is given)
 
-  -- behind an item that is no End the feed is still sent
+  -- after an item that is no End the feed is still sent
   still_sent : (feed : FeedState R) (item : StreamItem) (mid : Option Sent)
       (s : IsStep wrap sent right feed item mid)
       → stream.is_end item ≡ false → mid ≡ Some (sent (behind_item feed s.item))
   still_sent feed item mid s is =
       s.behind ∙ ap (λ b. if b then None else Some (sent (behind_item feed s.item))) is
 
-  -- what is sent behind what was taken before
+  -- the items that are sent, after items that were taken before
   sent_behind_itemn : {n : ℕ} {s t : Option Sent} {items : List StreamItem} {end : StreamEnd}
       → Streams connection_rules n s items end t
       → (feed : FeedState R) → s ≡ Some (sent feed) → IsAllowedBeginning right (receiver_of feed)
@@ -146,7 +146,7 @@ module _ {R : Type 0} (wrap : Item R → StreamItem) (sent : FeedState R → Sen
   sent_behind_itemn (Streams.gives_up dropped many) feed at allowed =
       none_more feed Exhausted allowed (λ c. cc)
 
-  -- what is sent of a feed, where anything is
+  -- the items that are sent of a feed, where there is one
   sent_of : {n : ℕ} {s t : Option Sent} {items : List StreamItem} {end : StreamEnd}
       → Streams connection_rules n s items end t
       → (feed : FeedState R) → s ≡ Some (sent feed) → items ≢ [] → IsSentOf wrap right feed items end
@@ -211,13 +211,13 @@ sent_updates items feed end maybe_sent goes some =
     sent_of Update Updates right_updates step_of_updates
     (λ l items r. (r.feed.place, r.right.ends)) goes feed refl some
 
--- nothing was taken before
+-- a feed of which nothing was taken before
 from_nothing : {R : Type 0} (right : Label → List (Item R) → Type 0)
     (feed : FeedState R) (items : List (Item R))
     → feed.taken ≡ [] → right feed.label (feed.taken ++ items) → right feed.label items
 from_nothing right feed items none r = subst (λ taken. right feed.label (taken ++ items)) none r
 
--- a stream that came to its end handed something
+-- a stream that came to its end sent an item
 some_handed : {n : ℕ} {s t : Option Sent} {items : List StreamItem} {end : StreamEnd}
     → Streams connection_rules n s items end t → end ≡ Complete → items ≢ []
 some_handed (Streams.goes_on given is more) c none = cc
@@ -260,12 +260,12 @@ complete_updates feed items t none goes =
 
 -- ---- an answer that was made at once
 
--- what is left of one
+-- the answer of these members
 abbrev left_of : List ChangeRow → (last_seq pending life : ℕ) → Descending
 left_of rows last_seq pending life =
     record { rows = rows; last_seq = last_seq; pending = pending; life = life }
 
--- how it goes on
+-- one step of an answer that was made at once
 listed_step : (answer : Descending) (maybe_sent : Option Sent) (item : StreamItem) (mid : Option Sent)
     → maybe_sent ≡ Some (Listed answer) → Gives maybe_sent (Some item) mid
     → (item ≡ Change (next_listed answer))
@@ -279,7 +279,7 @@ listed_step answer maybe_sent item mid at given = by_kind item (subst (λ o. Giv
         (ap Change g.1.0, g.2 ∙ ap (λ left. if is_end i then None else Some left) g.1.1)
     by_kind (Update i) g = absurd g.1
 
--- behind an item that is no end
+-- after an item that is no end the answer is still sent
 listed_left : {mid : Option Sent} {left : Sent} (item : StreamItem) → stream.is_end item ≡ false
     → mid ≡ (if stream.is_end item then None else Some left) → mid ≡ Some left
 listed_left {left = left} item is behind = behind ∙ ap (λ b. if b then None else Some left) is
@@ -292,7 +292,7 @@ no_end item last pending e is = let both : true ≡ false = sym (ap stream.is_en
 no_row : (item : StreamItem) (row : ChangeRow) → item ≡ Change (Row row) → stream.is_end item ≡ true → ⊥
 no_row item row e is = let both : false ≡ true = sym (ap stream.is_end e) ∙ is in cc
 
--- it hands what is left, and its end
+-- an answer that was made at once hands its rows, and its end
 list_whole : {n : ℕ} {s t : Option Sent} {items : List StreamItem} {end : StreamEnd}
     → Streams connection_rules n s items end t → end ≡ Complete
     → (rows : List ChangeRow) (l pending life : ℕ) → s ≡ Some (Listed (left_of rows l pending life))

@@ -1,4 +1,4 @@
--- What the answer to a document tells (CouchDB API reference, `/{db}/{docid}`).
+-- The laws of answers about a document (CouchDB API reference, `/{db}/{docid}`).
 use Rattle.std.specs.Prelude.{◌≡◌, ℕ, List, None, Result, Ok}
 use Rattle.hub_model.specs.Revision.{Revision}
 use Rattle.hub_model.specs.declared.outcomes.Outcome.TheVariants.{Stored}
@@ -16,7 +16,7 @@ use Rattle.hub_service.specs.Requests.{AnswersCall}
 use Rattle.hub_service.specs.Said.{Body, Says}
 use Rattle.hub_service.specs.declared.response.Response.{Response}
 
--- A document that is got is there: the status of a GET that is answered with a body is 200, and some legal
+-- A document that is got is there. A GET that is answered with a body has the status 200, and some legal
 -- database has the document that the body shows. Where no database has a document of the id `a`, no GET of
 -- `a` is answered with a body. A GET that asks for `open_revs` shows a list instead.
 abbrev pub GotIsThere : Type 0
@@ -26,9 +26,9 @@ GotIsThere = (name id query asked body : List ℕ) (r : Result Response Refusal)
     → (status ≡ 200) × HasDatabase (λ db. (doc : Doc)
     × (lookup db.journal id (doc_asked query).revs ≡ Found doc) × (body ≡ doc_body doc))
 
--- A document that is put is stored: the status of a PUT that is answered with a body is 201, and some legal
--- database stores the document of the request, with the revision that the body tells. A conflict is answered
--- with no such body.
+-- A document that is put is stored. A PUT that is answered with a body has the status 201, and some legal
+-- database stores the document of the request, with the revision in the body. A conflict is answered with no
+-- such body.
 abbrev pub PutIsStored : Type 0
 PutIsStored = (name id query asked body : List ℕ) (r : Result Response Refusal) (status : ℕ)
     → AnswersCall PutDocument name id query asked r → Says r (Body status body)

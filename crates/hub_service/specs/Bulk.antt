@@ -1,4 +1,4 @@
--- What a batch of documents is (CouchDB API reference, POST /{db}/_bulk_docs).
+-- Batches of documents (CouchDB API reference, POST /{db}/_bulk_docs).
 use Rattle.std.specs.Prelude.{ℕ, List, [], ◌∷◌, Bool, true, if◌then◌else◌, Option, Some, None, Result, Ok}
 use Rattle.std.specs.Prelude.{Err, option_and_then, codes}
 use Rattle.serde_json.specs.Data.{Data, Items, no_items, item}
@@ -20,38 +20,38 @@ pub record Batch : Type 0 where
   pub docs : Items
   pub new_edits : Bool
 
--- the truth value of `new_edits`: true where it is absent, None where it is something else
+-- the truth value of `new_edits`: true where it is absent, None where it is another value
 abbrev pub flag_of : Option Data → Option Bool
 flag_of None = Some true
 flag_of (Some flag) = as_bool flag
 
--- a batch, where both were found
+-- the batch of these elements and this flag, where both were found
 abbrev pub batch_with : Option Items → Option Bool → Result Batch Refusal
 batch_with None flag = Err NotObject
 batch_with (Some docs) None = Err NotObject
 batch_with (Some docs) (Some new_edits) = Ok (record { docs = docs; new_edits = new_edits })
 
--- the batch that a value is, or why the whole is refused
+-- the batch in a JSON value, or the refusal of the whole
 abbrev pub batch_of : Data → Result Batch Refusal
 batch_of content =
     batch_with (option_and_then as_array (get (codes "docs") content))
     (flag_of (get (codes "new_edits") content))
 
--- the batch that a parsed body is; a body that is no JSON has no value
+-- the batch in a parsed body; a body that is no JSON has no value
 abbrev pub batch_if : Option Data → Result Batch Refusal
 batch_if None = Err NotJson
 batch_if (Some content) = batch_of content
 
--- the batch that a body is
+-- the batch in a body
 abbrev pub batch_in : List ℕ → Result Batch Refusal
 batch_in body = batch_if (json_of body)
 
--- what each element is read as
+-- the document or the fault that each element is read as
 abbrev pub readings : Bool → Items → List (Result Doc DocFault)
 readings new_edits no_items = []
 readings new_edits (item d ds) = doc_of new_edits d ∷ readings new_edits ds
 
--- those that are documents
+-- the elements that are documents
 abbrev pub read_docs : List (Result Doc DocFault) → List Doc
 read_docs [] = []
 read_docs (Ok doc ∷ rs) = doc ∷ read_docs rs
@@ -69,7 +69,7 @@ reply_to new_edits (Stored rev) = if new_edits then Some (reply.Stored rev) else
 reply_to new_edits Known = None
 reply_to new_edits (Refused fault) = Some (reply.Refused (of_fault fault))
 
--- the reply to each element: its own fault, or else what came of storing it
+-- the reply to each element: its own fault, or else the reply to its document
 abbrev pub replies_of : Bool → List (Option DocFault) → List (Outcome Revision) → List (Option BatchReply)
 replies_of new_edits [] outcomes = []
 replies_of new_edits (Some fault ∷ faults) outcomes =

@@ -1,4 +1,4 @@
--- What deleting a document is answered (CouchDB API reference, DELETE /{db}/{docid}).
+-- The answers to a DELETE of a document (CouchDB API reference, DELETE /{db}/{docid}).
 use Rattle.std.specs.Prelude.{◌≡◌, ◌≢◌, ◌⊎◌, ℕ, List, true, false, Option, Some, None, Result, Err}
 use Rattle.std.specs.Prelude.{if◌then◌else◌}
 use Rattle.hub_document.specs.Ids.{short_id}
@@ -15,8 +15,8 @@ use Rattle.hub_service.specs.Moments.{HasDatabase, IsRead, IsWritten}
 use Rattle.hub_service.specs.Said.{Refusing, IsWant}
 use Rattle.hub_service.specs.declared.response.Response.{Response}
 
--- Why a document is not deleted that has this winner, where no leaf is named. Where there is no document it
--- is Missing, where the winner is deleted DocDeleted, and where the winner stands, as 2-b, Conflict.
+-- The refusal to delete a document with this winner, where no leaf is named. Without a document it is
+-- Missing, with a deleted winner it is DocDeleted, and with another winner, as 2-b, it is Conflict.
 abbrev pub refuses_unnamed : Option Winner → Refusal
 refuses_unnamed None = Missing
 refuses_unnamed (Some winner) = if winner.deleted then DocDeleted else Conflict
@@ -30,25 +30,25 @@ IsUnknown id r = ((r ≡ Err Missing) × HasDatabase (λ db. (db.deleted ≡ fal
 abbrev pub IsKnown : List ℕ → Type 0
 IsKnown id = HasDatabase (λ db. (db.deleted ≡ false) × (winner_in db id ≢ None))
 
--- Deleting the leaf of a revision, of the document of an id, if a document can have it. A look finds no such
--- document; or it finds one, and an edit is written, to the database as it is then. Memory is taken only for
--- an id that a document can have.
+-- Deleting the leaf of a revision, of the document of an id. `None` says that no document can have the id:
+-- then the answer is Missing, and no memory is taken. Else a look finds no such document; or it finds the
+-- document, and an edit is written, to the database as it is then.
 abbrev pub DeletesLeaf : List ℕ → Option (List ℕ) → Revision → Result Response Refusal → Type 0
 DeletesLeaf id None rev r = r ≡ Err Missing
 DeletesLeaf id (Some short) rev r =
     IsUnknown id r ⊎ (IsWant r ⊎ (IsKnown id × IsWritten (λ db. edits 200 db (deletion short rev)) r))
 
--- deleting the leaf that a text names, where the text is a revision's: x is none, and so it is BadRev
+-- deleting the leaf that a text names; a text that is no revision, as x, is BadRev
 abbrev pub DeletesNamed : List ℕ → Option Revision → Result Response Refusal → Type 0
 DeletesNamed id None r = r ≡ Err BadRev
 DeletesNamed id (Some rev) r = DeletesLeaf id (short_id id) rev r
 
--- deleting a document, or the leaf of it that is named
+-- deleting a document: its leaf where one is named, and else a refusal
 abbrev pub Deletes : List ℕ → Option (List ℕ) → Result Response Refusal → Type 0
 Deletes id None r = IsRead (λ db. Refusing (refuses_unnamed (winner_in db id))) r
 Deletes id (Some text) r = DeletesNamed id (revision_of text) r
 
--- Deleting a document by the `rev` of a query; reading the query may take memory. `rev=x` is BadRev, unless
+-- Deleting a document by the `rev` of a query. Reading the query may take memory. `rev=x` is BadRev, unless
 -- memory was missing for the text `x`.
 abbrev pub IsDeletion : List ℕ → List ℕ → Result Response Refusal → Type 0
 IsDeletion id query r = (IsWant r × DocNeedsRoom query) ⊎ Deletes id (doc_asked query).rev r

@@ -1,4 +1,4 @@
--- The refusals of what fails below a connection (CouchDB API reference, HTTP status codes).
+-- The refusals of calls that fail below a connection (CouchDB API reference, HTTP status codes).
 use Rattle.hub_database.specs.declared.batch.DbFault.{DbFault}
 use Rattle.hub_database.specs.declared.batch.DbFault.TheVariants as db_fault
 use Rattle.hub_databases.specs.declared.fault.HubFault.{HubFault}
@@ -32,7 +32,7 @@ of_hub_fault hub_fault.Absent = refusal.Absent
 of_hub_fault hub_fault.TooMany = refusal.TooMany
 of_hub_fault hub_fault.SequenceFull = refusal.SequenceFull
 
--- the refusal of parameters that are none
+-- the refusal of a feed's parameters that can't be read
 abbrev pub of_param_fault : ParamFault → Refusal
 of_param_fault param.NoMemory = refusal.NoMemory
 of_param_fault param.BadSince = refusal.BadSince

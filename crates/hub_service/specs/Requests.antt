@@ -1,6 +1,6 @@
--- What a connection answers to a request (CouchDB API reference, the server, its databases, and
--- each call on one; own for the order of refusals). Each call looks at a database under its lock,
--- and is answered as the database says it that lies there then.
+-- The answers of a connection to requests (CouchDB API reference, the server, its databases, and each call
+-- on one; own for the order of refusals). A call looks at the database that lies under its lock then, and is
+-- answered as this database says.
 use Rattle.std.specs.Prelude.{◌≡◌, ◌⊎◌, ℕ, List, true, false, Option, Some, Result, Ok, Err}
 use Rattle.std.specs.Cow.{cow_str_bytes}
 use Rattle.hub_document.specs.Local.{local_in}
@@ -39,36 +39,37 @@ use Rattle.hub_service.specs.declared.response.Response.{Response}
 use Rattle.hub_service.specs.declared.response.Response.TheVariants as response
 use Rattle.hub_service.specs.declared.sent.Sent.{Sent}
 
--- a bad name is refused as that, and nothing else is
+-- a bad name is refused as a bad name, and no other name is
 abbrev pub AtName : List ℕ → (Result Response Refusal → Type 0) → Result Response Refusal → Type 0
 AtName name answers r =
     ((is_name name ≡ false) × (r ≡ Err BadName)) ⊎ ((is_name name ≡ true) × answers r)
 
--- a database was made, or there was one of the name, or too many, or the log of updates was full
+-- A database was made. Or a database of the name was there, or there were too many, or the log of updates
+-- was full, or memory was missing.
 abbrev pub IsMade : Result Response Refusal → Type 0
 IsMade r = IsSaid (Body 201 ok_body) r ⊎ ((r ≡ Err Exists) ⊎ ((r ≡ Err TooMany) ⊎ (r ≡ Err SequenceFull)))
 
--- a database was removed, or there was none of the name, or the log of updates was full
+-- a database was removed, or no database had the name, or the log of updates was full, or memory was missing
 abbrev pub IsRemoved : Result Response Refusal → Type 0
 IsRemoved r = IsSaid (Body 200 ok_body) r ⊎ ((r ≡ Err Absent) ⊎ (r ≡ Err SequenceFull))
 
--- names of databases were listed, each once, in the order of their bytes
+-- names of databases were listed, each once, in the order of their bytes, or memory was missing
 abbrev pub IsListed : Result Response Refusal → Type 0
 IsListed r =
     ((names : List (List ℕ)) × AreNames most_databases names × Says r (Body 200 (names_body names)))
     ⊎ IsWant r
 
--- the database of the name answered, or there was none of it
+-- the database of the name answered, or no database had the name, or memory was missing
 abbrev pub AtDatabase : List ℕ → (Result Response Refusal → Type 0) → Result Response Refusal → Type 0
 AtDatabase name answers r = AtName name (λ r. answers r ⊎ ((r ≡ Err Absent) ⊎ IsWant r)) r
 
--- why no database of the name is found
+-- why no database of the name is found: the name is bad, or no database has it, or memory was missing
 abbrev pub IsNoDatabase : List ℕ → Refusal → Type 0
 IsNoDatabase name e =
     ((is_name name ≡ false) × (e ≡ BadName))
     ⊎ ((is_name name ≡ true) × ((e ≡ Absent) ⊎ (e ≡ NoMemory)))
 
--- what a call is answered, with the name, the id and the query of its request, and this body
+-- the answer to a call, with the name, the id and the query of its request, and this body
 abbrev pub AnswersCall : Call → List ℕ → List ℕ → List ℕ → List ℕ → Result Response Refusal → Type 0
 AnswersCall Welcome name id query body r = IsSaid (Body 200 welcome_body) r
 AnswersCall AllDbs name id query body r = IsListed r
@@ -92,13 +93,14 @@ AnswersCall GetLocal name id query body r =
 AnswersCall PutLocal name id query body r =
     AtDatabase name (IsRead (λ db. puts_local db (local_in id body))) r
 
--- what a request that goes there, with this body, is answered
+-- the answer to a request with this body, by its route
 abbrev pub Responds : List ℕ → Result Route RouteFault → Result Response Refusal → Type 0
 Responds body (Err fault) r = r ≡ Err (of_route_fault fault)
 Responds body (Ok route) r =
     AnswersCall route.call (cow_str_bytes route.db) (cow_str_bytes route.id) route.query.now body r
 
--- the response is sent so, and what is being sent is then this: a feed that is begun takes the place of none
+-- the response is sent as this answer; a feed or list that it begins is being sent then, else the old one
+-- still is
 abbrev pub IsSent : Result Response Refusal → Answer → Option Sent → Option Sent → Type 0
 IsSent (Ok (response.Body status body)) a maybe_sent t =
     (a ≡ answer.Whole (Done status body)) × (t ≡ maybe_sent)
@@ -106,7 +108,7 @@ IsSent (Ok (response.Stream mode sent)) a maybe_sent t =
     (a ≡ answer.Stream mode (life_of sent)) × (t ≡ Some sent)
 IsSent (Err e) a maybe_sent t = (a ≡ answer.Whole (Refused e)) × (t ≡ maybe_sent)
 
--- from what is being sent, a request may be answered so, and leave this
+-- a connection that sends `maybe_sent` may answer the request with this answer, and then it sends `t`
 pub record Answers (maybe_sent : Option Sent) (asked : PlainRequest) (answer : Answer)
     (t : Option Sent) : Type 0 where
   pub route : Result Route RouteFault

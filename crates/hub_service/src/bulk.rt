@@ -22,7 +22,7 @@ use serde_json::Value;
 use std::alloc::{AllocError, Global};
 use std::sync::Wait;
 
-// Whether the revisions of a batch are made here: yes, where the request does not say.
+// Whether the revisions of a batch are made here: yes, where the request has no `new_edits`.
 fn new_edits_of(request: &Value) -> Option<bool>
     ensures { result ≡ flag_of (get (codes "new_edits") (view request.now)) }
 {
@@ -48,16 +48,16 @@ fn batch_of(request: &Value) -> Result<(&Vec<Value>, bool), Refusal>
     }
 }
 
-/// What the elements of a batch are.
+/// The elements of a batch, as they were read.
 #[derive(Drop)]
 struct Readings {
-    /// Those that are documents, in order.
+    /// The elements that are documents, in order.
     docs: Vec<Doc>,
     /// For each element its fault, if it is no document.
     faults: Vec<Option<DocFault>>,
 }
 
-// Reads each element by itself. It costs the elements' length.
+// Reads each element by itself. The cost is the length of the elements.
 fn read_elements(alloc: Global, elements: &[Value], new_edits: bool) -> Result<Readings, AllocError>
     ensures docs { IfOk result
         (λ r. r.docs.items ≡ read_docs (readings new_edits (items_view elements.now))) }
@@ -116,7 +116,7 @@ fn replies_of(
     Ok(list)
 }
 
-// The answer to a batch of these elements, with these faults, that was written so.
+// The answer to a batch of these elements, with their faults, and with the result of the write.
 fn say_batch(
     alloc: Global,
     elements: &[Value],
@@ -162,8 +162,8 @@ fn store_elements<N: Wait>(
     )
 }
 
-/// Stores the batch of documents that a body is. It costs the body's length, and what `Hub::write`
-/// does. Where memory is missing documents from its front may stand.
+/// Stores the batch of documents in a body. The cost is the body's length, and the cost of `Hub::write`. Out
+/// of memory, the first documents of the batch may stay stored.
 pub(crate) fn store<N: Wait>(
     context: &Context<'_, N>,
     db: &HubDb,

@@ -1,4 +1,4 @@
-//! Connections: what a client is answered, request by request.
+//! Connections: the answers to a client, request by request.
 
 ghost use Rattle.std.specs.Prelude.{◌≡◌, IfErr, IfOk, None, Ok, Result, Some, true};
 ghost use Rattle.hub_databases.specs.Names.{is_name as is_database_name};
@@ -34,9 +34,9 @@ use std::sync::{Arc, Wait};
 pub struct Connection<'h, N: Wait, P: Pumping> {
     context: Context<'h, N>,
     routes: &'h Routes,
-    /// What hands a feed its items.
+    /// The way in which a feed is handed its items.
     pumping: P,
-    /// What was asked for last and is sent item by item, until its end was handed.
+    /// The feed or list that is sent, item by item, until its end was handed.
     sent: Option<Sent>,
 }
 
@@ -50,8 +50,8 @@ impl<'h, N: Wait, P: Pumping> Model for Connection<'h, N, P> {
 }
 
 impl<'h, N: Wait, P: Pumping> Connection<'h, N, P> {
-    /// A connection that sends nothing. The table of routes and the room for bodies may
-    /// serve every connection.
+    /// A connection that sends no feed. The table of routes and the rooms for bodies may serve every
+    /// connection.
     pub fn new(
         rt: &'h N,
         alloc: Global,
@@ -75,7 +75,7 @@ impl<'h, N: Wait, P: Pumping> Connection<'h, N, P> {
         }
     }
 
-    // Makes a database. The answer is made first, so that nothing is made that is not answered.
+    // Makes a database. The answer is made first, so that each database that is made is answered.
     fn create(&self, name: &str) -> Result<Response, Refusal>
         ensures { AtName name.now IsMade result }
     {
@@ -125,7 +125,7 @@ impl<'h, N: Wait, P: Pumping> Connection<'h, N, P> {
         }
     }
 
-    // The answer to a call, with what a request lends to it. A commit has nothing to do: every edit that was
+    // The answer to a call, with the parts of its request. A commit has nothing to do: every edit that was
     // answered is stored.
     fn call(
         &self,
@@ -193,7 +193,7 @@ impl<'h, N: Wait, P: Pumping> Connection<'h, N, P> {
         }
     }
 
-    // The response as it is sent: a feed is kept until its end was handed.
+    // The answer that sends a response. A feed is kept until its end was handed.
     fn send(&mut self, response: Response) -> Answer
         ensures { IsSent (Ok response) result self.old self.new }
     {

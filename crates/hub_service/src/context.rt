@@ -1,4 +1,4 @@
-//! A connection's context, and the calls on a database that it makes.
+//! The context of a connection's answers, and calls on a database.
 
 ghost use Rattle.std.specs.Prelude.{◌≡◌, ◌⊎◌, IfErr, IfOk};
 ghost use Rattle.std.specs.Fn.{FnOnceReturnsAt};
@@ -22,20 +22,20 @@ use hub_shared::{Feed, Plain};
 use std::alloc::Global;
 use std::sync::Wait;
 
-/// What each answer of a connection needs.
+/// The context of each answer of a connection.
 #[derive(Drop)]
 pub(crate) struct Context<'h, N: Wait> {
     /// The threads' runtime, by which a call waits for a lock.
     pub(crate) rt: &'h N,
     pub(crate) alloc: Global,
-    /// The databases, and the log of what happens to them.
+    /// The databases, and the log of updates.
     pub(crate) hub: &'h Hub,
-    /// What bodies are read with.
+    /// The rooms that bodies are read with.
     pub(crate) rooms: &'h JsonRooms,
 }
 
 impl<'h, N: Wait> Context<'h, N> {
-    /// What one look at the database is told.
+    /// The result of one look at the database: of `ask`, called once under the lock.
     pub(crate) fn look<T, F: FnOnce(&DbState) -> Result<T, DbFault>>(
         &self,
         db: &HubDb,
@@ -48,7 +48,7 @@ impl<'h, N: Wait> Context<'h, N> {
         with_refusal(handle.look(self.rt, ask))
     }
 
-    /// The winner of a document.
+    /// The winner of a document, if there is one.
     pub(crate) fn winner(&self, db: &HubDb, id: &str) -> Result<Option<Winner>, Refusal>
         ensures { IsFound (λ db found. found ≡ winner_in db id.now) result }
     {
@@ -58,7 +58,7 @@ impl<'h, N: Wait> Context<'h, N> {
         })
     }
 
-    /// Stores a local document in place of the one of its id, and says how often it was written.
+    /// Stores a local document in place of the stored one of its id, and says how often it was written.
     pub(crate) fn local_put(&self, db: &HubDb, doc: LocalDoc) -> Result<u64, Refusal>
         ensures { IsKept doc result }
     {

@@ -21,7 +21,7 @@ fn read_body<N: Wait>(context: &Context<'_, N>, body: &[u8]) -> Result<Vec<Asked
     read_asked(context.alloc, &value)
 }
 
-// Which of these revisions are missing.
+// Answers which of these revisions are missing.
 fn diff<N: Wait>(
     context: &Context<'_, N>,
     db: &HubDb,
@@ -33,8 +33,8 @@ fn diff<N: Wait>(
     answer(StatusCode::OK, diffs_body(context.alloc, found.as_slice()))
 }
 
-/// Which of the revisions that a body asks for are missing. It costs the body's length, the wait for
-/// the database, and what `DbState::revs_diff` does.
+/// Answers which of the revisions that a body asks for are missing. The cost is the body's length, the wait
+/// for the database, and the cost of `DbState::revs_diff`.
 pub(crate) fn revs_diff<N: Wait>(
     context: &Context<'_, N>,
     db: &HubDb,

@@ -63,8 +63,8 @@ fn get_revs<N: Wait>(
     say_revs(context.alloc, &which, found.as_slice())
 }
 
-/// A document, or those of its revisions that `open_revs` asks for. It costs the wait for the
-/// database, what `DbState::get` or `DbState::open_revs` does, and the length of the answer.
+/// Answers a document, or those of its revisions that `open_revs` asks for. The cost is the wait for the
+/// database, the cost of `DbState::get` or `DbState::open_revs`, and the length of the answer.
 pub(crate) fn get<N: Wait>(
     context: &Context<'_, N>,
     db: &HubDb,
@@ -90,7 +90,7 @@ pub(crate) fn get<N: Wait>(
     say_found(context.alloc, &found)
 }
 
-// The answer to an edit that was stored, with this status, and this front of the answer.
+// The answer to an edit that was stored, with this status. `front` is the answer up to the revision.
 fn say_edited(status: StatusCode, front: Vec<u8>, edited: &Edited) -> Result<Response, Refusal>
     ensures { let e = edited.now in (id : List ℕ) → front.items ≡ edit_front id
         → IsSaid (says_noted e.lapsed (says_edit status id (Stored e.rev))) result }
@@ -101,8 +101,8 @@ fn say_edited(status: StatusCode, front: Vec<u8>, edited: &Edited) -> Result<Res
     Ok(Response::Body(status, edit_body(front, &edited.rev)?))
 }
 
-// Stores an edit whose revision is made here, and says so with this status. The answer is begun first, so
-// that no edit is stored that is not answered.
+// Stores an edit whose revision is made here, and says so with this status. The answer is begun first, with
+// room for its rest, so that no stored edit lacks memory for its answer.
 fn edit<N: Wait>(
     context: &Context<'_, N>,
     db: &HubDb,
@@ -116,7 +116,7 @@ fn edit<N: Wait>(
     say_edited(status, front, &edited)
 }
 
-// The document that a body is, which a query may name a leaf of.
+// The document in a body. The query may name the leaf that it edits.
 fn read_put<N: Wait>(
     context: &Context<'_, N>,
     id: &str,
@@ -134,10 +134,10 @@ fn read_put<N: Wait>(
     put_doc(context.alloc, id, rev, params.new_edits, &value)
 }
 
-/// Puts a document: an edit of the leaf that the query or the body names. It costs the body's length,
-/// and what `Hub::write_one` does. Beside the document that is read, and what the database and the log
-/// keep of it, it takes memory twice: for the answer, and for the notice. Where memory is missing, no
-/// edit stands but one that could not be noted.
+/// Puts a document: an edit of the leaf that the query or the body names. The cost is the body's length, and
+/// the cost of `Hub::write_one`. The document takes memory as it is read, and in the database and the log.
+/// Only the answer and the notice take more, one allocation each. Out of memory, no edit stays stored but
+/// one that could not be noted.
 pub(crate) fn put<N: Wait>(
     context: &Context<'_, N>,
     db: &HubDb,
@@ -152,7 +152,7 @@ pub(crate) fn put<N: Wait>(
     edit(context, db, StatusCode::CREATED, doc)
 }
 
-// Why a document of which no leaf is named is not deleted.
+// The refusal to delete a document where the request names no leaf.
 fn refuse_unnamed(winner: Option<Winner>) -> Refusal
     ensures { result ≡ refuses_unnamed winner }
 {
@@ -163,7 +163,7 @@ fn refuse_unnamed(winner: Option<Winner>) -> Refusal
     }
 }
 
-// Refuses to delete a document of which no leaf is named.
+// Refuses to delete a document where the request names no leaf.
 fn delete_unnamed<N: Wait>(
     context: &Context<'_, N>,
     db: &HubDb,
@@ -201,8 +201,8 @@ fn delete_leaf<N: Wait>(
     edit(context, db, StatusCode::OK, doc)
 }
 
-/// Deletes a document: an edit of the leaf that the query names. It costs a look for the document, and
-/// what `Hub::write_one` does. Where memory is missing, no edit stands but one that could not be noted.
+/// Deletes a document: an edit of the leaf that the query names. The cost is a look for the document, and
+/// the cost of `Hub::write_one`. Out of memory, no edit stays stored but one that could not be noted.
 pub(crate) fn delete<N: Wait>(
     context: &Context<'_, N>,
     db: &HubDb,

@@ -14,7 +14,7 @@ use hub_model::Mode;
 use hub_params::FeedParams;
 use std::sync::Wait;
 
-// Begins what parameters ask of a database.
+// Begins the feed that parameters ask of a database, or the list where they ask for one downwards.
 fn begin_asked<N: Wait>(
     context: &Context<'_, N>,
     db: &HubDb,
@@ -34,8 +34,8 @@ fn begin_asked<N: Wait>(
     }
 }
 
-/// Begins the feed of a database that a query and a body ask for. It costs the reading of both, and the
-/// wait for the database; an answer that goes downwards is made at once.
+/// Begins the feed of a database that a query and a body ask for. The cost is the reading of both, and the
+/// wait for the database. An answer that goes downwards is made at once.
 pub(crate) fn begin<N: Wait>(
     context: &Context<'_, N>,
     db: &HubDb,
@@ -50,7 +50,7 @@ pub(crate) fn begin<N: Wait>(
     }
 }
 
-/// Begins the feed of the log of updates that a query and a body ask for. It costs the reading of both,
+/// Begins the feed of the log of updates that a query and a body ask for. The cost is the reading of both,
 /// and the wait for the log.
 pub(crate) fn begin_updates<N: Wait>(
     context: &Context<'_, N>,

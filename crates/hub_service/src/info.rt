@@ -1,4 +1,4 @@
-//! What a database says of itself (CouchDB API reference, `GET /{db}`).
+//! The information of a database (CouchDB API reference, `GET /{db}`).
 
 ghost use Rattle.hub_service.specs.Calls.{says_info};
 ghost use Rattle.hub_service.specs.Moments.{IsRead};
@@ -10,7 +10,7 @@ use hub_http::{Refusal, StatusCode};
 use hub_replies::info_body;
 use std::sync::Wait;
 
-/// What a database says of itself. It costs the wait for the database, and the length of its name.
+/// Answers the information of a database. The cost is the wait for the database, and the length of its name.
 pub(crate) fn info<N: Wait>(context: &Context<'_, N>, db: &HubDb) -> Result<Response, Refusal>
     ensures { let name = db.now in IsRead (λ db. says_info name db) result }
 {

@@ -1,5 +1,5 @@
-//! The HTTP API over the databases of a hub: what a connection answers to requests, and the items
-//! of the feeds that it sends.
+//! The HTTP API over the databases of a hub: the answers of a connection to requests, and the items of the
+//! feeds that it sends.
 #![tactic(auto)]
 
 mod bulk;

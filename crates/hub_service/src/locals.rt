@@ -28,8 +28,8 @@ fn say_local(alloc: Global, id: &str, found: &Option<Local>) -> Result<Response,
     }
 }
 
-/// A local document. It costs the wait for the database, a look in the map of local documents, and the
-/// length of the answer.
+/// Answers a local document. The cost is the wait for the database, a look in the map of local documents,
+/// and the length of the answer.
 pub(crate) fn get<N: Wait>(
     context: &Context<'_, N>,
     db: &HubDb,
@@ -42,7 +42,7 @@ pub(crate) fn get<N: Wait>(
     say_local(alloc, id, &found)
 }
 
-// Keeps a local document. The answer is begun first, so that none is kept that is not answered.
+// Keeps a local document. The answer is begun first, so that no kept document lacks memory for its answer.
 fn keep<N: Wait>(context: &Context<'_, N>, db: &HubDb, doc: LocalDoc) -> Result<Response, Refusal>
     ensures { IsRead (λ db. local_reply (local_after_write db.locals doc)) result }
 {
@@ -51,8 +51,8 @@ fn keep<N: Wait>(context: &Context<'_, N>, db: &HubDb, doc: LocalDoc) -> Result<
     answer(StatusCode::CREATED, local_edit_body(front, count))
 }
 
-/// Keeps a local document in place of the one of its id. It costs the body's length, the wait for the
-/// database, and two looks in the map of local documents. Where memory is missing, nothing is kept.
+/// Keeps a local document in place of the stored one of its id. The cost is the body's length, the wait for
+/// the database, and two looks in the map of local documents. Out of memory, nothing is kept.
 pub(crate) fn put<N: Wait>(
     context: &Context<'_, N>,
     db: &HubDb,

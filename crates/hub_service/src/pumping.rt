@@ -10,20 +10,20 @@ use hub_model::Item;
 use hub_shared::{Gate, HostFeed, Point, Turn};
 use std::sync::Wait;
 
-/// What hands feeds their items while a connection sends them.
+/// A way to hand feeds their items while a connection sends them.
 pub trait Pumping: Drop {
-    /// A request is answered next: where a test may hold the connection.
+    /// Called before each answer to a request: a test may hold the connection there.
     fn pass_request(&self);
 
-    /// Puts the next item of a feed into `next`. There is none where nothing hands it further, as out of
-    /// memory, and where the feed waits.
+    /// Puts the next item of a feed into `next`. There is none where the feed waits, and where it is handed
+    /// no further, as out of memory.
     fn next_item<S: FeedHost>(&self, feed: &mut HostFeed<S>, next: &mut Option<Item<S::Row>>)
         ensures taken { IfSome next.new (λ item. feed.new ≡ behind_item feed.old item) }
         ensures same { IfNone next.new (feed.new ≡ feed.old) }
         ensures allowed { IsAllowedBeginning
             (λ l items. S.right (params_in l.asked) l.since items) (receiver_of feed.new) };
 
-    /// Whether a feed of which `next_item` gave none waits, and may give one later.
+    /// Whether a feed without a next item waits, and may have one later.
     fn waits<S: FeedHost>(&self, feed: &HostFeed<S>) -> bool;
 }
 
@@ -35,15 +35,15 @@ impl Gate for OpenGate {
     fn pass(&self, _point: Point) {}
 }
 
-/// By turns: the thread that takes a feed's items is the one that hands them. Where nothing is due to a feed
-/// its time is over, since whoever could write waits for this thread.
+/// By turns: one thread hands a feed's items, and takes them. Where nothing is due to a feed its time is
+/// over, since every writer waits for this thread.
 #[derive(Drop)]
 pub struct ByTurns<'h, N: Wait> {
     rt: &'h N,
 }
 
 impl<'h, N: Wait> ByTurns<'h, N> {
-    /// One thread that does both.
+    /// The way of a thread that does both.
     pub fn new(rt: &'h N) -> ByTurns<'h, N> {
         ByTurns { rt }
     }

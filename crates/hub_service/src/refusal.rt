@@ -1,4 +1,4 @@
-//! Why a call is refused.
+//! The refusals of calls.
 
 ghost use Rattle.std.specs.Prelude.{◌≡◌};
 ghost use Rattle.hub_service.specs.Moments.{with_refusal};
@@ -12,7 +12,7 @@ use hub_http::Refusal;
 use hub_params::ParamFault;
 use hub_updates::NoteFault;
 
-/// What a call on a database gave, with a fault as the refusal that it is.
+/// The result of a call on a database, with its fault as a refusal.
 pub(crate) fn with_refusal<T>(given: Result<T, DbFault>) -> Result<T, Refusal>
     ensures { result ≡ with_refusal given }
 {
@@ -47,7 +47,7 @@ pub(crate) fn unnamed(fault: HubFault) -> Refusal
     }
 }
 
-/// The refusal of parameters that are none.
+/// The refusal of a feed's parameters that can't be read.
 pub(crate) fn unread(fault: ParamFault) -> Refusal
     ensures { result ≡ of_param_fault fault }
 {

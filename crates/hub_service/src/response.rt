@@ -1,4 +1,4 @@
-//! What a request is answered.
+//! The responses to requests.
 
 ghost use Rattle.std.specs.Prelude.{◌≡◌, Err, IfOk, OnErr};
 ghost use Rattle.hub_service.specs.Said.{Body, IsSaid};
@@ -8,16 +8,16 @@ use hub_http::{Refusal, StatusCode};
 use hub_model::Mode;
 use std::alloc::AllocError;
 
-/// What a request is answered where nothing refuses it.
+/// The response to a request that is not refused.
 #[derive(Drop)]
 pub(crate) enum Response {
     /// A status, and a body.
     Body(StatusCode, Vec<u8>),
-    /// A feed, in this mode.
+    /// A feed or a list, in this mode.
     Stream(Mode, Sent),
 }
 
-/// This status with a body, unless that found no memory.
+/// The response of this status and body. Out of memory for the body, it is a refusal.
 pub(crate) fn answer(
     status: StatusCode,
     body: Result<Vec<u8>, AllocError>,

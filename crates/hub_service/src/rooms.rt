@@ -13,7 +13,7 @@ use std::sync::{Mutex, Wait};
 /// of some 16 kB, and 4 KiB more at most.
 pub struct JsonRooms {
     alloc: Global,
-    /// Those that no request uses.
+    /// The rooms that no request uses.
     idle: Mutex<Vec<Box<JsonRoom>>>,
 }
 
@@ -41,8 +41,8 @@ impl JsonRooms {
         }
     }
 
-    /// The JSON value that a text is. It costs the text's length, and twice the wait for a lock that is held
-    /// for a step.
+    /// The JSON value of a text. The cost is the text's length, and two waits for a lock that is held for a
+    /// step.
     pub(crate) fn read<N: Wait>(&self, rt: &N, bytes: &[u8]) -> Result<Value, DocFault>
         ensures ok { IfOk result (λ v. json_of bytes.now ≡ Some (view v)) }
         ensures err { IfErr result (λ e. (e ≡ DocFault.NoMemory)
@@ -52,7 +52,7 @@ impl JsonRooms {
             return Err(DocFault::NoMemory);
         };
         let read = room.read(self.alloc, bytes);
-        // Without memory for that it is given back.
+        // Out of memory for the push, the room is freed.
         let _ = self.idle.lock(rt).push(room);
         read
     }

@@ -1,4 +1,4 @@
-//! What a connection is sending.
+//! The feeds and lists that a connection sends.
 
 ghost use Rattle.std.specs.Prelude.{◌≡◌};
 ghost use Rattle.hub_service.specs.Feeds.{GoesOn, behind_listed, life_of, next_listed};
@@ -13,14 +13,14 @@ use std::marker::Model;
 use std::sync::Wait;
 use std::vec::IntoIter;
 
-/// What is left of an answer that was made at once.
+/// The rest of an answer that was made at once: the rows that are left, and the end.
 #[derive(Drop)]
 pub(crate) struct Listed {
     /// The rows that were not handed yet.
     rows: IntoIter<ChangeRow>,
     last_seq: u64,
     pending: u64,
-    /// The number of the life that the sequences are of.
+    /// The number of the life of the sequences.
     life: u64,
 }
 
@@ -39,7 +39,7 @@ impl Model for Listed {
 }
 
 impl Listed {
-    /// An answer of which nothing was handed.
+    /// The whole answer: nothing of it was handed.
     pub(crate) fn new(answer: Descending) -> Listed
         ensures { result ≡ answer }
     {
@@ -72,10 +72,10 @@ impl Listed {
     }
 }
 
-/// What a connection is sending, item by item.
+/// A feed or a list that a connection sends, item by item.
 #[derive(Drop)]
 pub(crate) enum Sent {
-    /// What is left of an answer that was made at once.
+    /// The rest of an answer that was made at once.
     Listed(Listed),
     /// A feed of a database.
     Changes(Feed<Plain>),
@@ -84,7 +84,7 @@ pub(crate) enum Sent {
 }
 
 impl Sent {
-    /// The number of the life that its sequences are of. Constant time.
+    /// The number of the life of its sequences. Constant time.
     pub(crate) fn life(&self) -> u64
         ensures { result ≡ life_of self.now }
     {
@@ -95,9 +95,9 @@ impl Sent {
         }
     }
 
-    /// Puts its next item into `next`, `None` where nothing hands it further: what is left stands behind it.
-    /// It costs what `Pumping::next_item` does; a row of a list that was made at once is moved out of it. A place
-    /// that has no item is not written.
+    /// Puts its next item into `next`, and becomes its own rest. `next` is none where a feed is handed no
+    /// further. The cost is that of `Pumping::next_item`; a row of a list is moved out of the list. For a
+    /// list and a feed of changes, the place of an update is written only where it has an item.
     pub(crate) fn next<P: Pumping>(&mut self, pumping: &P, next: &mut NextItem)
         ensures { GoesOn self.old next.new self.new }
     {
@@ -115,7 +115,7 @@ impl Sent {
         }
     }
 
-    /// Gives back what it holds: a feed is forgotten by its host.
+    /// Ends the sending: the host of a feed forgets the feed.
     pub(crate) fn finish<N: Wait>(self, rt: &N) {
         match self {
             Sent::Listed(_) => {}

@@ -20,9 +20,9 @@ use hub_session::{Closing, serve};
 use std::alloc::{AllocError, Global};
 use std::sync::Wait;
 
-/// Answers requests, one after the other, by a hub without databases, up to the first closing, and
-/// says why it closed. An error says that the hub found no memory to begin with: nothing was read
-/// or written.
+/// Answers requests, one after the other, by a hub without databases, up to the first closing, and says why
+/// the session closed. An error says that the hub found no memory to begin with: nothing was read or
+/// written.
 pub fn answer_stream<N: Wait, R: Input, W: Output>(
     rt: &N,
     alloc: Global,

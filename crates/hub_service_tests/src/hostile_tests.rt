@@ -30,19 +30,19 @@ HTTP/1.1 200 OK, JSON of 93:
 pub(crate) const CUT_INPUT: &str = r#"
 # wherever the input ends, the requests before are answered and nothing else
 > cut PUT /d
-0: the input ended behind a request
+0: the input ended after a request
 1: the input ended in the middle of a request
 > PUT /d
 HTTP/1.1 201 Created, JSON of 12:
 {"ok":true}\n
 > cut POST /d/_bulk_docs {"docs":[{"_id":"a","_rev":"1-a"},{"_id":"b","_rev":"1-b"}],"new_edits":false}
-0: the input ended behind a request
+0: the input ended after a request
 1: the input ended in the middle of a request
 > POST /d/_bulk_docs {"docs":[{"_id":"a","_rev":"1-a"},{"_id":"b","_rev":"1-b"}],"new_edits":false}
 HTTP/1.1 201 Created, JSON of 3:
 []\n
 > cut GET /d/_changes
-0: the input ended behind a request
+0: the input ended after a request
 1: the input ended in the middle of a request
 > GET /d/_changes
 HTTP/1.1 200 OK, JSON in chunks:

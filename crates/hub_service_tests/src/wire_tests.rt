@@ -56,7 +56,7 @@ d
 last chunk
 # a head that ends behind any of its bytes but the last has no answer; before its first byte there is no request
 > cut bytes PUT /d HTTP/1.1\r\nHost: h\r\n\r\n
-0: the input ended behind a request
+0: the input ended after a request
 1: the input ended in the middle of a request
 "#;
 

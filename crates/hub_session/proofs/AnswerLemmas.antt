@@ -31,7 +31,7 @@ breaks-after_stream close stream.NoMemory = refl
 breaks-after_stream close stream.Broken = refl
 breaks-after_stream close stream.Exhausted = refl
 
--- a session breaks behind a stream that did
+-- a session that closes as Broken after a stream had a stream that ended as Broken
 pub broken_stream : (close : Bool) (end : StreamEnd) → after_stream close end ≡ Some Broken
     → end ≡ stream.Broken
 broken_stream false stream.Complete e = cc
@@ -69,7 +69,7 @@ module _ {S : Type 0} (rules : Rules S) (asked : PlainRequest) (before : Moment 
     written = subst (λ b. AppendsFront before.written new (reply_text reply b asked.close)) h sent;
   }
 
-  -- a whole answer was sent, or that broke
+  -- a whole answer was sent, or the writing broke
   pub told_sent : (broken : Bool) (reply : Reply) (head_only : Bool) (next : Option Closing)
       (new : Option (List ℕ))
       → rules.answers before.service asked (Whole reply) mid
@@ -122,7 +122,7 @@ module _ {S : Type 0} (rules : Rules S) (asked : PlainRequest) (before : Moment 
         (sym (append-nil (head_text 200 chunked_line asked.close))) p);
   }
 
-  -- the head of a stream was sent alone, or that broke
+  -- the head of a stream was sent alone, or the writing broke
   pub bare_sent : (broken : Bool) (mode : Mode) (life : ℕ) (next : Option Closing) (after : Moment S)
       → rules.answers before.service asked (Stream mode life) mid → rules.drops mid after.service
       → is_head asked ≡ true → next ≡ after_whole broken asked.close

@@ -1,4 +1,4 @@
--- The items of a stream, sent one after the other, and how it ends behind them.
+-- The items of a stream, sent one after the other, and how the stream ends after them.
 use Rattle.std.proofs.Common.{◌≡◌, ◌≤◌, ◌⊎◌, ℕ, zero, suc, ◌+◌, List, [], ◌∷◌, ◌++◌, Bool, true}
 use Rattle.std.proofs.Common.{false, MatchBool, Option, Some, Ok, Err, refl, sym, ap}
 use Rattle.std.proofs.Common.{subst, ◌∙◌, inl, inr, append_assoc, append-nil, arith}
@@ -21,13 +21,13 @@ use Rattle.hub_session.specs.Feeds.{sent_text, items_text, feed_text, is_broken,
 use Rattle.hub_session.specs.Items.{is_end, is_row, rows_after}
 use Rattle.hub_session.specs.Rules.{Rules, Moment, moment}
 
--- nothing was sent, or it broke
+-- a text of no bytes that was sent, or that broke, changed nothing
 pub none_sent : (broken : Bool) (old new : Option (List ℕ)) → Sends broken old new [] → Appends old new []
 none_sent false old new sent = sent
 none_sent true old new (zero, sent) = sent
 none_sent true old new (suc n, sent) = sent
 
--- the texts of items, and then of others
+-- the text of a list of items is the text of its front, and then the text of its rest
 pub items_text-append : (mode : Mode) (life rows : ℕ) (others items : List StreamItem)
     → items_text mode life rows (others ++ items)
     ≡ items_text mode life rows others ++ items_text mode life (rows_behind rows others) items
@@ -38,14 +38,14 @@ items_text-append mode life rows (item ∷ others) items =
     ∙ sym (append_assoc (sent_text mode life rows item) (items_text mode life (rows_after rows item) others)
     (items_text mode life (rows_behind (rows_after rows item) others) items))
 
--- the rows behind one more item
+-- the number of rows after one more item
 pub rows_behind-push : (rows : ℕ) (items : List StreamItem) (item : StreamItem)
     → rows_behind rows (items ++ item ∷ []) ≡ rows_after (rows_behind rows items) item
 rows_behind-push rows [] item = refl
 rows_behind-push rows (x ∷ items) item = rows_behind-push (rows_after rows x) items item
 
 module _ {S : Type 0} (rules : Rules S) where
-  -- what was sent so far, and then the rest of the stream, is the stream
+  -- a stream is the items that were sent so far, and then its rest
   pub streamed_streams : (from : ℕ) (s : S) (first : List StreamItem) (sent : ℕ) (mid : S)
       (rest : List StreamItem) (end : StreamEnd) (t : S)
       → HasStreamed rules from s first sent mid → Streams rules sent mid rest end t
@@ -64,7 +64,7 @@ module _ {S : Type 0} (rules : Rules S) where
   streamed_more from s first sent mid item t (HasStreamed.goes_on g n more) gives not_end =
       HasStreamed.goes_on g n (streamed_more _ _ _ sent mid item t more gives not_end)
 
--- an item more is a row more at most
+-- one more item is at most one more row
 choice_more : (b : Bool) (n : ℕ) → (if b then n + 1 else n) ≤ n + 1
 choice_more true n = omega arith
 choice_more false n = omega arith
@@ -81,14 +81,14 @@ rows_within rules from s items sent t rows (HasStreamed.goes_on {item = item} g 
     rows_within rules (from + 1) _ _ sent t (rows_after rows item) more
     (omega (arith, low, row_more rows item))
 
--- the text of one item is that of its list
+-- the text of one item is the text of its list
 pub one_sent : (mode : Mode) (life : ℕ) (rows : ℕ) (item : StreamItem) (broken : Bool) (a b : Option (List ℕ))
     → Sends broken a b (sent_text mode life rows item)
     → Sends broken a b (items_text mode life rows (item ∷ []))
 one_sent mode life rows item broken a b p =
     subst (Sends broken a b) (sym (append-nil (sent_text mode life rows item))) p
 
--- what a stream has sent and written since it began
+-- the items and the text that a stream sent since it began
 pub record Went {S : Type 0} (rules : Rules S) (mode : Mode) (life : ℕ) (before : Moment S) (sent rows : ℕ)
     (now : Moment S) : Type 0 where
   pub first : List StreamItem
@@ -105,7 +105,7 @@ went_none rules mode life now = record {
   written = Appends-nil now.written;
 }
 
--- what items wrote behind others
+-- the text of more items, written after the text of others
 pub wrote_behind : {S : Type 0} (rules : Rules S) (mode : Mode) (life rows : ℕ)
     (before now after : Option (List ℕ)) (first more : List StreamItem) (broken : Bool)
     → rows ≡ rows_behind 0 first → Appends before now (items_text mode life 0 first)
@@ -119,7 +119,7 @@ wrote_behind rules mode life rows before now after first more broken is w p =
 
 module _ {S : Type 0} (rules : Rules S) (mode : Mode) (life : ℕ) (before : Moment S)
     (sent rows : ℕ) (now : Moment S) where
-  -- one more item that is no End
+  -- one more item, which is no End
   pub went_more : (next : Moment S) (rows_then : ℕ) → Went rules mode life before sent rows now
       → IsStreamed rules mode life sent rows (Ok rows_then) now next
       → Went rules mode life before (sent + 1) rows_then next
@@ -139,7 +139,7 @@ module _ {S : Type 0} (rules : Rules S) (mode : Mode) (life : ℕ) (before : Mom
             (one_sent mode life rows item false now.written next.written step.4);
       }
 
-  -- the stream ends so
+  -- the stream comes to its end
   pub went_ends : (after : Moment S) (end : StreamEnd) → Went rules mode life before sent rows now
       → IsStreamed rules mode life sent rows (Err end) now after
       → IsFed rules (items_text mode life 0) end before after
@@ -153,7 +153,7 @@ module _ {S : Type 0} (rules : Rules S) (mode : Mode) (life : ℕ) (before : Mom
         (is_broken end) w.rows_is w.written step.2;
   }
 
--- behind an item that can't be written the stream has ended, or it gives back what it holds
+-- after an item that can't be written the stream has ended, or is dropped
 pub stream_fails : {S : Type 0} (rules : Rules S) (sent : ℕ) (s mid t : S) (item : StreamItem)
     → rules.gives s (Some item) mid → GivesBack rules item mid t
     → Streams rules sent s (item ∷ []) Broken t
@@ -167,13 +167,13 @@ stream_fails rules sent s mid t item given back = from (cases_Bool (is_end item)
         Streams.goes_on given e
         (Streams.breaks (subst (λ b. MatchBool b (t ≡ mid) (rules.drops mid t)) e back))
 
--- what a fault says of the front it says of the whole
+-- a fault at the writing of a front is a fault at the writing of the whole text
 pub front_written : (fault : ChunkFault) (x y : List ℕ) (a b : Option (List ℕ)) → Writes x (Err fault) a b
     → Writes (x ++ y) (Err fault) a b
 front_written chunk.NoMemory x y a b p = p
 front_written chunk.IoFault x y a b p = front_of_more a b x y p
 
--- the items behind the head
+-- the head of a stream was written, and then its items
 pub fed_behind : {S : Type 0} (rules : Rules S) (mode : Mode) (life : ℕ) (end : StreamEnd)
     (before after : Moment S) (mid : Option (List ℕ))
     → Appends before.written mid (text_chunks (feed_head mode))
@@ -187,7 +187,7 @@ fed_behind rules mode life end before after mid p f = record {
       (text_chunks (feed_head mode)) _ p f.written;
 }
 
--- the head can't be written
+-- the head of a stream can't be written
 pub fed_broken : {S : Type 0} (rules : Rules S) (mode : Mode) (life : ℕ) (before after : Moment S)
     → rules.drops before.service after.service
     → Sends true before.written after.written (text_chunks (feed_head mode))

@@ -1,4 +1,4 @@
--- What is written of an answer in parts.
+-- The text of an answer that is written in parts.
 use Rattle.std.proofs.Common.{◌≡◌, ℕ, zero, suc, ◌+◌, ◌<◌, Bool, true, false, List, [], ◌∷◌}
 use Rattle.std.proofs.Common.{◌++◌, length, take, drop, get_or, refl, sym, subst, ap, ◌∙◌}
 use Rattle.std.proofs.Common.{append_assoc, append-nil, length-append, take-append-drop, arith}
@@ -17,7 +17,7 @@ use Rattle.hub_http.specs.declared.reply.Reply.TheVariants.{Done, Refused}
 use Rattle.hub_http.proofs.SendLemmas.{front_after, front_of_more, sends_after}
 use Rattle.hub_session.specs.Replies.{body_in, parts_text, status_in}
 
--- one part more
+-- the text of one more part
 next_part : (parts : List (Bor (List ℕ))) (n : ℕ) (none : Bor (List ℕ)) → n < length parts
     → parts_text (take (suc n) parts) ≡ parts_text (take n parts) ++ (get_or parts n none).now
 next_part [] n none low = absurd (omega (arith, low))
@@ -46,7 +46,7 @@ front_of_parts a b c parts n none low written front =
     ∙ ap parts_text (take-append-drop (n + 1) parts))
     (front_of_more a c (parts_text (take (n + 1) parts)) (parts_text (drop (n + 1) parts)) begun)
 
--- what broke sent a front
+-- a text that broke was sent as a front
 pub broken_sends : (broken : Bool) (a b : Option (List ℕ)) (bytes : List ℕ) → broken ≡ true
     → AppendsFront a b bytes → Sends broken a b bytes
 broken_sends true a b bytes is front = front
@@ -62,7 +62,7 @@ refusal_parts e r refusal p q =
     ∙ ap (λ l.
     codes "{\"error\":\"" ++ (error_of refusal ++ (codes "\",\"reason\":\"" ++ (l ++ codes "\"}\n")))) q
 
--- how long it is
+-- the length of a refusal's body
 pub refusal_length : (refusal : Refusal)
     → 25 + length (error_of refusal) + length (reason_of refusal) ≡ length (refusal_body refusal)
 unfolding refusal_body
@@ -127,7 +127,7 @@ pub whole_reply : (reply : Reply) (head_only : Bool) (close : Bool)
 whole_reply (Done status body) head_only close = refl
 whole_reply (Refused refusal) head_only close = refl
 
--- what is written of an answer whose body is so long, by a head and behind it
+-- the text of an answer whose body is so long, by its head and its body
 module _ (reply : Reply) (head_only close : Bool) (a b : Option (List ℕ)) (status len : ℕ)
     (s : status ≡ status_in reply) (l : len ≡ length (body_in reply)) where
   same_head : head_text status (length_line len) close

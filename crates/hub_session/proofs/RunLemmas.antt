@@ -1,4 +1,4 @@
--- What the steps of a session did together.
+-- The run of a session: each call keeps it.
 use Rattle.std.proofs.Common.{◌≡◌, ◌<◌, ◌≤◌, ℕ, ◌+◌, length, List, [], ◌∷◌, ◌++◌, Bool, true, false}
 use Rattle.std.proofs.Common.{Option, Some, None, Result, Ok, Err, take, refl, sym, ap}
 use Rattle.std.proofs.Common.{subst, ◌∙◌, append_assoc, append-nil, inl, inr, arith}
@@ -45,15 +45,15 @@ use Rattle.hub_session.proofs.FeedLemmas.{items_text-append, rows_behind-push}
 use Rattle.hub_session.proofs.FeedLemmas.{rows_within, streamed_more, streamed_streams}
 use Rattle.hub_session.proofs.SessionLemmas.{one_more, served_more, served_session}
 
--- ---- what is offered
+-- ---- bytes that are offered
 
--- no more bytes came
+-- bytes that are offered after the end of the input change nothing
 pub over_as : {S : Type 0} (over : Bool) (bytes : List ℕ) (x : SessionView S) → over ≡ true
     → x ≡ offered_to over bytes x
 over_as true bytes x is = refl
 over_as false bytes x is = cc
 
--- none says so
+-- an empty list says that no more bytes come
 pub ended_as : {S : Type 0} (over : Bool) (bytes : List ℕ) (x y : SessionView S) → over ≡ false → bytes ≡ []
     → y ≡ record x { over = true } → y ≡ offered_to over bytes x
 ended_as true bytes x y is none e = cc
@@ -66,7 +66,7 @@ came_at true behind x y is some e = cc
 came_at false [] x y is some e = absurd (omega (arith, some))
 came_at false (b ∷ bs) x y is some e = e
 
--- some came
+-- bytes came, and stand behind the others
 pub came_as : {S : Type 0} (x : SessionView S) (bytes : List ℕ) (over : Bool) (behind : List ℕ)
     → x.over ≡ false → 0 < length behind → over ≡ false → bytes ≡ x.bytes ++ behind
     → record x { bytes = bytes; over = over } ≡ offered_to x.over behind x
@@ -78,7 +78,7 @@ came_as x bytes over behind awaited some now e =
 
 -- ---- more bytes behind those that came
 
--- a fault that is no end of the input is one of the bytes, whatever comes behind them
+-- a fault that is no end of the input is a fault of the bytes, whatever bytes come behind them
 faults_stay : (bytes behind : List ℕ) (e : HttpFault) → ¬ (e ≡ fault.Ended) → Faults bytes e
     → Faults (bytes ++ behind) e
 faults_stay bytes behind fault.NoMemory n f = let some = f in grind (arith, common_steps)
@@ -90,8 +90,8 @@ faults_stay bytes behind fault.BodyTooLong n f = head_fault_more bytes behind fa
 faults_stay bytes behind fault.Version n f = head_fault_more bytes behind fault.Version f
 faults_stay bytes behind fault.Coding n f = head_fault_more bytes behind fault.Coding f
 
--- an answer that broke tells some fault: where it was an end, that the input can't be read, of
--- which nothing is told either
+-- A session that broke at the reply to a fault does so whatever bytes come behind. The end of the input is
+-- told as an input that can't be read: neither has a reply.
 broken_stays : (bytes behind text : List ℕ) (e : HttpFault) → Faults bytes e → text ≡ fault_text e
     → Closes (bytes ++ behind) Broken text
 broken_stays bytes behind text fault.Ended f t = (fault.IoFault, tt, t)
@@ -123,7 +123,7 @@ fault_closes_stay bytes behind text fault.BodyTooLong n k =
 fault_closes_stay bytes behind text fault.Version n k = (head_fault_more bytes behind fault.Version k.0, k.1)
 fault_closes_stay bytes behind text fault.Coding n k = (head_fault_more bytes behind fault.Coding k.0, k.1)
 
--- why a session closed stays so, whatever comes behind the bytes, but where it was their end
+-- the reason why a session closed stays, whatever bytes come behind, but where it was the end of the input
 closes_stay : (bytes behind : List ℕ) (closing : Closing) (text : List ℕ) → ¬ (IsOfEnd (Some closing))
     → Closes bytes closing text → Closes (bytes ++ behind) closing text
 closes_stay bytes behind Finished text n k = absurd (n tt)
@@ -133,12 +133,12 @@ closes_stay bytes behind Requested text n k = k
 closes_stay bytes behind Cut text n k = k
 closes_stay bytes behind Exhausted text n k = k
 
--- more bytes behind those of a standing
+-- a state with more bytes behind its own
 abbrev with_behind : {S : Type 0} → SessionState S → List ℕ → SessionState S
 with_behind now behind = session_state now.served (now.bytes ++ behind) now.service
 
 module _ {S : Type 0} (rules : Rules S) (behind : List ℕ) where
-  -- exchanges
+  -- exchanges are the same with more bytes behind
   pub served_behind : (from : SessionState S) (exchanges : List Exchange) (now : SessionState S)
       → HasServed rules from exchanges now
       → HasServed rules (with_behind from behind) exchanges (with_behind now behind)
@@ -147,7 +147,7 @@ module _ {S : Type 0} (rules : Rules S) (behind : List ℕ) where
       HasServed.goes_on (rest ++ behind) mid (spells_more from.bytes x.asked rest behind spelt) answers
       (served_behind _ _ now others)
 
-  -- a session that closed, but not for the end of its input
+  -- a session that closed, but not for the end of its input, is the same with more bytes behind
   pub session_behind : (from : SessionState S) (exchanges : List Exchange) (ending : Ending S)
       → ¬ (IsOfEnd (Some ending.closing)) → Session rules from exchanges ending
       → Session rules (with_behind from behind) exchanges ending
@@ -162,7 +162,7 @@ module _ {S : Type 0} (rules : Rules S) (behind : List ℕ) where
       Session.gives_up many is text same
 
 module _ {S : Type 0} (rules : Rules S) (start : S) (offered : List ℕ) where
-  -- more bytes were offered
+  -- the work of a session, after more bytes were offered
   pub done_offered : (bytes : List ℕ) (over : Bool) (service : S) (text behind : List ℕ) (place : Place)
       → over ≡ false
       → HasDone rules start offered bytes over service text place
@@ -212,7 +212,7 @@ module _ {S : Type 0} (rules : Rules S) (start : S) (offered : List ℕ) where
         d.1,
       )
 
--- ---- what is written
+-- ---- texts that are written
 
 -- the outbox grew by a text
 grows : (gone pending all more later : List ℕ) → later ≡ pending ++ more → gone ++ pending ≡ all
@@ -220,7 +220,7 @@ grows : (gone pending all more later : List ℕ) → later ≡ pending ++ more �
 grows gone pending all more later e is =
     ap (λ l. gone ++ l) e ∙ sym (append_assoc gone pending more) ∙ ap (λ l. l ++ more) is
 
--- or by a front of it
+-- the outbox grew by a text, or by a front of it where the writing broke
 sends_grow : (broken : Bool) (gone pending all more later : List ℕ)
     → Sends broken (Some pending) (Some later) more → gone ++ pending ≡ all
     → Sends broken (Some all) (Some (gone ++ later)) more
@@ -249,7 +249,7 @@ not_end_stream close stream.NoMemory = λ e. e
 not_end_stream close stream.Broken = λ e. e
 not_end_stream close stream.Exhausted = λ e. e
 
--- never for the end of the input
+-- an answer never closes a session for the end of the input
 pub not_end : {S : Type 0} (rules : Rules S) (exchange : Exchange) (s : S) (next : Option Closing) (t : S)
     → Goes rules exchange s next t → ¬ (IsOfEnd next)
 not_end rules exchange s next t (Goes.whole r a i st is) =
@@ -261,10 +261,10 @@ not_end rules exchange s next t (Goes.stream_sent m l end a h st is) =
     subst (λ n. ¬ (IsOfEnd n)) (sym is) (not_end_stream exchange.asked.close end)
 not_end rules exchange s next t (Goes.head_broken m l a i d is) = subst (λ n. ¬ (IsOfEnd n)) (sym is) (λ e. e)
 
--- ---- one step behind others
+-- ---- one step after others
 
 module _ {S : Type 0} (rules : Rules S) (start : S) (offered : List ℕ) where
-  -- an exchange behind others
+  -- one more exchange
   exchanged : (exchanges : List Exchange) (count : ℕ) (front : List ℕ) (mid : S) (exchange : Exchange)
       (next : Option Closing) (bytes : List ℕ) (over : Bool) (service : S) (text : List ℕ)
       → HasServed rules (session_state 0 offered start) exchanges (session_state count front mid)
@@ -299,7 +299,7 @@ module _ {S : Type 0} (rules : Rules S) (start : S) (offered : List ℕ) where
         ended,
       )
 
-  -- no request behind others
+  -- a closing after exchanges, where the bytes begin with no request
   closed_so : (exchanges : List Exchange) (count : ℕ) (front : List ℕ) (mid : S) (closing : Closing)
       (last bytes : List ℕ) (over : Bool) (service : S) (text : List ℕ)
       → HasServed rules (session_state 0 offered start) exchanges (session_state count front mid)
@@ -508,7 +508,7 @@ module _ {S : Type 0} (rules : Rules S) (run : Run S) where
   stepped_run old new WantsRoom h d = same_run old new h.1 d
   stepped_run old new WantsNews h d = same_run old new h.3 d
 
-  -- ---- what is done between steps
+  -- ---- calls between steps
 
   pub offered_run : (old new : SessionView S) (behind : List ℕ) → old.over ≡ false
       → new ≡ record old { bytes = old.bytes ++ behind } → HasRun rules run old
@@ -539,12 +539,12 @@ module _ {S : Type 0} (rules : Rules S) (run : Run S) where
       (sym (append-nil run.offered)) (ended_run old new is d)
   offered_at false (b ∷ bs) old new at is d = offered_run old new (b ∷ bs) at is d
 
-  -- bytes were offered
+  -- the run after bytes were offered
   pub run_behind : (bytes : List ℕ) (old new : SessionView S) → new ≡ offered_to old.over bytes old
       → HasRun rules run old → HasRun rules (run_offered old.over bytes run) new
   run_behind bytes old new is d = offered_at old.over bytes old new refl is d
 
-  -- the other side is gone
+  -- a session between two requests whose other side is gone
   pub given_up_between : (old : SessionView S) → old.place ≡ Between → HasRun rules run old
       → HasRun rules run (record old { place = Closed Broken })
   given_up_between old place d =
@@ -568,7 +568,7 @@ module _ {S : Type 0} (rules : Rules S) (run : Run S) where
       done_ends rules run.start run.offered old later run.gone sending close stream.Broken w refl
       (λ sent low. ([], Streams.breaks drops, (0, sym (append-nil old.pending))))
 
--- a session was given up where more bytes came
+-- a session was given up as more bytes came
 pub given_up_behind : {S : Type 0} (rules : Rules S) (run : Run S) (place : Place) (old new : SessionView S)
     (behind : List ℕ) → old.place ≡ place → old.over ≡ false → GivesUpAt place rules old new
     → HasRun rules run old → HasRun rules (with_offered run behind) new
@@ -591,12 +591,12 @@ given_up_behind rules run (Closed closing) old new behind place awaited is d =
     (subst (HasDone rules later.start later.offered all.bytes old.over old.service text) place
     (offered_run rules run old all behind awaited refl d)))
 
--- what follows of what is so where a call succeeded
+-- a statement about a call that succeeded gives each of its consequences
 pub on_ok : {A E : Type 0} (r : Result A E) (P Q : Type 0) → (P → Q) → OnOk r P → OnOk r Q
 on_ok (Ok x) P Q f p = f p
 on_ok (Err e) P Q f p = p
 
--- a session begins
+-- a session that begins has its first run
 pub begun_run : {S : Type 0} (rules : Rules S) (start : S) (x : SessionView S) → x.place ≡ Between → x.bytes ≡ []
     → x.service ≡ start → x.pending ≡ [] → HasRun rules (new_run start) x
 begun_run rules start x place none same empty =

@@ -18,7 +18,7 @@ use Rattle.hub_session.specs.Rules.{Rules, Moment, moment}
 use Rattle.hub_session.specs.Sessions.{Answers, Exchange, exchange_text, SessionState, Ending, Session, HasServed}
 use Rattle.hub_session.specs.Sessions.{IsSession, HasAnswer, IsServed, Closes, is_broken, session_state}
 
--- a fault of the next request is one that its bytes have
+-- a fault of the next request is a fault of its bytes
 ends_faulty : (b c : Option (List ℕ)) (fault : HttpFault) → IfSome b (λ bytes. Leaves bytes (Err fault) c)
     → IfSome b (λ bytes. Faults bytes fault)
 ends_faulty None c fault s = tt
@@ -64,7 +64,7 @@ module _ {S : Type 0} (rules : Rules S) (before : Moment S) where
     written = Appends-nil before.written;
   })
 
-  -- the bytes have this fault, which was answered so
+  -- the bytes have this fault, and its reply was written, or the writing broke
   pub one_faulted : (new b left : Option (List ℕ)) (fault : HttpFault) (closing : Closing)
       → IfSome b (λ bytes. Leaves bytes (Err fault) left)
       → (closing ≡ Fault fault) ⊎ (closing ≡ Broken)
@@ -80,7 +80,7 @@ module _ {S : Type 0} (rules : Rules S) (before : Moment S) where
     written = p;
   })
 
--- what was served, and then the rest of the session, is the session
+-- a session is the requests that were served, and then its rest
 pub served_session : {S : Type 0} (rules : Rules S) (from : SessionState S) (first : List Exchange)
     (now : SessionState S) (more : List Exchange) (ending : Ending S)
     → HasServed rules from first now → Session rules now more ending
@@ -100,7 +100,7 @@ served_more rules from first now exchange rest mid HasServed.stands spelt answer
 served_more rules from first now exchange rest mid (HasServed.goes_on r m s a others) spelt answers =
     HasServed.goes_on r m s a (served_more rules _ _ now exchange rest mid others spelt answers)
 
--- `served` requests of these bytes were answered, and these are left
+-- `served` requests of these bytes were answered, and the bytes in `left` are left
 pub record Served {S : Type 0} (rules : Rules S) (bytes : List ℕ) (before : Moment S) (served : ℕ)
     (left : Option (List ℕ)) (now : Moment S) : Type 0 where
   pub first : List Exchange

@@ -1,4 +1,4 @@
--- What one step of a session did.
+-- One step of a session, and a closing that tells out of memory.
 use Rattle.std.proofs.Common.{◌≡◌, ◌<◌, ◌≤◌, ◌⊎◌, ℕ, List, [], ◌++◌, Bool, true, false, length}
 use Rattle.std.proofs.Common.{Option, Some, None, Err, refl, sym, ap, subst, ◌∙◌, append-nil}
 use Rattle.std.proofs.Common.{inl, inr, arith}
@@ -34,7 +34,7 @@ step_broken None e = absurd (cc)
 step_broken (Some closing) e = let same : closing ≡ Broken = cc in ap (λ c. Some c) same
 
 module _ {S : Type 0} (rules : Rules S) where
-  -- what came of a step that ended an answer
+  -- the result of a step that ended an answer, by why the session closes
   of_next : (old new : SessionView S) (next : Option Closing) → Steps rules old new (step_behind next)
       → IsStepped rules old (step_behind next) new
   of_next old new None h = h
@@ -88,7 +88,7 @@ fault_is over bytes Coding f = f
 fault_is over bytes Ended f = f.1
 fault_is over bytes IoFault f = tt
 
--- a fault that is an end comes only where the input is over
+-- a fault that is an end of the input comes only where the input is over
 fault_ends : (over : Bool) (bytes : List ℕ) (fault : HttpFault) → FaultsSoFar over bytes fault
     → IsOfEnd (Some (Fault fault)) → over ≡ true
 fault_ends over bytes NoMemory f x = absurd x
@@ -157,7 +157,7 @@ module _ {S : Type 0} (rules : Rules S) where
     subst (λ w. Appends old.written w []) (sym same) (Appends-nil old.written),
   )
 
--- some bytes behind others are some
+-- bytes with more bytes behind them are not empty
 some_behind : (bytes behind : List ℕ) → 0 < length behind → 0 < length (bytes ++ behind)
 some_behind bytes behind some = grind (arith, common_steps)
 
@@ -175,7 +175,7 @@ module _ {S : Type 0} (rules : Rules S) (closing : Closing) (old new : SessionVi
       subst (λ c. Sends (is_broken c) (Some old.pending) (Some pending) (fault_text NoMemory)) is sent in
       TellsNoMemory.front front.0 (shown ∙ (cc))
 
-  -- it was told of bytes that came
+  -- out of memory was told for bytes that came, and the session has the run with these bytes offered
   pub no_memory_run : (run : Run S) (behind : List ℕ) → old.place ≡ Between → old.over ≡ false
       → 0 < length behind → (closing ≡ Fault NoMemory) ⊎ (closing ≡ Broken)
       → Sends (is_broken closing) (Some old.pending) (Some pending) (fault_text NoMemory)

@@ -1,4 +1,4 @@
--- RFC 9112, section 7.1 (chunks); own for the feed: what a stream sends for its items, and how it goes.
+-- RFC 9112, section 7.1 (chunks); own for the feed: the texts of a stream's items, and how a stream goes on.
 use Rattle.std.specs.Prelude.{◌≡◌, ◌≤◌, ℕ, ◌+◌, List, [], ◌∷◌, ◌++◌, Bool, true, false, Option, Some, None}
 use Rattle.std.specs.Prelude.{MatchBool, Result, Ok, Err, if◌then◌else◌, codes}
 use Rattle.std.specs.Io.KnownBytes.{Appends}
@@ -17,44 +17,44 @@ use Rattle.hub_session.specs.Rules.{Rules, Moment, moment}
 abbrev pub last_chunk : List ℕ
 last_chunk = codes "0\r\n\r\n"
 
--- what stands behind the chunk of an item: the last chunk behind an End
+-- the text behind the chunk of an item: the last chunk behind an End, else none
 abbrev pub behind_item : StreamItem → List ℕ
 behind_item item = if is_end item then last_chunk else []
 
--- what is sent for an item, before which so many rows came. In a normal feed a second row is one chunk with
--- a comma, a line feed and the row's text; a beat is one chunk with a line feed; an End is its chunk and
--- then the last one.
+-- The text of an item, before which so many rows came. In a normal feed a second row is one chunk with a
+-- comma, a line feed and the row's text. A beat is one chunk with a line feed. An End is its chunk, and then
+-- the last chunk.
 abbrev pub sent_text : Mode → (life rows : ℕ) → StreamItem → List ℕ
 sent_text mode life rows item = text_chunks (stream_item_text mode life rows item) ++ behind_item item
 
--- what is sent for these items, before which so many rows came. So of two rows of a normal feed the comma
--- stands in the chunk of the second, also where a beat stands between them.
+-- The text of these items, before which so many rows came. Of two rows of a normal feed, the comma stands in
+-- the chunk of the second row, also where a beat stands between them.
 abbrev pub items_text : Mode → (life rows : ℕ) → List StreamItem → List ℕ
 items_text mode life rows [] = []
 items_text mode life rows (item ∷ items) =
     sent_text mode life rows item ++ items_text mode life (rows_after rows item) items
 
--- how many rows came behind these items, where so many came before them
+-- the number of rows at the end of these items, where so many came before them
 abbrev pub rows_behind : ℕ → List StreamItem → ℕ
 rows_behind rows [] = rows
 rows_behind rows (item ∷ items) = rows_behind (rows_after rows item) items
 
--- what is sent for a stream of the life of this number and of these items, behind the head of its answer
+-- the text of a stream of these items, of the life of this number, behind the head of its answer
 abbrev pub feed_text : Mode → (life : ℕ) → List StreamItem → List ℕ
 feed_text mode life items = text_chunks (feed_head mode) ++ items_text mode life 0 items
 
--- A stream is not sent on once its service, now at s, gave this item: behind a row or a beat the service
--- gives back what the stream holds, and behind an End the stream holds nothing. So where the text of row 2
--- finds no memory the service gives back, and where that of an End finds none it does not.
+-- A stream is not sent on after its service, now at s, gave this item. After a row or a beat the service
+-- drops the stream. After an End the stream holds nothing, and the service stays as it is. So the stream is
+-- dropped where the text of row 2 finds no memory, and not where the text of an End finds none.
 abbrev pub GivesBack : {S : Type 0} → Rules S → StreamItem → S → S → Type 0
 GivesBack rules item s t = MatchBool (is_end item) (t ≡ s) (rules.drops s t)
 
--- behind so many items, with its service at s, a stream goes on with these items, ends so, and leaves its
--- service at t. A service that gives row 1, row 2 and then an End may have these three items and Complete.
--- One that gives row 1 and then no item has row 1 and Stopped; one whose row 2 finds no memory for its text
--- has row 1 and NoMemory.
+-- After so many items, with its service at s, a stream goes on with these items, has this end, and leaves
+-- its service at t. A service that gives row 1, row 2 and then an End may have these three items and
+-- Complete. A service that gives row 1 and then no item has row 1 and Stopped. A service whose row 2 finds
+-- no memory for its text has row 1 and NoMemory.
 pub data Streams {S : Type 0} (rules : Rules S) : ℕ → S → List StreamItem → StreamEnd → S → Type 0 where
-  -- a row or a beat is sent, and the stream goes on behind it
+  -- a row or a beat is sent, and the stream goes on after it
   goes_on : {sent : ℕ} {s mid t : S} {item : StreamItem} {items : List StreamItem} {end : StreamEnd}
       → rules.gives s (Some item) mid → is_end item ≡ false → Streams rules (sent + 1) mid items end t
       → Streams rules sent s (item ∷ items) end t
@@ -64,24 +64,24 @@ pub data Streams {S : Type 0} (rules : Rules S) : ℕ → S → List StreamItem 
   -- its End comes, and can't be written to the other side
   ends_broken : {sent : ℕ} {s t : S} {item : StreamItem} → rules.gives s (Some item) t → is_end item ≡ true
       → Streams rules sent s (item ∷ []) Broken t
-  -- the service has no further item, and gives back what the stream holds
+  -- the service has no further item, and drops the stream
   stops : {sent : ℕ} {s t : S} (mid : S) → rules.gives s None mid → rules.drops mid t
       → Streams rules sent s [] Stopped t
   -- the text of an item finds no memory: the item is lost, and the stream is not sent on
   loses : {sent : ℕ} {s t : S} (mid : S) (lost : StreamItem) → rules.gives s (Some lost) mid
       → GivesBack rules lost mid t → Streams rules sent s [] NoMemory t
-  -- the other side can't be written to: the service gives back what the stream holds
+  -- the other side can't be written to, and the service drops the stream
   breaks : {sent : ℕ} {s t : S} → rules.drops s t → Streams rules sent s [] Broken t
-  -- its items can't be counted further: the service gives back what the stream holds
+  -- its items can't be counted further, and the service drops the stream
   gives_up : {sent : ℕ} {s t : S} → rules.drops s t → last_count ≤ sent → Streams rules sent s [] Exhausted t
 
--- From behind so many items, with its service at s, a stream has sent these rows and beats, and is behind so
--- many then, with its service at t. A service that gives row 1, row 2 and an End has streamed no item, row 1,
--- or row 1 and row 2.
+-- A stream that had sent so many items, with its service at s, has sent these rows and beats since. It has
+-- sent so many items now, with its service at t. A service that gives row 1, row 2 and an End has streamed
+-- no item, row 1, or row 1 and row 2.
 pub data HasStreamed {S : Type 0} (rules : Rules S) : ℕ → S → List StreamItem → ℕ → S → Type 0 where
-  -- none was sent
+  -- no item was sent
   stands : {sent : ℕ} {s : S} → HasStreamed rules sent s [] sent s
-  -- a row or a beat was sent, and then the others
+  -- a row or a beat was sent, and then the other items
   goes_on : {sent now : ℕ} {s mid t : S} {item : StreamItem} {items : List StreamItem}
       → rules.gives s (Some item) mid → is_end item ≡ false → HasStreamed rules (sent + 1) mid items now t
       → HasStreamed rules sent s (item ∷ items) now t
@@ -94,27 +94,28 @@ is_broken NoMemory = false
 is_broken Broken = true
 is_broken Exhausted = false
 
--- a stream was sent, and ended so: this text of its items was written, or where that writing broke a front of
--- it
+-- a stream was sent to this end: this text of its items was written, or a front of the text where the
+-- writing broke
 pub record IsFed {S : Type 0} (rules : Rules S) (text : List StreamItem → List ℕ) (end : StreamEnd)
     (before after : Moment S) : Type 0 where
   pub items : List StreamItem
   pub streams : Streams rules 0 before.service items end after.service
   pub written : Sends (is_broken end) before.written after.written (text items)
 
--- What a call says that sends a stream to a writer: the stream was sent so, and where it ended as Broken the
--- writer's counts tell of that. A stream whose second row is refused by the writer ends as Broken behind the
--- first one, and either count is one more.
+-- The contract of a call that sends a stream to a writer. The stream was sent to this end, and where that is
+-- Broken the writer's counts tell of it. A stream whose second row is refused by the writer ends as Broken
+-- after the first row, and either count is one more.
 pub record IsFedTo {S W : Type 0} (rules : Rules S) (written_of : W → Option (List ℕ))
     (faults_of failures_of : W → ℕ) (text : List StreamItem → List ℕ) (end : StreamEnd)
     (s t : S) (old new : W) : Type 0 where
   pub fed : IsFed rules text end (moment s (written_of old)) (moment t (written_of new))
   pub counts : CallCounts (end ≡ Broken) faults_of failures_of old new
 
--- A stream that sent so many items, of which so many are rows, took one step. One more row or beat was
--- written, and so many are rows then; or the stream ended so, with what was written of its last item. Behind
--- row 1 of a normal feed it is row 2 with its comma, and 2; or the End with the last chunk, and Complete; or
--- nothing, and Stopped.
+-- A stream that sent so many items, so many of them rows, took one step. Either one more row or beat was
+-- written, and the step gives the number of rows then. Or the stream came to this end, and the text of its
+-- last item was written, or a front of the text. After row 1 of a normal feed the step sends row 2 with its
+-- comma, and gives 2. Or it sends the End with the last chunk, and gives Complete. Or it sends nothing, and
+-- gives Stopped.
 abbrev pub IsStreamed : {S : Type 0} → Rules S → Mode → (life sent rows : ℕ) → Result ℕ StreamEnd
     → Moment S → Moment S → Type 0
 IsStreamed rules mode life sent rows (Ok rows_then) before after =

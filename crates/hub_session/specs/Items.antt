@@ -8,23 +8,23 @@ use Rattle.hub_http.specs.UpdateTexts.{update_row_text, update_end_text}
 use Rattle.hub_http.specs.Items.{item_text}
 use Rattle.hub_session.specs.StreamItem.{StreamItem, Change, Update}
 
--- whether it is the end of its stream
+-- whether the item is the end of its stream
 abbrev pub is_end : StreamItem → Bool
 is_end (Change item) = handed.is_end item
 is_end (Update item) = handed.is_end item
 
--- whether it is a row
+-- whether the item is a row
 abbrev pub is_row : StreamItem → Bool
 is_row (Change (Row row)) = true
 is_row (Update (Row row)) = true
 is_row item = false
 
--- how many rows came before the next item
+-- the number of rows before the next item, where so many came before this one
 abbrev pub rows_after : ℕ → StreamItem → ℕ
 rows_after rows item = if is_row item then rows + 1 else rows
 
--- its text in a stream of the life of this number, before which so many rows came: each kind has its own rows
--- and its own end
+-- the text of an item in a stream of the life of this number, before which so many rows came: each kind has
+-- its own rows and its own end
 abbrev pub stream_item_text : Mode → (life rows : ℕ) → StreamItem → List ℕ
 stream_item_text mode life rows (Change item) = item_text change_row_text change_end_text mode rows life item
 stream_item_text mode life rows (Update item) = item_text update_row_text update_end_text mode rows life item

@@ -1,5 +1,5 @@
--- RFC 9112, section 9.6 (closing behind an error); own for the texts: replies to what is no request, and
--- to a request that found no memory.
+-- RFC 9112, section 9.6 (closing after an error); own for the texts: replies to faults of reading a request,
+-- out of memory too, and the parts of an answer.
 use Rattle.std.specs.Prelude.{ℕ, List, [], true, false, flat_map}
 use Rattle.std.specs.Borrow.{Bor}
 use Rattle.hub_http.specs.declared.reply.Reply.{Reply}
@@ -32,7 +32,7 @@ abbrev pub body_in : Reply → List ℕ
 body_in (Done status body) = body.items
 body_in (Refused refusal) = refusal_body refusal
 
--- parts, one behind the other. An example: of HTTP/1.1 and a blank, 200, a blank, OK, and the end of a line
--- it is the line `HTTP/1.1 200 OK`.
+-- The text of parts, one behind the other. The parts `HTTP/1.1 `, `200`, ` `, `OK` and the end of a line are
+-- the line `HTTP/1.1 200 OK`.
 abbrev pub parts_text : List (Bor (List ℕ)) → List ℕ
 parts_text parts = flat_map (λ p. p.now) parts

@@ -1,21 +1,21 @@
--- own: what a service may do, and where a connection stands.
+-- own: the rules of a service, and the moments of a connection.
 use Rattle.std.specs.Prelude.{◌≡◌, ℕ, Bool, false, true, List, None, Option}
 use Rattle.hub_http.specs.Stream.{PlainRequest}
 use Rattle.hub_session.specs.StreamItem.{StreamItem}
 use Rattle.hub_session.specs.declared.service.Answer.{Answer}
 
--- what a service may do, each from a state to the one that it leaves
+-- the steps that a service may take, each from a state to the state that it leaves
 pub record Rules (S : Type 0) : Type 1 where
   -- answer this request so
   pub answers : S → PlainRequest → Answer → S → Type 0
   -- go on with this item of its stream, or with none where the stream stops
   pub gives : S → Option StreamItem → S → Type 0
-  -- give back what its stream holds
+  -- drop its stream, and give back all that the stream holds
   pub drops : S → S → Type 0
 
--- Asked not to wait, it answers (true) and goes on with this item, or with none where the stream stops; or it
--- has none yet (false), and stays as it is. A feed of which all was sent, and to whose database nothing was
--- written, has none yet.
+-- A service that is asked for an item without a wait answers true, and goes on with this item, or with none
+-- where the stream stops. Or it answers false, has no item yet, and stays as it is. A feed that sent every
+-- row has no item yet, while nothing is written to its database.
 abbrev pub GivesOrWaits : {S : Type 0} → Rules S → S → Bool → Option StreamItem → S → Type 0
 GivesOrWaits rules s true given t = rules.gives s given t
 GivesOrWaits rules s false given t = (given ≡ None) × (t ≡ s)
@@ -25,6 +25,6 @@ pub record Moment (S : Type 0) : Type 0 where
   pub service : S
   pub written : Option (List ℕ)
 
--- the moment of such a service and such bytes
+-- the moment of this service and these bytes
 abbrev pub moment : {S : Type 0} → S → Option (List ℕ) → Moment S
 moment service written = record { service = service; written = written }

@@ -1,4 +1,4 @@
--- own: sessions that are stepped: what one shows, what one step does, and what all of its steps did.
+-- own: sessions that are stepped: the view of a session, one step, and the run of all steps.
 use Rattle.std.specs.Prelude.{◌≡◌, ⊤, ◌<◌, ◌≤◌, ◌⊎◌, ℕ, List, [], ◌∷◌, ◌++◌}
 use Rattle.std.specs.Prelude.{Bool, true, false, length, take, IsSome, Option, Some}
 use Rattle.std.specs.Prelude.{None, Ok, Err}
@@ -26,15 +26,15 @@ use Rattle.hub_session.specs.Rules.{Rules, Moment, moment}
 use Rattle.hub_session.specs.Sessions.{Exchange, HasServed, IsServed, IsSession, after_stream}
 use Rattle.hub_session.specs.Sessions.{exchange_text, is_head, session_state, stream_head}
 
--- what a session shows
+-- the view of a session: the part of it that contracts speak of
 pub record SessionView (S : Type 0) : Type 0 where
   pub place : Place
-  pub bytes : List ℕ  -- those that came and that no request took
-  pub over : Bool  -- no more of them come
+  pub bytes : List ℕ  -- the bytes that came and that no request took
+  pub over : Bool  -- no more bytes come
   pub service : S
-  pub pending : List ℕ  -- those that are to go
+  pub pending : List ℕ  -- the bytes in its outbox
 
--- what this session shows
+-- the view of this session
 abbrev pub session_view : {S : Type 0} → Session S → SessionView S
 session_view session = record {
   place = session.place;
@@ -44,7 +44,7 @@ session_view session = record {
   pending = pending_in session.outbox;
 }
 
--- the moment of its connection, for which what is to go is written
+-- the moment of its connection, where the bytes in the outbox count as written
 abbrev pub moment_of : {S : Type 0} → SessionView S → Moment S
 moment_of x = moment x.service (Some x.pending)
 
@@ -56,31 +56,31 @@ IsOfEnd next = ⊥
 
 -- ---- one step
 
--- where a session is behind an answer, where it closes so or goes on
+-- the place of a session after an answer: closed for this reason, or between two requests
 abbrev pub place_behind : Option Closing → Place
 place_behind None = Between
 place_behind (Some closing) = Closed closing
 
--- what came of the step that ended an answer
+-- the result of the step that ended an answer
 abbrev pub step_behind : Option Closing → Step
 step_behind None = Served
 step_behind (Some closing) = Ended closing
 
--- What a session shows before and behind a step that did something. Over a GET of a document it is one
--- exchange. Over one of a feed of two rows it is the head of the stream, then each row, and then its End.
+-- The views of a session before and after a step that did something. A GET of a document is one step: one
+-- exchange. A GET of a feed of two rows is four: the head of the stream, each row, and the End.
 pub data Steps {S : Type 0} (rules : Rules S) (old new : SessionView S) (step : Step) : Type 0 where
   -- the next request was answered whole, or there was none, and the session closed or goes on
   exchanges : (next : Option Closing) → old.place ≡ Between → new.place ≡ place_behind next
       → step ≡ step_behind next → new.over ≡ old.over → (IsOfEnd next → old.over ≡ true)
       → IsServed rules old.bytes next (Some new.bytes) (moment_of old) (moment_of new)
       → Steps rules old new step
-  -- the next request was answered by a stream, and its head is to go
+  -- the next request was answered by a stream, and the head of the stream was put into the outbox
   begins : (asked : PlainRequest) (sending : Sending) → old.place ≡ Between → new.place ≡ Within sending asked.close
       → step ≡ Served → new.over ≡ old.over → sending.rows ≡ 0 → Spells old.bytes asked new.bytes
       → rules.answers old.service asked (Stream sending.mode sending.life) new.service → is_head asked ≡ false
       → new.pending ≡ old.pending ++ stream_head asked.close sending.mode
       → Steps rules old new step
-  -- a row or a beat of the stream is to go
+  -- a row or a beat of the stream was put into the outbox
   sends : (sending : Sending) (rows : ℕ) (close : Bool) → old.place ≡ Within sending close
       → new.place ≡ Within (record sending { rows = rows }) close → step ≡ Served → new.over ≡ old.over
       → new.bytes ≡ old.bytes
@@ -95,9 +95,9 @@ pub data Steps {S : Type 0} (rules : Rules S) (old new : SessionView S) (step : 
       (moment_of old) (moment_of new))
       → Steps rules old new step
 
--- What a session shows before and behind a step, and what came of it. Where it waits nothing changed: for
--- input where the bytes that came are no whole request and more may come, and for room where there are some
--- to go.
+-- The views of a session before and after a step, and the step's result. A step that waits changes nothing.
+-- It waits for input where the bytes that came are no whole request and more may come. It waits for room
+-- where the outbox has bytes, and for news where it is within a stream.
 abbrev pub IsStepped : {S : Type 0} → Rules S → SessionView S → Step → SessionView S → Type 0
 IsStepped rules old Served new = Steps rules old new Served
 IsStepped rules old (Ended closing) new =
@@ -108,8 +108,8 @@ IsStepped rules old WantsRoom new = (0 < length old.pending) × (new ≡ old)
 IsStepped rules old WantsNews new =
     (sending : Sending) × (close : Bool) × (old.place ≡ Within sending close) × (new ≡ old)
 
--- A session that stood at this place took a step: what it shows before and behind it; and where the step
--- closed it as Broken, its outbox found no memory meanwhile.
+-- A session that stood at this place took a step as `IsStepped` says. Where the step closed it as Broken,
+-- its outbox found no memory meanwhile.
 abbrev pub IsStepFrom : {S : Type 0} → Place → Rules S → (old : Session S) → Step → (new : Session S) → Type 0
 IsStepFrom place rules old step new = old.place ≡ place
     → IsStepped rules (session_view old) step (session_view new)
@@ -123,26 +123,26 @@ closing_at Between = None
 closing_at (Within sending close) = None
 closing_at (Closed closing) = Some closing
 
--- What a session shows before and behind a closing that tells out of memory. The refusal is to go behind what
--- was, or where the outbox found no memory a front of the refusal. Nothing else changed. So where the end of
--- an answer is to go, the refusal stands behind it.
+-- The views of a session before and after a closing that tells out of memory. The refusal was put behind the
+-- bytes of the outbox, or a front of the refusal where the outbox found no memory. Nothing else changed but
+-- the place. So where the end of an answer is in the outbox, the refusal stands behind it.
 pub data TellsNoMemory {S : Type 0} (old new : SessionView S) : Type 0 where
-  -- all of it
+  -- the whole refusal
   whole : new ≡ record old {
     place = Closed (Fault fault.NoMemory);
     pending = old.pending ++ fault_text fault.NoMemory;
   }
       → TellsNoMemory old new
-  -- the first bytes of it, so many
+  -- the first bytes of the refusal, so many
   front : (count : ℕ) → new ≡ record old {
     place = Closed Broken;
     pending = old.pending ++ take count (fault_text fault.NoMemory);
   }
       → TellsNoMemory old new
 
--- What a session at this place shows before and behind a call that gives it up. Between two requests it
--- closes as Broken. So does one that sends a stream, and its service gives back what the stream holds. One
--- that closed stays as it is.
+-- The views of a session at this place before and after a call that gives it up. Between two requests it
+-- closes as Broken. Within a stream it closes as Broken too, and its service drops the stream. A closed
+-- session stays as it is.
 abbrev pub GivesUpAt : {S : Type 0} → Place → Rules S → SessionView S → SessionView S → Type 0
 GivesUpAt Between rules old new = new ≡ record old { place = Closed Broken }
 GivesUpAt (Within sending close) rules old new =
@@ -152,27 +152,27 @@ GivesUpAt (Closed closing) rules old new = new ≡ old
 
 -- ---- all steps
 
--- a session as its surroundings see it: its service as it began, the bytes that were offered, in order, and
--- those that left its outbox, in order
+-- A session as its surroundings see it: its service at the beginning, the bytes that were offered, and the
+-- bytes that left its outbox, each in order.
 pub record Run (S : Type 0) : Type 0 where
   pub start : S
   pub offered : List ℕ
   pub gone : List ℕ
 
--- a session begins
+-- the run of a session that begins
 abbrev pub new_run : {S : Type 0} → S → Run S
 new_run start = record { start = start; offered = []; gone = [] }
 
--- more bytes were offered
+-- the run after more bytes were offered
 abbrev pub with_offered : {S : Type 0} → Run S → List ℕ → Run S
 with_offered run bytes = record { start = run.start; offered = run.offered ++ bytes; gone = run.gone }
 
--- more bytes left the outbox
+-- the run after more bytes left the outbox
 abbrev pub with_gone : {S : Type 0} → Run S → List ℕ → Run S
 with_gone run bytes = record { start = run.start; offered = run.offered; gone = run.gone ++ bytes }
 
--- From such a service and over such bytes a session has had whole exchanges, whose texts it wrote, one after
--- the other. These bytes are left, and so is its service.
+-- A session that began with this service, over these offered bytes, has had whole exchanges. It wrote their
+-- texts, one after the other. `bytes` are the bytes that are left, and `service` is its service now.
 pub record IsBetween {S : Type 0} (rules : Rules S) (start : S) (offered bytes : List ℕ) (service : S)
     (text : List ℕ) : Type 0 where
   pub exchanges : List Exchange
@@ -180,18 +180,18 @@ pub record IsBetween {S : Type 0} (rules : Rules S) (start : S) (offered bytes :
   pub served : HasServed rules (session_state 0 offered start) exchanges (session_state count bytes service)
   pub text_is : text ≡ flat_map exchange_text exchanges
 
--- It has had whole exchanges, and took a request that was answered by a stream, of which these items were
--- sent: it wrote the texts of the exchanges, and then what stands before the items and their texts.
+-- A session has had whole exchanges, and took a request that was answered by a stream, of which these items
+-- were sent. It wrote the texts of the exchanges, the head of the stream, and the texts of the items.
 pub record IsWithin {S : Type 0} (rules : Rules S) (start : S) (offered bytes : List ℕ) (service : S)
     (text : List ℕ) (sending : Sending) (close : Bool) : Type 0 where
   pub exchanges : List Exchange
   pub count : ℕ
   pub front : List ℕ  -- the bytes that were left before the request
-  pub mid : S  -- its service then
-  pub begun : S  -- and as it answered
+  pub mid : S  -- the service before the request
+  pub begun : S  -- the service as it answered
   pub asked : PlainRequest
   pub items : List StreamItem
-  pub sent : ℕ  -- how many
+  pub sent : ℕ  -- how many items were sent
   pub served : HasServed rules (session_state 0 offered start) exchanges (session_state count front mid)
   pub spelt : Spells front asked bytes
   pub answered : rules.answers mid asked (Stream sending.mode sending.life) begun
@@ -202,9 +202,10 @@ pub record IsWithin {S : Type 0} (rules : Rules S) (start : S) (offered bytes : 
   pub text_is : text ≡ flat_map exchange_text exchanges
       ++ (stream_head asked.close sending.mode ++ items_text sending.mode sending.life 0 items)
 
--- What a session did from its beginning to this place, where it wrote this text: whole exchanges; these and
--- the beginning of a stream; or where it closed, all of a session over the bytes that were offered. Only
--- where the input is over it closed for its end.
+-- The work of a session from its beginning to this place, where it wrote this text. Between two requests it
+-- is whole exchanges. Within a stream it is these and the beginning of the stream. At a closing it is a
+-- whole session over the bytes that were offered. Only where the input is over did a session close for its
+-- end.
 abbrev pub HasDone : {S : Type 0} → Rules S → (start : S) → (offered bytes : List ℕ) → (over : Bool)
     → (service : S) → (text : List ℕ) → Place → Type 0
 HasDone rules start offered bytes over service text Between = IsBetween rules start offered bytes service text
@@ -214,33 +215,33 @@ HasDone rules start offered bytes over service text (Closed closing) =
     IsSession rules offered closing (moment start (Some [])) (moment service (Some text))
     × (IsOfEnd (Some closing) → over ≡ true)
 
--- A session has run so: what left its outbox and what is to go are, in order, what it wrote. Where two
--- requests were offered and answered, and the first answer went with 3 bytes of the second, the others are to
--- go.
+-- A session has this run: the bytes that left its outbox, and then those in it, are the text that it wrote.
+-- Where two requests were answered, and the first answer left with 3 bytes of the second, the outbox has the
+-- other bytes of the second.
 abbrev pub HasRun : {S : Type 0} → Rules S → Run S → SessionView S → Type 0
 HasRun rules run x =
     HasDone rules run.start run.offered x.bytes x.over x.service (run.gone ++ x.pending) x.place
 
--- A session that had a run has this next one behind a call. Where 3 bytes were offered, it is the run before
--- with these 3 offered.
+-- A session that had a run before a call has the next run after it. Where 3 bytes were offered, that is the
+-- run before with these 3 offered.
 abbrev pub RunsOn : {S : Type 0} → Rules S → (Run S → Run S) → SessionView S → SessionView S → Type 0
 RunsOn rules next old new = (run : Run _) → HasRun rules run old → HasRun rules (next run) new
 
--- What a session shows once these bytes were offered, where its input was over or not. They came behind the
--- others; none says that no more come, and behind that nothing is taken. Where ab came and cd are offered,
--- abcd came.
+-- The view of a session after these bytes were offered, by whether its input was over. The bytes come after
+-- the others. An empty list says that no more come, and bytes after that are dropped. Where ab came and cd
+-- are offered, abcd came.
 abbrev pub offered_to : {S : Type 0} → (over : Bool) → List ℕ → SessionView S → SessionView S
 offered_to true bytes x = x
 offered_to false [] x = record x { over = true }
 offered_to false (b ∷ bs) x = record x { bytes = x.bytes ++ b ∷ bs }
 
--- its run then
+-- the run of a session after these bytes were offered
 abbrev pub run_offered : {S : Type 0} → (over : Bool) → List ℕ → Run S → Run S
 run_offered true bytes run = run
 run_offered false bytes run = with_offered run bytes
 
--- A session was given up: what it shows before and behind that, that it is closed then, and that it goes on
--- to have the run that it had.
+-- A session was given up. Its views before and after that are as `GivesUpAt` says, the session is closed
+-- then, and the run that it had is still its run.
 pub record IsGivenUp {S : Type 0} (rules : Rules S) (old new : SessionView S) : Type 0 where
   pub given_up : GivesUpAt old.place rules old new
   pub closed : IsSome (closing_at new.place)

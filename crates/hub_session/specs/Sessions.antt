@@ -1,4 +1,4 @@
--- RFC 9112, section 9 (persistent connections); own for the answers: what a session writes, and how it goes.
+-- RFC 9112, section 9 (persistent connections); own for the answers: a session's texts, and how it goes on.
 use Rattle.std.specs.Prelude.{◌≡◌, ◌≤◌, ◌⊎◌, ℕ, ◌+◌, List, [], ◌∷◌, ◌++◌, Bool, true, false, Option, Some}
 use Rattle.std.specs.Prelude.{None, if◌then◌else◌, codes, bytes_eq}
 use Rattle.std.specs.List.{flat_map}
@@ -29,14 +29,14 @@ use Rattle.hub_session.specs.Rules.{Rules, Moment}
 pub record Exchange : Type 0 where
   pub asked : PlainRequest
   pub answer : Answer
-  -- those that were sent of a stream
+  -- the items that were sent, where the answer is a stream
   pub items : List StreamItem
 
--- the answer has a head alone
+-- the request asks for the head of its answer alone
 abbrev pub is_head : PlainRequest → Bool
 is_head asked = bytes_eq asked.method (codes "HEAD")
 
--- what a stream writes before its items: the head of its answer, and the chunk that begins its text
+-- the text of a stream before its items: the head of its answer, and the chunk that begins its text
 abbrev pub stream_head : (close : Bool) → Mode → List ℕ
 stream_head close mode = head_text 200 chunked_line close ++ text_chunks (feed_head mode)
 
@@ -46,22 +46,22 @@ answer_text (Whole reply) head_only close items = reply_text reply head_only clo
 answer_text (Stream mode life) head_only close items =
     head_text 200 chunked_line close ++ (if head_only then [] else feed_text mode life items)
 
--- what is written for a request
+-- the text that is written for a request
 abbrev pub exchange_text : Exchange → List ℕ
 exchange_text exchange =
     answer_text exchange.answer (is_head exchange.asked) exchange.asked.close exchange.items
 
--- why a session closes behind a request that was answered, if it does
+-- why a session closes after a request that was answered, if it does
 abbrev pub after_answer : Bool → Option Closing
 after_answer close = if close then Some Requested else None
 
--- Why a session closes behind an answer that was to be sent whole, if it does: where writing it broke, as
--- Broken.
+-- Why a session closes after an answer that was to be sent whole, if it does. Where the writing broke, it
+-- closes as Broken.
 abbrev pub after_whole : (broken : Bool) → (close : Bool) → Option Closing
 after_whole broken close = if broken then Some Broken else after_answer close
 
--- Why a session closes behind a stream that ended so, if it does. Behind a Complete one it goes on, unless
--- the request asked to close; behind one that Stopped it always closes, as Cut, for no last chunk was sent.
+-- Why a session closes after a stream with this end, if it does. After Complete the session goes on, unless
+-- the request asked to close. After Stopped it always closes, as Cut, for no last chunk was sent.
 abbrev pub after_stream : Bool → StreamEnd → Option Closing
 after_stream close stream.Complete = after_answer close
 after_stream close stream.Stopped = Some Cut
@@ -69,8 +69,8 @@ after_stream close stream.NoMemory = Some Cut
 after_stream close stream.Broken = Some Broken
 after_stream close stream.Exhausted = Some Exhausted
 
--- while the answer of an exchange is sent the service goes from s to t, and then the session closes so, or
--- goes on where `next` is None
+-- While the answer of an exchange is sent, the service goes from s to t. Then the session closes for the
+-- reason `next`, or goes on where `next` is None.
 pub data Goes {S : Type 0} (rules : Rules S) (exchange : Exchange) (s : S) (next : Option Closing) (t : S)
     : Type 0 where
   -- a whole answer is written
@@ -79,7 +79,7 @@ pub data Goes {S : Type 0} (rules : Rules S) (exchange : Exchange) (s : S) (next
   -- a whole answer can't be written to the other side
   whole_broken : (reply : Reply) → exchange.answer ≡ Whole reply → exchange.items ≡ [] → t ≡ s
       → next ≡ Some Broken → Goes rules exchange s next t
-  -- HEAD asked for a stream: the head of its answer is written, and the service gives back what it holds
+  -- HEAD asked for a stream: the head of its answer is written, and the service drops the stream
   head_alone : (mode : Mode) (life : ℕ) → exchange.answer ≡ Stream mode life → is_head exchange.asked ≡ true
       → exchange.items ≡ []
       → rules.drops s t → next ≡ after_answer exchange.asked.close → Goes rules exchange s next t
@@ -87,12 +87,12 @@ pub data Goes {S : Type 0} (rules : Rules S) (exchange : Exchange) (s : S) (next
   stream_sent : (mode : Mode) (life : ℕ) (end : StreamEnd) → exchange.answer ≡ Stream mode life
       → is_head exchange.asked ≡ false → Streams rules 0 s exchange.items end t
       → next ≡ after_stream exchange.asked.close end → Goes rules exchange s next t
-  -- the head of a stream's answer can't be written to the other side: the service gives back what it holds
+  -- the head of a stream's answer can't be written to the other side, and the service drops the stream
   head_broken : (mode : Mode) (life : ℕ) → exchange.answer ≡ Stream mode life → exchange.items ≡ []
       → rules.drops s t → next ≡ Some Broken → Goes rules exchange s next t
 
--- from s the service may answer the request of the exchange so and, once that is sent, stand at t; and then
--- the session closes so, or goes on
+-- From s the service may give the answer of the exchange to its request, and be at t once the answer is
+-- sent. Then the session closes for the reason `next`, or goes on where `next` is None.
 pub record Answers {S : Type 0} (rules : Rules S) (s : S) (exchange : Exchange) (next : Option Closing)
     (t : S)
     : Type 0 where
@@ -100,9 +100,9 @@ pub record Answers {S : Type 0} (rules : Rules S) (s : S) (exchange : Exchange) 
   pub answered : rules.answers s exchange.asked exchange.answer mid
   pub goes : Goes rules exchange mid next t
 
--- Where bytes begin with no request a session closes so, with this text. Where there are none it closes as
--- Finished, with no text. Where a head has a Content-Length of x it closes as Fault BadHead, with the text
--- of that refusal.
+-- Over bytes that begin with no request a session closes for this reason, with this text. Over no bytes it
+-- closes as Finished, with no text. Over a head with a Content-Length of x it closes as Fault BadHead, with
+-- the text of that refusal.
 abbrev pub Closes : List ℕ → Closing → List ℕ → Type 0
 Closes bytes Finished text = (bytes ≡ []) × (text ≡ [])
 Closes bytes Requested text = ⊥
@@ -111,7 +111,8 @@ Closes bytes Cut text = ⊥
 Closes bytes Broken text = (fault : HttpFault) × Faults bytes fault × (text ≡ fault_text fault)
 Closes bytes Exhausted text = ⊥
 
--- where a session stands: how many requests it answered, the bytes that are to come, and its service's state
+-- the state of a session between two requests: how many it answered, the bytes that are to come, and the
+-- state of its service
 pub record SessionState (S : Type 0) : Type 0 where
   pub served : ℕ
   pub bytes : List ℕ
@@ -123,18 +124,18 @@ pub record Ending (S : Type 0) : Type 0 where
   pub text : List ℕ
   pub service : S
 
--- from where it stands a session has these exchanges, one after the other, goes on behind each of them, and
--- then ends so. Over two requests, of which the second asks to close, it has the exchange of the first, and
--- ends Requested with the text of the second's answer. Over two that do not ask it has both exchanges, and
--- ends Finished with no text.
+-- From this state a session has these exchanges, one after the other, goes on after each of them, and then
+-- has this ending. Over two requests, of which the second asks to close, it has the exchange of the first.
+-- It ends Requested, with the text of the second answer. Over two requests that do not ask to close it has
+-- both exchanges, and ends Finished, with no text.
 pub data Session {S : Type 0} (rules : Rules S) : SessionState S → List Exchange → Ending S → Type 0 where
-  -- a request is answered, and the session goes on behind it
+  -- a request is answered, and the session goes on after it
   goes_on : {now : SessionState S} {x : Exchange} {xs : List Exchange} {ending : Ending S}
       (rest : List ℕ) (mid : S)
       → Spells now.bytes x.asked rest → Answers rules now.service x None mid
       → Session rules (record { served = now.served + 1; bytes = rest; service = mid }) xs ending
       → Session rules now (x ∷ xs) ending
-  -- a request is answered, and the session closes behind it, with the text of its answer
+  -- a request is answered, and the session closes after it, with the text of its answer
   closes_behind : {now : SessionState S} {ending : Ending S} (x : Exchange) (rest : List ℕ)
       → Spells now.bytes x.asked rest → Answers rules now.service x (Some ending.closing) ending.service
       → ending.text ≡ exchange_text x → Session rules now [] ending
@@ -145,16 +146,16 @@ pub data Session {S : Type 0} (rules : Rules S) : SessionState S → List Exchan
   gives_up : {now : SessionState S} {ending : Ending S} → last_count ≤ now.served → ending.closing ≡ Exhausted
       → ending.text ≡ [] → ending.service ≡ now.service → Session rules now [] ending
 
--- a session stands there
+-- the state of a session of these three members
 abbrev pub session_state : {S : Type 0} → ℕ → List ℕ → S → SessionState S
 session_state served bytes service = record { served = served; bytes = bytes; service = service }
 
--- From where it stood a session has had these exchanges, gone on behind each of them, and stands there then.
--- Over two requests it has had no exchange, that of the first, or both.
+-- From its first state a session has had these exchanges, has gone on after each of them, and is in its last
+-- state now. Over two requests it has had no exchange, the exchange of the first, or both.
 pub data HasServed {S : Type 0} (rules : Rules S) : SessionState S → List Exchange → SessionState S → Type 0 where
   -- no request was answered
   stands : {now : SessionState S} → HasServed rules now [] now
-  -- a request was answered, and then the others
+  -- a request was answered, and then the other requests
   goes_on : {now later : SessionState S} {x : Exchange} {xs : List Exchange} (rest : List ℕ) (mid : S)
       → Spells now.bytes x.asked rest → Answers rules now.service x None mid
       → HasServed rules (record { served = now.served + 1; bytes = rest; service = mid }) xs later
@@ -169,22 +170,23 @@ is_broken Cut = false
 is_broken Broken = true
 is_broken Exhausted = false
 
--- What a call says that tells a fault of reading a request to a writer, behind which the session closes so:
--- the fault's text was written, and the session closes with the fault; or that broke, of which the writer's
--- counts tell, and it closes as Broken.
+-- The contract of a call that tells a writer a fault of reading a request, and then closes the session.
+-- Either the fault's text was written, and the session closes with the fault. Or the writing broke, the
+-- writer's counts tell of that, and the session closes as Broken.
 pub record HasToldFault {W : Type 0} (written_of : W → Option (List ℕ)) (faults_of failures_of : W → ℕ)
     (fault : HttpFault) (closing : Closing) (old new : W) : Type 0 where
   pub sent : Sends (is_broken closing) (written_of old) (written_of new) (fault_text fault)
   pub closes : (closing ≡ Fault fault) ⊎ (closing ≡ Broken)
   pub counts : CallCounts (closing ≡ Broken) faults_of failures_of old new
 
--- such bytes were served, and the session closed so: the texts of the exchanges behind which it went on were
--- written whole, one after the other, and then the text that it closed with, or where that writing broke a
--- front of it. Two requests of which the second could not be answered, since the other side is gone: the text
--- of the first, and then a front of the text of the second, which is `last`.
+-- These bytes were served, and the session closed for this reason. The texts of the exchanges after which it
+-- went on were written whole, one after the other. Then the text that it closed with was written, or a front
+-- of it where the writing broke. Take two requests of which the second can't be answered, since the other
+-- side is gone. The text of the first was written, and then a front of the text of the second, which is
+-- `last`.
 pub record IsSession {S : Type 0} (rules : Rules S) (bytes : List ℕ) (closing : Closing)
     (before after : Moment S) : Type 0 where
-  pub exchanges : List Exchange  -- those behind which the session went on
+  pub exchanges : List Exchange  -- the exchanges after which the session went on
   pub last : List ℕ  -- the text that it closed with
   pub mid : Option (List ℕ)  -- the known bytes before that text
   pub goes : Session rules (record { served = 0; bytes = bytes; service = before.service }) exchanges
@@ -197,8 +199,8 @@ abbrev pub is_write_failure : Option Closing → Bool
 is_write_failure None = false
 is_write_failure (Some closing) = is_broken closing
 
--- this request was answered, and then the session closes so, or goes on: the text of the answer was written,
--- or where that writing broke a front of it
+-- This request was answered, and then the session closes for the reason `next`, or goes on. The text of the
+-- answer was written, or a front of the text where the writing broke.
 pub record HasAnswer {S : Type 0} (rules : Rules S) (asked : PlainRequest) (next : Option Closing)
     (before after : Moment S) : Type 0 where
   pub exchange : Exchange
@@ -206,15 +208,16 @@ pub record HasAnswer {S : Type 0} (rules : Rules S) (asked : PlainRequest) (next
   pub goes : Answers rules before.service exchange next after.service
   pub written : Sends (is_write_failure next) before.written after.written (exchange_text exchange)
 
--- The answer to this request was begun: all of it was written, and then the session closes so, or goes on; or
--- it is a stream in this mode, of the life of this number, and all was written that stands before its items.
+-- The answer to this request was begun. Either the answer is over, and the session closes for the reason
+-- `next`, or goes on. Or it is a stream in this mode, of the life of this number, and its text before the
+-- items was written.
 abbrev pub HasBegun : {S : Type 0} → Rules S → PlainRequest → Begun → Moment S → Moment S → Type 0
 HasBegun rules asked (Answered next) before after = HasAnswer rules asked next before after
 HasBegun rules asked (Streaming mode life) before after =
     rules.answers before.service asked (Stream mode life) after.service × (is_head asked ≡ false)
     × Appends before.written after.written (stream_head asked.close mode)
 
--- the bytes begin with a request, which was answered, and those behind it are left
+-- the bytes begin with a request, which was answered, and the bytes behind it are left
 pub record IsAnswered {S : Type 0} (rules : Rules S) (bytes : List ℕ) (next : Option Closing)
     (left : Option (List ℕ)) (before after : Moment S) : Type 0 where
   pub asked : PlainRequest
@@ -233,10 +236,11 @@ pub record IsClosed {S : Type 0} (bytes : List ℕ) (next : Option Closing) (bef
   pub same : after.service ≡ before.service
   pub written : Sends (is_broken closing) before.written after.written text
 
--- a session took one step over these bytes, and then closes so, or goes on with those that are left
+-- A session took one step over these bytes. Then it closes for the reason `next`, or goes on with the bytes
+-- that are left.
 pub data IsServed {S : Type 0} (rules : Rules S) (bytes : List ℕ) (next : Option Closing)
     (left : Option (List ℕ)) (before after : Moment S) : Type 0 where
   -- the next request was answered
   answered : IsAnswered rules bytes next left before after → IsServed rules bytes next left before after
-  -- there was none, and the session closes
+  -- there was no request, and the session closes
   closed : IsClosed bytes next before after → IsServed rules bytes next left before after

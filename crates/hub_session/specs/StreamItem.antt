@@ -1,4 +1,4 @@
--- What a stream hands to its subscriber (CouchDB API reference, _changes and _db_updates).
+-- The items that streams hand to their subscribers (CouchDB API reference, _changes and _db_updates).
 use Rattle.std.specs.Prelude.{Option, Some, None}
 use Rattle.hub_model.specs.Row.{ChangeRow}
 use Rattle.hub_model.specs.Updates.{UpdateRow}
@@ -6,12 +6,12 @@ use Rattle.hub_model.specs.declared.feeds.Item.{Item}
 
 -- an item of a stream
 pub data StreamItem : Type 0 where
-  -- of a feed of changes of a database
+  -- an item of a feed of changes of a database
   Change : Item ChangeRow → StreamItem
-  -- of a feed of the log of updates
+  -- an item of a feed of the log of updates
   Update : Item UpdateRow → StreamItem
 
--- the item that one of two places has: where both have one, the change
+-- the item in one of two places; the change where both places have an item
 abbrev pub next_of : Option (Item ChangeRow) → Option (Item UpdateRow) → Option StreamItem
 next_of (Some item) update = Some (StreamItem.Change item)
 next_of None (Some item) = Some (StreamItem.Update item)

@@ -20,9 +20,9 @@ use std::alloc::Global;
 /// How an answer was begun.
 #[derive(Clone, Copy)]
 pub(crate) enum Begun {
-    /// All of it was written, and then the session closes so, or goes on.
+    /// The answer is over, written whole or broken. The session closes for this reason, or goes on.
     Answered(Option<Closing>),
-    /// A stream in this mode, of the life of this number: what stands before its items was written.
+    /// A stream in this mode, of the life of this number. Its text before its items was written.
     Streaming(Mode, u64),
 }
 
@@ -43,7 +43,7 @@ pub(crate) fn after_stream(close: bool, end: StreamEnd) -> Option<Closing>
     }
 }
 
-/// Why a session closes behind an answer that was to be sent whole, if it does.
+/// Why a session closes after an answer that was to be sent whole, if it does.
 fn after_whole(sent: Result<(), IoFault>, close: bool) -> Option<Closing>
     ensures { result ≡ after_whole (is_err sent) close }
 {
@@ -59,7 +59,7 @@ fn is_head(request: &Request) -> bool
     request.method.as_slice() == b"HEAD".as_slice()
 }
 
-/// Writes what stands before the items of a stream.
+/// Writes the head of a stream's answer, and the chunk before its items.
 fn write_head<W: Output, S: Service>(
     writer: &mut W,
     service: &S,
@@ -73,7 +73,7 @@ fn write_head<W: Output, S: Service>(
     begin_items(writer, service, mode)
 }
 
-/// Answers a request up to the items of a stream.
+/// Answers a request, or begins its stream: then only the items are left to send.
 pub(crate) fn begin_answer<W: Output, S: Service>(
     alloc: Global,
     writer: &mut W,
@@ -89,8 +89,8 @@ pub(crate) fn begin_answer<W: Output, S: Service>(
     let close = request.close;
     match service.answer(request) {
         Answer::Whole(reply) => {
-            // In parts where there is no memory for the whole, so that no answer is lost behind what its
-            // request did.
+            // Out of memory for the whole, the answer goes in parts: a request that did its work is
+            // answered.
             let sent = match reply_bytes(alloc, &reply, head_only, close) {
                 Ok(bytes) => send_vec(writer, bytes),
                 Err(_) => send_in_parts(writer, reply, head_only, close),

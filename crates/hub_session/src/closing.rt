@@ -6,7 +6,7 @@ ghost use Rattle.hub_session.specs.Closings.{IsEndedHere};
 use hub_http::HttpFault;
 use thiserror::Error;
 
-/// How a stream ended. As an error it tells why a client has no more of it.
+/// How a stream ended. As an error it says why a client gets no more of the stream.
 #[derive(Clone, Copy, Debug, PartialEq, Eq, Error)]
 pub enum StreamEnd {
     /// With its End and the last chunk.
@@ -21,18 +21,18 @@ pub enum StreamEnd {
     /// The other side can't be written to.
     #[error("the other side can't be written to")]
     Broken,
-    /// After 2^64 - 1 items.
+    /// After 2^64 - 1 items. A `Session` counts the rows alone.
     #[error("the stream has too many items")]
     Exhausted,
 }
 
-/// Why a session closed. As an error it tells why a client has no further answer.
+/// Why a session closed. As an error it says why a client gets no further answer.
 #[derive(Clone, Copy, Debug, PartialEq, Eq, Error)]
 pub enum Closing {
     /// The input ended between two requests.
-    #[error("the input ended behind a request")]
+    #[error("the input ended after a request")]
     Finished,
-    /// The last request asked for it.
+    /// The last request asked to close.
     #[error("the last request asked to close")]
     Requested,
     /// No request could be read. The fault was answered where it has a reply.
@@ -44,13 +44,13 @@ pub enum Closing {
     /// The other side can't be written to.
     #[error("the other side can't be written to")]
     Broken,
-    /// After 2^64 - 1 requests, or items of a stream.
+    /// After 2^64 - 1 requests, or a stream that ended as `Exhausted`.
     #[error("the session is too long")]
     Exhausted,
 }
 
 impl Closing {
-    /// Whether the client may still send to a connection that closed for this reason, and read.
+    /// Whether the client of a connection that closed for this reason may still send and read.
     pub fn is_ended_here(self) -> bool
         ensures { IsTrue result ↔ IsEndedHere self }
     {

@@ -16,7 +16,7 @@ use hub_http::{ChunkFault, ChunkWriter, IoFault, Output, send, write_all};
 use hub_model::Mode;
 use std::alloc::Global;
 
-/// The chunk at the head of a stream. It needs no memory.
+/// The chunk before the items of a stream; a continuous feed has none. It needs no memory.
 fn head_chunk(mode: Mode) -> &'static str
     ensures { result.now ≡ text_chunks (feed_head mode) }
 {
@@ -27,14 +27,14 @@ fn head_chunk(mode: Mode) -> &'static str
     }
 }
 
-/// What stands behind the chunk of an item: the last chunk behind an End (RFC 9112, section 7.1).
+/// The text behind the chunk of an item: the last chunk (RFC 9112, section 7.1) behind an End, else none.
 fn behind_item(item: LentItem<'_>) -> &'static str
     ensures { result.now ≡ behind_item (lent_in item.entry) }
 {
     if item.is_end() { "0\r\n\r\n" } else { "" }
 }
 
-/// How many rows came before the next item.
+/// The number of rows before the next item, where `rows` came before this one.
 fn rows_after(rows: u64, item: LentItem<'_>) -> u64
     requires { rows + 1 < 2 ^ 64 }
     ensures rows { result ≡ rows_after rows (lent_in item.entry) }
@@ -43,8 +43,8 @@ fn rows_after(rows: u64, item: LentItem<'_>) -> u64
     if item.is_row() { rows + 1 } else { rows }
 }
 
-/// Sends an item of the service's stream, and behind an End the last chunk. It flushes them, unless the next
-/// item is ready.
+/// Sends an item of the service's stream, and behind an End the last chunk. The writer is flushed, unless
+/// the next item is ready.
 fn send_item<W: Output, S: Service>(
     chunks: &mut ChunkWriter,
     writer: &mut W,
@@ -64,7 +64,7 @@ fn send_item<W: Output, S: Service>(
     }
 }
 
-/// Gives back what a stream holds of which this item was not sent. Behind an End it holds nothing.
+/// Drops the stream of an item that was not sent. After its End a stream holds nothing, and is not dropped.
 fn give_back<S: Service>(service: &mut S, item: LentItem<'_>)
     ensures { GivesBack S.rules (lent_in item.entry) service.old service.new }
 {
@@ -77,15 +77,15 @@ fn give_back<S: Service>(service: &mut S, item: LentItem<'_>)
 #[derive(Clone, Copy)]
 pub(crate) struct Sending {
     pub(crate) mode: Mode,
-    /// The number of the life that its sequences are of.
+    /// The number of the life of its sequences.
     pub(crate) life: u64,
     /// How many rows were sent.
     pub(crate) rows: u64,
 }
 
-/// Sends what the service gave of its stream, and answers how many rows are sent then, or how the stream
-/// ended. What was written of a stream that is cut is flushed, and what it holds is given back. A fault of
-/// that flush is not told: the stream is cut all the same.
+/// Sends the item that the service gave of its stream. It answers how many rows are sent then, or how the
+/// stream ended. A stream that ends before it handed its End is dropped. Where it stopped or found no
+/// memory, the writer is flushed too. A fault of that flush is not told: the stream is cut all the same.
 pub(crate) fn send_given<W: Output, S: Service>(
     chunks: &mut ChunkWriter,
     writer: &mut W,
@@ -168,14 +168,13 @@ pub(crate) fn begin_items<W: Output, S: Service>(
     }
 }
 
-/// Sends the stream that the service answered last, of the life of this number, behind the head of
-/// its answer: a chunk for each nonempty text, and behind the End the last chunk (RFC 9112, section 7.1).
+/// Sends the stream that the service answered last, of the life of this number, behind the head of its
+/// answer. Each nonempty text is a chunk, and behind the End stands the last chunk (RFC 9112, section 7.1).
 ///
-/// The end of a stream is flushed, and so is what was written before an item that is not ready,
-/// since the subscriber waits for that one. What a stream wrote that stopped without its End, or
-/// out of memory, is flushed too, and what it holds is given back to the service. An item
-/// costs the length of its text, one write, and memory only where its text is longer than each one
-/// before.
+/// The end of a stream is flushed. So are the bytes before an item that is not ready, since the subscriber
+/// waits for that item. A stream that stops without its End, or finds no memory, is flushed too, and the
+/// service drops it. An item costs the length of its text and one write. It takes memory only where its text
+/// is longer than each text before it.
 pub fn stream_feed<W: Output, S: Service>(
     alloc: Global,
     writer: &mut W,

@@ -10,8 +10,7 @@ use hub_model::Item;
 use std::alloc::AllocError;
 use std::marker::Model;
 
-/// An item that a stream hands to its subscriber, lent. Of which kind the items of a stream are is up to its
-/// service.
+/// An item that a stream hands to its subscriber, lent. The service chooses the kind of its stream's items.
 #[derive(Clone, Copy)]
 pub enum LentItem<'a> {
     /// An item of a feed of changes of a database (CouchDB API reference, `_changes`).
@@ -21,7 +20,7 @@ pub enum LentItem<'a> {
 }
 
 impl LentItem<'_> {
-    /// Whether it is the end of its stream. Constant time.
+    /// Whether the item is the end of its stream. Constant time.
     pub fn is_end(self) -> bool
         ensures { result ≡ is_end (lent_in self.entry) }
     {
@@ -31,7 +30,7 @@ impl LentItem<'_> {
         }
     }
 
-    /// Whether it is a row, and not what stands between rows or behind them.
+    /// Whether the item is a row, and no heartbeat or end.
     pub(crate) fn is_row(self) -> bool
         ensures { result ≡ is_row (lent_in self.entry) }
     {
@@ -42,8 +41,8 @@ impl LentItem<'_> {
     }
 }
 
-/// What a service gives next of its stream, or none: there is a place for an item of each kind, so that the
-/// item is put where its sender has it. Contracts see the item. Where both places have one, it is the change.
+/// The next item of a service's stream, or none. Each kind of item has its own place, so that an item is put
+/// where its sender reads it. Contracts see one item: the change, where both places have an item.
 #[derive(Debug, Drop)]
 pub struct NextItem {
     /// An item of a feed of changes.
@@ -83,7 +82,7 @@ impl NextItem {
     }
 }
 
-/// An item as a stream sends it that is being sent.
+/// An item, with the stream that sends it: both make the item's text.
 #[derive(Clone, Copy)]
 pub(crate) struct ItemText<'a> {
     pub(crate) item: LentItem<'a>,

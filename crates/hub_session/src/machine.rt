@@ -15,43 +15,43 @@ use hub_http::{ChunkWriter, HttpFault, Inbox, Next, Outbox, Transfer};
 use std::alloc::{AllocError, Global};
 use std::io::Write;
 
-/// How many bytes of a stream may be to go, before it wants room.
+/// A stream waits for room once so many bytes are in the outbox.
 const FULL: usize = 65_536;
 
-/// What came of a step.
+/// The result of a step.
 #[derive(Clone, Copy, Debug, PartialEq, Eq)]
 pub enum Step {
-    /// An answer, the head of a stream, or an item of it is to go: step again.
+    /// An answer, the head of a stream or an item was put into the outbox: step again.
     Served,
-    /// No request is whole: offer bytes, or say that no more come.
+    /// The bytes that came are no whole request: offer more, or say that no more come.
     WantsInput,
-    /// What is to go has to go first.
+    /// The outbox has to go first: all of it before a request, down to less than 64 KiB before an item.
     WantsRoom,
-    /// The stream has no item yet: step again when there may be one.
+    /// The stream has no item yet: step again when it may have one.
     WantsNews,
-    /// The session closed. What is to go still has to.
+    /// The session closed. The bytes in the outbox still have to go.
     Ended(Closing),
 }
 
-/// Where a session is.
+/// The place of a session.
 #[derive(Clone, Copy)]
 pub(crate) enum Place {
     /// Between two requests.
     Between,
-    /// A stream is sent, and behind it the session closes or goes on.
+    /// Within the answer to a request. The flag says whether that request asked to close.
     Within(Sending, bool),
-    /// It closed so.
+    /// The session closed for this reason.
     Closed(Closing),
 }
 
-/// A session over bytes that are offered, whoever runs it: each call returns at once, and none calls the
-/// system. What it writes lies in its outbox until it went.
+/// A session over bytes that are offered, whoever runs it. Only its service and the writer of `send_to` may
+/// wait or call the system. The texts that a session writes lie in its outbox until they went.
 #[derive(Drop)]
 pub struct Session<S> {
     alloc: Global,
     inbox: Inbox,
     outbox: Outbox,
-    /// What the items of a stream are made with.
+    /// The buffer in which the items of a stream become chunks.
     chunks: ChunkWriter,
     service: S,
     place: Place,
@@ -74,7 +74,7 @@ impl<S: Service> Session<S> {
         }
     }
 
-    /// The session closes behind an answer, or is between two requests.
+    /// Sets the place after an answer: closed for a reason, or between two requests.
     fn go_behind(&mut self, next: Option<Closing>) -> Step
         ensures step { result ≡ step_behind next }
         ensures shown { session_view self.new ≡ record (session_view self.old) { place = place_behind next } }
@@ -92,7 +92,7 @@ impl<S: Service> Session<S> {
         }
     }
 
-    /// Answers the next request, where it is whole.
+    /// Answers the next request, where the outbox is empty and the request came whole.
     fn take_request(&mut self) -> Step
         ensures { IsStepFrom Place.Between S.rules self.old result self.new }
     {
@@ -124,7 +124,7 @@ impl<S: Service> Session<S> {
         }
     }
 
-    /// Sends the next item of a stream, where there is one.
+    /// Sends the next item of a stream, where the outbox has room and the stream has an item.
     fn send_item(&mut self, sending: Sending, close: bool) -> Step
         ensures { IsStepFrom (Place.Within sending close) S.rules self.old result self.new }
     {
@@ -156,9 +156,8 @@ impl<S: Service> Session<S> {
     }
 
     /// Goes on by one exchange, by the head of a stream, or by one item of it. A request is answered only
-    /// where nothing is to go: then its answer needs no memory of the outbox but for the items of a stream.
-    /// Where the outbox finds none all the same, the session closes as `Broken`, with a front of what was
-    /// written last.
+    /// where the outbox is empty: then only the items of a stream take memory of the outbox. Where the
+    /// outbox finds no memory all the same, the session closes as `Broken`, with a front of the last text.
     pub fn step(&mut self) -> Step
         ensures told { IsStepped S.rules (session_view self.old) result (session_view self.new) }
         ensures run { RunsOn S.rules (λ run. run) (session_view self.old) (session_view self.new) }
@@ -173,9 +172,9 @@ impl<S: Service> Session<S> {
         }
     }
 
-    /// Offers bytes that came, behind those that were offered before: none says that no more come. Behind
-    /// that nothing is taken: such bytes would be no part of the session. An error changes nothing: the
-    /// bytes may be offered again.
+    /// Offers bytes that came, after those that were offered before. An empty slice says that no more come.
+    /// Bytes after that are dropped, since they would be no part of the session. An error changes nothing:
+    /// the bytes may be offered again.
     pub fn offer(&mut self, bytes: &[u8]) -> Result<(), AllocError>
         ensures ok { OnOk result (session_view self.new
             ≡ offered_to (session_view self.old).over bytes.now (session_view self.old)) }
@@ -193,9 +192,9 @@ impl<S: Service> Session<S> {
         self.inbox.offer(bytes)
     }
 
-    /// Bytes came for which there is no memory, and they are lost. Between two requests the session answers
-    /// as to a request that found none, and closes. Where nothing else is to go, the outbox has room for
-    /// that answer. At another place, and where there are no bytes, the session is given up.
+    /// Bytes came that found no memory, and they are lost. Between two requests the session answers them as
+    /// out of memory, and closes. An empty outbox has room for that answer. At another place, and where
+    /// there are no bytes, the session is given up.
     pub fn close_out_of_memory(&mut self, bytes: &[u8])
         requires { (session_view self.old).over ≡ false }
         ensures told { (session_view self.old).place ≡ Place.Between → 0 < length bytes.now
@@ -220,7 +219,7 @@ impl<S: Service> Session<S> {
         }
     }
 
-    /// Hands a front of what is to go to a writer, by one write, and keeps what it did not take.
+    /// Hands a front of the outbox to a writer, by one write. The bytes that were not taken stay in it.
     pub fn send_to<W: Write>(&mut self, writer: &mut W) -> Transfer
         ensures handed { Transfers result (session_view self.old).pending (session_view self.new).pending
             (W.contents writer.old) (W.contents writer.new) }
@@ -230,15 +229,15 @@ impl<S: Service> Session<S> {
             (session_view self.old) (session_view self.new) }
     {
         let handed = self.outbox.send_to(writer);
-        // Where items of a stream were sent since the last one was waited for, more of them follow.
+        // A stream that sent items since its last wait has more to send: the outbox keeps its room.
         if !matches!(self.place, Place::Within(..)) || !self.chunks.has_room() {
             self.outbox.release();
         }
         handed
     }
 
-    /// The other side is gone: a session that did not close does so as `Broken`, and its service gets back
-    /// what a stream holds.
+    /// Gives up a session whose other side is gone. It closes as `Broken`, and its service drops its stream.
+    /// A session that closed before stays as it is.
     pub fn give_up(&mut self)
         ensures { IsGivenUp S.rules (session_view self.old) (session_view self.new) }
     {
@@ -262,7 +261,7 @@ impl<S: Service> Session<S> {
         }
     }
 
-    /// What came of its input, and that no request took.
+    /// The bytes of its input that came and that no request took.
     pub fn inbox(&self) -> &Inbox
         ensures bytes { arrived_bytes result.now ≡ (session_view self.now).bytes }
         ensures over { is_over result.now ≡ (session_view self.now).over }
@@ -270,7 +269,7 @@ impl<S: Service> Session<S> {
         &self.inbox
     }
 
-    /// What answers its requests.
+    /// The service that answers its requests.
     pub fn service(&self) -> &S
         ensures { result.now ≡ (session_view self.now).service }
     {

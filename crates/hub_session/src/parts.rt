@@ -63,14 +63,14 @@ fn send_refusal<W: Output>(writer: &mut W, refusal: Refusal) -> Result<(), IoFau
     send(writer, b"")
 }
 
-/// How long the body of a refusal is.
+/// The length of a refusal's body, in bytes.
 fn refusal_len(refusal: Refusal) -> usize
     ensures { result ≡ length (refusal_body refusal) }
 {
     25 + refusal.error().len() + refusal.reason().len()
 }
 
-/// The status of an answer, and how long its body is.
+/// The status of an answer, and the length of its body.
 fn framing(reply: &Reply) -> (StatusCode, usize)
     ensures status { result.0 ≡ status_in reply.now }
     ensures length { result.1 ≡ length (body_in reply.now) }
@@ -92,8 +92,8 @@ fn send_body<W: Output>(writer: &mut W, reply: Reply) -> Result<(), IoFault>
     }
 }
 
-/// Writes a whole answer in parts, and flushes it. It takes no memory, and a write for each part of the
-/// head, some ten, and for the body.
+/// Writes a whole answer in parts, and flushes it. It takes no memory. The head is seven parts, the body of
+/// a refusal five, and another body one: each mostly costs one write.
 pub(crate) fn send_in_parts<W: Output>(
     writer: &mut W,
     reply: Reply,

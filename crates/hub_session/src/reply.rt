@@ -1,4 +1,4 @@
-//! Replies to what is no request.
+//! Replies to faults of reading a request.
 ghost use Rattle.std.specs.Prelude.{◌≡◌};
 ghost use Rattle.hub_session.specs.Replies.{fault_text};
 

@@ -13,9 +13,9 @@ use crate::service::Service;
 use hub_http::{HttpFault, Input, Output, Requests};
 use std::alloc::Global;
 
-/// Serves the next request, and says why the session closes, if it does. A fault of reading a
-/// request is answered where it has a reply, and closes the session. Requests that ended close it
-/// at once.
+/// Serves the next request, and says why the session closes, if it does. A fault of reading a request is
+/// answered where it has a reply, and closes the session. Requests that ended before close it at once, with
+/// nothing read or written.
 pub fn serve_one<R: Input, W: Output, S: Service>(
     alloc: Global,
     requests: &mut Requests<R>,
@@ -47,8 +47,8 @@ pub fn serve_one<R: Input, W: Output, S: Service>(
     }
 }
 
-/// Serves the requests up to the first closing, and says why it closed. Requests behind the one
-/// that closes the session are not answered, though they may have been read.
+/// Serves the requests up to the first closing, and says why the session closed. Requests after the one that
+/// closes are not answered, though they may have been read.
 pub fn serve<R: Input, W: Output, S: Service>(
     alloc: Global,
     requests: &mut Requests<R>,

@@ -1,4 +1,4 @@
--- What follows from an answer by its cases.
+-- Conclusions from an answer by its cases, and the items of blocks.
 use Rattle.std.proofs.Common.{◌≡◌, ◌∙◌, ap, sym, subst, arith, ℕ, ◌+◌, ◌-◌, List, [], ◌∷◌, ◌++◌, length, take}
 use Rattle.std.proofs.Common.{append_assoc, append-nil, length-append, Option, Some, None}
 use Rattle.std.proofs.lemmas.Grind.{flat_map-append}
@@ -21,7 +21,7 @@ pub none_then : {A : Type 0} {P Q : Type 0} (o : Option A) → (P → Q) → IfN
 none_then None f h = f h
 none_then (Some x) f h = tt
 
--- what follows in each case
+-- a conclusion that follows in each case
 pub by_result : {A E P Q G : Type 0} (r : Result A E) → OnOk r P → OnErr r Q → (P → G) → (Q → G) → G
 by_result (Ok x) ok err f h = f ok
 by_result (Err e) ok err f h = h err
@@ -31,18 +31,18 @@ by_option None some none f h = h none
 by_option (Some x) some none f h = f some
 
 module _ {I : Type 0} where
-  -- before a list that stands at the end lies what stands before it
+  -- the front of `before ++ end`, before `end`, is `before`
   front_seam : (before end : List I) → front_of (before ++ end) end ≡ before
   front_seam before end =
       let sum : length (before ++ end) ≡ length before + length end = length-append before end in
       let less : length (before ++ end) - length end ≡ length before = omega (arith, sum) in
       ap (λ n. take n (before ++ end)) less ∙ take-append_seam before end
 
-  -- of a list that is made up so
+  -- the same for a list that equals `before ++ end`
   pub front_is : (all before end : List I) → all ≡ before ++ end → front_of all end ≡ before
   front_is all before end is = ap (λ list. front_of list end) is ∙ front_seam before end
 
-  -- what stands before the end of a list, and the end, are the list: also once more was taken of the end
+  -- a list is its front before the rest of its end, and then this rest
   pub front_more : (all before end one rest : List I) → all ≡ before ++ end → end ≡ one ++ rest
       → all ≡ front_of all rest ++ rest
   front_more all before end one rest is more =
@@ -50,14 +50,14 @@ module _ {I : Type 0} where
       is ∙ (ap (λ list. before ++ list) more ∙ sym (append_assoc before one rest)) in
       whole ∙ ap (λ list. list ++ rest) (sym (front_is all (before ++ one) rest whole))
 
-  -- the items of blocks, and of one more
+  -- the items of blocks and of one more block
   pub items_more : (blocks : List (List I)) (block : List I)
       → items_in (blocks ++ block ∷ []) ≡ items_in blocks ++ block
   items_more blocks block =
       flat_map-append (λ items. items) blocks (block ∷ [])
       ∙ ap (λ list. items_in blocks ++ list) (append-nil block)
 
-  -- what is allowed of all blocks is allowed of a front of their items, what is left of them, and the others
+  -- a statement about all blocks' items holds of a front, the rest of these items, and the others' items
   front_allowed : (P : List I → Type 0) (blocks others : List (List I)) (front left : List I)
       → items_in blocks ≡ front ++ left → P (items_in (blocks ++ others))
       → P (front ++ (left ++ items_in others))
@@ -65,7 +65,7 @@ module _ {I : Type 0} where
       subst P (flat_map-append (λ items. items) blocks others
       ∙ (ap (λ list. list ++ items_in others) is ∙ append_assoc front left (items_in others))) allowed
 
--- where the lane gave what is right so far, an end took what is
+-- where the blocks that the lane gave are right so far, the items that an end took are right so far
 pub right_so_far : {R : Type 0} (right : Params → ℕ → List (Item R) → Type 0)
     (receiver : ReceiverState Label (List (Item R))) (left : List (Item R))
     → items_in receiver.taken ≡ front_of (items_in receiver.taken) left ++ left
@@ -77,7 +77,7 @@ right_so_far right receiver left is (others, allowed) = (
       (front_of (items_in receiver.taken) left) left is allowed,
 )
 
--- an end that took what came first of the rest of its block
+-- an end that took the first item of the rest of its block, if there was one
 pub end_goes_on : {R : Type 0} (receiver : ReceiverState Label (List (Item R))) (left rest : List (Item R))
     (o : Option (Item R))
     → items_in receiver.taken ≡ front_of (items_in receiver.taken) left ++ left
@@ -91,7 +91,7 @@ end_goes_on receiver left rest (Some item) is more =
     ap (λ taken. record { lane_id = receiver.lane_id; label = receiver.label; taken = taken })
     (front_is (items_in receiver.taken) (before ++ item ∷ []) rest whole)
 
--- an end of which nothing was left, behind one more block: what comes first of it was taken
+-- an end without an item left that took one more block, and the first item of this block
 module _ {R : Type 0} (old new : ReceiverState Label (List (Item R))) (left rest block : List (Item R))
     (empty : left ≡ []) (more : new ≡ behind_take old block) where
   pub end_takes : (o : Option (Item R)) → block ≡ option_to_list o ++ rest

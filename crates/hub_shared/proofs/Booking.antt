@@ -1,13 +1,13 @@
--- What the book of a host has counted, once the feeds of the host moved, and once edits came; and what a handle
--- knows by its share.
+-- The count in a host's book, after the feeds of the host moved and after edits came; and the knowledge that
+-- a handle has by its share.
 use Rattle.std.proofs.Common.{◌≡◌, ◌∙◌, ℕ, ◌+◌, ◌≤◌, List, Bool, true, false, ap, sym, subst, arith}
 use Rattle.hub_model.specs.Feed.{Feed}
 use Rattle.hub_feed.specs.Host.{Hosted, with_feeds}
 use Rattle.hub_shared.specs.Handles.{HandleState}
 use Rattle.hub_shared.specs.Locked.{IsBookOf}
 
--- The feeds of a host do not change how many edits it has. So what counted those of a host has counted those
--- of the same host with the feeds of some picture.
+-- The feeds of a host do not change how many edits it has. So a book that counted the edits of a host has
+-- counted those of the same host with the feeds of `picture`.
 pub book_kept : {S R : Type 0} (hosted : S → Hosted R) (with_hosted : S → Hosted R → S)
     (hosts : (s : S) (feeds : List (ℕ × Feed)) (next : ℕ)
     → hosted (with_hosted s (with_feeds (hosted s) feeds next)) ≡ with_feeds (hosted s) feeds next)
@@ -19,18 +19,18 @@ book_kept hosted with_hosted hosts counts total old new picture is book =
     (subst (λ (host : Hosted _). IsBookOf counts total host.length)
     (sym (hosts old picture.feeds picture.next_feed)) book)
 
--- so many edits came, of which the book counted all, or where there is no count some
+-- `more` edits came, of which the book counted all, or where there is no count some
 pub book_grows : (counts : Bool) (total rise more edits : ℕ) → IsBookOf counts total edits → rise ≤ more
     → (counts ≡ true → rise ≡ more) → IsBookOf counts (total + rise) (edits + more)
 book_grows counts total rise more edits book low whole =
     let within : total ≤ edits = book.0 in
     (omega arith, λ c. ap (λ n. n + rise) (book.1 c) ∙ ap (λ n. edits + n) (whole c))
 
--- what counts nothing has counted nothing
+-- a book that counts nothing has counted 0
 pub counts_nothing : (edits : ℕ) → IsBookOf false 0 edits
 counts_nothing edits = (omega arith, λ counts. absurd (cc))
 
--- what holds of a handle's share, which counted as many edits as the handle, holds of the handle
+-- a statement about a handle's share holds of the handle, where both counted as many edits
 pub of_share : {parts amount count : ℕ} {state : HandleState} (P : HandleState → Type 0) → amount ≡ count
     → record { parts = parts; count = count } ≡ state → P (record { parts = parts; count = amount })
     → P state

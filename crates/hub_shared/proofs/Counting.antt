@@ -1,4 +1,4 @@
--- How often a local document was written, and why one is not stored.
+-- How often a local document was written, and why a local document is not stored.
 use Rattle.std.proofs.Common.{◌≡◌, ◌<◌, ◌⊎◌, inl, inr, Option, Some, None, arith}
 use Rattle.hub_model.specs.declared.outcomes.Fault.TheVariants.{Deleted, SequenceFull}
 use Rattle.hub_document.specs.declared.local_doc.LocalDoc.{LocalDoc}

@@ -1,4 +1,4 @@
--- What one edit does, and a batch without receipts.
+-- The effect of one edit, and of a batch without receipts.
 use Rattle.std.proofs.Common.{◌≡◌, ◌⊎◌, ◌+◌, ◌-◌, ◌<◌, ◌≤◌, ◌^◌, ℕ, List, [], ◌∷◌, ◌++◌, length, Bool}
 use Rattle.std.proofs.Common.{true, false, ap, refl, sym, ◌∙◌, subst, inl, inr, length-append, arith}
 use Rattle.std.specs.Prelude.{cond, Result, Ok, Err, IfOk, IfErr, OnOk}
@@ -31,7 +31,7 @@ use Rattle.hub_shared.proofs.Storing.{StoredAs, as_many, make_stored, senders_st
 
 -- ---- one edit
 
--- what a database answers to one edit
+-- the answer of a database to one edit
 pub edit_answer : (kept : Type 0) (old : Database) (edits : List Edit) (doc : Doc)
     (r : Result Revision DbFault)
     → IfOk r (λ rev. one_draft_result old.deleted old.limits.journal old.journal doc
@@ -47,7 +47,7 @@ edit_answer kept old edits doc (Err (db_fault.Refused fault)) made (stays, inr (
     let alike : other ≡ fault = cc in
     ap (λ (stores : Stores). stores.outcome) refused ∙ ap (λ f. Refused f) alike
 
--- an edit that was made stands behind the others
+-- an edit that is made here stands after the others
 made_behind : (deleted : Bool) (limit : ℕ) (journal other_journal : List Edit) (doc : Doc) (rev : Revision)
     → one_draft_result deleted limit journal doc ≡ record { outcome = Stored rev; journal = other_journal }
     → (edit : Edit) × (other_journal ≡ journal ++ edit ∷ [])
@@ -59,7 +59,7 @@ made_behind false limit journal other_journal doc rev is =
     (make_stored limit journal (draft_of doc)) in
     (stored.0, stored.1)
 
--- so it is one more
+-- so the journal has one edit more
 pub one_added : (old new : Database) (doc : Doc) (r : Result Revision DbFault)
     → IfOk r (λ rev. one_draft_result old.deleted old.limits.journal old.journal doc
     ≡ record { outcome = Stored rev; journal = new.journal })
@@ -78,7 +78,7 @@ one_added old new doc (Ok rev) made legal within rest =
 
 -- ---- a batch
 
--- of each document that was stored there is a receipt
+-- there are as many receipts as stored documents
 receipts_many : (n : ℕ) (ids : List (List ℕ)) (replies : List (Outcome Revision))
     → length replies ≤ length ids → length (receipts_from n ids replies) ≡ stored_count replies
 receipts_many n [] [] few = refl
@@ -108,7 +108,7 @@ few_replies : (stopped : Bool) (replies docs : ℕ) → (stopped ≡ false → r
 few_replies true replies docs whole less = omega (arith, less refl)
 few_replies false replies docs whole less = omega (arith, whole refl)
 
--- there is an edit more for each document that was stored
+-- there is one edit more for each stored document
 pub batch_added : (new_edits : Bool) (docs : List Doc) (old new : Database) (batch : Batch)
     → IsBatch new_edits old.deleted old.limits.journal old.journal new.journal docs batch
     → IsLegal new.journal → length new.journal < 2 ^ 32 → new ≡ record old { journal = new.journal }
@@ -130,19 +130,19 @@ batch_added new_edits docs old new batch is legal within rest =
       rest = rest;
     }
 
--- how many more there are
+-- the new journal is longer by the number of added edits
 pub longer_by : (count : ℕ) (old new : Database) → Adds count old new
     → length new.journal ≡ length old.journal + count
 longer_by count old new adds =
     ap length adds.behind
     ∙ (length-append old.journal adds.edits ∙ ap (λ n. length old.journal + n) adds.many)
 
--- so that is how many they are more
+-- so the lengths of the journals differ by this number
 pub edits_more : (count before after : ℕ) (old new : Database) → Adds count old new
     → before ≡ length old.journal → after ≡ length new.journal → after - before ≡ count
 edits_more count before after old new adds from to = omega (arith, from, to, longer_by count old new adds)
 
--- what a batch did to a database
+-- the effect of a batch on a database
 pub batch_stored : (new_edits : Bool) (docs : List Doc) (old new : Database) (batch : Batch)
     → IsBatch new_edits old.deleted old.limits.journal old.journal new.journal docs batch
     → IsLegal new.journal → length new.journal < 2 ^ 32 → new ≡ record old { journal = new.journal }
@@ -155,7 +155,7 @@ batch_stored new_edits docs old new batch is legal within rest = record {
   adds = batch_added new_edits docs old new batch is legal within rest;
 }
 
--- what a database that was found did is what became of the batch
+-- the effect of a batch on a found database, as the handle knows it
 abbrev pub stored_by : {counts : Bool} {all_parts : ℕ} {h : HandleState} (new_edits : Bool) (docs : List Doc)
     (old new : Database) (batch : Batch) → IsFoundBy counts all_parts h old
     → StoresBatch new_edits docs old batch new → IsStoredBy counts all_parts h new_edits docs batch
@@ -169,7 +169,7 @@ stored_by new_edits docs old new batch found stores = record {
       (sym stores.replies) (stores.stops t);
 }
 
--- with edits more the outboxes are still those of the feeds
+-- after more edits the outboxes are still those of the feeds
 pub senders_added : {K : Type 0} (label : K → Label) (sent : K → List ChangeItem) (count : ℕ)
     (old new : Database) (senders : List (ℕ × K)) → Adds count old new
     → AreSendersOf label sent (λ f items. IsFitting old.journal f items) (hosted_of old) senders
@@ -178,7 +178,7 @@ senders_added label sent count old new senders adds are =
     senders_stay label sent old new senders adds.legal (adds.edits, adds.behind)
     (ap (λ (db : Database). db.feeds) adds.rest) (ap (λ (db : Database). db.next_feed) adds.rest) are
 
--- and the book is that of the edits
+-- after more edits the book is still that of the edits
 pub book_added : (counts : Bool) (total counted rise count : ℕ) (old new : Database) → Adds count old new
     → IsBookOf counts total (length old.journal) → rise ≤ count → (counts ≡ true → rise ≡ count)
     → counted ≡ total + rise → IsBookOf counts counted (length new.journal)
@@ -187,7 +187,7 @@ book_added counts total counted rise count old new adds book low whole is =
     (subst (λ n. IsBookOf counts (total + rise) n) (sym (longer_by count old new adds))
     (book_grows counts total rise count (length old.journal) book low whole))
 
--- so a share has counted no more than there may be edits
+-- after more edits a share has still counted less than 2^32
 pub amount_within : (amount counted rise count : ℕ) (old new : Database) → Adds count old new
     → amount ≤ length old.journal → rise ≤ count → counted ≡ amount + rise → counted < 2 ^ 32
 amount_within amount counted rise count old new adds bound low is =

@@ -1,4 +1,4 @@
--- What one hand does to a host and the outboxes of its feeds.
+-- The effect of one hand on a host and the outboxes of its feeds.
 use Rattle.std.proofs.Common.{◌≡◌, ◌∙◌, ℕ, List, [], ◌∷◌, ◌++◌, refl, sym, subst, Option, Some, None, false}
 use Rattle.std.specs.Prelude.{IfSome, option_and_then, position, get_or, slice_set}
 use Rattle.std.proofs.lemmas.Option.{same_Some}
@@ -21,7 +21,7 @@ use Rattle.hub_shared.specs.Locked.{IsServed, AreSendersOf, Hands, LockedState}
 use Rattle.hub_shared.specs.Senders.{sends, MaySend}
 use Rattle.hub_shared.proofs.Sending.{Permits, Serves, may_give, gives, rests}
 
--- what a feed gives is due to it
+-- an item that a feed gives is due to it
 given_due : {R : Type 0} (show : Current → R) (rows : List Current) (due : Due) (item : Item R)
     → Give item ≡ next_of_due show rows due → item_of_due show rows due ≡ Some item
 given_due show rows (DueRow row) item gives = cc
@@ -47,7 +47,7 @@ module _ {S R K : Type 0} (label : K → Label) (sent : K → List (Item R)) (ho
     → fits s (hosted_feed_after_due (hosted s) f) (items ++ item ∷ []))
     (state : S) (id : ℕ) (senders : List (ℕ × K))
     (serve : AreSendersOf label sent (fits state) (hosted state) senders) where
-  -- what is due may be sent, by an outbox that takes what is right for its feed
+  -- the item that is due may be sent to an outbox that takes each list that is right for its feed
   pub may_take : (Takes : K → Item R → Type 0)
       → ((k : K) (item : Item R)
       → Permits label sent hosted with_hosted fits right hosts rightly stays k (sent k ++ item ∷ [])
@@ -72,7 +72,7 @@ module _ {S R K : Type 0} (label : K → Label) (sent : K → List (Item R)) (ho
           (may_give label sent hosted with_hosted fits right hosts rightly stays handed_fits state id senders
           item serve some)
 
-  -- where there is no sender there is no feed
+  -- without a sender of this number there is no feed of this number
   pub no_feed : entry_in id senders ≡ None → Gone ≡ next_of_number (hosted state) id
   no_feed none =
       from (entry_in id (hosted state).feeds)
@@ -83,7 +83,7 @@ module _ {S R K : Type 0} (label : K → Label) (sent : K → List (Item R)) (ho
       from None served = refl
       from (Some feed) served = absurd served
 
-  -- and no heartbeat is due
+  -- without a sender of this number no heartbeat is due
   pub no_beat : entry_in id senders ≡ None → is_beat_allowed_if_any (entry_in id (hosted state).feeds) ≡ false
   no_beat none =
       from (entry_in id (hosted state).feeds)
@@ -99,7 +99,7 @@ module _ {S R K : Type 0} (label : K → Label) (sent : K → List (Item R)) (ho
   abbrev looked : S
   looked = with_hosted state (hosted_after_next (hosted state) id Nothing)
 
-  -- of the sender that stands here, after a hand of the host to it
+  -- for the sender at this place, after a hand of the host to it
   module _ (waiting_fits : (s : S) (f : Feed) (items : List (Item R)) → next_due (hosted s).current f ≡ DueNothing
       → fits s f items → fits s (after_nothing f (hosted s).length) items)
       (behind : K → Item R → K) (label_stays : (k : K) (item : Item R) → label (behind k item) ≡ label k)
@@ -150,7 +150,7 @@ module _ {S R K : Type 0} (label : K → Label) (sent : K → List (Item R)) (ho
     abbrev locked : S → List (ℕ × K) → ℕ → LockedState S K
     locked host own lane = record { state = host; senders = own; lane = lane }
 
-    -- and the hand of the host is one of the host with its senders
+    -- the hand of the host is a hand of the host with its senders
     pub hand_in : (lane : ℕ) (answer : Next R) (answers : Handed)
         → HandsTo behind refuses state given looked entry.1 answer answers new sender
         → Hands hosted with_hosted behind refuses answer (locked state senders lane) id answers

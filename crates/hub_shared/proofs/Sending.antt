@@ -1,4 +1,4 @@
--- What an outbox may be sent, and what each step of a host with its outboxes comes to.
+-- The items that an outbox may be sent, and the result of each step of a host with its outboxes.
 use Rattle.std.proofs.Common.{◌≡◌, ℕ, ◌+◌, List, [], ◌∷◌, ◌++◌, true, ◌&&◌, ap}
 use Rattle.std.proofs.Common.{refl, sym, ◌∙◌, subst, Option, Some, None, option_map}
 use Rattle.std.specs.Prelude.{option_and_then}
@@ -26,7 +26,7 @@ use Rattle.hub_shared.specs.Senders.{sends, MaySend}
 use Rattle.hub_shared.proofs.Serving.{sender_of, moves, sender_changes, sender_comes, sender_goes}
 use Rattle.hub_shared.proofs.Serving.{served_still, stays_served}
 
--- a step keeps what a feed was asked for, and where it began
+-- a step keeps a feed's parameters and its since
 step_keeps : (feed : Feed) (due : Due) (len : ℕ)
     → ((feed_after_due feed due len).params ≡ feed.params) × ((feed_after_due feed due len).since ≡ feed.since)
 step_keeps feed (DueRow c) len = (refl, refl)
@@ -52,14 +52,14 @@ nothing_due show rows (DueEnd last_seq) e = absurd (cc)
 nothing_due show rows DueNothing e = refl
 nothing_due show rows DueGone e = absurd (cc)
 
--- Of an outbox that as a sink took what it was sent: behind an item it was sent one more,
+-- of an outbox that as a sink took the items sent to it: one more taken item is one more sent item
 pub adds_item : {I K : Type 0} (sent items : K → List I) (behind : K → I → K) → ((k : K) → sent k ≡ items k)
     → ((k : K) (item : I) → sent (behind k item) ≡ sent k ++ item ∷ []) → (k : K) (item : I)
     → items (behind k item) ≡ items k ++ item ∷ []
 adds_item sent items behind same adds k item =
     sym (same (behind k item)) ∙ (adds k item ∙ ap (λ list. list ++ item ∷ []) (same k))
 
--- and it allows the item that is right behind those
+-- such an outbox allows an item that is right after the items sent to it
 pub takes_item : {I K : Type 0} (sent items : K → List I) (allows permits : K → List I → Type 0)
     → ((k : K) → sent k ≡ items k) → ((k : K) (list : List I) → permits k list → allows k list) → (k : K)
     (item : I) → permits k (items k ++ item ∷ []) → allows k (sent k ++ item ∷ [])
@@ -67,7 +67,7 @@ takes_item sent items allows permits same may k item right =
     may k (sent k ++ item ∷ [])
     (subst (λ list. permits k (list ++ item ∷ [])) (sym (same k)) right)
 
--- an outbox behind an item is of the feed that goes on, where it was of the feed
+-- after an item, the outbox of a feed is the outbox of the feed that moved on
 pub sender_behind : {R K : Type 0} (label : K → Label) (sent : K → List (Item R)) (behind : K → Item R → K)
     (stays : (k : K) (item : Item R) → label (behind k item) ≡ label k)
     (adds : (k : K) (item : Item R) → sent (behind k item) ≡ sent k ++ item ∷ [])
@@ -80,7 +80,7 @@ sender_behind label sent behind stays adds old_fits new_fits feed other k item s
   list = subst (λ items. new_fits other items) (sym (adds k item)) fit;
 }
 
--- a feed with its outbox, once the feed changes, and the outbox with it or not
+-- a feed with its outbox, after the feed changed, alone or with the outbox
 module _ {R K : Type 0} (label : K → Label) (sent : K → List (Item R)) (fits : Feed → List (Item R) → Type 0)
     (change : Feed → Feed) where
   both_change : (turn : K → K) (maybe_feed : Option Feed) (s : Option K) (feed : Feed) (x : K)
@@ -106,19 +106,19 @@ module _ {S R K : Type 0} (label : K → Label) (sent : K → List (Item R)) (ho
     → right feed.params feed.since items)
     (stays : (s : S) (h : Hosted R) (feed : Feed) (items : List (Item R)) → fits s feed items
     → fits (with_hosted s h) feed items) where
-  -- the senders of a host
+  -- these are the senders of a host
   abbrev pub Serves : S → List (ℕ × K) → Type 0
   Serves s senders = AreSendersOf label sent (fits s) (hosted s) senders
 
-  -- what is right for a feed of this label
+  -- the list is right for a feed of this label
   abbrev pub Allows : Label → List (Item R) → Type 0
   Allows label items = right (params_in label.asked) label.since items
 
-  -- and for that of this outbox
+  -- the list is right for the feed of this outbox
   abbrev pub Permits : K → List (Item R) → Type 0
   Permits k items = Allows (label k) items
 
-  -- with these feeds
+  -- the state with these feeds
   abbrev moved : S → List (ℕ × Feed) → ℕ → S
   moved s feeds next = with_hosted s (with_feeds (hosted s) feeds next)
 
@@ -129,7 +129,7 @@ module _ {S R K : Type 0} (label : K → Label) (sent : K → List (Item R)) (ho
       subst (λ (h : Hosted R). AreSendersOf label sent (fits (moved s feeds next)) h senders)
       (sym (hosts s feeds next)) d
 
-  -- what fits the feed behind a step may be sent
+  -- a list that fits the feed after a step may be sent
   allowed : (s : S) (feed other : Feed) (x : K) (items : List (Item R)) → other.params ≡ feed.params
       → other.since ≡ feed.since → IsSenderOf label sent (fits s) feed x → fits s other items
       → Permits x items
@@ -143,7 +143,7 @@ module _ {S R K : Type 0} (label : K → Label) (sent : K → List (Item R)) (ho
   due_feed h None item e = absurd (none-some item e)
   due_feed h (Some feed) item e = (feed, refl, e)
 
-  -- an item that is due may be sent, and its feed goes on
+  -- an item that is due may be sent, and its feed moves on
   module _
       (handed_fits : (s : S) (feed : Feed) (items : List (Item R)) (item : Item R)
       → item_of_feed (hosted s) feed ≡ Some item → fits s feed items
@@ -190,7 +190,7 @@ module _ {S R K : Type 0} (label : K → Label) (sent : K → List (Item R)) (ho
         (subst (λ o. IsServed label sent (fits new) o (option_map (λ k. behind k item) (entry_in id senders)))
         (sym (own_changed id change h.feeds)) both))
 
-  -- so may a heartbeat
+  -- a heartbeat that is due may be sent
   module _
       (beat_fits : (s : S) (feed : Feed) (items : List (Item R)) → is_beat_allowed feed ≡ true → fits s feed items
       → fits s feed (items ++ Beat ∷ []))
@@ -228,7 +228,7 @@ module _ {S R K : Type 0} (label : K → Label) (sent : K → List (Item R)) (ho
         IsServed label sent (fits s) z.0 (option_map (λ k. behind k Beat) z.1))
         (λ k. (sym at.1 k, sym x.1 k)) mine)
 
-  -- a feed changes alone, and what it handed fits it still
+  -- a feed changes alone, and the items that it handed still fit it
   module _ (s : S) (id : ℕ) (senders : List (ℕ × K)) (d : Serves s senders) where
     changes : (change : Feed → Feed)
         → ((feed : Feed) → ((change feed).params ≡ feed.params) × ((change feed).since ≡ feed.since))
@@ -262,12 +262,12 @@ module _ {S R K : Type 0} (label : K → Label) (sent : K → List (Item R)) (ho
             subst (λ (z : Option Feed × Option (K)). IsServed label sent (fits s) z.0 z.1)
             (λ k. (is k, holds k)) (d.each id)
 
-    -- its time is over
+    -- the feed's time is over
     pub expires : ((s : S) (feed : Feed) (items : List (Item R)) → fits s feed items
         → fits s (expired_feed feed) items) → Serves (with_hosted s (hosted_after_expiry (hosted s) id)) senders
     expires expired_fits = changes expired_feed expire_keeps (λ feed items is fit. expired_fits s feed items fit)
 
-    -- it was found to have nothing to hand
+    -- the feed had nothing to hand
     pub rests : ((s : S) (feed : Feed) (items : List (Item R)) → next_due (hosted s).current feed ≡ DueNothing
         → fits s feed items → fits s (after_nothing feed (hosted s).length) items)
         → Nothing ≡ next_of_number (hosted s) id
@@ -279,7 +279,7 @@ module _ {S R K : Type 0} (label : K → Label) (sent : K → List (Item R)) (ho
         (nothing ∙ ap (next_if_any (hosted s)) is))
         fit)
 
-    -- it is finished, and its sender is gone
+    -- the feed is finished, and its sender is gone
     pub finishes : Serves (with_hosted s (hosted_after_finish (hosted s) id)) (without id senders)
     finishes =
         let h = hosted s in
@@ -289,14 +289,14 @@ module _ {S R K : Type 0} (label : K → Label) (sent : K → List (Item R)) (ho
         (stays s (with_feeds h feeds h.next_feed)) id h (with_feeds h feeds h.next_feed)
         (λ q n. other_without id q n h.feeds) senders refl d (own_without id h.feeds))
 
-  -- the label of a feed that begins now allows that nothing was sent
+  -- the label of a feed that begins now allows the empty list
   pub nothing_allowed : (s : S) (params : FeedParams)
       → ((p : Params) → fits s (new_feed p (hosted s).length (hosted s).life) [])
       → Allows (label_of (params_asked params) (hosted s)) []
   nothing_allowed s params begins =
       rightly s (new_feed (params_of params) (hosted s).length (hosted s).life) [] (begins (params_of params))
 
-  -- it comes, with its outbox at the end, which was sent nothing
+  -- a new feed comes; its outbox stands at the end, and nothing was sent to it
   pub comes : (s : S) (params : FeedParams) (x : K) (senders : List (ℕ × K))
       → label x ≡ label_of (params_asked params) (hosted s) → sent x ≡ []
       → ((p : Params) → fits s (new_feed p (hosted s).length (hosted s).life) [])
@@ -322,7 +322,7 @@ module _ {S R K : Type 0} (label : K → Label) (sent : K → List (Item R)) (ho
       (subst (λ o. IsServed label sent (fits new) o (Some x)) (sym (own_added h.next_feed feed h.feeds fresh))
       mine))
 
-  -- an outbox changes, of which the label stays and what it was sent
+  -- an outbox changes, and keeps its label and its sent items
   pub still : (s : S) (id : ℕ) (senders : List (ℕ × K)) (change : K → K)
       → ((k : K) → (label (change k) ≡ label k) × (sent (change k) ≡ sent k)) → Serves s senders
       → Serves s (with_change id change senders)

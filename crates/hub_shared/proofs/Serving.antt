@@ -1,4 +1,4 @@
--- What a step of the host does to the outboxes.
+-- The effect of a step of the host on the outboxes.
 use Rattle.std.proofs.Common.{◌≡◌, ◌≢◌, ℕ, ◌+◌, ◌<◌, List, [], ◌∷◌, ◌++◌, ap, refl, sym, ◌∙◌}
 use Rattle.std.proofs.Common.{subst, ◌⊎◌, inl, inr, Option, Some, None, option_map}
 use Rattle.std.specs.Prelude.{All}
@@ -18,7 +18,7 @@ use Rattle.hub_shared.specs.Locked.{IsSenderOf, IsServed, AreSendersOf}
 module _ {R K : Type 0} (label : K → Label) (sent : K → List (Item R))
     (old_fits new_fits : Feed → List (Item R) → Type 0)
     (keeps : (feed : Feed) (items : List (Item R)) → old_fits feed items → new_fits feed items) where
-  -- a feed that stays
+  -- a feed that stays is served as before
   pub stays_served : (maybe_feed : Option Feed) (s : Option (K)) → IsServed label sent old_fits maybe_feed s
       → IsServed label sent new_fits maybe_feed s
   stays_served None None i = tt
@@ -33,7 +33,7 @@ module _ {R K : Type 0} (label : K → Label) (sent : K → List (Item R))
   -- one feed changes, and no other
   module _ (id : ℕ) (old new : Hosted R)
       (others : (q : ℕ) → q ≢ id → entry_in q new.feeds ≡ entry_in q old.feeds) where
-    -- that feed is served so, and the others as before
+    -- that feed is served by its new outbox, and the others as before
     served : (senders senders' : List (ℕ × K)) → AreSendersOf label sent old_fits old senders
         → IsServed label sent new_fits (entry_in id new.feeds) (entry_in id senders')
         → ((q : ℕ) → q ≢ id → entry_in q senders' ≡ entry_in q senders) → (q : ℕ)
@@ -111,7 +111,7 @@ module _ {R K : Type 0} (label : K → Label) (sent : K → List (Item R))
           (λ q n. other_without id q n senders);
     }
 
--- an outbox of the same label that was sent the same is the feed's too
+-- an outbox with the same label and the same sent items is the feed's too
 pub sender_still : {R K : Type 0} (label : K → Label) (sent : K → List (Item R))
     (fits : Feed → List (Item R) → Type 0) (feed : Feed) (old new : K)
     → (label new ≡ label old) × (sent new ≡ sent old) → IsSenderOf label sent fits feed old
@@ -122,10 +122,10 @@ sender_still label sent fits feed old new same i = record {
   list = subst (λ items. fits feed items) (sym same.1) i.list;
 }
 
--- of what is served
+-- feeds with their outboxes
 module _ {R K : Type 0} (label : K → Label) (sent : K → List (Item R)) (fits : Feed → List (Item R) → Type 0)
   where
-    -- a feed has an outbox
+    -- a served feed has an outbox
     pub sender_of : (o : Option Feed) (s : Option K) (f : Feed) → o ≡ Some f → IsServed label sent fits o s
         → (x : K) × (s ≡ Some x) × IsSenderOf label sent fits f x
     sender_of None None f is i = absurd (none-some f is)
@@ -134,7 +134,7 @@ module _ {R K : Type 0} (label : K → Label) (sent : K → List (Item R)) (fits
     sender_of (Some g) (Some s) f is i =
         (s, refl, subst (λ h. IsSenderOf label sent fits h s) (same_Some g f is) i)
 
-    -- an outbox that changes, and of which the label stays and what it was sent, serves what it served
+    -- an outbox that changes, but keeps its label and its sent items, still serves its feed
     pub served_still : (change : K → K) → ((k : K) → (label (change k) ≡ label k)
         × (sent (change k) ≡ sent k))
         → (o : Option Feed) (s : Option K) → IsServed label sent fits o s
@@ -144,7 +144,7 @@ module _ {R K : Type 0} (label : K → Label) (sent : K → List (Item R)) (fits
     served_still change same (Some f) None i = absurd i
     served_still change same (Some f) (Some s) i = sender_still label sent fits f s (change s) (same s) i
 
--- outboxes of which one changes, whose label stays and what it was sent, serve what they served
+-- where one outbox changes, but keeps its label and its sent items, the outboxes still serve the feeds
 pub senders_still : {R K : Type 0} (label : K → Label) (sent : K → List (Item R))
     (fits : Feed → List (Item R) → Type 0) (host : Hosted R) (id : ℕ) (senders : List (ℕ × K))
     (change : K → K)

@@ -1,4 +1,4 @@
--- What a write does to a journal, to its receipts, and to the lists that fit feeds.
+-- The effect of a write on a journal, on its receipts, and on the lists that fit feeds.
 use Rattle.std.proofs.Common.{◌≡◌, ℕ, suc, ◌+◌, ◌<◌, List, [], ◌∷◌, ◌++◌, length, map, take, Bool}
 use Rattle.std.proofs.Common.{true, false, ap, refl, sym, ◌∙◌, subst, inl, inr, append_assoc}
 use Rattle.std.proofs.Common.{length-append, Option, Some, None, nat_eq, nat_le, option_map}
@@ -33,7 +33,7 @@ use Rattle.hub_database.specs.Receipts.{ids_of}
 use Rattle.hub_database.specs.declared.receipt.Receipt.{Receipt}
 use Rattle.hub_shared.proofs.Serving.{stays_served}
 
--- what a document that was answered so did to the journal
+-- the effect on the journal of a document with this reply
 abbrev pub StoredAs : List Edit → List ℕ → Outcome Revision → List Edit → Type 0
 StoredAs journal id (Stored r) other_journal =
     (edit : Edit) × (other_journal ≡ journal ++ edit ∷ []) × (edit.id ≡ id) × (head_of edit ≡ Some r)
@@ -94,7 +94,7 @@ doc_stored : (new_edits : Bool) (limit : ℕ) (journal : List Edit) (doc : Doc)
 doc_stored true limit journal doc = make_stored limit journal (draft_of doc)
 doc_stored false limit journal doc = merge_stored limit journal (edit_of doc)
 
--- the receipts of what was added behind other_journal, and before it one document that was answered so
+-- the receipts of the edits after `other_journal`, and before them one document with this reply
 one_more : (journal other_journal edits : List Edit) (id : List ℕ) (o : Outcome Revision)
     (ids : List (List ℕ))
     (os : List (Outcome Revision))
@@ -161,7 +161,7 @@ writes_added new_edits gone limit journal other_journal docs os is =
     AreAdded journal s.journal (receipts_from (length journal) (ids_of (take (length os) docs)) s.outcomes))
     is a)
 
--- so are those that were made of copies of the ids
+-- the same for receipts that were made of copies of the ids
 pub receipts_added : (new_edits gone : Bool) (limit : ℕ) (journal other_journal : List Edit) (docs : List Doc)
     (os : List (Outcome Revision))
     → docs_result new_edits gone limit journal (take (length os) docs) ≡ record
@@ -173,7 +173,7 @@ receipts_added new_edits gone limit journal other_journal docs os is n ids repli
     subst (λ r. AreAdded journal other_journal r) (sym (new_revision ∙ (λ k. receipts_from (e k) (f k) (g k))))
     (writes_added new_edits gone limit journal other_journal docs os is)
 
--- as many
+-- there are as many edits as receipts
 pub as_many : (n : ℕ) (edits : List Edit) (receipts : List Receipt) → AreReceipts n edits receipts
     → length edits ≡ length receipts
 as_many n [] [] a = refl
@@ -201,9 +201,9 @@ end_keeps : (feed : Feed) → ((end feed).params ≡ feed.params) × ((end feed)
 end_keeps feed =
     elim (cases_Bool (is_open feed.status)) [ inl t ↦ rw t (refl, refl) | inr t ↦ rw t (refl, refl) ]
 
--- of any outboxes
+-- for outboxes of any kind
 module _ {K : Type 0} (label : K → Label) (sent : K → List ChangeItem) where
-  -- more edits came
+  -- the senders stay those of the feeds where more edits come
   pub senders_stay : (old new : Database) (senders : List (ℕ × K))
       → IsLegal new.journal → ((edits : List Edit) × (new.journal ≡ old.journal ++ edits))
       → new.feeds ≡ old.feeds → new.next_feed ≡ old.next_feed
@@ -225,7 +225,7 @@ module _ {K : Type 0} (label : K → Label) (sent : K → List ChangeItem) where
             (fits_grows change_rows old.journal more.0 feed items h.fits);
       }
 
-  -- every open feed is to end
+  -- the senders stay those of the feeds where every open feed is to end
   pub senders_end : (old : Database) (senders : List (ℕ × K))
       → AreSendersOf label sent (FitsIn old) (hosted_of old) senders
       → AreSendersOf label sent (FitsIn (deleted_database old)) (hosted_of (deleted_database old)) senders

@@ -1,4 +1,4 @@
--- What a write to a database comes to.
+-- The result of a write to a database.
 use Rattle.std.proofs.Common.{◌≡◌, ◌∙◌, ℕ, List, Bool, ap, arith, length, refl, sym, subst}
 use Rattle.hub_document.specs.declared.doc.Doc.{Doc}
 use Rattle.hub_database.specs.Database.{Database}
@@ -39,7 +39,7 @@ pub receipts_count : (new_edits : Bool) (docs : List Doc) (old new : Database) (
 receipts_count new_edits docs old new accepted done =
     omega (arith, done.longer, longer_by (stored_count accepted.replies) old new done.batch.adds)
 
--- what its handle knows of a write that was done
+-- the knowledge that a handle has of a finished write
 pub written_by : (counts : Bool) (all_parts : ℕ) (state : HandleState) (new_edits : Bool) (docs : List Doc)
     (db new : Database) (accepted : Accepted) → IsFoundBy counts all_parts state db
     → Stores new_edits docs db accepted new → IsWrittenBy counts all_parts state new_edits docs accepted

@@ -1,4 +1,4 @@
--- A feed, as the connection that shows it has it (own; CouchDB API reference, _changes).
+-- A feed, as its connection has it (own; CouchDB API reference, _changes).
 use Rattle.std.specs.Prelude.{◌≡◌, ℕ, List, [], ◌∷◌, ◌++◌, Option, None, IfSome, IfNone}
 use Rattle.hub_model.specs.Entries.{entry_in}
 use Rattle.hub_model.specs.Feed.{Params}
@@ -9,11 +9,11 @@ use Rattle.hub_params.specs.FeedModel.{params_in}
 use Rattle.hub_params.specs.FeedParams.{FeedAsked}
 use Rattle.hub_shared.specs.Label.{Label, label_of}
 
--- what is seen of a feed of such rows
+-- the view of a feed with rows of this type
 pub record FeedState (R : Type 0) : Type 0 where
   pub number : ℕ  -- the number that its host gave it
-  pub lane_id : LaneId  -- the lane that it takes from
-  pub label : Label  -- what was asked, and where it began
+  pub lane_id : LaneId  -- the lane from which it takes
+  pub label : Label  -- its parameters, its since and its life
   pub taken : List (Item R)  -- every item that was taken, the first one first
 
 module _ {R : Type 0} where
@@ -26,32 +26,32 @@ module _ {R : Type 0} where
   abbrev pub receiver_of : FeedState R → ReceiverState Label (Item R)
   receiver_of feed = record { lane_id = feed.lane_id; label = feed.label; taken = feed.taken }
 
-  -- a feed behind an item that was taken
+  -- a feed after one more item was taken
   abbrev pub behind_item : FeedState R → Item R → FeedState R
   behind_item feed item = record feed { taken = feed.taken ++ item ∷ [] }
 
   -- where `right` says which lists of items are right for a feed of these parameters and this since
   module _ (right : Params → ℕ → List (Item R) → Type 0) where
-    -- what was taken of the end of a feed's lane is the beginning of a list that is right for its label
+    -- the items that an end took are the beginning of a list that is right for its label
     abbrev pub IsRightSoFar : ReceiverState Label (Item R) → Type 0
     IsRightSoFar end =
         IsAllowedBeginning (λ (l : Label) items. right (params_in l.asked) l.since items) end
 
-    -- What a call that looks for an item did to such an end: an item that was found stands behind those that
-    -- were taken, and where there is none the end is as it was. What was taken is right so far.
+    -- The effect on such an end of a call that looks for an item. A found item stands after the items that
+    -- were taken, and without a found item the end is as it was. The taken items are right so far.
     abbrev pub EndTakes : ReceiverState Label (Item R) → Option (Item R) → ReceiverState Label (Item R)
         → Type 0
     EndTakes old found new =
         IfSome found (λ item. new ≡ behind_take old item) × IfNone found (new ≡ old) × IsRightSoFar new
 
-    -- what it did to a feed
+    -- the effect of such a call on a feed
     abbrev pub Takes : FeedState R → Option (Item R) → FeedState R → Type 0
     Takes old found new =
         IfSome found (λ item. new ≡ behind_item old item) × IfNone found (new ≡ old)
         × IsRightSoFar (receiver_of new)
 
-  -- The host opened the feed, of which this was asked. The host refused none, no feed of it had the number,
-  -- the label tells where a feed begins that is opened then, and nothing was taken yet.
+  -- The host opened the feed with these parameters. The host had no reason to refuse, and no feed of it had
+  -- the number. The label is that of a feed which this host opens now, and no item was taken yet.
   pub record IsOpened (h : Hosted R) (asked : FeedAsked) (feed : FeedState R) : Type 0 where
     pub free : opening_refusal h ≡ None
     pub fresh : entry_in feed.number h.feeds ≡ None

@@ -7,8 +7,8 @@ use Rattle.hub_database.specs.Locals.{local_after_write}
 use Rattle.hub_database.specs.declared.batch.DbFault.{DbFault}
 use Rattle.hub_database.specs.declared.batch.DbFault.TheVariants.{NoMemory, Refused}
 
--- A deleted database is told before anything else. One that stands tells out of memory only where the
--- document's count has one more below 2^64, and else a full sequence.
+-- A deleted database is the first fault. A database that stands is out of memory only where the document's
+-- next count is below 2^64. Where it is not, the fault is a full sequence.
 abbrev pub IsLocalFault : Database → LocalDoc → DbFault → Type 0
 IsLocalFault db doc e =
     ((db.deleted ≡ true) × (e ≡ Refused fault.Deleted))

@@ -1,4 +1,4 @@
--- What lies under a lock: a host of feeds, and the outbox of each of its feeds (own).
+-- A host of feeds and the outbox of each of its feeds, as they lie under a lock (own).
 use Rattle.std.specs.Prelude.{◌≡◌, ℕ, ◌<◌, ◌≤◌, List, [], All, Bool, true, false, Option, Some, None, ⊤}
 use Rattle.hub_model.specs.Entries.{entry_in, AreRising}
 use Rattle.hub_model.specs.Feed.{Feed}
@@ -15,16 +15,16 @@ use Rattle.hub_feed.specs.declared.next.Next.TheVariants as next
 use Rattle.hub_shared.specs.Label.{Label}
 use Rattle.hub_shared.specs.Senders.{sends, IsRefused}
 
--- a host, and the outboxes of its feeds that are not finished: where its items for them go
+-- a host, and the outboxes of its feeds that are not finished
 pub record LockedState (S K : Type 0) : Type 0 where
   pub state : S
   pub senders : List (ℕ × K)  -- by the numbers of their feeds, which rise
   pub lane : ℕ  -- how many items of a feed may wait at most
 
--- where `label` is what an outbox was made for, and `sent` what it was sent
+-- where `label` gives the label of an outbox, and `sent` the items that were sent to it
 module _ {R K : Type 0} (label : K → Label) (sent : K → List (Item R)) (fits : Feed → List (Item R) → Type 0)
   where
-    -- the outbox of a feed: its label is the feed's parameters and since, and what it was sent fits the feed
+    -- the outbox of a feed: its label has the feed's parameters and since, and its sent items fit the feed
     pub record IsSenderOf (f : Feed) (k : K) : Type 0 where
       pub asks : params_in (label k).asked ≡ f.params
       pub begins : (label k).since ≡ f.since
@@ -37,40 +37,38 @@ module _ {R K : Type 0} (label : K → Label) (sent : K → List (Item R)) (fits
     IsServed (Some f) None = ⊥
     IsServed (Some f) (Some k) = IsSenderOf f k
 
-    -- the outboxes are those of the feeds that are not finished: each has its own, and there are no others
-    -- with feeds 3 and 5 these are one of feed 3, which was sent what feed 3 handed, and one of feed 5
+    -- Each feed that is not finished has its own outbox, and there are no other outboxes.
+    -- With feeds 3 and 5 there is one outbox with the items that feed 3 handed, and one with those of feed 5.
     pub record AreSendersOf (h : Hosted R) (senders : List (ℕ × K)) : Type 0 where
       pub rising : AreRising senders
       pub given : All (λ (p : ℕ × K). p.0 < h.next_feed) senders
       pub each : (number : ℕ) → IsServed (entry_in number h.feeds) (entry_in number senders)
 
--- what the book of a host of so many edits has counted: no more than these, and where there is a count, just
--- these
--- a book that counts has counted 5 behind 5 edits, and one that counts nothing 0
+-- The total in the book of a host of so many edits: at most the edits, and all of them where it counts.
+-- After 5 edits a book that counts has counted 5, and a book that counts nothing 0.
 abbrev pub IsBookOf : (counts : Bool) → (total edits : ℕ) → Type 0
 IsBookOf counts total edits = (total ≤ edits) × (counts ≡ true → total ≡ edits)
 
--- a host that has no feed, with a book that has counted nothing: where there is a count, the host has no edit
+-- a host without feeds, with a book that has counted nothing; where there is a count, the host has no edit
 abbrev pub IsUnused : {R : Type 0} → (counts : Bool) → (total : ℕ) → Hosted R → Type 0
 IsUnused counts total h = (h.feeds ≡ []) × (total ≡ 0) × (counts ≡ true → h.length ≡ 0)
 
 module _ {S R K : Type 0} (hosted : S → Hosted R) (with_hosted : S → Hosted R → S) where
-  -- a step of the feeds, with no outbox
+  -- a step of the feeds alone, which leaves the outboxes as they were
   abbrev pub stepped : LockedState S K → (Hosted R → Hosted R) → LockedState S K
   stepped l step = record l { state = with_hosted l.state (step (hosted l.state)) }
 
-  -- where `behind` says what an outbox is once it was sent an item
+  -- where `behind` gives an outbox after an item was sent to it
   module _ (behind : K → Item R → K) where
-    -- the feed of this number handed the item that was due, and its outbox was sent that
+    -- the feed of this number handed the item that was due, and the item was sent to the feed's outbox
     abbrev pub handed_on : LockedState S K → ℕ → Item R → LockedState S K
     handed_on l number item =
         record (stepped l (λ h. host.hosted_after_hand h number)) { senders = sends behind number item l.senders }
 
-    -- What one hand does, of the feed of this number that answers so, where `refuses` says what is told of an
-    -- outbox that gave an item back. An item that is due is sent, and the feed goes on behind it; or it is
-    -- refused, and nothing changes. A feed that has nothing to hand moves to the length. So where the row at
-    -- 6 is due to feed 3, the answer is Row and the feed is at place 6, or it is Full and the feed stays at
-    -- its place.
+    -- The effect of a hand with this answer, for the feed of this number; `refuses` holds of an outbox that
+    -- gave an item back. An item that is due is sent, and the feed moves on; or it is refused, and nothing
+    -- changes. A feed with nothing to hand moves to the length. Say that the row at 6 is due to feed 3. Then
+    -- the answer is Row and the feed is at place 6, or the answer is Full and the feed keeps its place.
     abbrev pub Hands : (K → Item R → Type 0) → Next R → LockedState S K → ℕ → Handed → LockedState S K
         → Type 0
     Hands refuses (next.Give item) l number handed.Row new =
@@ -85,9 +83,8 @@ module _ {S R K : Type 0} (hosted : S → Hosted R) (with_hosted : S → Hosted 
         (answer ≡ handed.Nothing) × (new ≡ stepped l (λ h. hosted_after_next h number next.Nothing))
     Hands refuses next.Gone l number answer new = (answer ≡ handed.Gone) × (new ≡ l)
 
--- What one beat does, where one is due or not. One that is due is sent, and the feed stays; or it is
--- refused, and nothing changes. A beat that is sent is told as Nothing, as one that is not due; one that is
--- refused is told as Full.
+-- The effect of a beat, where a heartbeat is due or not. A due heartbeat is sent, and the feed stays; or it
+-- is refused, and nothing changes. The answer is Full where it is refused, and else Nothing.
 abbrev pub Beats : {S R K : Type 0} → (K → Item R → K) → (K → Item R → Type 0) → Bool → LockedState S K → ℕ
     → Handed → LockedState S K → Type 0
 Beats behind refuses true l number handed.Full new = IsRefused refuses l.senders number Beat × (new ≡ l)

@@ -8,11 +8,11 @@ use Rattle.hub_feed.specs.Host.{Hosted, hosted_after_opening, opening_refusal}
 use Rattle.hub_shared.specs.Label.{Label, label_of}
 use Rattle.hub_shared.specs.Locked.{LockedState}
 
--- Where `made end label capacity` is the outbox, new, of this label and capacity, whose other end is this,
--- and `takes end label` is what is seen of such an end.
+-- `made end label capacity` is the new outbox with this other end, this label and this capacity. `takes end
+-- label` says that `end` is the other end of such an outbox.
 module _ {S R K T : Type 0} (hosted : S → Hosted R) (with_hosted : S → Hosted R → S)
     (made : T → Label → ℕ → K) (takes : T → Label → Type 0) where
-  -- with a feed more, whose outbox is the last, and has this other end
+  -- the state with one feed more, whose outbox is the last, and has this other end
   abbrev pub begun : LockedState S K → T → FeedParams → LockedState S K
   begun l end params =
       let h = hosted l.state in
@@ -21,8 +21,8 @@ module _ {S R K T : Type 0} (hosted : S → Hosted R) (with_hosted : S → Hoste
         senders = l.senders ++ (h.next_feed, made end (label_of (params_asked params) h) l.lane) ∷ [];
       }
 
-  -- A feed of a new number was opened, this is the end that takes, and the outbox is the other end. The host
-  -- refused none, no feed of it had the number, and the label tells where a feed begins that is opened then.
+  -- A feed of a new number was opened; `end` takes, and the feed's outbox is the other end. The host had no
+  -- reason to refuse, and no feed had the number. The label is that of a feed that this host opens now.
   pub record Begins (params : FeedParams) (l : LockedState S K) (number : ℕ) (end : T)
       (new : LockedState S K) : Type 0 where
     pub free : opening_refusal (hosted l.state) ≡ None

@@ -1,4 +1,4 @@
--- What storing documents does to a database, and which of them were stored (CouchDB API reference,
+-- The effect of storing documents on a database, and which documents were stored (CouchDB API reference,
 -- _bulk_docs, PUT and DELETE of a document).
 use Rattle.std.specs.Prelude.{◌≡◌, ℕ, ◌<◌, ◌^◌, ◌++◌, List, Bool, true, false, IsTrue, Contains, count_by}
 use Rattle.std.specs.Prelude.{length, take}
@@ -14,13 +14,13 @@ use Rattle.hub_database.specs.declared.batch.DbFault.{DbFault}
 use Rattle.hub_database.specs.declared.batch.DbFault.TheVariants.{NoMemory}
 use Rattle.hub_shared.specs.declared.write.Accepted.{Accepted}
 
--- whether a document was stored that was answered so
+-- whether a document with this reply was stored
 abbrev pub is_stored : Outcome Revision → Bool
 is_stored (Stored rev) = true
 is_stored Known = false
 is_stored (Refused fault) = false
 
--- how many documents were stored. Of a stored, a known, a stored and a refused one they are 2.
+-- how many documents were stored: for a stored, a known, a stored and a refused document, 2
 abbrev pub stored_count : List (Outcome Revision) → ℕ
 stored_count replies = count_by is_stored replies
 
@@ -28,15 +28,15 @@ stored_count replies = count_by is_stored replies
 abbrev pub HasStored : List (Outcome Revision) → Type 0
 HasStored replies = (rev : Revision) × Contains replies (Stored rev)
 
--- a write of these documents found no memory: of none it is never told
+-- a write of these documents found no memory; a write of no document never fails so
 abbrev pub IsOutOfMemoryFor : List Doc → DbFault → Type 0
 IsOutOfMemoryFor docs fault = (fault ≡ NoMemory) × (0 < length docs)
 
--- what became of the documents of a write, without its receipts
+-- the result of a write, without its receipts
 abbrev pub batch_of : Accepted → Batch
 batch_of accepted = record { replies = accepted.replies; stopped = accepted.stopped }
 
--- so many edits were added to the journal, which is legal and has less than 2^32, and nothing else changed
+-- `count` edits were added to the journal, and nothing else changed; it is legal, with less than 2^32 edits
 pub record Adds (count : ℕ) (old new : Database) : Type 0 where
   pub edits : List Edit
   pub behind : new.journal ≡ old.journal ++ edits
@@ -45,20 +45,20 @@ pub record Adds (count : ℕ) (old new : Database) : Type 0 where
   pub within : length new.journal < 2 ^ 32
   pub rest : new ≡ record old { journal = new.journal }
 
--- Of the documents of a batch those before its stop were stored one after the other, and nothing else
--- changed. Where a, b and c are given behind 5 edits, and b is refused, there are 7 edits then; where memory
--- runs out at b there are 6, and one reply.
+-- The documents of a batch before its stop were stored one after the other, and nothing else changed. Say
+-- that a, b and c are given after 5 edits. Where b is refused, there are 7 edits then. Where memory runs out
+-- at b, there are 6 edits, and one reply.
 pub record StoresBatch (new_edits : Bool) (docs : List Doc) (old : Database) (batch : Batch)
     (new : Database) : Type 0 where
-  -- each reply is what becomes of its document behind those before it, and the journal has what was stored
+  -- each reply is that of its document after the documents before it, and the journal has the stored edits
   pub replies : docs_result new_edits old.deleted old.limits.journal old.journal (take (length batch.replies) docs)
       ≡ record { outcomes = batch.replies; journal = new.journal }
   -- without a stop each document has its reply
   pub whole : batch.stopped ≡ false → length batch.replies ≡ length docs
   -- a stop is at one of the documents
   pub stopped : IsTrue batch.stopped → length batch.replies < length docs
-  -- and that document needed room
+  -- and this document needed room
   pub stops : IsTrue batch.stopped
       → StopsAt new_edits old.deleted new.journal (length batch.replies) docs
-  -- there is an edit more for each document that was stored
+  -- there is one edit more for each stored document
   pub adds : Adds (stored_count batch.replies) old new

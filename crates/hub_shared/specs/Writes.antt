@@ -1,4 +1,4 @@
--- What a write does to a database (CouchDB API reference, _bulk_docs; receipts are own).
+-- The effect of a write on a database (CouchDB API reference, _bulk_docs; receipts are own).
 use Rattle.std.specs.Prelude.{◌≡◌, ◌+◌, List, All, length, Bool}
 use Rattle.hub_document.specs.declared.doc.Doc.{Doc}
 use Rattle.hub_database.specs.Database.{Database}
@@ -6,9 +6,9 @@ use Rattle.hub_database.specs.Receipts.{AreAdded, AreRising, HasEdit, ids_of, re
 use Rattle.hub_shared.specs.Stored.{StoresBatch, batch_of}
 use Rattle.hub_shared.specs.declared.write.Accepted.{Accepted}
 
--- Of the documents that were given, those before the stop were stored one after the other, and nothing else
--- changed. Where a, b and c are given behind 5 edits, and b is refused, there are 7 edits then, with the
--- receipts (6, a, ..) and (7, c, ..); where memory runs out at b there are 6, and one reply.
+-- The documents before the stop were stored one after the other, and nothing else changed. Say that a, b and
+-- c are given after 5 edits. Where b is refused, there are 7 edits then, with the receipts (6, a, ..) and
+-- (7, c, ..). Where memory runs out at b, there are 6 edits, and one reply.
 pub record Stores (new_edits : Bool) (docs : List Doc) (old : Database) (accepted : Accepted)
     (new : Database) : Type 0 where
   -- the documents were stored, as a batch without receipts
@@ -16,11 +16,11 @@ pub record Stores (new_edits : Bool) (docs : List Doc) (old : Database) (accepte
   -- each document that was stored has its receipt, in order
   pub receipts : accepted.receipts.items
       ≡ receipts_from (length old.journal) (ids_of docs) accepted.replies
-  -- there are as many edits more as receipts
+  -- there are as many new edits as receipts
   pub longer : length new.journal ≡ length old.journal + length accepted.receipts.items
-  -- what was added is just what the receipts tell of
+  -- the new edits are just those that the receipts tell of
   pub added : AreAdded old.journal new.journal accepted.receipts.items
   -- the journal has the edit of each receipt, at its number
   pub stand : All (λ r. HasEdit new.journal r) accepted.receipts.items
-  -- the receipts' numbers rise, from behind the edits that were there
+  -- the receipts' numbers rise, from above the number of the earlier edits
   pub rise : AreRising (length old.journal) accepted.receipts.items

@@ -1,11 +1,11 @@
-//! What a feed's lane holds: the items of one holding, as one element.
+//! The elements of a feed's lane. An element is a block: the items that one holding puts into the lane.
 
 ghost use Rattle.std.specs.Prelude.{◌≡◌, ◌<◌, [], length, IfSome, IfNone};
 
 use hub_model::Item;
 use std::marker::Model;
 
-/// Items that go through a lane together, one at least. Contracts see the list of them.
+/// Items that go through a lane together, at least one. Contracts see the list of them.
 #[derive(Drop)]
 pub struct Block<R> {
     items: Vec<Item<R>>,
@@ -23,7 +23,7 @@ impl<R> Model for Block<R> {
 }
 
 impl<R: Drop> Block<R> {
-    /// These items, unless there are none. Constant time, and no memory.
+    /// A block of these items, unless there are none. Constant time, and no memory.
     pub(crate) fn of(items: Vec<Item<R>>) -> Option<Block<R>>
         ensures some { IfSome result (λ block. block ≡ items.items) }
         ensures none { IfNone result (items.items ≡ []) }

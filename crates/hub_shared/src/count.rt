@@ -1,31 +1,31 @@
-//! What counts the edits that a database accepts.
+//! Counts of the edits that a database accepts.
 
 ghost use Rattle.std.specs.Prelude.{◌≡◌, ℕ, ◌+◌, ◌<◌, ◌≤◌, true, false};
 
 use std::marker::PhantomData;
 use std::sync::ledger::{Blank, Book, Ledger, Share};
 
-/// How the accepted edits of a database are counted: by a book under its lock, and a share in each
-/// handle. A share has some of the parts of the right to know the total; one with all parts knows it.
+/// How the accepted edits of a database are counted: by a book under its lock, and a share in each handle. A
+/// share has some of the parts of the right to know the total. A share with all parts knows the total.
 pub trait Count: Drop {
-    /// What lies under the lock.
+    /// The book, which lies under the lock.
     type Book: Drop + Send;
 
-    /// What a handle has.
+    /// The share of a handle.
     type Share: Drop + Send;
 
     ghost use Rattle.std.specs.Prelude.{ℕ, Bool};
 
-    /// Whether it counts at all.
+    /// Whether edits are counted at all.
     ghost counts: { Bool };
 
     /// How many parts there are.
     ghost all_parts: { ℕ };
 
-    /// What all shares have counted.
+    /// How many edits all shares have counted.
     ghost total: { Self.Book → ℕ };
 
-    /// What a share has counted.
+    /// How many edits a share has counted.
     ghost amount: { Self.Share → ℕ };
 
     /// How many parts a share has.
@@ -54,7 +54,7 @@ pub trait Count: Drop {
         ensures whole { counts ≡ true → parts share.old ≡ all_parts → amount share.old ≡ total book.old };
 }
 
-/// Counts, by a ledger of std with a fixed number of parts.
+/// Counts edits, by a ledger of std with a fixed number of parts.
 #[derive(Drop)]
 pub struct Counted<L: Ledger> {
     blank: Blank,
@@ -114,7 +114,7 @@ impl<L: Ledger> Count for Counted<L> {
 #[derive(Drop)]
 pub struct Plain;
 
-/// The book and the share of what counts nothing.
+/// The book and the share of `Plain`.
 #[derive(Drop)]
 pub struct NoCount;
 

@@ -17,9 +17,9 @@ use crate::outbox::Outbox;
 use hub_database::{DbFault, DbState};
 
 impl<C: Count, K: Outbox<DbState>> Locked<DbState, C, K> {
-    /// How many edits there are. Whenever a database is got from a lock, its journal is legal, and what was
-    /// sent for each feed that is not finished is rightly handed for that journal, under the feed's own
-    /// parameters and since. Constant time.
+    /// The number of edits. Whenever a lock gives a database, its journal is legal. The items sent for each
+    /// feed that is not finished are rightly handed for that journal, under the feed's own parameters and
+    /// since. Constant time.
     pub fn feeds_are_right(&self) -> u64
         ensures edits { (result ≡ length self.now.state.journal) × (result < 2 ^ 32) }
         ensures legal { IsLegal self.now.state.journal }
@@ -35,7 +35,7 @@ impl<C: Count, K: Outbox<DbState>> Locked<DbState, C, K> {
         self.state.update_seq()
     }
 
-    /// How many edits there are, and how a share stands to them. Nothing changes.
+    /// The number of edits, by a call that shows how a share stands to them. Nothing changes.
     pub(crate) fn audit_share(&mut self, share: &mut C::Share) -> u64
         ensures edits { (result ≡ length self.old.state.journal) × (result < 2 ^ 32) }
         ensures found { IsFoundBy C.counts C.all_parts (handle_of C.parts C.amount share.old) self.old.state }
@@ -47,8 +47,8 @@ impl<C: Count, K: Outbox<DbState>> Locked<DbState, C, K> {
         self.feeds_are_right()
     }
 
-    /// Deletes the database, ends its open feeds, and gives news of it: what is left of each feed is its
-    /// end. It takes no memory, and costs a step for each feed.
+    /// Deletes the database, ends its open feeds, and tells the feeds that wait. An open feed has only its
+    /// End left to hand. It takes no memory. The cost is a step for each feed.
     pub fn delete(&mut self) -> Result<(), DbFault>
         ensures ok { OnOk result ((self.old.state.deleted ≡ false)
             × (self.new ≡ record self.old { state = deleted_database self.old.state })) }

@@ -11,7 +11,7 @@ use hub_document::Limits;
 use std::alloc::{AllocError, Global};
 use std::sync::{Arc, Condvar, Mutex};
 
-/// A database that threads share. Each `Db` and each `Handle` keeps it; it goes with the last of them.
+/// A database that threads share. Each `Db` and each `Handle` keeps it; it is dropped with the last of them.
 pub type Db<C> = Host<DbState, C>;
 
 impl<C: Count> Host<DbState, C> {

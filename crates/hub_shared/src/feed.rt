@@ -1,4 +1,4 @@
-//! Feeds of what threads share.
+//! Feeds of hosts that threads share.
 
 ghost use Rattle.std.specs.Prelude.{◌≡◌, IfNone};
 ghost use Rattle.hub_shared.specs.Blocks.{IsDrained};
@@ -26,24 +26,23 @@ use std::sync::{Arc, Wait};
 /// The label of a feed of changes.
 pub type ChangeLabel = FeedLabel<DbState>;
 
-/// What a feed of changes hands.
+/// An item of a feed of changes.
 pub type ChangeItem = Item<ChangeRow>;
 
 /// A feed of a database.
 pub type Feed<C> = HostFeed<DbState, C>;
 
-/// A feed of what threads share, as the connection has it that shows it. It is finished by `finish`: one
-/// that is let go otherwise stays among the feeds of its host. Contracts see its number, its lane, its
-/// label, and all that was taken.
+/// A feed of a shared host, as its connection has it. `finish` finishes it: a feed that is dropped otherwise
+/// stays among the feeds of its host. Contracts see its number, its lane, its label, and all taken items.
 #[derive(Drop)]
 pub struct HostFeed<S: HostView, C: Count = Plain> {
     pub(crate) host: Host<S, C>,
     pub(crate) id: FeedId,
     pub(crate) end: FeedEnd<S>,
     pub(crate) signals: Arc<Signals, Global>,
-    /// Whether its host may have items for it, where it is polled.
+    /// Whether its host may have items for it. `poll` alone uses this.
     pub(crate) is_behind: bool,
-    /// The clock's reading as a poll found no item for the first time behind the last one.
+    /// The clock's reading at the first poll without an item after the last item, or at the last heartbeat.
     pub(crate) idle_since: Option<u64>,
     /// The clock's reading at which a feed that waits is to be polled.
     pub(crate) due: u64,
@@ -80,17 +79,17 @@ impl<S: FeedHost, C: Count> HostFeed<S, C> {
         self.id
     }
 
-    /// The end of its lane that takes, for its label. Constant time, and no memory.
+    /// The taking end of its lane, which has its label. Constant time, and no memory.
     pub fn end(&self) -> &FeedEnd<S>
         ensures { result.now ≡ receiver_of self.now }
     {
         &self.end
     }
 
-    /// Takes the first item that was handed and not taken yet: what was taken is the beginning of a
-    /// list that is rightly handed, with the parameters and the since of the label. There is none only where
-    /// the lane was empty at a moment of the call, and no item was left of its blocks: then a pump that waits
-    /// for room is woken. It waits for nobody, and takes no memory.
+    /// Takes the first item that the lane got and that was not taken yet. All items taken so far are the
+    /// beginning of a list that is rightly handed, with the parameters and the since of the label. `None`
+    /// comes only where the lane was empty at a moment of the call, and no item was left of its blocks. A
+    /// pump that waits for room is woken then. It waits for nobody, and takes no memory.
     pub fn take<R: Asks<FeedLabel<S>, Block<S::Row>>>(&mut self, rt: &R) -> Option<Item<S::Row>>
         ensures taken { Takes S.right self.old result self.new }
         ensures none { IfNone result (IsDrained (R.lacks rt.now) (receiver_of self.old)) }
@@ -100,7 +99,7 @@ impl<S: FeedHost, C: Count> HostFeed<S, C> {
         next
     }
 
-    /// The same, and puts the item into `next`, which saves a move of it.
+    /// As `take`, but puts the item into `next`, which saves a move of the item.
     pub fn take_into<R>(&mut self, rt: &R, next: &mut Option<Item<S::Row>>)
     where
         R: Asks<FeedLabel<S>, Block<S::Row>>,
@@ -113,14 +112,14 @@ impl<S: FeedHost, C: Count> HostFeed<S, C> {
         }
     }
 
-    /// Sleeps until the feed's pump handed items or ended, for a connection that found nothing to
-    /// take. It may come back for no reason.
+    /// Sleeps until the feed's pump handed items or ended, for a connection that found no item to take. It
+    /// may come back for no reason.
     pub fn wait<R: Wait>(&self, rt: &R) {
         self.signals.wait_for_items(rt);
     }
 
-    /// Whether nothing more is handed, as the feed's pump has ended, or `poll` found the feed gone or no
-    /// memory for an item: what can be taken then is all that will come. Constant time.
+    /// Whether nothing more is handed: the feed's pump has ended, or `poll` found the feed gone or no memory
+    /// for an item. Items that can still be taken are the last ones. Constant time.
     pub fn is_over(&self) -> bool {
         self.signals.is_over.load(Ordering::SeqCst)
     }
@@ -136,9 +135,9 @@ impl<S: FeedHost, C: Count> HostFeed<S, C> {
 }
 
 impl<S: FeedHost + Drop, C: Count> HostFeed<S, C> {
-    /// Takes the feed out of the lock, drops its subscriber, and hands back the end that takes. From that end
-    /// the items of the blocks that the lane got can be taken until None: items that still wait for room in
-    /// the lane go with the subscriber. A pump of the feed ends. It takes no memory.
+    /// Takes the feed out of the lock, drops its subscriber, and gives back the taking end. The items of the
+    /// blocks that the lane got can still be taken from that end. Items that wait for room in the lane are
+    /// dropped with the subscriber. A pump of the feed ends. It takes no memory.
     pub fn finish<R: Wait>(self, rt: &R) -> FeedEnd<S>
         ensures { result ≡ receiver_of self }
     {

@@ -15,12 +15,12 @@ use std::alloc::Global;
 use std::marker::Model;
 use std::vec::IntoIter;
 
-/// The end of a feed's lane that takes: blocks come out of the lane, and items out of the block that was
-/// taken last. Contracts see the lane, its label, and all items that were taken.
+/// The taking end of a feed's lane. Blocks come out of the lane, and items out of the block that was taken
+/// last. Contracts see the lane, its label, and all items that were taken.
 #[derive(Drop)]
 pub struct FeedEnd<S: HostView> {
     receiver: Receiver<FeedLabel<S>, Block<S::Row>>,
-    /// What is left of the last block that the lane gave.
+    /// The rest of the last block that the lane gave.
     block: IntoIter<Item<S::Row>>,
     alloc: Global,
 }
@@ -57,17 +57,17 @@ impl<S: HostView> FeedEnd<S> {
         }
     }
 
-    /// What the feed was asked for, and where it began. Constant time, and no memory.
+    /// The label of the lane: parameters, since and life of the feed. Constant time, and no memory.
     pub fn label(&self) -> &FeedLabel<S>
         ensures { result.now ≡ self.now.label }
     {
         self.receiver.label()
     }
 
-    /// Takes the first item that the lane got and that was not taken yet: what was taken is the beginning
-    /// of a list that is rightly handed, with the parameters and the since of the label. There is none only
-    /// where the lane was empty at a moment of the call, and no item was left of its blocks; then no memory
-    /// is kept for blocks. It waits for nobody, and takes no memory.
+    /// Takes the first item that the lane got and that was not taken yet. All items taken so far are the
+    /// beginning of a list that is rightly handed, with the parameters and the since of the label. `None`
+    /// comes only where the lane was empty at a moment of the call, and no item was left of its blocks. The
+    /// end keeps no memory of blocks then. It waits for nobody, and takes no memory.
     pub fn take<R: Asks<FeedLabel<S>, Block<S::Row>>>(&mut self, rt: &R) -> Option<Item<S::Row>>
         ensures taken { EndTakes S.right self.old result self.new }
         ensures none { IfNone result (IsDrained (R.lacks rt.now) self.old) }
@@ -77,7 +77,7 @@ impl<S: HostView> FeedEnd<S> {
         next
     }
 
-    /// The same, and puts the item into `next`, which saves a move of it.
+    /// As `take`, but puts the item into `next`, which saves a move of the item.
     #[inline(always)]
     pub fn take_into<R>(&mut self, rt: &R, next: &mut Option<Item<S::Row>>)
     where

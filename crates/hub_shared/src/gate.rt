@@ -1,18 +1,18 @@
-//! What threads pass and read: gates, by which a test holds them, and a clock.
+//! Gates, at which a test can hold a thread, and clocks.
 
-/// Where a gate is passed.
+/// The points at which a gate is passed.
 #[derive(Clone, Copy, Debug, PartialEq, Eq)]
 pub enum Point {
     /// By a pump, before each holding of the lock.
     PumpFree,
-    /// By a pump, once inside each holding of the lock.
+    /// Inside each holding of the lock for a feed, by a pump or a poll.
     PumpHolding,
     /// By a connection of this number, before each answer. Connections are numbered from 1 as they
     /// are accepted.
     Request(u64),
 }
 
-/// What threads pass at their points, so that a test can hold one there.
+/// A gate, which threads pass at their points. A test can hold a thread there.
 pub trait Gate {
     /// Comes back once the thread may go on.
     fn pass(&self, point: Point);

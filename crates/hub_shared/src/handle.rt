@@ -33,8 +33,8 @@ use std::marker::Model;
 use std::sync::Wait;
 use std::sync::ledger::Ledger;
 
-/// A handle on a database: each thread has its own. It counts the edits that were accepted through it
-/// and through those joined to it, and each of its calls finds a legal journal of at least so many.
+/// A handle on a database; each thread has its own. It counts the edits that were accepted through it and
+/// through the handles joined to it. Each of its calls finds a legal journal with at least so many edits.
 #[derive(Drop)]
 pub struct Handle<C: Count> {
     db: Db<C>,
@@ -72,7 +72,7 @@ impl<C: Count> Handle<C> {
         &self.db
     }
 
-    /// How many edits were accepted through this handle, and through those joined to it. Of a `Plain`
+    /// How many edits were accepted through this handle, and through the handles joined to it. For a `Plain`
     /// database it is 0. Constant time.
     pub fn count(&self) -> u64
         ensures { result ≡ self.now.count }
@@ -80,9 +80,9 @@ impl<C: Count> Handle<C> {
         self.count
     }
 
-    /// Stores documents, as `Locked::write`. The documents' ids are copied, and the memory for the
-    /// receipts is taken, before the lock is. It costs these copies, the wait for the lock, and what
-    /// `DbState::write_edits` does.
+    /// Stores documents, as `Locked::write`. The documents' ids are copied, and the memory for the receipts
+    /// is taken, before the lock is taken. The cost is these copies, the wait for the lock, and that of
+    /// `Locked::store`.
     pub fn write<R: Wait>(
         &mut self,
         rt: &R,
@@ -105,8 +105,8 @@ impl<C: Count> Handle<C> {
         Ok(Accepted::new(batch, edits, room))
     }
 
-    /// Asks the database, as it is at one moment: `ask` is called once, under the lock, and is to wait for
-    /// nothing. It costs the wait for the lock, and what `ask` does.
+    /// Asks the database, as it is at one moment: `ask` is called once, under the lock, and must wait for
+    /// nothing. The cost is the wait for the lock, and that of `ask`.
     pub fn look<T, R: Wait, F: FnOnce(&DbState) -> Result<T, DbFault>>(
         &mut self,
         rt: &R,
@@ -122,8 +122,8 @@ impl<C: Count> Handle<C> {
         ask(locked.state())
     }
 
-    /// Stores documents, as `write`, without receipts: their ids are not copied. It costs the wait for the
-    /// lock, and what `DbState::write_edits` does: of memory here nothing but the list of replies.
+    /// Stores documents, as `write`, without receipts: their ids are not copied. The cost is the wait for the
+    /// lock, and that of `Locked::store`. Beside the edits, only the list of replies takes memory.
     pub fn store<R: Wait>(
         &mut self,
         rt: &R,
@@ -147,10 +147,10 @@ impl<C: Count> Handle<C> {
         Ok(batch)
     }
 
-    /// Stores one edit whose revision is made here, as `DbState::write_one`, and says that revision. The
-    /// refusals and their order are those of that call; out of memory is told only of a document that has
-    /// a leaf to be an edit of. It costs the wait for the lock, and what `DbState::write_one` does, and
-    /// takes no memory beside that.
+    /// Stores one edit whose revision is made here, as `DbState::write_one`, and gives that revision. The
+    /// refusals and their order are those of that call. Out of memory is the error only for a document that
+    /// has a leaf to extend. The cost is the wait for the lock, that of `DbState::write_one`, and a look at
+    /// each feed. It takes no memory beside that of `DbState::write_one`.
     pub fn write_one<R: Wait>(&mut self, rt: &R, doc: Doc) -> Result<RevId, DbFault>
         ensures edited { IsEditedBy C.counts C.all_parts self.old doc result }
         ensures counted { MatchResult result
@@ -162,7 +162,7 @@ impl<C: Count> Handle<C> {
         Ok(rev)
     }
 
-    /// Answers a question. It costs the wait for the lock, and what `DbState::answer` does.
+    /// Answers a question. The cost is the wait for the lock, and that of `DbState::answer`.
     pub fn read<R: Wait>(&mut self, rt: &R, question: Question) -> Result<Answer, DbFault>
         ensures { IsLook C.counts C.all_parts self.old self.new (λ db.
             IsRead db result (IsAnswer db question) (TakesMemory db question)) }
@@ -170,9 +170,9 @@ impl<C: Count> Handle<C> {
         self.look(rt, move |state| state.answer(question))
     }
 
-    /// Stores a local document in place of the one of its id, and says how often it was written: once
-    /// at least. A deleted database is told before anything else, and a full sequence at the last
-    /// count, 2^64 - 1. It costs the wait for the lock, and what `DbState::local_put` does.
+    /// Stores a local document in place of the document of its id, and gives how often it was written: at
+    /// least once. A deleted database is the first error. At the last count, 2^64 - 1, the error is a full
+    /// sequence. The cost is the wait for the lock, and that of `DbState::local_put`.
     pub fn local_put<R: Wait>(&self, rt: &R, doc: LocalDoc) -> Result<u64, DbFault>
         ensures ok { IfOk result (λ count. (db : Database) × (db.deleted ≡ false)
             × (count ≡ (local_after_write db.locals doc).count)) }
@@ -186,10 +186,10 @@ impl<C: Count> Handle<C> {
         locked.state.local_put(doc)
     }
 
-    /// Opens a feed, which stays until it is finished: its connection is to call `HostFeed::poll`, or
-    /// something `pump` for it, and `Feed::take`. `descending` is not looked at. A deleted database is
-    /// told first, then too many feeds, and out of memory only where the database refuses nothing. It
-    /// costs the wait for the lock, and what `Locked::begin` does.
+    /// Opens a feed, which stays until it is finished: its connection is to call `HostFeed::poll`, or a
+    /// thread to `pump` it and the connection to call `Feed::take`. `descending` is not looked at. A deleted
+    /// database is the first error, then too many feeds, and out of memory only where the database refuses
+    /// nothing. The cost is the wait for the lock, and that of `Locked::begin`.
     pub fn open_feed<R: Wait>(&mut self, rt: &R, params: FeedParams) -> Result<Feed<C>, OpenFault>
         ensures new { IfOk result (IsNew (params_asked params) self.old.count) }
         ensures opened { IfOk result (λ feed. (db : Database)
@@ -209,8 +209,8 @@ impl<C: Count> Handle<C> {
         Ok(HostFeed::new(db, id, taker))
     }
 
-    /// Deletes the database. Its feeds come to their ends. It takes no memory, and costs the wait for
-    /// the lock, and a step for each feed.
+    /// Deletes the database. Its feeds come to their ends. It takes no memory. The cost is the wait for the
+    /// lock, and a step for each feed.
     pub fn delete<R: Wait>(&self, rt: &R) -> Result<(), DbFault>
         ensures { IfErr result (λ e. e ≡ DbFault.Refused Deleted) }
     {
@@ -219,8 +219,8 @@ impl<C: Count> Handle<C> {
         done
     }
 
-    /// Compares receipts with the journal, by `audit_of`. It takes no memory, and costs the wait for
-    /// the lock, and a look in the journal for each receipt.
+    /// Compares receipts with the journal, by `audit_of`. It takes no memory. The cost is the wait for the
+    /// lock, and a look in the journal for each receipt.
     pub fn audit<R: Wait>(&mut self, rt: &R, receipts: &[Receipt]) -> Result<(), AuditFault>
         ensures { IsLook C.counts C.all_parts self.old self.new (λ db.
             IsAudit db.journal receipts.now result) }
@@ -232,8 +232,8 @@ impl<C: Count> Handle<C> {
 }
 
 impl<L: Ledger + Send + Sync> Handle<Counted<L>> {
-    /// Cuts a handle off, with so many of the parts of this one. It has counted nothing yet. It takes
-    /// no memory but the count of the database's users.
+    /// Gives so many parts of this handle to a new handle, which has counted nothing yet. It takes no memory
+    /// beside the count of the database's users.
     pub fn split(&mut self, parts: u64) -> Result<Handle<Counted<L>>, AllocError>
         requires { (0 < parts) × (parts < self.old.parts) }
         ensures given { IfOk result (λ handle. (handle.parts ≡ parts)
@@ -246,8 +246,8 @@ impl<L: Ledger + Send + Sync> Handle<Counted<L>> {
         Ok(Handle::new(db, share))
     }
 
-    /// Joins another handle on this database to this one, with its parts and its count. It takes no
-    /// memory, and waits for the lock: that bounds the sum of the counts.
+    /// Joins another handle on this database to this one, with its parts and its count. It takes no memory.
+    /// It waits for the lock: the book there bounds the sum of the counts.
     pub fn join<R: Wait>(&mut self, rt: &R, other: Handle<Counted<L>>)
         ensures { self.new ≡ record {
           parts = self.old.parts + other.parts;

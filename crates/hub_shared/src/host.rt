@@ -1,4 +1,4 @@
-//! What threads share that keeps feeds: a lock, and news.
+//! Hosts of feeds that threads share: a lock, and news.
 
 use crate::count::{Count, Plain};
 use crate::locked::Locked;
@@ -10,30 +10,29 @@ use std::time::{self, Duration};
 /// The longest wait, in milliseconds.
 const MINUTE: u64 = 60_000;
 
-/// What keeps feeds and is shared by threads, behind its lock. Each copy keeps it; it goes with the last of
-/// them.
+/// A host of feeds that threads share, behind its lock. Each copy keeps it; it is dropped with the last copy.
 #[derive(Drop)]
 pub struct Host<S: HostView, C: Count = Plain> {
-    /// The only lock, and the news. The lock guards what keeps the feeds, and their subscribers. It is held
-    /// for one call; nothing is waited for while it is held, and no other lock is taken under it. The news
-    /// are told of each change that a pump may wait for, and each end of a feed, once the lock is free again.
-    /// Pumps that have nothing to hand wait for the news.
+    /// The only lock, and the news. The lock guards the host and its subscribers. It is held for one call:
+    /// nothing is waited for while it is held, and no other lock is taken under it. The news tells pumps of
+    /// each change that they may wait for, and of each end of a feed, once the lock is free again. Pumps with
+    /// nothing to hand sleep on it.
     pub(crate) shared: Arc<(Mutex<Locked<S, C>>, Condvar), Global>,
     pub(crate) alloc: Global,
 }
 
 impl<S: HostView, C: Count> Host<S, C> {
-    /// The lock. Nothing is known of what lies under it but what its type says.
+    /// The lock. Nothing is known of the value under it but the invariant of its type.
     pub(crate) fn locked(&self) -> &Mutex<Locked<S, C>> {
         &self.shared.0
     }
 
-    /// Tells the pumps that wait that there are news, once the lock is free.
+    /// Wakes the pumps that wait for news. It is called once the lock is free.
     pub(crate) fn tell(&self) {
         self.shared.1.notify_all();
     }
 
-    /// The same once more. Constant time.
+    /// Another copy. Constant time.
     pub fn again(&self) -> Result<Host<S, C>, AllocError> {
         Ok(Host {
             shared: Arc::try_clone(&self.shared)?,
@@ -41,9 +40,8 @@ impl<S: HostView, C: Count> Host<S, C> {
         })
     }
 
-    /// Waits for news that came after these, for so many milliseconds at most, and for a minute at most.
-    /// The number of the news is compared under the lock, so that none is missed that comes between
-    /// two holdings.
+    /// Waits for news after the news of the number `seen`, for `most` milliseconds at most, and for a minute
+    /// at most. The numbers are compared under the lock, so no news between two holdings is missed.
     pub(crate) fn wait_for_news<R: Wait + time::Clock>(&self, rt: &R, seen: u64, most: u64) {
         let locked = self.locked().lock(rt);
         if locked.news() != seen {

@@ -9,8 +9,8 @@ use hub_lane::Kept;
 use hub_params::FeedParams;
 use std::marker::{Model, PhantomData};
 
-/// What a feed of a host `S` was asked for, where it began, and in which life. It says which lists of items
-/// may be sent for the feed: those that the host calls right for such a feed.
+/// The parameters of a feed of a host `S`, the sequence at which it began, and its life. A label allows those
+/// lists of items to be sent for the feed that the host calls right for such a feed.
 #[derive(Drop)]
 pub struct FeedLabel<S> {
     params: FeedParams,
@@ -40,21 +40,21 @@ impl<S> FeedLabel<S> {
         }
     }
 
-    /// What was asked for. Constant time.
+    /// The parameters of the feed. Constant time.
     pub fn params(&self) -> &FeedParams
         ensures { params_asked result.now ≡ self.now.asked }
     {
         &self.params
     }
 
-    /// The sequence that the feed began at: it shows what lies above. Constant time.
+    /// The sequence at which the feed began: its rows lie above. Constant time.
     pub fn since(&self) -> u64
         ensures { result ≡ self.now.since }
     {
         self.since
     }
 
-    /// The number of the life that its sequences are of. Constant time.
+    /// The number of the life of its sequences. Constant time.
     pub fn life(&self) -> u64
         ensures { result ≡ self.now.life }
     {
@@ -62,7 +62,7 @@ impl<S> FeedLabel<S> {
     }
 }
 
-/// Of blocks it allows those whose items are rightly handed, one block after the other.
+/// It allows a list of blocks where their items, one block after the other, are right for the feed.
 impl<S: HostView> Kept<Block<S::Row>> for FeedLabel<S> {
     ghost use Rattle.hub_params.specs.FeedModel.{params_in};
     ghost use Rattle.hub_shared.specs.Blocks.{items_in};

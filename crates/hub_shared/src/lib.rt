@@ -1,7 +1,6 @@
-//! What threads share: a host of feeds with the subscribers of its feeds, where each step of a feed is one
-//! step of the host and of the feed's sender together; a database and the log of updates, each such a
-//! host behind its lock; handles that count what was accepted through them; feeds, and what fills their
-//! lanes.
+//! Hosts of feeds that threads share: a database, and the log of updates, each behind its lock. A host has a
+//! subscriber for each of its feeds, and a step of a feed is one step of the host and of its subscriber
+//! together. Handles count the edits that were accepted through them. Pumps and polls fill the lanes.
 #![tactic(auto)]
 
 mod block;

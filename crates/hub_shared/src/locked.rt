@@ -34,26 +34,26 @@ use std::sync::Arc;
 pub struct OpenedFeed<T> {
     /// The number under which its host keeps it.
     pub id: FeedId,
-    /// The end that takes what the host hands.
+    /// The end that takes the items that the host hands.
     pub taker: T,
 }
 
-/// A host of feeds, with the outbox of each feed that is not finished, and a book that counts its edits.
-/// Whenever it is got from a lock, what each outbox was sent fits its feed as the host is then (`state`),
-/// and where there is a count, the book's total is how many edits the host has. Contracts see the host, the
+/// A host of feeds, the outbox of each feed that is not finished, and a book that counts the host's edits.
+/// Whenever a lock gives it, the items sent to each outbox fit the feed in the present host (`state`). Where
+/// edits are counted, the book's total is the number of the host's edits. Contracts see the host, the
 /// outboxes and how many items of a feed may wait.
 #[derive(Drop)]
 pub struct Locked<S: HostView, C: Count = Plain, K: Outbox<S> = Subscriber<S>> {
     pub(crate) state: S,
     /// The outboxes of the feeds that are not finished, by the numbers of the feeds, which rise.
     pub(crate) subscribers: Vec<(u64, K)>,
-    /// Where the outbox stood that was handed to last. One is looked for there first.
+    /// The place of the outbox to which the last hand went. A search looks there first.
     near: usize,
     /// How many items of a feed may wait at most.
     lane: usize,
     /// How many items a feed is handed in one holding at most.
     hold: u64,
-    /// Another number after each change that a pump may wait for, and each end of a feed.
+    /// A number that changes with each change that a pump may wait for, and with each end of a feed.
     news: u64,
     pub(crate) book: C::Book,
     pub(crate) alloc: Global,
@@ -72,10 +72,10 @@ impl<S: HostView, C: Count, K: Outbox<S>> Model for Locked<S, C, K> {
         × IsBookOf C.counts (C.total a.book) (S.hosted a.state).length };
 }
 
-/// What only a subscriber has.
+/// Calls for outboxes that are subscribers.
 impl<S: HostView, C: Count> Locked<S, C> {
-    // How many items a feed is handed in one holding at most, by `Subscriber::most`, and how many may wait then:
-    // those that wait, and so many more, as far as the lane goes. It costs a search as `make_room`.
+    // The most items that one holding hands a feed (`Subscriber::most`), and how many items may wait then: as
+    // many more than wait already, but at most `lane`. The cost is the search of `make_room`.
     fn most(&self, feed: FeedId) -> (u64, usize) {
         let Some(at) = place_near(self.subscribers.as_slice(), self.near, feed.number) else {
             return (self.hold, self.lane);
@@ -86,7 +86,7 @@ impl<S: HostView, C: Count> Locked<S, C> {
         (most, self.lane.min(room))
     }
 
-    /// The signals of a feed, if there is one of this number. A binary search.
+    /// The signals of the feed of this number, if there is one. A binary search.
     pub(crate) fn signals(&self, feed: FeedId) -> Result<Option<Arc<Signals, Global>>, AllocError> {
         let Some(at) = place_of(self.subscribers.as_slice(), feed.number) else {
             return Ok(None);
@@ -95,9 +95,9 @@ impl<S: HostView, C: Count> Locked<S, C> {
         Ok(Some(entry.1.signals()?))
     }
 
-    /// Reserves memory for so many items of a feed that wait, those that wait among them, if there is a feed of
-    /// this number. Without memory nothing changes. It costs a search among the outboxes, which is constant
-    /// time where the last hand was for the same feed.
+    /// Reserves memory so that `room` items of a feed may wait, with the items that wait already among them.
+    /// Without a feed of this number, or out of memory, nothing changes. The cost is a search among the
+    /// outboxes: constant time where the last hand was for the same feed.
     pub fn make_room(&mut self, feed: FeedId, room: usize) -> Result<(), AllocError>
         ensures ok { OnOk result (self.new ≡ record self.old {
           senders = with_change feed.number (with_room room) self.old.senders;
@@ -111,10 +111,10 @@ impl<S: HostView, C: Count> Locked<S, C> {
         entry.1.make_room(room)
     }
 
-    /// Gives the lane of a feed all items of it that wait, as one block, and answers how many these were:
-    /// none also where there is no feed of this number. Where the lane was full at a moment of the call
-    /// they go on waiting, and the answer is `None`. No memory is kept for more that wait: `make_room`
-    /// reserves it. It costs a search as `make_room`, and takes no memory.
+    /// Gives the lane of a feed all its items that wait, as one block, and answers their number: 0 also where
+    /// there is no feed of this number. Where the lane was full at a moment of the call, the items go on
+    /// waiting, and the answer is `None`. In both cases no memory is reserved for further items: `make_room`
+    /// reserves it. The cost is the search of `make_room`, and the call takes no memory.
     pub fn hand_over<R>(&mut self, rt: &R, feed: FeedId) -> Option<usize>
     where
         R: Asks<FeedLabel<S>, Block<S::Row>>,
@@ -138,11 +138,11 @@ impl<S: HostView, C: Count> Locked<S, C> {
     }
 }
 
-/// How a subscriber's items are handed.
+/// The steps of a holding, for outboxes that are subscribers.
 impl<S: FeedHost, C: Count> Locked<S, C> {
-    /// The steps of one holding: the last answer, and how many items were sent. A turn that hands goes on
-    /// until an answer is not a row, or as many items were sent as one holding may. Room is made for so many and
-    /// no more: a list of a few lies in the C library's quick pieces. It costs what these steps do.
+    /// Makes the steps of one holding: the last answer, and how many rows and Ends were sent. `Turn::Hand`
+    /// goes on until an answer is not a row, or `most` items were sent. Room is made for these items alone: a
+    /// short list lies in the C library's quick pieces. The cost is that of the steps.
     pub(crate) fn step(&mut self, feed: FeedId, turn: Turn) -> Result<(Handed, u64), AllocError> {
         if turn == Turn::Expire {
             self.expire(feed);
@@ -165,10 +165,10 @@ impl<S: FeedHost, C: Count> Locked<S, C> {
     }
 }
 
-/// What is read of it.
+/// Calls that read.
 impl<S: HostView, C: Count, K: Outbox<S>> Locked<S, C, K> {
-    /// The host. Each feed of it that is not finished has an outbox, whose label is the feed's
-    /// parameters and since, and what that was sent fits the feed as the host is now. Constant time.
+    /// The host. Each of its feeds that is not finished has an outbox. The outbox's label has the feed's
+    /// parameters and since, and the items sent to it fit the feed in the present host. Constant time.
     pub fn state(&self) -> &S
         ensures state { result.now ≡ self.now.state }
         ensures senders { AreSendersOf K.label K.items (S.fits self.now.state) (S.hosted self.now.state)
@@ -177,15 +177,15 @@ impl<S: HostView, C: Count, K: Outbox<S>> Locked<S, C, K> {
         &self.state
     }
 
-    /// Another number after each change that a pump may wait for, and each end of a feed.
+    /// A number that changes with each change that a pump may wait for, and with each end of a feed.
     pub(crate) fn news(&self) -> u64 {
         self.news
     }
 }
 
 impl<S: FeedHost, C: Count, K: Outbox<S>> Locked<S, C, K> {
-    /// A host that has no feed, feeds of which `lane` items each may wait, holdings of `hold` items at most,
-    /// and a book that has counted nothing. It takes no memory.
+    /// A host without feeds, and a book that has counted nothing. Of each feed at most `lane` items may wait,
+    /// and a holding hands a feed at most `hold` items. It takes no memory.
     pub fn new(alloc: Global, state: S, lane: usize, hold: u64, book: C::Book) -> Locked<S, C, K>
         requires room { 0 < lane }
         requires unused { IsUnused C.counts (C.total book) (S.hosted state) }
@@ -203,8 +203,8 @@ impl<S: FeedHost, C: Count, K: Outbox<S>> Locked<S, C, K> {
         }
     }
 
-    /// There is something that feeds may wait for: pumps find another number, and watches have news. It costs
-    /// a look at each feed.
+    /// Tells of a change that feeds may wait for: the number of the news changes, and watches get news. The
+    /// cost is a look at each feed.
     pub(crate) fn tell(&mut self)
         ensures { self.new ≡ self.old }
     {
@@ -214,17 +214,17 @@ impl<S: FeedHost, C: Count, K: Outbox<S>> Locked<S, C, K> {
         }
     }
 
-    /// A feed's time without an item is over: an open feed that waits is ending. It takes no memory,
-    /// and costs what the host's `expire` does.
+    /// Ends a feed's time without an item: an open feed that waits is ending. It takes no memory. The cost is
+    /// that of the host's `expire`.
     pub fn expire(&mut self, feed: FeedId)
         ensures { self.new ≡ stepped S.hosted S.with_hosted self.old (λ h. hosted_after_expiry h feed.number) }
     {
         self.state.expire(feed);
     }
 
-    /// Forgets a feed with its outbox, if there is one of this number, and hands the outbox out: no later
-    /// hand sends for it. What it was sent fits the feed that was, as the host was. It takes no memory, and
-    /// costs what the host's `finish` does, a search among the outboxes, and a move of those behind it.
+    /// Forgets the feed of this number, if there is one, and gives out its outbox: no later hand sends to it.
+    /// The items sent to it fit the feed and the host as both were before. It takes no memory. The cost is
+    /// that of the host's `finish`, a search among the outboxes, and a move of the later outboxes.
     pub fn finish(&mut self, feed: FeedId) -> Option<K>
         ensures sender { result ≡ entry_in feed.number self.old.senders }
         ensures fits { IfSome result (λ s. (f : Feed)
@@ -258,10 +258,10 @@ impl<S: FeedHost, C: Count, K: TwoEnded<S>> Locked<S, C, K> {
         K::open(self.alloc, self.lane, label, params)
     }
 
-    /// Opens a feed at the host, under a number that no feed had before, and gives the end that takes, of
-    /// whose outbox it keeps the other. `descending` is not looked at. Out of memory is told only where the
-    /// host refuses nothing, and any error leaves all as it was. It costs a copy of the parameters, an
-    /// outbox, and what `open_feed` does.
+    /// Opens a feed at the host, under a number that no feed had before. The feed's outbox stays here, and
+    /// the result is the outbox's other end. `descending` is not looked at. Out of memory is the error only
+    /// where the host refuses nothing, and any error leaves all as it was. The cost is a copy of the
+    /// parameters, an outbox, and that of `open_feed`.
     pub fn begin(&mut self, params: FeedParams) -> Result<OpenedFeed<K::Taker>, OpenFault>
         ensures ok { IfOk result (λ opened. Begins S.hosted S.with_hosted K.made K.takes
             params self.old opened.id.number opened.taker self.new) }
@@ -287,13 +287,13 @@ impl<S: FeedHost, C: Count, K: TwoEnded<S>> Locked<S, C, K> {
     }
 }
 
-/// What a host hands.
+/// Hands and heartbeats.
 impl<S: FeedHost, C: Count, K: Receives<S>> Locked<S, C, K> {
-    /// Hands the feed's next item to its outbox: what is due is sent, and the feed goes on behind it.
-    /// `Full` is answered only where the outbox gave the item back, as it has no room for one more; then
-    /// nothing changes, and the next hand makes the item again. A feed that has nothing to hand
-    /// goes to the length of what it follows. Only a row takes memory, and without it nothing changes. It
-    /// costs what the host's `hand` does, and a push; the outbox is found in constant time where the last
+    /// Hands the feed's next item to its outbox: the item that is due is sent, and only then the feed moves
+    /// on. `Full` is answered only where the outbox had no room and gave the item back. Nothing changes then,
+    /// and the next hand makes the item again. Where nothing is due, the feed's place goes to the length of
+    /// the journal or log that it follows. Only a row takes memory, and out of memory nothing changes. The
+    /// cost is that of the host's `hand`, and a push. The outbox is found in constant time where the last
     /// hand was for the same feed.
     pub fn hand<P: Pushes<K, Item<S::Row>>>(
         &mut self,
@@ -313,9 +313,9 @@ impl<S: FeedHost, C: Count, K: Receives<S>> Locked<S, C, K> {
         self.state.hand(feed, handle, &mut entry.1)
     }
 
-    /// Sends a heartbeat where one is due, and the feed stays where it is: `Nothing`, also where it
-    /// was sent, or `Full`, only where the outbox gave it back. It takes no memory, and costs what
-    /// `beat_due` does, a search among the outboxes, and a push.
+    /// Sends a heartbeat where one is due, and the feed keeps its place. `Full` is answered only where the
+    /// outbox gave the heartbeat back, and else `Nothing`, sent or not. It takes no memory. The cost is that
+    /// of the host's `beat_due`, a search among the outboxes, and a push.
     pub fn beat<P: Pushes<K, Item<S::Row>>>(&mut self, handle: &P, feed: FeedId) -> Handed
         ensures { Beats K.behind (P.refuses handle.now)
             (is_beat_allowed_if_any (entry_in feed.number (S.hosted self.old.state).feeds))
@@ -335,9 +335,9 @@ impl<S: FeedHost, C: Count, K: Receives<S>> Locked<S, C, K> {
     }
 }
 
-/// Where the items of feeds lie under the lock with them.
+/// Calls for outboxes whose items lie under the lock with them.
 impl<S: FeedHost, C: Count, K: Shelf<S>> Locked<S, C, K> {
-    /// The outbox of a feed, if there is one of this number. A binary search.
+    /// The outbox of the feed of this number, if there is one. A binary search.
     pub fn outbox(&self, feed: FeedId) -> Option<&K>
         ensures found { IfSome result (λ k. entry_in feed.number self.now.senders ≡ Some k.now) }
         ensures none { IfNone result (entry_in feed.number self.now.senders ≡ None) }
@@ -345,8 +345,8 @@ impl<S: FeedHost, C: Count, K: Shelf<S>> Locked<S, C, K> {
         outbox_of(self.subscribers.as_slice(), feed.number)
     }
 
-    /// Takes the next item of a feed, the first that was handed and not taken. It takes no memory, and costs
-    /// a binary search, and what `Shelf::take` does.
+    /// Takes the first item of a feed that was handed and not taken yet. It takes no memory. The cost is a
+    /// binary search, and that of `Shelf::take`.
     pub fn take(&mut self, feed: FeedId) -> Option<Item<S::Row>>
         ensures item { result ≡ option_and_then K.front (entry_in feed.number self.old.senders) }
         ensures rest { self.new

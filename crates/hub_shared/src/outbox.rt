@@ -1,4 +1,4 @@
-//! Where a host's items for a feed go.
+//! Outboxes: the places to which a host hands the items of its feeds.
 
 ghost use Rattle.std.specs.Prelude.{◌≡◌, ◌<◌, [], ℕ, List, Option, IfOk};
 ghost use Rattle.hub_model.specs.declared.feeds.Item.{Item as HandedItem};
@@ -12,28 +12,28 @@ use hub_params::FeedParams;
 use std::alloc::{AllocError, Global};
 
 /// The end of a feed's lane into which a host's items go, as it lies under the lock: a lane's sender, or a
-/// plain list. Types ask no more of it: each function that names such a type is proved with all that the type
-/// asks for.
+/// plain list. Types have no other bound on outboxes: each function that names a type is proved with all
+/// bounds of the type.
 pub trait Outbox<S: HostView>: Drop {
-    /// What its feed was asked for, where that began, and in which life.
+    /// The label of its feed: parameters, since and life.
     ghost label: { Self → Label };
 
-    /// All that it was sent, the first item first.
+    /// All items that were sent to it, the first item first.
     ghost items: { Self → List (HandedItem S.Row) };
 
-    /// There is news for who watches the feed. It takes no memory.
+    /// Tells the watch of the feed, if there is one, that there is news. It takes no memory.
     fn tell(&self);
 }
 
-/// An outbox that is opened with its feed. The other end is handed out then.
+/// An outbox that is made, with its other end, as its feed is opened.
 pub trait TwoEnded<S: HostView>: Outbox<S> {
-    /// The end that takes.
+    /// The other end, which takes.
     type Taker: Drop;
 
-    /// The outbox, new, of this label and capacity, whose other end is this.
+    /// The new outbox that has this other end, this label and this capacity.
     ghost made: { Self.Taker → Label → ℕ → Self };
 
-    /// What is seen of the other end of one that is new, of this label.
+    /// Whether an end is the other end of a new outbox of this label.
     ghost takes: { Self.Taker → Label → Type 0 };
 
     /// An outbox for the feed of this label, and its other end. It takes the memory for as many items as the
@@ -49,23 +49,23 @@ pub trait TwoEnded<S: HostView>: Outbox<S> {
         ensures outbox { IfOk result (λ ends. ends.0 ≡ made ends.1 feed capacity) }
         ensures taker { IfOk result (λ ends. takes ends.1 feed) };
 
-    /// Its label is the one that it was made with.
+    /// A new outbox has the label that it was made with.
     ghost labelled: { (end : Self.Taker) (l : Label) (capacity : ℕ) → Self.label (made end l capacity) ≡ l };
 
-    /// As it is made it was sent nothing.
+    /// Nothing was sent to a new outbox.
     ghost begins: { (end : Self.Taker) (l : Label) (capacity : ℕ) → Self.items (made end l capacity) ≡ [] };
 }
 
-/// An outbox into which a host hands: what it took is what it was sent.
+/// An outbox that is a sink, to which a host hands.
 pub trait Receives<S: HostView>: Outbox<S> + Sink<Item<S::Row>> {
-    /// As a sink it took what it was sent.
+    /// As a sink it took the items that were sent to it.
     ghost same: { (k : Self) → Self.sent k ≡ Self.items k };
 
-    /// Behind an item its label stays.
+    /// One item more leaves its label as it was.
     ghost stays: { (k : Self) (item : HandedItem S.Row)
         → Self.label (Self.behind k item) ≡ Self.label k };
 
-    /// What is right for its feed it allows.
+    /// It allows each list that is right for its feed.
     ghost permits: { (k : Self) (list : List (HandedItem S.Row))
         → S.right (params_in (Self.label k).asked) (Self.label k).since list → Self.allows k list };
 }
@@ -75,7 +75,7 @@ pub trait Shelf<S: HostView>: Outbox<S> {
     /// The item that is taken next.
     ghost front: { Self → Option (HandedItem S.Row) };
 
-    /// The outbox, that item taken.
+    /// The outbox after that item was taken.
     ghost without_front: { Self → Self };
 
     /// Takes the next item. It takes no memory.
@@ -83,7 +83,7 @@ pub trait Shelf<S: HostView>: Outbox<S> {
         ensures item { result ≡ front self.old }
         ensures rest { self.new ≡ without_front self.old };
 
-    /// Behind that it is of the same feed, and was sent the same.
+    /// A take leaves its label and the list of its sent items as they were.
     ghost keeps: { (k : Self) → (Self.label (without_front k) ≡ Self.label k)
         × (Self.items (without_front k) ≡ Self.items k) };
 }

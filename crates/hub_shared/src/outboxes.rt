@@ -5,7 +5,7 @@ ghost use Rattle.hub_model.specs.Entries.{entry_in, without, AreRising};
 
 use hub_model::place_of;
 
-/// Takes the outbox of the feed of this number out, if there is one. It costs a binary search, and a move
+/// Takes the outbox of the feed of this number out, if there is one. The cost is a binary search, and a move
 /// of the outboxes behind it.
 pub(crate) fn remove<K>(outboxes: &mut Vec<(u64, K)>, feed: u64) -> Option<K>
     requires rising { AreRising outboxes.old.items }
@@ -17,7 +17,7 @@ pub(crate) fn remove<K>(outboxes: &mut Vec<(u64, K)>, feed: u64) -> Option<K>
     Some(outbox)
 }
 
-/// The outbox of the feed of this number, if there is one. It costs a binary search.
+/// The outbox of the feed of this number, if there is one. The cost is a binary search.
 pub(crate) fn outbox_of<K>(outboxes: &[(u64, K)], feed: u64) -> Option<&K>
     requires rising { AreRising outboxes.now }
     ensures found { IfSome result (λ k. entry_in feed outboxes.now ≡ Some k.now) }

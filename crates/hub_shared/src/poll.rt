@@ -1,4 +1,4 @@
-//! How one thread sends many feeds: each is asked for its next item, and none is waited for.
+//! How one thread sends many feeds: each feed is asked for its next item, and no feed is waited for.
 
 ghost use Rattle.std.specs.Prelude.{◌≡◌};
 ghost use Rattle.hub_shared.specs.Feeds.{Takes};
@@ -18,8 +18,8 @@ use std::alloc::Global;
 use std::sync::{Arc, Wait};
 
 impl<S: FeedHost, C: Count> HostFeed<S, C> {
-    // One holding of the lock for this feed, and whether its host may have more for it. The feed is over
-    // without memory for an item, and behind its end.
+    // Makes one holding of the lock for this feed, and says whether its host may have more for it. The feed
+    // is over after its end, and where an item finds no memory.
     fn hold_own<R, G>(&self, rt: &R, turn: Turn, gate: &G) -> bool
     where
         R: Asks<FeedLabel<S>, Block<S::Row>>,
@@ -34,8 +34,8 @@ impl<S: FeedHost, C: Count> HostFeed<S, C> {
         }
     }
 
-    // Sends the heartbeat that is due, or ends the feed's time, where no item was there to take. Else the
-    // feed waits from here on.
+    // For a feed without an item to take: sends the heartbeat that is due, or ends the feed's time. Where
+    // neither is due, the feed waits from here on.
     fn pass_time<R, G, K>(&mut self, rt: &R, gate: &G, clock: &K)
     where
         R: Asks<FeedLabel<S>, Block<S::Row>>,
@@ -50,7 +50,7 @@ impl<S: FeedHost, C: Count> HostFeed<S, C> {
             ClockDue::Beat => {
                 self.idle_since = Some(now);
                 self.hold_own(rt, Turn::Beat, gate);
-                // Items go before the next heartbeat, however soon that is due.
+                // The host is asked for items before the next heartbeat, however soon that is due.
                 self.is_behind = true;
             }
             ClockDue::Expire => {
@@ -64,13 +64,13 @@ impl<S: FeedHost, C: Count> HostFeed<S, C> {
         }
     }
 
-    /// Puts the next item into `next`, for one who sends many feeds and waits for none. Where no item is
-    /// left of the lane's blocks, one holding of the lock hands a block of as many items as it may. Where no
-    /// item is due either, a heartbeat or the end of the feed's time comes as the clock says. `None` says
-    /// that the feed waits, or that it is over (`is_over`): it finds no memory for an item, or it handed its
-    /// end. A feed that waits is to be asked again when its host has news (`watch`), and at the reading
-    /// `due` of the clock at the latest. It costs a holding where no item is left, and none where the last
-    /// one found nothing more to hand.
+    /// Puts the next item into `next`, for a thread that sends many feeds and waits for none. Where no item
+    /// is left of the lane's blocks, one holding of the lock hands a block of as many items as it may. Where
+    /// no item is due either, a heartbeat or the end of the feed's time comes as the clock says. `None` says
+    /// that the feed waits, or that it is over (`is_over`): an item found no memory, or the End was handed. A
+    /// feed that waits is to be asked again when its host has news (`watch`), and at the clock's `due` at the
+    /// latest. A poll without an item left costs a holding, unless the last one found nothing more. A
+    /// heartbeat costs one holding more, the end of the time two.
     pub fn poll<R, G, K>(&mut self, rt: &R, gate: &G, clock: &K, next: &mut Option<Item<S::Row>>)
     where
         R: Asks<FeedLabel<S>, Block<S::Row>>,
@@ -108,8 +108,8 @@ impl<S: FeedHost, C: Count> HostFeed<S, C> {
     }
 
     /// From here on each write, each deletion and each note of the host gives this watch news, until the feed
-    /// is finished. Who calls this polls the feed once more after it: what was written before gave no news.
-    /// It costs the wait for the lock, and a binary search.
+    /// is finished. The caller polls the feed once more after the call: an earlier write gave no news. The
+    /// cost is the wait for the lock, and a binary search.
     pub fn watch<R: Wait>(&self, rt: &R, watch: Arc<Watch, Global>) {
         let mut guard = self.host.locked().lock(rt);
         let locked = &mut *guard;

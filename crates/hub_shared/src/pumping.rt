@@ -13,21 +13,21 @@ use std::alloc::AllocError;
 use std::sync::Wait;
 use std::time;
 
-/// What one holding of the lock does for a feed.
+/// The task of one holding of the lock, for one feed.
 #[derive(Clone, Copy, Debug, PartialEq, Eq)]
 pub enum Turn {
-    /// It hands what is due.
+    /// Hands the items that are due.
     Hand,
-    /// It sends a heartbeat that is due.
+    /// Sends a heartbeat, if one is due.
     Beat,
-    /// It ends the feed's time.
+    /// Ends the feed's time without an item.
     Expire,
 }
 
-/// What one holding did.
+/// The result of one holding.
 #[derive(Clone, Copy)]
 pub(crate) struct Holding {
-    /// What the last step answered; `Full` also where items wait for room in the lane.
+    /// The answer of the last step. After `Turn::Hand`, `Full` also where items wait for room in the lane.
     pub(crate) last: Handed,
     /// Whether items were handed, or went into the lane.
     pub(crate) has_sent: bool,
@@ -36,10 +36,10 @@ pub(crate) struct Holding {
 }
 
 impl<S: FeedHost, C: Count> Host<S, C> {
-    /// One holding of the lock: the items that wait go into the lane as one block, then come the steps, and
-    /// the items that the steps sent go into the lane as another, also where the steps found no memory.
-    /// Items that wait behind a turn that hands are told as `Full`: once there is room the feed is to be
-    /// held again.
+    /// One holding of the lock. The items that wait go into the lane as one block. Then come the steps. The
+    /// items that wait after them go into the lane as another block, also where the steps found no memory.
+    /// Where items wait after `Turn::Hand` even then, the answer is `Full`: once there is room, the feed is
+    /// to be held again.
     pub(crate) fn hold_once<R, G>(
         &self,
         rt: &R,
@@ -66,11 +66,11 @@ impl<S: FeedHost, C: Count> Host<S, C> {
     }
 }
 
-/// Takes the lock once. `Turn::Hand` hands until an answer is not `Row`, or as many items were handed as
-/// one holding may, and answers the last; without memory for a row the items before it stay handed. The items
-/// that were handed go into the feed's lane as one block; where the lane was full they wait, and the answer
-/// is `Full`, as it is where as many items wait as may. The other turns make one step: both answer
-/// `Nothing`, also where there is nothing to do, and `Turn::Beat` answers `Full` where as many wait as may.
+/// Takes the lock once. `Turn::Hand` hands until an answer is not `Row`, or the holding may hand no more, and
+/// gives the last answer. Out of memory for a row, the items before it stay handed. The handed items go into
+/// the feed's lane as one block. Where the lane was full they wait, and the answer is `Full`, as where as
+/// many items wait as may. The other turns make one step, and answer `Nothing`, also where there is nothing
+/// to do. `Turn::Beat` answers `Full` where as many items wait as may.
 pub fn hold<S, C, R, G>(
     rt: &R,
     host: &Host<S, C>,
@@ -88,7 +88,7 @@ where
     Ok(holding.last)
 }
 
-// What a pump knows between two holdings.
+// The state of a pump between two holdings.
 #[derive(Drop)]
 struct PumpState<'a, S: FeedHost, C: Count, K: Clock> {
     host: &'a Host<S, C>,
@@ -100,8 +100,8 @@ struct PumpState<'a, S: FeedHost, C: Count, K: Clock> {
 }
 
 impl<'a, S: FeedHost, C: Count, K: Clock> PumpState<'a, S, C, K> {
-    // What comes after a turn that found nothing to do: behind a heartbeat or the end of its time the
-    // feed is asked again; a feed that had nothing to hand gets one of these, or waits for news.
+    // The turn after one that answered `Nothing`. After a heartbeat or the end of its time the feed is asked
+    // again. A feed with nothing to hand gets a heartbeat or the end of its time, or waits for news.
     fn after_nothing<R: Wait + time::Clock>(&mut self, rt: &R, turn: Turn, news: u64) -> Turn {
         let now = self.clock.now_ms();
         if turn == Turn::Beat {
@@ -125,7 +125,7 @@ impl<'a, S: FeedHost, C: Count, K: Clock> PumpState<'a, S, C, K> {
         }
     }
 
-    // Hands until the feed is gone: the loop itself has no end.
+    // Hands until the feed is gone, or a row finds no memory: the loop itself has no end.
     fn run<R, G>(&mut self, rt: &R, gate: &G) -> Result<(), AllocError>
     where
         R: Asks<FeedLabel<S>, Block<S::Row>> + time::Clock,
@@ -153,12 +153,12 @@ impl<'a, S: FeedHost, C: Count, K: Clock> PumpState<'a, S, C, K> {
     }
 }
 
-/// Hands a feed's items into its lane as they come, a block for each holding of the lock, until the feed is
-/// finished or has handed its end: then it ends with Ok. Without memory for a row it ends with that error,
-/// and the feed stays as it is. It takes the lock for at most as many items as one holding may hand. Where
-/// the lane is full it sleeps until `Feed::take` finds it empty. Where there is nothing to hand it sleeps
-/// until a write, a deletion or the end of a feed, and at most until a heartbeat is due, or the feed's time
-/// is over.
+/// Hands a feed's items into its lane as they come, a block for each holding of the lock. It ends with Ok
+/// once the feed is finished or has handed its end. Out of memory for a row it ends with that error, and the
+/// feed stays as it is. Each holding hands at most as many items as `Locked::most` says. Where the lane is
+/// full, the pump sleeps until `Feed::take` finds the lane empty. Where there is nothing to hand, it sleeps
+/// until a write, a deletion or the end of a feed. This sleep ends at the latest when a heartbeat is due, or
+/// the feed's time is over.
 pub fn pump<S, C, R, G, K>(
     rt: &R,
     host: &Host<S, C>,

@@ -7,19 +7,19 @@ use std::sync::atomic::{AtomicBool, Ordering};
 use std::sync::{Arc, Wait};
 use std::thread::Parker;
 
-/// What the connection that shows a feed shares with a pump of the feed. Each sleeps on a parker of its own,
-/// which keeps one ring: a ring that comes before the sleep ends the sleep at once. Who wakes looks again: a
-/// sleep may end for no reason.
+/// The signals between the connection of a feed and a pump of the feed. Each of the two sleeps on a parker of
+/// its own, which keeps one ring: a ring before the sleep ends the sleep at once. Whoever wakes looks again:
+/// a sleep may end for no reason.
 #[derive(Drop)]
 pub struct Signals {
     /// How long the feed may be without an item.
     pub(crate) times: Times,
-    /// Rung by the pump once it sent items, and as it ends; the connection sleeps on it.
+    /// Rung by the pump once it sent items, and as it ends. The connection sleeps on it.
     items: Parker,
-    /// Rung by the connection once the lane is empty, and as the feed is finished; the pump sleeps on
-    /// it where the lane is full.
+    /// Rung by the connection once the lane is empty, and as the feed is finished. The pump sleeps on it
+    /// while the lane is full.
     room: Parker,
-    /// Whether nothing more is sent.
+    /// Whether no more items are sent.
     pub(crate) is_over: AtomicBool,
 }
 
@@ -41,23 +41,23 @@ impl Signals {
         Ok((Arc::try_clone(&signals)?, signals))
     }
 
-    /// There are items to take.
+    /// Wakes the connection: there are items to take.
     pub(crate) fn ring_items(&self) {
         self.items.unpark();
     }
 
-    /// There is room in the lane.
+    /// Wakes the pump: there is room in the lane.
     pub(crate) fn ring_room(&self) {
         self.room.unpark();
     }
 
-    /// Nothing more is sent.
+    /// Notes that no more items are sent, and wakes the connection.
     pub(crate) fn end(&self) {
         self.is_over.store(true, Ordering::SeqCst);
         self.items.unpark();
     }
 
-    /// Sleeps until there are items, or nothing more is sent.
+    /// Sleeps until there are items, or no more items are sent.
     pub(crate) fn wait_for_items<R: Wait>(&self, rt: &R) {
         self.items.park(rt);
     }

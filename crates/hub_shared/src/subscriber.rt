@@ -1,5 +1,5 @@
-//! The program's outbox of a feed: the end of a lane that sends, what waits for room in the lane, and whom to
-//! tell of the feed.
+//! The program's outbox of a feed: the sending end of the feed's lane, the items that wait for room in the
+//! lane, and the watch of the feed.
 
 ghost use Rattle.std.specs.Prelude.{◌≡◌, [], length, IfOk, IfSome, IfNone, OnErr, OnOk};
 ghost use Rattle.hub_lane.specs.Ends.{new_receiver};
@@ -22,10 +22,10 @@ use std::marker::Model;
 use std::mem;
 use std::sync::Arc;
 
-/// The end of a feed's lane that sends, with the items that wait for room in the lane, and whom to tell of
-/// the feed. An item that is sent waits here; what waits goes into the lane as one block. Contracts see the
-/// lane, its label, all items that were sent, those of them that wait, and for how many that wait memory is
-/// reserved.
+/// The sending end of a feed's lane, with the items that wait for room in the lane, and the watch of the
+/// feed. An item that is sent waits here first. All items that wait go into the lane as one block. Contracts
+/// see the lane, its label, all items that were sent, the items among them that wait, and how many may wait
+/// without taking memory.
 #[derive(Drop)]
 pub struct Subscriber<S: HostView> {
     sender: Sender<FeedLabel<S>, Block<S::Row>>,
@@ -33,9 +33,9 @@ pub struct Subscriber<S: HostView> {
     waiting: Vec<Item<S::Row>>,
     /// How many items may wait, with no memory taken.
     room: usize,
-    /// What a pump of the feed and its connection share.
+    /// The signals between the feed's connection and a pump of the feed.
     signals: Arc<Signals, Global>,
-    /// What has news where one sends the feed who waits for none.
+    /// The watch that gets the news of the host, where a thread polls the feed.
     watch: Option<Arc<Watch, Global>>,
 }
 
@@ -61,7 +61,7 @@ impl<S: HostView> Model for Subscriber<S> {
         (items_in a.sender.sent ++ a.waiting.items) };
 }
 
-/// It takes what the label of its lane allows.
+/// It takes the lists of items that the label of its lane allows.
 impl<S: HostView> Sink<Item<S::Row>> for Subscriber<S> {
     ghost use Rattle.hub_params.specs.FeedModel.{params_in};
     ghost use Rattle.hub_shared.specs.Blocks.{behind_sent};
@@ -73,16 +73,16 @@ impl<S: HostView> Sink<Item<S::Row>> for Subscriber<S> {
     ghost behind = { λ s item. behind_sent s item };
 }
 
-/// What the connection of a feed gets as the feed is opened.
+/// The parts of a feed that its connection gets as the feed is opened.
 #[derive(Drop)]
 pub struct FeedTaker<S: HostView> {
-    /// The end of the feed's lane that takes.
+    /// The taking end of the feed's lane.
     pub end: FeedEnd<S>,
-    /// What its connection shares with a pump of it.
+    /// The signals between the feed's connection and a pump of the feed.
     pub signals: Arc<Signals, Global>,
 }
 
-/// By its lane, and what waits for room there.
+/// By its lane, and the items that wait for room there.
 impl<S: HostView> Outbox<S> for Subscriber<S> {
     ghost label = { λ s. s.label };
 
@@ -150,19 +150,18 @@ impl<S: HostView> Receives<S> for Subscriber<S> {
     ghost permits = { λ s list is. is };
 }
 
-/// How many rows that bring their documents a feed is handed in one holding at most. The C library keeps
-/// seven pieces of a size at hand for a thread, so the copies of documents take the memory of those that were
-/// sent.
+/// The most rows with documents that one holding hands a feed. The C library keeps seven free pieces of each
+/// size at hand for a thread, so the copies of documents take the memory of documents that were sent.
 const MOST_DOCUMENTS: u64 = 7;
 
 impl<S: HostView> Subscriber<S> {
-    /// Its signals once more. Constant time.
+    /// Another copy of its signals. Constant time.
     pub(crate) fn signals(&self) -> Result<Arc<Signals, Global>, AllocError> {
         Arc::try_clone(&self.signals)
     }
 
-    /// How many items its feed is handed in one holding at most, where no feed is handed more than `hold`:
-    /// fewer where its rows bring their documents. Constant time.
+    /// The most items that one holding hands its feed, where no feed is handed more than `hold`. Where the
+    /// rows bring their documents, the number is `MOST_DOCUMENTS` at most. Constant time.
     pub(crate) fn most(&self, hold: u64) -> u64
         ensures { result ≡ most_items self.now.label.asked hold }
     {
@@ -180,15 +179,15 @@ impl<S: HostView> Subscriber<S> {
         self.waiting.len()
     }
 
-    /// From here on this watch has the feed's news.
+    /// From here on this watch gets the news of the feed's host.
     pub(crate) fn watch(&mut self, watch: Arc<Watch, Global>)
         ensures { self.new ≡ self.old }
     {
         self.watch = Some(watch);
     }
 
-    /// Reserves memory for so many items that wait, those that wait among them. Without memory it is as it
-    /// was.
+    /// Reserves memory so that `room` items may wait, with the items that wait already among them. Out of
+    /// memory, nothing changes.
     pub(crate) fn make_room(&mut self, room: usize) -> Result<(), AllocError>
         ensures ok { OnOk result (self.new ≡ with_room room self.old) }
         ensures err { OnErr result (self.new ≡ self.old) }
@@ -199,9 +198,9 @@ impl<S: HostView> Subscriber<S> {
         Ok(())
     }
 
-    /// Gives the lane all that waits, as one block, and answers how many items these were: none where
-    /// nothing waits. Where the lane was full at a moment of the call they go on waiting, and the answer is
-    /// `None`. No memory is kept for more that wait. Constant time, and it takes no memory.
+    /// Gives the lane all items that wait, as one block, and answers their number: 0 where none waits. Where
+    /// the lane was full at a moment of the call, the items go on waiting, and the answer is `None`. In both
+    /// cases no memory is reserved for further items. Constant time, and it takes no memory.
     pub(crate) fn hand_over<R>(&mut self, rt: &R, alloc: Global) -> Option<usize>
     where
         R: Asks<FeedLabel<S>, Block<S::Row>>,
@@ -225,11 +224,11 @@ impl<S: HostView> Subscriber<S> {
     }
 }
 
-/// How a subscriber is given an item: it waits with it.
+/// The way in which a subscriber is given an item: the item waits there.
 #[derive(Drop)]
 pub struct Directly;
 
-/// By the items that wait. One is refused just where as many wait as have room.
+/// An item is added to the items that wait. It is refused just where as many items wait as have room.
 impl<S: HostView> Pushes<Subscriber<S>, Item<S::Row>> for Directly {
     ghost use Rattle.std.proofs.Common.{refl};
     ghost use Rattle.hub_shared.specs.Blocks.{HasNoRoom};

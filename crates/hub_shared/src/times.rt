@@ -1,4 +1,4 @@
-//! When a feed that has nothing to hand gets a heartbeat, or its end.
+//! When a feed with nothing to hand gets a heartbeat, or its end.
 
 ghost use Rattle.std.specs.Prelude.{◌≡◌};
 ghost use Rattle.hub_shared.specs.Times.{due_after};
@@ -9,13 +9,13 @@ use hub_params::FeedParams;
 /// `heartbeat` and `timeout`).
 #[derive(Clone, Copy, Debug, PartialEq, Eq)]
 pub struct Times {
-    /// After this a heartbeat is due; a feed with one has no timeout.
+    /// After this time a heartbeat is due. A feed with a heartbeat has no timeout.
     pub(crate) heartbeat: Option<u64>,
-    /// After this the feed's time is over.
+    /// After this time the feed's time is over.
     pub(crate) timeout: u64,
 }
 
-/// What is to be done for a feed that had nothing to hand.
+/// The next step for a feed that had nothing to hand.
 #[derive(Clone, Copy, PartialEq, Eq)]
 pub(crate) enum ClockDue {
     /// A heartbeat.
@@ -27,7 +27,7 @@ pub(crate) enum ClockDue {
 }
 
 impl Times {
-    /// Those that a feed was asked for with.
+    /// The times that these parameters ask for.
     pub(crate) fn of(params: &FeedParams) -> Times
         ensures { (result.heartbeat ≡ params.now.heartbeat) × (result.timeout ≡ params.now.timeout) }
     {
@@ -37,7 +37,7 @@ impl Times {
         }
     }
 
-    /// What is to be done once so many milliseconds passed without an item. Constant time.
+    /// The next step, after so many milliseconds without an item. Constant time.
     pub(crate) fn due_after(self, passed: u64) -> ClockDue
         ensures { result ≡ due_after self passed }
     {

@@ -19,15 +19,15 @@ use hub_updates::{NoteFault, Notice, UpdatesState};
 use std::alloc::{AllocError, Global};
 use std::sync::{Arc, Condvar, Mutex, Wait};
 
-/// The log of updates, which threads share. Each `Updates` keeps it; it goes with the last of them.
+/// The log of updates, which threads share. Each `Updates` keeps it; it is dropped with the last of them.
 pub type Updates = Host<UpdatesState>;
 
 /// A feed of the log of updates.
 pub type UpdatesFeed = HostFeed<UpdatesState>;
 
 impl Locked<UpdatesState> {
-    /// Adds a notice at the end of the log, or hands it back, as `UpdatesState::note`, and gives news of
-    /// it: what its feeds have sent goes on fitting them.
+    /// Adds a notice at the end of the log, or hands it back, as `UpdatesState::note`. The feeds that wait
+    /// are told in both cases. The items sent for each feed go on fitting it.
     pub fn note(&mut self, notice: Notice) -> Result<(), (Notice, NoteFault)>
         ensures room { OnOk result (length self.old.state.notes < self.old.state.limits.journal) }
         ensures ok { OnOk result (self.new ≡ record self.old {
@@ -44,7 +44,7 @@ impl Locked<UpdatesState> {
 }
 
 impl Host<UpdatesState> {
-    /// A log of nothing. Its life is 0, which no database has.
+    /// An empty log. Its life is 0, which no database has.
     pub fn of_updates(alloc: Global, limits: Limits) -> Result<Updates, AllocError> {
         let state = UpdatesState::new(alloc, limits, 0);
         let locked = Locked::new(alloc, state, limits.lane as usize, limits.hold, NoCount);
@@ -52,8 +52,8 @@ impl Host<UpdatesState> {
         Ok(Host { shared, alloc })
     }
 
-    /// Adds a notice at the end of the log, or hands it back, as `UpdatesState::note`, and tells the
-    /// feeds that wait. It costs the wait for the lock, and what `UpdatesState::note` does.
+    /// Adds a notice at the end of the log, or hands it back, as `UpdatesState::note`. It tells the feeds
+    /// that wait. The cost is the wait for the lock, that of `UpdatesState::note`, and a look at each feed.
     pub fn note<R: Wait>(&self, rt: &R, notice: Notice) -> Result<(), (Notice, NoteFault)>
         ensures err { IfErr result (λ e. e.0 ≡ notice) }
     {
@@ -62,9 +62,9 @@ impl Host<UpdatesState> {
         noted
     }
 
-    /// Opens a feed, which stays until it is finished: its connection is to call `HostFeed::poll`, or
-    /// something `pump` for it, and `HostFeed::take`. It shows every row of the log, upwards
-    /// (`UpdatesState::effective`). It costs the wait for the lock, and what `Locked::begin` does.
+    /// Opens a feed, which stays until it is finished: its connection is to call `HostFeed::poll`, or a
+    /// thread to `pump` it and the connection to call `HostFeed::take`. It shows every row of the log,
+    /// upwards (`UpdatesState::effective`). The cost is the wait for the lock, and that of `Locked::begin`.
     pub fn open_feed<R: Wait>(&self, rt: &R, params: FeedParams) -> Result<UpdatesFeed, OpenFault>
         ensures new { IfOk result (IsNew (updates_asked (params_asked params)) 0) }
         ensures opened { IfOk result (λ feed. (h : Hosted UpdateRow)

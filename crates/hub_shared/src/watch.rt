@@ -1,10 +1,10 @@
-//! How writes tell whoever sends feeds that there is news.
+//! How writes tell the threads that send feeds that there is news.
 
 use std::alloc::Global;
 use std::sync::Arc;
 use std::sync::atomic::{AtomicBool, Ordering};
 
-/// A bell of one who sends the feeds of many hosts: rung where one of its watches has news.
+/// The bell of a thread that sends feeds of many hosts, rung where one of its watches has news.
 #[derive(Drop)]
 pub struct Bell {
     is_rung: AtomicBool,
@@ -23,7 +23,7 @@ impl Bell {
         self.is_rung.load(Ordering::SeqCst)
     }
 
-    /// The same, and from here on it is not rung. Who calls this looks at the watches after it: a watch that
+    /// Whether it was rung; from here on it is not. The caller looks at its watches afterwards: a watch that
     /// gets news later rings again.
     pub fn take(&self) -> bool {
         self.is_rung() && self.is_rung.swap(false, Ordering::SeqCst)
@@ -34,23 +34,23 @@ impl Bell {
     }
 }
 
-/// What sends at most one feed at a time, which can be watched for news while it waits.
+/// A sender of at most one feed at a time. The feed can be watched for news while it waits.
 pub trait Watchable {
-    /// The number of the life that the sequences of what is sent are of, `None` where nothing is sent. It
-    /// names one database of a hub, and 0 its log of updates. Constant time.
+    /// The number of the life of the feed's sequences, `None` where no feed is sent. The number names one
+    /// database of a hub, and 0 its log of updates. Constant time.
     fn life(&self) -> Option<u64>;
 
-    /// Where a feed is sent, the reading of the clock, in milliseconds, at which it is to be asked for its
-    /// next item though its host has no news. Constant time.
+    /// Where a feed is sent, the reading of the clock, in milliseconds, at which the feed is to be asked for
+    /// its next item though its host has no news. Constant time.
     fn due(&self) -> Option<u64>;
 
-    /// From here on this watch has news of each change that the feed which is sent may wait for. Who calls
-    /// this asks the feed for its next item once more after it: what was written before gave no news. It may
-    /// wait for the host's lock.
+    /// From here on this watch gets news of each change that the feed may wait for. The caller asks the feed
+    /// for its next item once more after the call: an earlier write gave no news. It may wait for the host's
+    /// lock.
     fn watch(&self, watch: Arc<Watch, Global>);
 }
 
-/// Whether a host has news for one who sends feeds of it. All its feeds of that host share the watch.
+/// Whether a host has news for a thread that sends feeds of it. All these feeds share the watch.
 #[derive(Drop)]
 pub struct Watch {
     has_news: AtomicBool,
@@ -66,13 +66,13 @@ impl Watch {
         }
     }
 
-    /// Whether there is news, and from here on there is none. Who calls this looks at the feeds after it:
-    /// news that comes later is there again.
+    /// Whether there was news; from here on there is none. The caller looks at its feeds afterwards: later
+    /// news shows at the next call.
     pub fn take(&self) -> bool {
         self.has_news.load(Ordering::SeqCst) && self.has_news.swap(false, Ordering::SeqCst)
     }
 
-    /// There is news, and the bell rings. Where news is there that nobody took, its bell was rung for it.
+    /// Notes news, and rings the bell. Where earlier news was not taken yet, the bell was rung for that.
     pub(crate) fn tell(&self) {
         if !self.has_news.load(Ordering::SeqCst) {
             self.has_news.store(true, Ordering::SeqCst);

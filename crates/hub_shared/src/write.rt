@@ -13,20 +13,20 @@ use crate::outbox::Outbox;
 use hub_database::{Batch, DbFault, DbState, Receipt, ReceiptRoom, Replies};
 use hub_document::{Doc, RevId};
 
-/// What a write did.
+/// The result of a write.
 #[derive(Debug, Drop)]
 pub struct Accepted {
-    /// What became of each document, in order; where the write stopped, of those before the stop.
+    /// The reply to each document, in order. Where the write stopped: to each document before the stop.
     pub replies: Replies,
-    /// Whether memory ran out at the document behind those.
+    /// Whether memory ran out at the document after those.
     pub stopped: bool,
     /// The receipts of the documents that were stored, in order.
     pub receipts: Vec<Receipt>,
 }
 
 impl Accepted {
-    /// A batch that was stored behind so many edits, with its receipts, for which there is room. It takes no
-    /// memory, and costs a step for each document.
+    /// The result of a batch that was stored after so many edits. Its receipts fill the room that was made
+    /// for them. It takes no memory. The cost is a step for each document.
     pub(crate) fn new(batch: Batch, edits: u64, room: ReceiptRoom) -> Accepted
         requires edits { edits < 2 ^ 32 }
         ensures batch { batch_of result ≡ batch }
@@ -42,10 +42,10 @@ impl Accepted {
 }
 
 impl Locked<DbState> {
-    /// Stores documents one after the other, as `store`, and gives a receipt of each that was stored. The
-    /// memory for the receipts is taken before any edit: the call fails only where it, or the list of
-    /// replies, finds none, and then nothing changes. It costs what `store` does, and copies of the
-    /// documents' ids.
+    /// Stores documents one after the other, as `store`, and gives a receipt of each stored document. The
+    /// memory for the receipts is taken before any edit. The call fails only where there is no memory for the
+    /// receipts or the list of replies, and then nothing changes. The cost is that of `store`, and copies of
+    /// the documents' ids.
     pub fn write(&mut self, docs: Vec<Doc>, new_edits: bool) -> Result<Accepted, DbFault>
         ensures ok { IfOk result (λ a. Stores new_edits docs.items self.old.state a self.new.state) }
         ensures legal { IsLegal self.new.state.journal }
@@ -60,8 +60,8 @@ impl Locked<DbState> {
 }
 
 impl<C: Count, K: Outbox<DbState>> Locked<DbState, C, K> {
-    /// Stores one edit whose revision is made here, counts it, and gives news of it. Beside the revision
-    /// stands by how much the share rose. It takes no memory but what `DbState::write_one` does.
+    /// Stores one edit whose revision is made here, counts it, and tells the feeds that wait. The revision
+    /// comes with the rise of the share's amount. It takes no memory beside that of `DbState::write_one`.
     pub(crate) fn write_one(
         &mut self,
         share: &mut C::Share,
@@ -87,9 +87,9 @@ impl<C: Count, K: Outbox<DbState>> Locked<DbState, C, K> {
         Ok((rev, rise))
     }
 
-    /// Stores documents, as `DbState::write_edits`, counts those that were stored, and gives news of it.
-    /// Beside what became of them stands by how much the share rose. It costs what `write_edits` does, and a
-    /// look at each feed.
+    /// Stores documents, as `DbState::write_edits`, counts the stored ones, and tells the feeds that wait.
+    /// The batch comes with the rise of the share's amount. The cost is that of `write_edits` and a look at
+    /// each feed.
     pub fn store(
         &mut self,
         share: &mut C::Share,

@@ -1,4 +1,4 @@
-//! Tests as texts: a transcript says what is asked of a subject, and what it answers.
+//! Tests as texts: a transcript has the commands that a subject is given, and the subject's answers.
 //!
 //! ```text
 //! # a document is found
@@ -10,26 +10,26 @@
 //! ```
 //!
 //! A line that begins with `# ` names a case, and each case has a subject of its own. A line that begins with
-//! `> ` is a command. The lines behind a command are its answer, word for word: `get e` has none. Empty lines
-//! at the end of an answer say nothing. A text begins with a line feed, so that its first case does too.
+//! `> ` is a command. The lines behind a command are its answer, word for word: `get e` has an empty answer.
+//! Empty lines at the end of an answer do not count. A line feed stands before each case, the first too.
 #![tactic(auto)]
 
 use std::alloc::{AllocError, Global};
 use std::fmt::{Display, Write};
 use std::test::Fail;
 
-/// What the commands of a case are put to. `R` is the runtime of the test.
+/// The subject of a case carries out the commands of the case. `R` is the runtime of the test.
 pub trait Subject<R>: Drop {
-    /// The subject of a case, before its first command. It may look at the name of the case.
+    /// A subject before the first command of its case. It may look at the name of the case.
     fn begin(rt: &R, alloc: Global, case: &str) -> Result<Self, AllocError>;
 
     /// Carries out one command, and writes its answer. Any one growth may be refused: a command that finds no
-    /// memory leaves its subject as it was, says so, and is given once more.
+    /// memory leaves its subject as it was, answers the error, and is given once more.
     fn answer(&mut self, rt: &R, command: &str, answer: &mut Answer) -> Result<(), AllocError>;
 }
 
-/// What a command is answered, a line each. It has its room before the command is carried out, so a call that
-/// was made does not fail for its answer: `ROOM` bytes.
+/// The answer to a command, as lines. It has room for `ROOM` bytes before the command is carried out, so a
+/// call that was made does not fail for its answer.
 #[derive(Drop)]
 pub struct Answer {
     text: String,
@@ -38,7 +38,7 @@ pub struct Answer {
 const ROOM: usize = 65_536;
 
 impl Answer {
-    // An empty answer, with its room; asked for again where it is refused.
+    // An empty answer, with its room. Where the room is refused, it is asked for once more.
     fn new(alloc: Global) -> Result<Answer, AllocError> {
         let text = match String::with_capacity(alloc, ROOM) {
             Err(AllocError) => String::with_capacity(alloc, ROOM)?,
@@ -55,15 +55,15 @@ impl Answer {
         }
     }
 
-    /// Writes a text as it is: some lines, or a part of one.
+    /// Writes a text as it is: some lines, or a part of a line.
     pub fn text(&mut self, text: &str) -> Result<(), AllocError> {
         self.text.push_str(text)
     }
 }
 
-/// Replays a transcript: each command has the answer that stands behind it. The message of an answer that
-/// differs names its case and its command. A text that does not begin with a case fails, and so does a case
-/// with no command, since it would say nothing.
+/// Replays a transcript, and fails at the first command whose answer is not the text behind the command. The
+/// message names the case and the command. A text that does not begin with a case fails. So does a case with
+/// no command, since it would test nothing.
 pub fn replay<S: Subject<R>, R>(rt: &R, alloc: Global, transcript: &str) -> Result<(), Fail> {
     let Some(cases) = transcript.strip_prefix("\n# ") else {
         return Err(Fail::new("no case is first"));
@@ -153,21 +153,21 @@ impl<'a> Words<'a> {
         Words { rest: command }
     }
 
-    /// The next word, or an empty one where there is none.
+    /// The next word, or an empty word where none is left.
     pub fn word(&mut self) -> &'a str {
         let (word, rest) = self.rest.split_once(' ').unwrap_or((self.rest, ""));
         self.rest = rest;
         word
     }
 
-    /// The next word as a number, or 0 where it is none.
+    /// The next word as a number, or 0 where the word is no number.
     pub fn number(&mut self) -> u64 {
         self.word().parse().unwrap_or(0)
     }
 
     /// The place of the next word among these verbs, which stand behind one another with a blank between
-    /// them. A word that is none of them has the place `usize::MAX`. `match` on a place proves more cheaply
-    /// than comparisons with texts.
+    /// them. A word that is no such verb has the place `usize::MAX`. A `match` on a place is proved more
+    /// cheaply than comparisons with texts.
     pub fn verb(&mut self, verbs: &str) -> usize {
         let word = self.word();
         verbs
@@ -182,12 +182,12 @@ impl<'a> Words<'a> {
     }
 }
 
-// Whether an answer is the wanted one, but for line feeds at its end.
+// Whether an answer is the wanted answer, but for white space at the end of both.
 fn is_answer(answer: &str, wanted: &str) -> bool {
     answer.trim_end() == wanted.trim_end()
 }
 
-// Fails where a command has another answer than the one that stands behind it.
+// Fails where a command has another answer than the text behind the command.
 fn compare(case: &str, command: &str, answer: &str, wanted: &str) -> Result<(), Fail> {
     if is_answer(answer, wanted) {
         return Ok(());
@@ -201,14 +201,14 @@ mod tests {
     use std::io::Eprint;
     use std::process::{ExitCode, Termination};
 
-    /// How many commands there were, to which the case's first has the number of its name's bytes. It finds
-    /// no memory for every command the first time.
+    /// A counter of commands, which begins with the length of the case's name in bytes. Each command finds no
+    /// memory the first time that it is given.
     ///
-    /// - `nothing`: has no answer.
+    /// - `nothing`: has an empty answer.
     /// - `lines`: has the answer of two lines, `a` and `b`.
     /// - `number WORD`, `word WORD`, `rest WORD ..`: shows a number, a word, and the words that are left.
     /// - `verb WORD`: shows the place of a word among `x z y`.
-    /// - any other: shows how many commands there were.
+    /// - any other command: shows the counter.
     #[derive(Drop)]
     struct Echo {
         commands: u64,

@@ -1,4 +1,4 @@
--- How a log is kept, with one note more.
+-- The invariant of a log, with one note more.
 use Rattle.std.proofs.Common.{◌≡◌, ◌≢◌, ℕ, zero, suc, ◌+◌, ◌<◌, ◌≤◌, List, [], ◌∷◌, ◌++◌, length, get_or}
 use Rattle.std.proofs.Common.{ap, refl, sym, ◌∙◌, subst, arith, inl, inr, ◌⊎◌, length-append}
 use Rattle.std.specs.Prelude.{Option, Some, None, slice_get, slice_set, option_map, string_bytes}
@@ -21,7 +21,7 @@ use Rattle.hub_model.proofs.Lists.{same_number, same_text}
 use Rattle.hub_updates.specs.declared.log.Pair.{Pair}
 use Rattle.hub_updates.specs.Kept.{IsKept, ids_of, note_at, notes_of, pair_of, ids_with_sequence}
 
--- what a list with one more has at a place
+-- an element of a list with one more is an old element or the new one
 get_pushed : {A : Type 0} (xs : List A) (v w : A) (i : ℕ) → slice_get (xs ++ v ∷ []) i ≡ Some w
     → (slice_get xs i ≡ Some w) ⊎ (v ≡ w)
 get_pushed [] v w zero e = inr (same_Some v w e)
@@ -29,7 +29,7 @@ get_pushed [] v w (suc i) e = absurd (none-some w e)
 get_pushed (x ∷ xs) v w zero e = inl e
 get_pushed (x ∷ xs) v w (suc i) e = get_pushed xs v w i e
 
--- the pairs, once the latest sequence of one is written over
+-- the pairs, once the latest sequence of one pair is written over
 pub pair_raised : (pairs : List Pair) (k seq : ℕ) (pair : Pair) → k < length pairs
     → pair ≡ get_or pairs k pair
     → ids_of (slice_set pairs k (record pair { latest = seq })) ≡ ids_with_sequence k seq (ids_of pairs)
@@ -44,13 +44,13 @@ kind_back Created = refl
 kind_back Updated = refl
 kind_back Deleted = refl
 
--- a note is read again from its id
+-- a note reads back from its id
 pub read_back : (note : Note) → note_of (id_of note) ≡ note
 read_back note = ap (λ (kind : UpdateKind). record { kind = kind; name = note.name }) (kind_back note.kind)
 
 module _ (numbers : List ℕ → Option ℕ) (ids : List (List ℕ × ℕ)) (entries : List ℕ) (index : List (ℕ × ℕ))
     (kept : IsKept numbers ids entries index) where
-  -- a row's sequence is that of a note
+  -- a row's sequence is at most the number of notes
   pub kept_rows : All (λ (row : ℕ × ℕ). row.0 < length entries + 1) index
   kept_rows i row l =
       omega (
@@ -64,11 +64,11 @@ module _ (numbers : List ℕ → Option ℕ) (ids : List (List ℕ × ℕ)) (ent
   pub kept_past : seq_of (length ids) index ≡ None
   kept_past = kept.rows.none (length ids) (slice_get_past ids (length ids) (omega arith))
 
-  -- and that of an id is there
+  -- the number of an id is that of a pair
   pub kept_there : (id : List ℕ) (k : ℕ) → numbers id ≡ Some k → k < length ids
   kept_there id k e = let f = kept.found id k e in slice_get_within ids k f.0 f.1
 
-  -- One more note, of the pair of this number, which had this id or was not there.
+  -- One more note, of the pair k. The pair had this id before, or it was not there.
   module _ (n : Note) (k seq : ℕ) (last : seq ≡ length entries + 1)
       (was : (p : List ℕ × ℕ) → slice_get ids k ≡ Some p → p.0 ≡ id_of n)
       (only : (j : ℕ) → numbers (id_of n) ≡ Some j → j ≡ k)
@@ -91,7 +91,7 @@ module _ (numbers : List ℕ → Option ℕ) (ids : List (List ℕ × ℕ)) (ent
             ∙ (ap (λ o. note_of (id_in o)) at ∙ (ap note_of (sym is) ∙ sym (ap (λ o. note_of (id_in o)) w.1)))
         from (inr ne) = ap (λ o. note_of (id_in o)) (other j ne)
 
-    -- the notes go on with it
+    -- the notes are the old ones, and then the new one
     pub notes_more : notes_of ids' (entries ++ k ∷ []) ≡ notes_of ids entries ++ n ∷ []
     notes_more =
         map-append (note_at ids') entries (k ∷ [])
@@ -109,7 +109,7 @@ module _ (numbers : List ℕ → Option ℕ) (ids : List (List ℕ × ℕ)) (ent
         (omega (arith, last, length-map (notes_of ids entries) edit_of, length-map entries (note_at ids)))
         was apart (slice_get ids') at other)
 
-    -- and the log goes on to be kept
+    -- and the invariant goes on to hold
     pub kept_more : IsKept numbers' ids' (entries ++ k ∷ []) (rows_after_move index k seq)
     kept_more =
         record {
@@ -173,7 +173,7 @@ module _ (numbers : List ℕ → Option ℕ) (ids : List (List ℕ × ℕ)) (ent
               | inr s ↦ ((id_of n, seq), ap (slice_get ids') (sym s) ∙ at)
             ]
 
-  -- one more note of a pair that is there
+  -- one more note of an old pair
   module _ (n : Note) (k seq : ℕ) (last : seq ≡ length entries + 1) (known : numbers (id_of n) ≡ Some k) where
     known_was : (p : List ℕ × ℕ) → slice_get ids k ≡ Some p → p.0 ≡ id_of n
     known_was p e =
@@ -201,13 +201,13 @@ module _ (numbers : List ℕ → Option ℕ) (ids : List (List ℕ × ℕ)) (ent
         kept_more n k seq last known_was known_only numbers (ids_with_sequence k seq ids) known_at
         (get_set_other ids k (id_in (slice_get ids k), seq)) known (λ q ne. refl) known_few
 
-    -- whatever shows so
+    -- the same of all values that are equal to these
     pub raised_so : (ids' : List (List ℕ × ℕ)) (entries' : List ℕ) (index' : List (ℕ × ℕ))
         → ids' ≡ ids_with_sequence k seq ids → entries' ≡ entries ++ k ∷ [] → index' ≡ rows_after_move index k seq
         → IsKept numbers ids' entries' index' × (notes_of ids' entries' ≡ notes_of ids entries ++ n ∷ [])
     raised_so ids' entries' index' is es rows = rw (is, es, rows) (kept_raised, notes_raised)
 
-  -- and the first one of a pair
+  -- the first note of a pair
   module _ (n : Note) (seq : ℕ) (last : seq ≡ length entries + 1) (new : numbers (id_of n) ≡ None)
       (numbers' : List ℕ → Option ℕ)
       (given : (q : List ℕ) → numbers' q ≡ update bytes_eq numbers (id_of n) (Some (length ids)) q) where
@@ -242,7 +242,7 @@ module _ (numbers : List ℕ → Option ℕ) (ids : List (List ℕ × ℕ)) (ent
         kept_more n (length ids) seq last new_was new_only numbers' (ids ++ (id_of n, seq) ∷ [])
         (get_push ids (id_of n, seq)) (get_push_other ids (id_of n, seq)) new_this new_rest new_few
 
-  -- whatever shows so
+  -- the same of all values that are equal to these
   pub added_so : (note : Note) (seq : ℕ) → seq ≡ length entries + 1 → (id : List ℕ) → id ≡ id_of note
       → numbers id ≡ None → (k : ℕ) → k ≡ length ids
       → (numbers' : List ℕ → Option ℕ) (ids' : List (List ℕ × ℕ)) (entries' : List ℕ) (index' : List (ℕ × ℕ))

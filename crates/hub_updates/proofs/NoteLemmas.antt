@@ -9,7 +9,7 @@ use Rattle.hub_model.specs.declared.feeds.Item.{Item}
 use Rattle.hub_model.proofs.Fitting.{fits_grows}
 use Rattle.hub_updates.specs.Log.{IsFitting}
 
--- when a note is added
+-- once a note is added
 pub fitting_noted : (notes : List Note) (note : Note) (feed : Feed) (items : List (Item UpdateRow))
     → IsFitting notes feed items → IsFitting (notes ++ note ∷ []) feed items
 fitting_noted notes note feed items fitting = record {

@@ -52,7 +52,7 @@ module _ (numbers : List ℕ → Option ℕ) (pairs : List Pair) (entries : List
             (same_Some (pair_of pair) w.0 (sym (pair_there k pair low is) ∙ w.1)) ∙ w.2,
       )
 
-  -- an id that has none is of no row
+  -- an id without a number is the id of no row
   pub unnumbered : (id : List ℕ) → numbers id ≡ None → (row : Current)
       → Contains (current (edits_of_log (notes_of (ids_of pairs) entries))) row → row.id ≡ id → ⊥
   unnumbered id none row h same =
@@ -82,7 +82,7 @@ module _ (numbers : List ℕ → Option ℕ) (pairs : List Pair) (entries : List
       ∙ (e.2 ∙ same)) in
       none-some x (sym none ∙ (ap numbers (sym id_is) ∙ kept.own x w.0 w.1))
 
-  -- the next row, which is of a pair that is there
+  -- the next row, which is the row of a pair in the list
   module _ (place : ℕ) (bound : Option ℕ) (r : ℕ × ℕ) (is : Some r ≡ next_after index place bound) where
     pub next_low : r.1 < length pairs
     next_low =
@@ -99,13 +99,13 @@ module _ (numbers : List ℕ → Option ℕ) (pairs : List Pair) (entries : List
         next_found (slice_get (ids_of pairs)) (edits_of_log (notes_of (ids_of pairs) entries)) index kept.rows
         place bound r is (pair_of p) (pair_there r.1 p next_low at)
 
-  -- the note at a place, which is of a pair that is there
+  -- the note at a place, which is of a pair in the list
   module _ (i x : ℕ) (low : i < length entries) (is : x ≡ get_or entries i x) where
     pub entry_low : x < length pairs
     entry_low = let w = kept.within i x (at_place entries i x low is) in pair_low x w.0 w.1
 
     module _ (p : Pair) (at : p ≡ get_or pairs x p) where
-      -- whose id is read again
+      -- the pair's id reads back from its note
       pub entry_read : id_of (note_of (string_bytes p.id)) ≡ string_bytes p.id
       entry_read = kept.read x (pair_of p) (pair_there x p entry_low at)
 
@@ -118,7 +118,7 @@ module _ (numbers : List ℕ → Option ℕ) (pairs : List Pair) (entries : List
           ∙ ap (option_map (note_at (ids_of pairs))) (at_place entries i x low is))
           ∙ ap (λ o. Some (edit_of (note_of (id_in o)))) (pair_there x p entry_low at))
 
-      -- and is that of the current row, if there is one
+      -- the pair's id is that of the current row at this sequence, if there is one
       entry_id : (c : Current) → Contains (current (edits_of_log (notes_of (ids_of pairs) entries))) c
           → c.seq ≡ i + 1 → string_bytes p.id ≡ c.id
       entry_id c h s =
@@ -128,7 +128,7 @@ module _ (numbers : List ℕ → Option ℕ) (pairs : List Pair) (entries : List
           (same_Some (edit_of (note_of (string_bytes p.id))) own.0 (sym entry_edit ∙ own.1))
           ∙ own.2)
 
-      -- so the row is shown with its kind and its name
+      -- so the row is shown with the pair's kind and name
       pub entry_row : (kind : UpdateKind) (name : List ℕ) (seq seen : ℕ) (style : Style) (include_docs : Bool)
           → kind ≡ (note_of (string_bytes p.id)).kind → name ≡ (note_of (string_bytes p.id)).name
           → seq ≡ i + 1 → seen ≡ length entries

@@ -1,5 +1,5 @@
--- How a list that fits a feed of a log goes on fitting it: laws of hub_feed's Handing, where there are as
--- many edits as a log has notes (own).
+-- A list that fits a feed of a log goes on fitting it. These are laws of hub_feed's Handing, where there
+-- are as many edits as a log has notes (own).
 use Rattle.std.specs.Prelude.{◌≡◌, List, [], ◌∷◌, ◌++◌, length, Some}
 use Rattle.std.proofs.Common.{subst}
 use Rattle.std.proofs.lemmas.List.{length-map}
@@ -15,7 +15,7 @@ use Rattle.hub_updates.specs.Log.{AreOfLog, IsFitting}
 
 module _ (notes : List Note) (feed : Feed) (items : List (Item UpdateRow))
     (fitting : IsFitting notes feed items) where
-  -- behind the item that is due
+  -- with the item that is due at its end
   pub fits_given : (item : Item UpdateRow) → next_item update_rows (edits_of_log notes) feed ≡ Some item
       → let next : Feed = feed_after_due feed (next_due (current (edits_of_log notes)) feed) (length notes) in
       IsFitting notes next (items ++ item ∷ [])
@@ -24,7 +24,7 @@ module _ (notes : List Note) (feed : Feed) (items : List (Item UpdateRow))
       subst (λ n. IsFitting notes (feed_after_due feed (next_due (current J) feed) n) (items ++ item ∷ []))
       (length-map notes edit_of) (fitting_handed update_rows AreOfLog J feed items fitting item is)
 
-  -- behind nothing to hand
+  -- after a hand for which nothing was due
   pub fits_waiting : next_due (current (edits_of_log notes)) feed ≡ DueNothing
       → IsFitting notes (after_nothing feed (length notes)) items
   fits_waiting is =

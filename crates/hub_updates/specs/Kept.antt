@@ -1,4 +1,4 @@
--- How a log keeps its notes (own).
+-- The notes of a log as the log keeps them (own).
 use Rattle.std.specs.Prelude.{◌≡◌, ℕ, ◌<◌, ◌≤◌, List, length, map, slice_get, slice_set, string_bytes, Option}
 use Rattle.std.specs.Prelude.{Some}
 use Rattle.std.specs.List.{All}
@@ -15,7 +15,7 @@ pair_of pair = (string_bytes pair.id, pair.latest)
 abbrev pub ids_of : List Pair → List (List ℕ × ℕ)
 ids_of pairs = map pair_of pairs
 
--- the same, where the latest note of the pair of this number is at this sequence
+-- these ids, once the latest note of the pair of this number is at this sequence
 abbrev pub ids_with_sequence : ℕ → ℕ → List (List ℕ × ℕ) → List (List ℕ × ℕ)
 ids_with_sequence number seq ids = slice_set ids number (id_in (slice_get ids number), seq)
 
@@ -23,22 +23,22 @@ ids_with_sequence number seq ids = slice_set ids number (id_in (slice_get ids nu
 abbrev pub note_at : List (List ℕ × ℕ) → ℕ → Note
 note_at ids k = note_of (id_in (slice_get ids k))
 
--- The notes, of which each is kept as the number of its pair. Where d was created, updated and updated again,
--- the pairs are cd and ud, with the latest sequences 1 and 3, and the notes are kept as 0, 1 and 1.
+-- The notes. Each is kept as the number of its pair. Let d be created, updated and updated again. Then the
+-- pairs are cd and ud, with the latest sequences 1 and 3, and the notes are kept as 0, 1 and 1.
 abbrev pub notes_of : List (List ℕ × ℕ) → List ℕ → List Note
 notes_of ids entries = map (note_at ids) entries
 
--- The row of the pair of this number may move to the end, at this sequence from 1 on: it is at `latest` now, if
--- there is one, and each row lies below. Of rows (3, 1) and (5, 0) that of pair 1 may move from 3 to 6, and not
--- to 5.
+-- The row of the pair of this number may move to the end, to this sequence from 1 on. The row is at
+-- `latest` now, or there is none, and each row lies below the sequence. Of rows (3, 1) and (5, 0) the row
+-- of pair 1 may move from 3 to 6, and not to 5.
 pub record IsMovable (number : ℕ) (latest : Option ℕ) (seq : ℕ) (rows : List (ℕ × ℕ)) : Type 0 where
   pub own : seq_of number rows ≡ latest
   pub positive : 0 < seq
   pub above : All (λ (r : ℕ × ℕ). r.0 < seq) rows
 
--- What holds of the pairs, of their numbers by id, of the notes, and of the rows: an id has a number where it
--- is the id of a pair, which is then of this number; each id is that of a note; each note is of a pair; and
--- the rows are the current ones of the notes.
+-- The invariant of a log's pairs, of their numbers by id, of its notes and of its rows. Just the ids of
+-- pairs have numbers, each that of its pair. Each id of a pair reads back as a note's, and each note is of
+-- a pair. There are no more pairs than notes, and the rows are the current rows of the notes.
 pub record IsKept (numbers : List ℕ
     → Option ℕ) (ids : List (List ℕ × ℕ)) (entries : List ℕ) (index : List (ℕ × ℕ)) : Type 0 where
   pub found : (id : List ℕ) (k : ℕ) → numbers id ≡ Some k

@@ -1,4 +1,4 @@
--- That a current row of a log lies at one of its notes (own).
+-- A current row of a log lies at one of its notes (own).
 use Rattle.std.specs.Prelude.{◌≤◌, List, length, Contains}
 use Rattle.std.proofs.Common.{arith}
 use Rattle.std.proofs.lemmas.List.{length-map}
@@ -6,7 +6,7 @@ use Rattle.hub_model.specs.Current.{Current, current}
 use Rattle.hub_model.specs.Updates.{Note, edit_of, edits_of_log}
 use Rattle.hub_model.proofs.Rows.{current_within}
 
--- it is no later than the last
+-- the row's sequence is at most the number of notes
 pub rows_below : (notes : List Note) (row : Current) → Contains (current (edits_of_log notes)) row
     → row.seq ≤ length notes
 rows_below notes row h =

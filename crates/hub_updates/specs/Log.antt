@@ -1,4 +1,4 @@
--- The log of what happens to databases, with its feeds (CouchDB API reference, _db_updates).
+-- The log of updates, with its feeds (CouchDB API reference, _db_updates).
 use Rattle.std.specs.Prelude.{◌≡◌, ℕ, List, length, false}
 use Rattle.hub_model.specs.Current.{current}
 use Rattle.hub_model.specs.Feed.{Feed, Params}
@@ -10,22 +10,22 @@ use Rattle.hub_document.specs.declared.limits.Limits.{Limits}
 use Rattle.hub_feed.specs.Handing as handing
 use Rattle.hub_feed.specs.Host.{Hosted}
 
--- the log
+-- a log of updates with its feeds
 pub record Updates : Type 0 where
-  pub notes : List Note  -- what happened, first to last: its place, from 1, is its sequence
-  pub feeds : List (ℕ × Feed)  -- those that are not finished, with their numbers, which rise
+  pub notes : List Note  -- first to last: a note's place, from 1, is its sequence
+  pub feeds : List (ℕ × Feed)  -- the feeds that are not finished, with their numbers, which rise
   pub next_feed : ℕ  -- the number of the next feed
   pub limits : Limits
-  pub life : ℕ  -- the number of its life
+  pub life : ℕ  -- the number of the log's life
 
--- what its feeds follow: what happened, and the number of its life
+-- the part of a log that its feeds follow: its notes, and the number of its life
 pub record LogContents : Type 0 where
   pub notes : List Note
   pub life : ℕ
 
--- What the feeds of a log follow, and the feeds. The notes are followed as edits: one is current until the
--- same happens to the same database again. Where d was created, updated and updated again, the current rows
--- are at 1 and 3. A log has as many feeds as its limits say, and is never deleted.
+-- A log as a host of feeds. Its feeds follow the notes as edits: a note is current until the same happens
+-- to the same database again. Where d was created, updated and updated again, the current rows are at 1 and
+-- 3. A log has at most as many feeds as its limits say, and is never deleted.
 abbrev pub hosted_of : Updates → Hosted UpdateRow
 hosted_of log = record {
   length = length log.notes;
@@ -38,7 +38,7 @@ hosted_of log = record {
   limit = log.limits.feeds;
 }
 
--- the same log with the feeds, and the number for the next one, of this picture
+-- the same log with the feeds of this host, and with its number for the next feed
 abbrev pub with_hosted : Updates → Hosted UpdateRow → Updates
 with_hosted log h = record log { feeds = h.feeds; next_feed = h.next_feed }
 
@@ -46,11 +46,11 @@ with_hosted log h = record log { feeds = h.feeds; next_feed = h.next_feed }
 abbrev pub AreOfLog : List Edit → Type 0
 AreOfLog edits = (notes : List Note) × (edits ≡ edits_of_log notes)
 
--- the list fits the feed of a log with these notes: what the feed has handed is one
+-- the list fits the feed of a log with these notes: the feed may have handed these items so far
 abbrev pub IsFitting : List Note → Feed → List (Item UpdateRow) → Type 0
 IsFitting notes feed items = handing.IsFitting update_rows AreOfLog (edits_of_log notes) feed items
 
--- the list is rightly handed, by these parameters and above this sequence, for some notes, some place and
--- some bound: the feed of some log may have handed it by some time
+-- The list is rightly handed, by these parameters and above this sequence, for some notes, some place and
+-- some bound. So the feed of some log may have handed it by some time.
 abbrev pub IsRightFor : Params → ℕ → List (Item UpdateRow) → Type 0
 IsRightFor params since items = handing.IsRightFor update_rows AreOfLog params since items

@@ -1,4 +1,4 @@
-//! The log of updates as what keeps feeds.
+//! The log of updates as a host of feeds.
 
 use crate::state::UpdatesState;
 use hub_document::UpdateRow;
@@ -76,7 +76,7 @@ impl FeedHost for UpdatesState {
         None
     }
 
-    /// It costs what the list of feeds does that grows by one.
+    /// The cost is that of `Feeds::open`.
     fn open_feed(&mut self, params: FeedParams) -> Result<FeedId, OpenFault> {
         if let Some(fault) = self.refusal() {
             return Err(fault);
@@ -88,8 +88,8 @@ impl FeedHost for UpdatesState {
         }
     }
 
-    /// It costs what `FeedState::first_of_open` and `Feeds::hand_at` do, and a binary search among the feeds
-    /// unless the last hand was to the same feed.
+    /// The cost is that of `FeedState::first_of_open` and `Feeds::hand_at`, and a binary search among the
+    /// feeds unless the last hand was to the same feed.
     fn hand<K: Sink<Item<UpdateRow>>, H: Pushes<K, Item<UpdateRow>>>(
         &mut self,
         feed: FeedId,
@@ -103,7 +103,7 @@ impl FeedHost for UpdatesState {
         self.feeds.hand_at(&self.log, feed, at, first, handle, sink)
     }
 
-    /// It costs a binary search among the feeds.
+    /// The cost is a binary search among the feeds.
     fn beat_due(&self, feed: FeedId) -> bool {
         match self.feeds.find(feed) {
             Some(state) => state.beat_due(),
@@ -111,12 +111,12 @@ impl FeedHost for UpdatesState {
         }
     }
 
-    /// It costs a binary search among the feeds.
+    /// The cost is a binary search among the feeds.
     fn expire(&mut self, feed: FeedId) {
         self.feeds.expire(feed);
     }
 
-    /// It costs a look at each feed.
+    /// The cost is a look at each feed.
     fn finish(&mut self, feed: FeedId) {
         self.feeds.finish(feed);
     }

@@ -1,5 +1,5 @@
-//! The log of what happens to databases: notices of it, and the feeds that show it (CouchDB API
-//! reference, `_db_updates`).
+//! The log of updates: notices that a database was created, updated or deleted, and the feeds that show
+//! them (CouchDB API reference, `_db_updates`).
 #![tactic(auto)]
 
 mod host;

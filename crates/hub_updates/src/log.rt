@@ -1,4 +1,4 @@
-//! What was noted, and the row of each pair of a kind and a name.
+//! The notes of the log, and the row of each pair of a kind and a name.
 
 ghost use Rattle.std.specs.Prelude.{ℕ, List, ◌≡◌, ◌+◌, ◌-◌, ◌^◌, ◌<◌, ◌++◌, ◌∷◌, [], Some, None};
 ghost use Rattle.std.specs.Prelude.{length, option_map, slice_get, string_bytes, IfOk, OnOk, OnErr};
@@ -20,14 +20,14 @@ use std::marker::Model;
 pub(crate) struct Pair {
     /// The letter of the kind, and then the name.
     pub(crate) id: String,
-    /// The sequence of its latest note.
+    /// The sequence of the pair's latest note.
     pub(crate) latest: u64,
 }
 
 /// The notes, and the rows of the log.
 #[derive(Debug, Drop)]
 pub(crate) struct Log {
-    /// Of each note, first to last, the number of its pair.
+    /// The number of each note's pair, the first note first.
     pub(crate) notes: Vec<u32>,
     /// The pairs, in the order of their first notes.
     pub(crate) pairs: Vec<Pair>,
@@ -35,7 +35,7 @@ pub(crate) struct Log {
     pub(crate) numbers: BTreeMap<String, u32>,
     /// The pairs' numbers by the sequences of their latest notes.
     pub(crate) index: PageIndex,
-    /// The number of its life.
+    /// The number of the log's life.
     pub(crate) life: u64,
     pub(crate) alloc: Global,
 }
@@ -52,7 +52,7 @@ impl Model for Log {
     ghost invariant = { λ a. IsKept (get_by_text a.numbers) (ids_of a.pairs.items) a.notes.items a.index };
 }
 
-/// The number of the pair of this id. One look in the map.
+/// The number of the pair with this id. The cost is one look in the map.
 pub(crate) fn number_of(numbers: &BTreeMap<String, u32>, id: &str) -> Option<u32>
     ensures { result ≡ get_by_text numbers.now id.now }
 {
@@ -80,8 +80,8 @@ fn raise(
     Ok(())
 }
 
-// Takes in a new pair, and answers its number. What grows last is the map, and then the index. An
-// error leaves all as it was.
+// Takes in a new pair, and answers its number. Room is made in the list first, then the map grows, and the
+// index last. An error leaves all as it was.
 fn add(
     pairs: &mut Vec<Pair>,
     numbers: &mut BTreeMap<String, u32>,
@@ -116,7 +116,7 @@ fn add(
 }
 
 impl Log {
-    /// A log of nothing, of the life of this number. It takes no memory yet; `note` takes it from this
+    /// An empty log, with this number as its life. It takes no memory yet. `note` takes memory from this
     /// allocator.
     pub(crate) fn new(alloc: Global, life: u64) -> Log
         ensures { result ≡ record { notes = []; life = life } }
@@ -131,8 +131,8 @@ impl Log {
         }
     }
 
-    /// Adds a note at the end. It costs a look in the map of ids and a move in the index of rows, and for the
-    /// first note of a pair two copies of its id. An error leaves all as it was.
+    /// Adds a note at the end. The cost is a look in the map of ids and a move in the index of rows. A
+    /// pair's first note costs two copies of its id. An error leaves all as it was.
     pub(crate) fn note(&mut self, notice: &Notice) -> Result<(), AllocError>
         requires room { length self.old.notes < 2 ^ 32 - 1 }
         ensures { MatchResult result

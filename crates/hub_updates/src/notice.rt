@@ -1,4 +1,4 @@
-//! Notices of what happened to databases.
+//! Notices that a database was created, updated or deleted.
 
 ghost use Rattle.std.specs.Prelude.{◌≡◌, IfOk};
 ghost use Rattle.hub_model.specs.Updates.{id_of, kind_of, letter_of, note_of};
@@ -29,7 +29,7 @@ fn kind_of(letter: u8) -> UpdateKind
     }
 }
 
-/// What happened, and to the database of which name, by the id of a pair.
+/// The kind of the event and the name of the database, from the id of a pair.
 pub(crate) fn read_id(id: &str) -> (UpdateKind, &str)
     requires { id_of (note_of id.now) ≡ id.now }
     ensures kind { result.0 ≡ (note_of id.now).kind }
@@ -38,11 +38,11 @@ pub(crate) fn read_id(id: &str) -> (UpdateKind, &str)
     (kind_of(id.as_bytes()[0]), &id[1..])
 }
 
-/// Something that happened to a database and does not stand in the log yet. Whoever has one spends it,
-/// by `UpdatesState::note` or by `lapse`: it can't be dropped.
+/// An event of a database that is not in the log yet. Its owner spends it, by `UpdatesState::note` or by
+/// `lapse`: a notice can't be dropped.
 #[derive(Debug)]
 pub struct Notice {
-    /// The letter of the kind, and then the name: the id of the pair that the notice is of.
+    /// The id of the notice's pair: the letter of the kind, and then the name.
     id: String,
 }
 
@@ -58,7 +58,7 @@ impl Model for Notice {
 }
 
 impl Notice {
-    /// That this happened to the database of this name. It copies the name: one allocation.
+    /// A notice of an event of this kind, of the database of this name. It copies the name: one allocation.
     pub fn new(alloc: Global, kind: UpdateKind, name: &str) -> Result<Notice, AllocError>
         ensures { IfOk result (λ notice. notice ≡ record { kind = kind; name = name.now }) }
     {
@@ -68,28 +68,28 @@ impl Notice {
         Ok(Notice { id })
     }
 
-    /// The id of the pair that it is of.
+    /// The id of the notice's pair.
     pub(crate) fn id(&self) -> &str
         ensures { result.now ≡ id_of self.now }
     {
         self.id.as_str()
     }
 
-    /// What happened.
+    /// The kind of the event.
     pub fn kind(&self) -> UpdateKind
         ensures { result ≡ self.now.kind }
     {
         read_id(self.id.as_str()).0
     }
 
-    /// To the database of this name.
+    /// The name of the database.
     pub fn name(&self) -> &str
         ensures { result.now ≡ self.now.name }
     {
         read_id(self.id.as_str()).1
     }
 
-    /// It will not stand in the log. It takes no memory.
+    /// Spends the notice, and adds no note to the log. It takes no memory.
     pub fn lapse(self) {
         let Notice { id: _ } = self;
     }

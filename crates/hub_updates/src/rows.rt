@@ -44,14 +44,14 @@ impl Source for Log {
         self.life
     }
 
-    /// It costs what `SeqIndex::next_after` does.
+    /// The cost is that of `SeqIndex::next_after`.
     fn next_after(&self, place: u64, bound: Option<u64>) -> Option<(u64, &str)> {
         let (seq, number) = self.index.next_after(place, bound)?;
         let pair = &self.pairs[number as usize];
         Some((seq, pair.id.as_str()))
     }
 
-    /// It costs a look in the map of ids.
+    /// The cost is a look in the map of ids.
     fn next_of(&self, id: &str, place: u64, bound: Option<u64>) -> Option<u64> {
         let number = number_of(&self.numbers, id)?;
         let pair = &self.pairs[number as usize];
@@ -61,13 +61,13 @@ impl Source for Log {
         None
     }
 
-    /// It costs what `SeqIndex::count_after` does.
+    /// The cost is that of `SeqIndex::count_after`.
     fn count_after(&self, place: u64) -> u64 {
         self.index.count_after(place)
     }
 
-    /// The pair is found in constant time, and the name is copied. The style and the documents are
-    /// not looked at: a note has none.
+    /// The pair is found in constant time, and the name is copied. The style and `include_docs` have no
+    /// effect: a note has no revisions and no document.
     fn row(&self, seq: u64, _style: Style, _include_docs: bool) -> Result<UpdateRow, AllocError> {
         let number = self.notes[seq as usize - 1];
         let pair = &self.pairs[number as usize];

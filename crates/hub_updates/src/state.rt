@@ -14,7 +14,7 @@ use hub_params::FeedParams;
 use std::alloc::Global;
 use std::marker::Model;
 
-/// Why a notice is handed back.
+/// The fault with which a notice is handed back.
 #[derive(Clone, Copy, Debug, PartialEq, Eq)]
 pub enum NoteFault {
     /// A growth was refused.
@@ -56,8 +56,8 @@ impl Model for UpdatesState {
 }
 
 impl UpdatesState {
-    /// A log of nothing, of the life of this number. It takes no memory yet; later calls take it from
-    /// this allocator.
+    /// An empty log without feeds, with this number as its life. It takes no memory yet. Later calls take
+    /// memory from this allocator.
     pub fn new(alloc: Global, limits: Limits, life: u64) -> UpdatesState
         ensures { result ≡ record { notes = []; feeds = []; next_feed = 0; limits = limits; life = life } }
     {
@@ -83,16 +83,16 @@ impl UpdatesState {
         }
     }
 
-    /// How many notes there are. Constant time.
+    /// The number of notes. Constant time.
     pub fn update_seq(&self) -> u64
         ensures { result ≡ length self.now.notes }
     {
         self.log.length()
     }
 
-    /// Adds a notice at the end, under the next sequence, or hands it back: then nothing changed. The
-    /// limit is looked at before memory is. It costs a look in the map of ids, and a move in the index
-    /// of rows.
+    /// Adds a notice at the end, under the next sequence. On a fault the notice is handed back, and nothing
+    /// changed. The limit is looked at before memory is. The cost is a look in the map of ids, a move in
+    /// the index of rows, and for a pair's first note two copies of its id.
     pub fn note(&mut self, notice: Notice) -> Result<(), (Notice, NoteFault)>
         ensures room { OnOk result (length self.old.notes < self.old.limits.journal) }
         ensures ok { OnOk result (self.new ≡ record self.old { notes = self.old.notes ++ notice ∷ [] }) }

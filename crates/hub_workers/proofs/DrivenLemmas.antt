@@ -1,4 +1,4 @@
--- What becomes of the run that a session had.
+-- The run of a session, after the session changed.
 use Rattle.std.proofs.Common.{◌≡◌, sym, subst}
 use Rattle.std.proofs.Math.Logic.{∥∥₁_map}
 use Rattle.hub_session.specs.Rules.{Rules}
@@ -11,7 +11,7 @@ module _ {S : Type 0} (rules : Rules S) where
       → ∥ ((run : Run S) × HasRun rules run old) ∥₁ → ∥ ((run : Run S) × HasRun rules run new) ∥₁
   driven_on old new next on driven = ∥∥₁_map driven (λ (run, has). (next run, on run has))
 
-  -- the session shows the same
+  -- the session has the same view
   pub driven_as : (old new : SessionView S) → new ≡ old
       → ∥ ((run : Run S) × HasRun rules run old) ∥₁ → ∥ ((run : Run S) × HasRun rules run new) ∥₁
   driven_as old new same = subst (λ x. ∥ ((run : Run S) × HasRun rules run x) ∥₁) (sym same)

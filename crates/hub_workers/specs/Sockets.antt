@@ -1,4 +1,4 @@
--- What a socket's faults ask of a server (POSIX, accept).
+-- Faults of accepting a connection, as a server takes them (POSIX, accept).
 use Rattle.std.specs.Prelude.{◌≡◌, ◌⊎◌, IfErr, Result}
 use Rattle.std.specs.IoError.{error_kind}
 use Rattle.std.specs.declared.io.Error.{Error}
@@ -11,7 +11,7 @@ use Rattle.std.specs.declared.io.ErrorKind.TheVariants.{Interrupted, ConnectionA
 abbrev pub IsPassing : ErrorKind → Type 0
 IsPassing kind = (kind ≡ Interrupted) ⊎ (kind ≡ ConnectionAborted)
 
--- Where no connection was accepted, none may be in spite of the error. So a call that was interrupted is made
--- again, and too many open files are an answer.
+-- A result without a connection is a fault in spite of which none may be accepted. So a call that was
+-- interrupted is made again, and too many open files are an answer.
 abbrev pub HasNoPassingFault : {T : Type 0} → Result T Error → Type 0
 HasNoPassingFault result = IfErr result (λ e. ¬ IsPassing (error_kind e))

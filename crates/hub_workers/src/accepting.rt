@@ -26,9 +26,9 @@ fn is_passing(error: &io::Error) -> bool
     )
 }
 
-/// The next connection. Where none can be accepted while others are open, as where the system has no
-/// descriptor left, it sleeps until one of them has ended, and tries again. An error is told where none is
-/// open, and is one in spite of which none may be accepted.
+/// The next connection. Where none can be accepted while others are open, as without a free descriptor, it
+/// sleeps until one of these has ended, and tries again. An error comes only where no connection is open, and
+/// is no passing one (`is_passing`).
 fn accept_next<R: Wait>(rt: &R, alive: &Alive, listener: &TcpListener) -> io::Result<TcpStream>
     ensures { HasNoPassingFault result }
 {
@@ -60,9 +60,9 @@ fn open<S: Service + Watchable + Drop>(
 #[derive(Drop)]
 pub(crate) struct Accepted<'a, M> {
     pub(crate) listener: &'a TcpListener,
-    /// How many there are.
+    /// How many connections there are.
     pub(crate) count: u64,
-    /// What makes their services.
+    /// The maker of their services.
     pub(crate) services: &'a M,
 }
 
@@ -80,8 +80,8 @@ impl<R: Wait, S: Service + Watchable + Drop, K: Clock> Team<'_, R, S, K> {
     }
 
     /// Accepts all connections and gives them to workers, waits until none is served, and closes the team. A
-    /// connection for which there is no memory is closed unanswered. An error says that none could be
-    /// accepted while none was open.
+    /// connection for which there is no memory is closed unanswered. An error says that no connection could
+    /// be accepted while none was open.
     pub(crate) fn accept<M: MakeService<S>>(&self, accepted: &Accepted<'_, M>) -> io::Result<()> {
         let given = self.give_all(accepted);
         self.alive.wait(self.rt);

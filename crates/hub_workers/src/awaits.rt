@@ -1,28 +1,28 @@
-//! What connections wait for.
+//! The events for which connections wait.
 
 use crate::readiness::Readiness;
 
-/// What a connection waits for behind a turn.
+/// The event for which a connection waits after a turn.
 #[derive(Clone, Copy, PartialEq, Eq)]
 pub(crate) enum Awaits {
-    /// Its next turn: this one is used up.
+    /// Its next turn: this turn is used up.
     Turn,
     /// Bytes of the client, for its next request.
     Input,
     /// Room in the socket.
     Room,
-    /// News of the stream that it sends, or the time at which that is due.
+    /// News of the stream that it sends, or the time at which the stream is due.
     News,
-    /// A watch of its stream, whose sequences are of the life of this number.
+    /// A watch for its stream, whose sequences are of the life of this number.
     Watch(u64),
-    /// The end of a client to whom all is said.
+    /// The end of a client that was sent its last answer.
     Farewell,
-    /// Nothing: it has ended.
+    /// No event: the connection has ended.
     Nothing,
 }
 
 impl Awaits {
-    /// Whether it has come, by what the poll told and by whether there is news.
+    /// Whether the event has come, by the socket's readiness and by whether there is news.
     pub(crate) fn has_come(self, readiness: Readiness, has_news: bool) -> bool {
         match self {
             Awaits::Input | Awaits::Farewell => readiness.read,

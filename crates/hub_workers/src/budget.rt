@@ -8,7 +8,7 @@ const CALLS: u32 = 128;
 /// How many bytes these calls may move.
 const BYTES: usize = 1_048_576;
 
-/// What is left of a turn.
+/// The rest of a turn: how many calls it may still make, and how many bytes these may move.
 #[derive(Clone, Copy)]
 pub(crate) struct Budget {
     calls: u32,
@@ -16,7 +16,7 @@ pub(crate) struct Budget {
 }
 
 impl Budget {
-    /// That of a whole turn.
+    /// The budget of a whole turn.
     pub(crate) fn whole() -> Budget {
         Budget {
             calls: CALLS,
@@ -24,7 +24,7 @@ impl Budget {
         }
     }
 
-    /// A call was made, and moved so many bytes.
+    /// Counts a call that moved so many bytes.
     pub(crate) fn spend(&mut self, bytes: usize)
         ensures calls { self.new.calls ≡ self.old.calls - 1 }
         ensures bytes { self.new.bytes ≡ self.old.bytes - bytes }
@@ -33,7 +33,7 @@ impl Budget {
         self.bytes = self.bytes.saturating_sub(bytes);
     }
 
-    /// Whether nothing is left.
+    /// Whether the turn is used up.
     pub(crate) fn is_spent(self) -> bool
         ensures { IsTrue result ↔ ((self.calls ≡ 0) ⊎ (self.bytes ≡ 0)) }
     {

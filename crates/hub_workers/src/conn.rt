@@ -11,24 +11,24 @@ use std::alloc::{AllocError, Global};
 use std::io;
 use std::sync::Arc;
 
-/// A connection: its socket, which never waits, and its session. One runner at a time has it, and goes on
-/// with it by turns.
+/// A connection: its socket, which never waits, and its session. One runner at a time has the connection, and
+/// goes on with it by turns.
 #[derive(Drop)]
 pub(crate) struct Conn<S: Service> {
     pub(crate) stream: TcpStream,
     pub(crate) driven: Driven<S>,
-    /// What the socket is ready for, as far as it is known.
+    /// The readiness of the socket, as far as it is known.
     pub(crate) readiness: Readiness,
     /// A watch that is to be set for its stream.
     watch: Option<Arc<Watch, Global>>,
     /// Whether a watch is set for its stream.
     pub(crate) is_watched: bool,
-    /// The life of the watch that its worker keeps for it, until that is forgotten.
+    /// The life under which its worker's `Watches` keep it, until they forget it.
     pub(crate) life: Option<u64>,
-    /// Whether its time begins anew: since this was asked some byte went, or came behind the end of its
-    /// session.
+    /// Whether its time begins anew: since this was last asked, a byte went, or a byte came after the end of
+    /// its session.
     pub(crate) is_renewed: bool,
-    /// How many bytes were read behind the end of its session, `None` before it.
+    /// How many bytes were read after the end of its session, `None` before that.
     pub(crate) unread: Option<usize>,
 }
 
@@ -59,7 +59,7 @@ impl<S: Service + Watchable + Drop> Conn<S> {
         self.watch = Some(watch);
     }
 
-    /// Sets the watch that it took, if it did.
+    /// Sets the watch that it took, if it took one.
     pub(crate) fn set_watch(&mut self) {
         if let Some(watch) = self.watch.take() {
             self.driven.session.service().watch(watch);
@@ -67,15 +67,15 @@ impl<S: Service + Watchable + Drop> Conn<S> {
         }
     }
 
-    /// Notes where its stream has ended, and with it the stream's watch.
+    /// Where its stream has ended, notes that the watch of the stream has ended too.
     pub(crate) fn note_stream(&mut self) {
         if self.is_watched && self.driven.session.service().life().is_none() {
             self.is_watched = false;
         }
     }
 
-    /// What a connection waits for whose stream has no item: a watch, if there is none yet. A client that can
-    /// be reached no more is given up.
+    /// The event for which the connection waits while its stream has no item: a watch, if none is set yet,
+    /// and else news. A client that can be reached no more is given up.
     pub(crate) fn await_news(&mut self) -> Awaits {
         match self.driven.session.service().life() {
             _ if self.readiness.hang_up => self.give_up(),
@@ -84,7 +84,7 @@ impl<S: Service + Watchable + Drop> Conn<S> {
         }
     }
 
-    /// The client is gone, or nobody waits for it any longer.
+    /// Gives the session up: the client is gone, or was waited for too long.
     pub(crate) fn give_up(&mut self) -> Awaits {
         self.driven.session.give_up();
         Awaits::Nothing

@@ -7,9 +7,8 @@ use hub_session::{Service, Session};
 use mio::net::TcpStream;
 use std::alloc::{AllocError, Global};
 
-/// The session of a connection. However a worker drives it, there is a run that it had: the bytes that left
-/// its outbox and those that lie there are, in order, the texts of a session over all bytes that were
-/// offered.
+/// The session of a connection. However a worker drives it, the session had a run. The bytes that left its
+/// outbox, and then the bytes in the outbox, are the texts of a session over all offered bytes.
 #[derive(Drop)]
 pub(crate) struct Driven<S: Service> {
     pub(crate) session: Session<S>,
@@ -17,7 +16,7 @@ pub(crate) struct Driven<S: Service> {
 }
 
 impl<S: Service> Driven<S> {
-    /// A session to which nothing was offered. An error says that there was no memory for its outbox.
+    /// A session to which no bytes were offered. An error says that there was no memory for its outbox.
     pub(crate) fn new(alloc: Global, service: S) -> Result<Driven<S>, AllocError>
     where
         S: Drop,
@@ -28,8 +27,8 @@ impl<S: Service> Driven<S> {
         })
     }
 
-    /// Takes bytes that came: none says that no more come. Where there is no memory for them the session
-    /// answers so, and closes.
+    /// Offers the session bytes that came; no bytes say that no more come. Out of memory for them, the
+    /// session closes (`Session::close_out_of_memory`).
     pub(crate) fn take_in(&mut self, bytes: &[u8]) {
         match self.session.offer(bytes) {
             Ok(()) => {}
@@ -37,8 +36,8 @@ impl<S: Service> Driven<S> {
         }
     }
 
-    /// Hands a front of what is to go to a socket, by one write. One that was interrupted is made again:
-    /// `Again` then says that there is no room.
+    /// Hands a front of the outbox to a socket, by one write. A write that answers `Again` may have been
+    /// interrupted, and is made once more: a second `Again` says that there is no room.
     pub(crate) fn hand(&mut self, stream: &mut TcpStream) -> Transfer {
         match self.session.send_to(stream) {
             Transfer::Again => self.session.send_to(stream),

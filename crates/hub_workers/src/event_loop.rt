@@ -16,10 +16,10 @@ use std::io;
 use std::sync::{Arc, Wait};
 use std::time::Duration;
 
-/// How many events are taken of the poll at once.
+/// How many events are taken from the poll at once.
 const EVENTS: usize = 256;
 
-/// The connections of a worker, and what tells of them.
+/// The connections of a worker, with the poll and the watches that tell of them.
 #[derive(Drop)]
 pub(crate) struct EventLoop<S: Service> {
     poll: Poll,
@@ -29,7 +29,7 @@ pub(crate) struct EventLoop<S: Service> {
 }
 
 impl<S: Service + Watchable + Drop> EventLoop<S> {
-    /// That of a worker without connections, whose streams ring this bell.
+    /// The event loop of a worker without connections, whose streams ring this bell.
     pub(crate) fn new(
         alloc: Global,
         poll: Poll,
@@ -43,8 +43,8 @@ impl<S: Service + Watchable + Drop> EventLoop<S> {
         })
     }
 
-    // Takes a new connection. One for which there is no memory, or no place in the poll, is closed; whether
-    // it was taken.
+    // Takes a new connection, and says whether it did. A connection for which there is no memory, or no place
+    // in the poll, is closed.
     fn take_new(&mut self, mut conn: Box<Conn<S>>, now: u64) -> bool {
         let Ok(token) = self.table.take_free() else {
             return false;
@@ -57,8 +57,8 @@ impl<S: Service + Watchable + Drop> EventLoop<S> {
         true
     }
 
-    // Gives a connection a watch, which its next turn sets for its stream; what it waits for from here on.
-    // Without memory for it the connection is given up: its stream could not go on.
+    // Gives a connection a watch, which its next turn sets for its stream. The answer is the event for which
+    // it waits then. Without memory for a watch it is given up: its stream could not go on.
     fn give_watch(&mut self, token: usize, conn: &mut Conn<S>, life: u64) -> Awaits {
         match self.watches.add(life, token) {
             Ok(watch) => {
@@ -73,8 +73,8 @@ impl<S: Service + Watchable + Drop> EventLoop<S> {
         }
     }
 
-    /// Puts back a connection behind its turn, at this reading of the clock. One that has ended is closed;
-    /// whether it has not.
+    /// Puts back a connection after its turn, at this reading of the clock, and says whether it is still
+    /// open. A connection that has ended is closed.
     pub(crate) fn put_back(&mut self, turn: Turn<S>, now: u64) -> bool {
         let Turn {
             token,
@@ -101,7 +101,7 @@ impl<S: Service + Watchable + Drop> EventLoop<S> {
         true
     }
 
-    /// Takes what the worker was given; whether it is the worker's from here on, and else it is closed.
+    /// Takes a connection that the worker was given, and says whether the connection is still open.
     pub(crate) fn take_given(&mut self, given: Given<S>, now: u64) -> bool {
         match given {
             Given::New(conn) => self.take_new(conn, now),
@@ -109,8 +109,8 @@ impl<S: Service + Watchable + Drop> EventLoop<S> {
         }
     }
 
-    // Asks the poll, which waits at most so long for something to tell. It fails by a wrong descriptor or a
-    // wrong buffer alone (epoll_wait(2)), and tells nothing then.
+    // Asks the poll, which waits at most so long for an event. It fails only by a wrong descriptor, a wrong
+    // buffer or an interruption (epoll_wait(2)), and tells of no event then.
     fn ask(&mut self, most: Option<Duration>) {
         let _asked = self.poll.poll(&mut self.events, most);
         for event in &self.events {
@@ -119,7 +119,7 @@ impl<S: Service + Watchable + Drop> EventLoop<S> {
         }
     }
 
-    /// Looks for connections that are to have a turn, where none is known, and sleeps until there is one, or
+    /// Looks for connections that are to have a turn, where none is known. It sleeps until there is one, or
     /// something else for the worker. It may come back for no reason.
     pub(crate) fn look<R: Wait>(&mut self, rt: &R, port: &Port<S>, now: u64) {
         self.table.tell_time(now);

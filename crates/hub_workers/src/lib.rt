@@ -1,4 +1,4 @@
-//! Workers that serve connections, as many as there are processors, each with a poll of its own. A connection
+//! Workers that serve connections: one a processor, at least two, each with a poll of its own. A connection
 //! is a value of one worker, which steps its session when its socket is ready or its stream has news.
 #![tactic(auto)]
 

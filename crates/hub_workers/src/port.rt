@@ -14,16 +14,16 @@ use std::sync::{Arc, Mutex, Wait};
 /// The token of a worker's waker, which no connection has.
 pub(crate) const WAKER: Token = Token(usize::MAX);
 
-/// What a worker is given.
+/// A connection that a worker is given.
 #[derive(Drop)]
 pub(crate) enum Given<S: Service> {
     /// A new connection.
     New(Box<Conn<S>>),
-    /// One that had a turn in which its runner was relieved.
+    /// A connection after a turn in which its runner was relieved.
     Back(Turn<S>),
 }
 
-/// What others have of a worker.
+/// The part of a worker that other threads have.
 #[derive(Drop)]
 pub(crate) struct Port<S: Service> {
     waker: Waker,
@@ -37,7 +37,7 @@ pub(crate) struct Port<S: Service> {
 }
 
 impl<S: Service> Port<S> {
-    /// The port of a worker that rests at this poll, and whose streams ring this bell.
+    /// The port of a worker that sleeps in the poll of this registry, and whose streams ring this bell.
     pub(crate) fn new(
         alloc: Global,
         registry: &Registry,
@@ -67,7 +67,7 @@ impl<S: Service> Port<S> {
         }
     }
 
-    /// Gives the worker this. An error, which hands it back, says that there was no memory.
+    /// Gives the worker a connection. An error says that there was no memory, and hands the connection back.
     pub(crate) fn give<R: Wait>(
         &self,
         rt: &R,
@@ -78,12 +78,12 @@ impl<S: Service> Port<S> {
         Ok(())
     }
 
-    /// Takes what was given first and not taken yet.
+    /// Takes the first connection that was given and not taken yet.
     pub(crate) fn take<R: Wait>(&self, rt: &R) -> Option<Given<S>> {
         self.inbox.lock(rt).pop_front()
     }
 
-    /// There will be no more connections.
+    /// Tells the worker that there will be no more connections.
     pub(crate) fn close(&self) {
         self.is_closed.store(true, Ordering::SeqCst);
         self.wake();
@@ -94,13 +94,13 @@ impl<S: Service> Port<S> {
         self.is_closed.load(Ordering::SeqCst)
     }
 
-    /// The worker is about to sleep: whether there is nothing for it. What comes from here on wakes it.
+    /// Whether there is nothing for the worker, which is about to sleep. Later news and connections wake it.
     pub(crate) fn begin_sleep<R: Wait>(&self, rt: &R) -> bool {
         self.is_asleep.store(true, Ordering::SeqCst);
         !self.bell.is_rung() && !self.is_closed() && self.inbox.lock(rt).is_empty()
     }
 
-    /// The worker is awake.
+    /// Notes that the worker is awake.
     pub(crate) fn end_sleep(&self) {
         self.is_asleep.store(false, Ordering::SeqCst);
     }

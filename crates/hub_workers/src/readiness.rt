@@ -1,25 +1,25 @@
-//! What a socket is ready for.
+//! The readiness of sockets.
 
 ghost use Rattle.std.specs.Prelude.{◌≡◌, ◌||◌, false};
 
 use mio::event::Event;
 
-/// What the poll told of a socket, and no call has refuted since.
+/// The readiness of a socket, as the poll told it and no call has refuted it since.
 #[derive(Clone, Copy, PartialEq, Eq)]
 pub(crate) struct Readiness {
-    /// There may be bytes, or their end.
+    /// There may be bytes to read, or the end of them.
     pub(crate) read: bool,
-    /// There may be room.
+    /// There may be room for bytes.
     pub(crate) write: bool,
-    /// The client ended what it sends. So it stays: the end may lie behind bytes that a read gave, and is not
+    /// The client ended its side. This stays so: the end may lie behind bytes that a read gave, and is not
     /// told again.
     pub(crate) read_end: bool,
-    /// The client can be reached no more. So it stays.
+    /// The client can be reached no more. This stays so.
     pub(crate) hang_up: bool,
 }
 
 impl Readiness {
-    /// Nothing was told.
+    /// The poll told nothing.
     pub(crate) const NONE: Readiness = Readiness {
         read: false,
         write: false,
@@ -27,7 +27,7 @@ impl Readiness {
         hang_up: false,
     };
 
-    /// What an event tells.
+    /// The readiness that an event tells.
     pub(crate) fn of(event: &Event) -> Readiness {
         Readiness {
             read: event.is_readable() || event.is_read_closed() || event.is_error(),
@@ -37,7 +37,7 @@ impl Readiness {
         }
     }
 
-    /// What either tells.
+    /// The readiness that either tells.
     pub(crate) fn or(self, other: Readiness) -> Readiness
         ensures read { result.read ≡ (self.read || other.read) }
         ensures write { result.write ≡ (self.write || other.write) }

@@ -1,4 +1,4 @@
-//! The relief of runners that are held: at a gate, behind a lock, or by a long request.
+//! The relief of runners that are held at a gate, at a lock or by a long request.
 
 ghost use Rattle.std.specs.Prelude.{◌≡◌, ◌-◌, ◌↔◌, IsTrue, if◌then◌else◌};
 
@@ -11,18 +11,18 @@ use std::sync::atomic::{AtomicBool, Ordering};
 use std::thread::{Parker, Scope};
 use std::time::Duration;
 
-/// How long a runner may be held before it is relieved, in milliseconds: so often the workers are looked at.
+/// The time between two looks at the workers, in milliseconds. A runner in one turn at both is relieved.
 const PERIOD: u64 = 4;
 
 /// How many looks in a row that find no worker busy come before a sleep.
 const LOOKS: u32 = 25;
 
-/// When the thread that looks for runners that are held does so: every few milliseconds while a worker is
-/// busy, and shortly behind that. Then it sleeps until a worker begins a turn.
+/// The times of the looks for runners that are held. A look comes every `PERIOD` while a worker is busy, and
+/// `LOOKS` times after that. Then the thread that looks sleeps until a worker begins a turn.
 #[derive(Drop)]
 pub(crate) struct Monitor {
     parker: Parker,
-    /// Whether it sleeps, or is about to: then who begins a turn wakes it.
+    /// Whether that thread sleeps, or is about to: then whoever begins a turn wakes it.
     is_asleep: AtomicBool,
     /// Whether there will be no more connections.
     is_over: AtomicBool,
@@ -36,12 +36,12 @@ struct Looks {
 }
 
 impl Looks {
-    // None yet.
+    // No look yet.
     fn new() -> Looks {
         Looks { left: LOOKS }
     }
 
-    // One more, which found a worker busy, or none.
+    // Counts one more look, and whether it found a worker busy.
     fn note(&mut self, is_busy: bool)
         ensures { self.new.left ≡ (if is_busy then LOOKS else self.old.left - 1) }
     {
@@ -52,7 +52,7 @@ impl Looks {
         };
     }
 
-    // Whether none was found busy for so long that it is time to sleep.
+    // Whether so many looks in a row found no worker busy that it is time to sleep.
     fn are_over(self) -> bool
         ensures { IsTrue result ↔ (self.left ≡ 0) }
     {
@@ -61,7 +61,7 @@ impl Looks {
 }
 
 impl Monitor {
-    /// One that is awake.
+    /// A monitor that is awake.
     pub(crate) fn new() -> Monitor {
         Monitor {
             parker: Parker::new(),
@@ -70,14 +70,14 @@ impl Monitor {
         }
     }
 
-    /// Somebody begins a turn: wakes it, if it sleeps. Constant time.
+    /// Wakes the monitor, if it sleeps: a turn begins. Constant time.
     pub(crate) fn wake(&self) {
         if self.is_asleep.load(Ordering::SeqCst) && self.is_asleep.swap(false, Ordering::SeqCst) {
             self.parker.unpark();
         }
     }
 
-    /// There will be no more connections.
+    /// Tells the monitor that there will be no more connections.
     pub(crate) fn end(&self) {
         self.is_over.store(true, Ordering::SeqCst);
         self.parker.unpark();
@@ -95,7 +95,7 @@ where
     S: Service + Watchable + Send + Drop,
     K: Clock + Sync,
 {
-    // Starts a thread that relieves a worker's runner, where that was held since the last look. Without
+    // Starts a thread that relieves a worker's runner, where the runner was held since the last look. Without
     // memory or a thread for it, the next look tries again.
     fn relieve_held<'s>(&'e self, scope: &'s Scope<'s, &'e ()>, seat: &'e Seat<S>) {
         let Some(number) = seat.held() else {
@@ -106,7 +106,7 @@ where
         }
     }
 
-    // Looks at each worker; whether one is busy.
+    // Looks at each worker, and says whether one is busy.
     fn look<'s>(&'e self, scope: &'s Scope<'s, &'e ()>) -> bool {
         for seat in &self.seats {
             self.relieve_held(scope, seat);

@@ -13,16 +13,16 @@ use std::sync::{Arc, Mutex, Wait};
 use std::{io, thread};
 
 /// The seat of a worker. One thread runs it at a time, its runner: it takes out a connection, goes on with it
-/// outside of the lock, and puts it back. A runner that is held meanwhile can be relieved: another thread is
-/// the seat's runner from then on, and the first gives its connection back.
+/// outside of the lock, and puts it back. A runner that is held meanwhile can be relieved. Another thread is
+/// the seat's runner from then on, and the held thread gives its connection back.
 #[derive(Drop)]
 pub(crate) struct Seat<S: Service> {
-    /// What others have of it.
+    /// The part of the worker that other threads have.
     pub(crate) port: Port<S>,
     pub(crate) events: Mutex<EventLoop<S>>,
-    /// How many turns began, and how many ended: odd while one goes on, of which it is the number.
+    /// How many turns began, plus how many ended: while a turn goes on it is odd, and the number of the turn.
     turns: AtomicU64,
-    /// What `turns` was at the last look for a runner that is held.
+    /// The value of `turns` at the last look for a runner that is held.
     seen: AtomicU64,
 }
 
@@ -46,7 +46,7 @@ impl<S: Service + Watchable + Drop> Seat<S> {
         self.turns.load(Ordering::SeqCst) & 1 == 1
     }
 
-    /// The turn that goes on since the last look, if one does.
+    /// The number of the turn that went on at the last look and still goes on, if there is one.
     pub(crate) fn held(&self) -> Option<u64> {
         let now = self.turns.load(Ordering::SeqCst);
         let before = self.seen.swap(now, Ordering::SeqCst);
@@ -58,7 +58,7 @@ impl<S: Service + Watchable + Drop> Seat<S> {
         self.turns.fetch_add(1, Ordering::SeqCst).wrapping_add(1)
     }
 
-    /// Ends the turn of this number: whether nobody did before. Who ends it is the seat's runner.
+    /// Ends the turn of this number, and says whether nobody did before. Who ends it is the seat's runner.
     pub(crate) fn end_turn(&self, number: u64) -> bool {
         let next = number.wrapping_add(1);
         self.turns
@@ -66,8 +66,8 @@ impl<S: Service + Watchable + Drop> Seat<S> {
             .is_ok()
     }
 
-    /// Gives a connection back behind a turn that somebody else ended, for the seat's runner to put it
-    /// back. It is tried until there is memory for it: the connection must not be lost.
+    /// Gives a connection back after a turn that another thread ended, for the seat's runner to put it back.
+    /// It tries until there is memory for the connection, which must not be lost.
     pub(crate) fn give_back<R: Wait>(&self, rt: &R, turn: Turn<S>) {
         let mut given = Given::Back(turn);
         for _ in rt.forever() {

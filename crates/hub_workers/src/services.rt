@@ -1,7 +1,7 @@
 //! The services of connections.
 
-/// What makes the service of each connection.
+/// A maker of the services of connections.
 pub trait MakeService<S> {
-    /// That of the connection of this number.
+    /// The service of the connection of this number.
     fn make(&self, number: u64) -> S;
 }

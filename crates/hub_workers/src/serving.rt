@@ -17,8 +17,8 @@ where
     S: Service + Watchable + Send + Drop,
     K: Clock + Sync,
 {
-    // Starts a thread for each worker, and one that accepts. An error says that there was no memory, or that
-    // one of them could not be made.
+    // Starts a thread for each worker, and a thread that accepts. An error says that there was no memory, or
+    // that a thread could not be made.
     fn start<'s, M: MakeService<S> + Sync>(
         &'e self,
         scope: &'s Scope<'s, &'e ()>,
@@ -31,7 +31,7 @@ where
         Ok(scope.spawn(move || self.accept(accepted))?)
     }
 
-    // Serves these connections. This thread looks for workers that are held meanwhile.
+    // Serves these connections. Meanwhile this thread looks for runners that are held.
     fn serve<M: MakeService<S> + Sync>(&'e self, accepted: &'e Accepted<'e, M>) -> io::Result<()>
     where
         R: Threads,
@@ -51,15 +51,15 @@ where
     }
 }
 
-/// Serves so many connections, by as many workers as there are processors, and comes back once all have
-/// ended. Connections are numbered from 1 as they are accepted, and each has the service that is made for
-/// its number. A connection is a value of one worker, in turn, and has no thread of its own. Where one
-/// holds its worker's thread for more than some milliseconds, behind a lock or by a long request, another
-/// thread goes on with the worker's others. A connection for which there is no memory is closed unanswered.
-/// One whose next request is not whole within ten minutes behind the answer before, and one whose client
-/// takes no byte of an answer within ten minutes, is closed too. An error says that there was no memory, no
-/// thread or no descriptor to begin with, or that no connection could be accepted while none was open.
-/// Where none can be accepted beside those that are open, the next one waits until one of them has ended.
+/// Serves so many connections, by a worker a processor and at least two, and comes back once all have ended.
+/// Connections are numbered from 1 as they are accepted, and each has the service that is made for its
+/// number. Workers get connections in turn, and a connection has no thread of its own. A connection may hold
+/// its worker's thread at a lock or by a long request: after some milliseconds another thread goes on with
+/// the worker's others. A connection for which there is no memory is closed unanswered. A connection is
+/// closed too whose next request is not whole within ten minutes after the last answer, or whose client takes
+/// no byte of an answer for ten minutes. An error says that there was no memory, thread or descriptor to
+/// begin with, or that no connection could be accepted while none was open. Where no connection can be
+/// accepted beside the open ones, the next connection waits until one of these has ended.
 pub fn serve_all<R, S, K, M>(
     rt: &R,
     alloc: Global,

@@ -7,11 +7,11 @@ use crate::turn::Turn;
 use hub_session::Service;
 use hub_shared::Watchable;
 
-/// How long a client may take for its next request, or to make room for some byte, in milliseconds: behind
-/// this its connection ends.
+/// How long a client may take for its next request, or to make room for some byte, in milliseconds. After
+/// this time its connection ends.
 const PATIENCE: u64 = 600_000;
 
-/// How long a client is waited for to whom all is said, in milliseconds behind the last byte that it sent.
+/// How long a client may take after its last answer to end its side or to send a byte, in milliseconds.
 const FAREWELL: u64 = 1_000;
 
 /// No time, as a reading of the clock.
@@ -22,13 +22,13 @@ pub(crate) const NEVER: u64 = u64::MAX;
 pub(crate) struct Slot<S: Service> {
     /// The connection, `None` while it has a turn, and where there is none.
     conn: Option<Box<Conn<S>>>,
-    /// What it waits for. It is never a watch.
+    /// The event for which it waits. It is never a watch.
     awaits: Awaits,
-    /// What its time is counted for: what it waits for, or waited for before it used up a turn.
+    /// The event for which its time is counted: it waits for this, or did before it used up a turn.
     timed: Awaits,
-    /// What the socket is ready for. During a turn, what the poll told since it began.
+    /// The readiness of the socket. During a turn, the readiness that the poll told since the turn began.
     readiness: Readiness,
-    /// Whether its stream may go on, for news that came since its last turn began, or as its time has come.
+    /// Whether its stream may go on: news came that no turn has taken yet, or the stream's time has come.
     has_news: bool,
     /// Whether it waited too long for its client.
     is_late: bool,
@@ -40,10 +40,10 @@ pub(crate) struct Slot<S: Service> {
     due: u64,
 }
 
-/// What is told of a connection.
+/// A message about a connection.
 #[derive(Drop)]
 pub(crate) enum Told {
-    /// Its socket is ready for this.
+    /// Its socket has this readiness.
     Ready(Readiness),
     /// Its stream may go on.
     News,
@@ -77,9 +77,9 @@ impl<S: Service + Watchable + Drop> Slot<S> {
         }
     }
 
-    /// Puts a connection here that waits for this, at this reading of the clock, and tells when it will have
-    /// waited long enough. It waits for its client since its time was renewed, or since it began to wait for
-    /// this. One that waits for its next turn is to have it.
+    /// Puts a connection here that waits for `awaits`, at the reading `now` of the clock. The answer is when
+    /// it will have waited long enough. Its time begins anew where it was renewed, or the event is another
+    /// than before. A connection that waits for its next turn is to have it.
     pub(crate) fn put(&mut self, mut conn: Box<Conn<S>>, awaits: Awaits, now: u64) -> u64 {
         self.is_queued = awaits == Awaits::Turn;
         if !self.is_queued {
@@ -96,9 +96,9 @@ impl<S: Service + Watchable + Drop> Slot<S> {
         self.due
     }
 
-    /// Takes its connection out for a turn, which has no number yet. None where there is none here. Its news
-    /// is dropped only where it waited for news: then its stream asks its host in this turn. Else the stream
-    /// may still have items that it got before the news, and ends the turn behind these.
+    /// Takes its connection out for a turn, which has no number yet. None where no connection is here. News
+    /// is dropped only where the connection waited for news: its stream asks its host in this turn. Else the
+    /// stream may still have items from before the news, and end the turn after these items.
     pub(crate) fn take(&mut self, token: usize) -> Option<Turn<S>> {
         let mut conn = self.conn.take()?;
         conn.readiness = self.readiness;
@@ -119,7 +119,7 @@ impl<S: Service + Watchable + Drop> Slot<S> {
         Some(turn)
     }
 
-    /// This is told of its connection, which may have a turn meanwhile.
+    /// Notes a message about its connection, which may have a turn meanwhile.
     pub(crate) fn tell(&mut self, told: Told) {
         match told {
             Told::Ready(readiness) => self.readiness = self.readiness.or(readiness),
@@ -128,7 +128,7 @@ impl<S: Service + Watchable + Drop> Slot<S> {
         }
     }
 
-    /// The clock reads so: when it will have waited long enough, unless it did.
+    /// Tells it the clock's `now`. The answer is when it will have waited long enough, `NEVER` once it has.
     pub(crate) fn tell_time(&mut self, now: u64) -> u64 {
         if self.due <= now {
             self.due = NEVER;
@@ -141,8 +141,8 @@ impl<S: Service + Watchable + Drop> Slot<S> {
         self.due
     }
 
-    /// Whether its connection is to have a turn from here on: it is here, what it waits for has come or it
-    /// waited too long, and it was not to have one before.
+    /// Whether its connection is to have a turn from here on, and was not to have one before. It is to have
+    /// one where it is here, and its event has come or it waited too long.
     pub(crate) fn queue(&mut self) -> bool {
         let is_wanted = self.is_late || self.awaits.has_come(self.readiness, self.has_news);
         let is_new = is_wanted && self.conn.is_some() && !self.is_queued;

@@ -9,22 +9,22 @@ use hub_shared::Watchable;
 use std::io::{ErrorKind, Read};
 use std::net::Shutdown;
 
-/// How many bytes are read of a client to whom all is said: a longest body, twice.
+/// How many bytes are read of a client after its last answer: a longest body, twice.
 const FAREWELL: usize = 16_777_216;
 
-/// What a read of a socket gave.
+/// The result of a read of a socket.
 enum Got {
-    /// So many bytes: none says that none will come.
+    /// So many bytes; 0 says that no more will come.
     Bytes(usize),
-    /// None yet.
+    /// No bytes yet.
     Nothing,
     /// The client is gone.
     Gone,
 }
 
 impl<S: Service + Watchable + Drop> Conn<S> {
-    /// Goes on with it, until it waits for something or its turn is used up. Each read fills this room. It
-    /// waits for no socket; what it asks of the service may wait for a lock, or at a gate.
+    /// Goes on with the connection, until it waits for something or its turn is used up. Each read fills
+    /// `room`. No call waits for a socket. A call of the service may wait for a lock, or at a gate.
     pub(crate) fn go_on(&mut self, room: &mut [u8]) -> Awaits {
         self.set_watch();
         let mut budget = Budget::whole();
@@ -39,8 +39,8 @@ impl<S: Service + Watchable + Drop> Conn<S> {
         Awaits::Turn
     }
 
-    // Goes on by one step; what it waits for, None where it may go on at once. Whatever else than one more
-    // step the session wants, all that is to go is sent before.
+    // Goes on by one step. The answer is the event for which the connection waits, None where it may go on at
+    // once. Unless the session wants just one more step, the outbox is sent first.
     fn step(&mut self, room: &mut [u8], budget: &mut Budget) -> Option<Awaits> {
         if self.unread.is_some() {
             return self.see_off(room, budget);
@@ -61,7 +61,7 @@ impl<S: Service + Watchable + Drop> Conn<S> {
         }
     }
 
-    // Sends what is to go; what it waits for, None where all went.
+    // Sends the outbox. The answer is the event for which the connection waits, None where all bytes went.
     fn send(&mut self, budget: &mut Budget) -> Option<Awaits> {
         for _ in 0..u64::MAX {
             match self.driven.hand(&mut self.stream) {
@@ -83,8 +83,8 @@ impl<S: Service + Watchable + Drop> Conn<S> {
         Some(Awaits::Turn)
     }
 
-    // Reads once. A read that gives less than it could shows that there is nothing more, unless an end lies
-    // behind it. One that was interrupted leaves the socket ready.
+    // Reads once. A read that does not fill `room` shows that no more bytes are there, unless an end lies
+    // behind them. A read that was interrupted leaves the socket ready.
     fn read(&mut self, room: &mut [u8], budget: &mut Budget) -> Got {
         if !self.readiness.read {
             return Got::Nothing;
@@ -120,7 +120,7 @@ impl<S: Service + Watchable + Drop> Conn<S> {
         }
     }
 
-    // Ends what is sent where the client may still send: bytes that nobody reads would make the system take
+    // Ends the hub's side where the client may still send: bytes that nobody reads would make the system take
     // back an answer that the client has not read.
     fn close(&mut self, closing: Closing) -> Option<Awaits> {
         if !closing.is_ended_here() || self.stream.shutdown(Shutdown::Write).is_err() {
@@ -130,7 +130,7 @@ impl<S: Service + Watchable + Drop> Conn<S> {
         None
     }
 
-    // Reads on until the client has ended too, and within bounds.
+    // Reads on until the client has ended its side too, or `FAREWELL` bytes were read.
     fn see_off(&mut self, room: &mut [u8], budget: &mut Budget) -> Option<Awaits> {
         let before = self.unread.unwrap_or(0);
         match self.read(room, budget) {

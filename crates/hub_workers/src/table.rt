@@ -13,7 +13,7 @@ use std::collections::VecDeque;
 const STEP: u64 = 16;
 
 /// The connections of a worker, by their tokens, and whose turn is next. The queues have room for each token,
-/// which is made with the token's place: so they take each without memory.
+/// made with the token's place: so a queue takes a token without memory.
 #[derive(Drop)]
 pub(crate) struct Table<S: Service> {
     slots: Vec<Slot<S>>,
@@ -21,19 +21,19 @@ pub(crate) struct Table<S: Service> {
     free: Vec<usize>,
     /// The tokens of connections that are to have a turn, in order.
     ready: VecDeque<usize>,
-    /// Those of connections that used up a turn: they have the next one behind a look at the poll.
+    /// The tokens of connections that used up a turn: they have the next turn after a look at the poll.
     later: VecDeque<usize>,
-    /// No connection will have waited long enough before the clock reads so.
+    /// Before this reading of the clock no connection will have waited long enough.
     next_look: u64,
 }
 
-/// The first step at or behind this time.
+/// The first step at or after this time.
 fn step_of(time: u64) -> u64 {
     time.div_ceil(STEP).saturating_mul(STEP)
 }
 
 impl<S: Service + Watchable + Drop> Table<S> {
-    /// There is no connection.
+    /// A table without connections.
     pub(crate) fn new(alloc: Global) -> Table<S> {
         Table {
             slots: Vec::new(alloc),
@@ -44,8 +44,8 @@ impl<S: Service + Watchable + Drop> Table<S> {
         }
     }
 
-    /// Takes the token of a place of no connection: a place is made, with room for its token, where there is
-    /// none. An error says that there was no memory for one.
+    /// Takes the token of a place without a connection. Where there is none, a place is made, with room for
+    /// its token. An error says that there was no memory for a place.
     pub(crate) fn take_free(&mut self) -> Result<usize, AllocError> {
         if let Some(token) = self.free.pop() {
             return Ok(token);
@@ -59,7 +59,7 @@ impl<S: Service + Watchable + Drop> Table<S> {
         Ok(token)
     }
 
-    /// A token that was taken has no connection.
+    /// Gives back a token that was taken, and that has no connection.
     pub(crate) fn give_free(&mut self, token: usize) {
         if let Some(slot) = self.slots.get_mut(token) {
             *slot = Slot::free();
@@ -68,7 +68,7 @@ impl<S: Service + Watchable + Drop> Table<S> {
         let _kept = self.free.push(token);
     }
 
-    // A connection is to have a turn, if it is not to have one already.
+    // Queues the connection of a token, if it is to have a turn and is not queued yet.
     fn queue(&mut self, token: usize) {
         if let Some(slot) = self.slots.get_mut(token)
             && slot.queue()
@@ -78,8 +78,8 @@ impl<S: Service + Watchable + Drop> Table<S> {
         }
     }
 
-    /// Puts a connection at its token, which waits for this, at this reading of the clock. It has a turn once
-    /// that has come. One that used up a turn has the next one behind the others.
+    /// Puts a connection at its token. It waits for `awaits`, at the reading `now` of the clock, and has a
+    /// turn once that event has come. A connection that used up a turn has the next turn after the others.
     pub(crate) fn put(&mut self, token: usize, conn: Box<Conn<S>>, awaits: Awaits, now: u64) {
         let Some(slot) = self.slots.get_mut(token) else {
             return;
@@ -99,7 +99,7 @@ impl<S: Service + Watchable + Drop> Table<S> {
         !self.ready.is_empty()
     }
 
-    /// Whether one has used up its turn and goes on.
+    /// Whether a connection has used up its turn and goes on.
     pub(crate) fn has_later(&self) -> bool {
         !self.later.is_empty()
     }
@@ -110,7 +110,7 @@ impl<S: Service + Watchable + Drop> Table<S> {
         self.slots.get_mut(token)?.take(token)
     }
 
-    /// Those that used up a turn have the next one behind those that are to have one.
+    /// Queues the connections that used up a turn, after the connections that are queued already.
     pub(crate) fn begin_round(&mut self) {
         for _ in 0..u64::MAX {
             let Some(token) = self.later.pop_front() else {
@@ -121,7 +121,7 @@ impl<S: Service + Watchable + Drop> Table<S> {
         }
     }
 
-    /// This is told of the connection of a token, if it has one.
+    /// Notes a message about the connection of a token, if it has one.
     pub(crate) fn tell(&mut self, token: usize, told: Told) {
         if let Some(slot) = self.slots.get_mut(token) {
             slot.tell(told);
@@ -129,7 +129,7 @@ impl<S: Service + Watchable + Drop> Table<S> {
         }
     }
 
-    /// There is news of the streams of these tokens.
+    /// Notes news of the streams of these tokens.
     pub(crate) fn tell_news(&mut self, tokens: &[usize]) {
         for token in tokens {
             self.tell(*token, Told::News);
@@ -145,8 +145,8 @@ impl<S: Service + Watchable + Drop> Table<S> {
         }
     }
 
-    /// The clock reads so: connections that waited long enough are to have a turn. It costs a look at each
-    /// place, where the time has come.
+    /// Queues the connections that waited long enough at the reading `now` of the clock. Where a time has
+    /// come, the cost is a look at each place.
     pub(crate) fn tell_time(&mut self, now: u64) {
         if now < self.next_look {
             return;

@@ -21,7 +21,7 @@ const ROOM: usize = 65_536;
 /// The fewest workers of a server.
 const FEWEST: usize = 2;
 
-/// What the threads of a server share.
+/// The values that the threads of a server share.
 #[derive(Drop)]
 pub(crate) struct Team<'e, R, S: Service, K> {
     pub(crate) rt: &'e R,
@@ -31,12 +31,12 @@ pub(crate) struct Team<'e, R, S: Service, K> {
     pub(crate) seats: Vec<Seat<S>>,
     /// How many connections are served.
     pub(crate) alive: Alive,
-    /// When the workers are looked at.
+    /// The monitor, which says when the workers are looked at.
     pub(crate) monitor: Monitor,
 }
 
-/// How many workers a server has: one a processor. Where the system does not tell how many there are, it has
-/// as few as may be.
+/// How many workers a server has: one a processor, and at least `FEWEST`. Where the system does not tell how
+/// many processors there are, it has `FEWEST`.
 fn worker_count(rt: &impl Threads) -> usize {
     match thread::available_parallelism(rt) {
         Ok(count) => count.get().max(FEWEST),
@@ -77,7 +77,7 @@ impl<'e, R, S: Service + Watchable + Drop, K> Team<'e, R, S, K> {
         }
     }
 
-    /// There will be no more connections: the threads end.
+    /// Tells the threads that there will be no more connections: they end.
     pub(crate) fn close(&self) {
         for seat in &self.seats {
             seat.port.close();
@@ -85,14 +85,14 @@ impl<'e, R, S: Service + Watchable + Drop, K> Team<'e, R, S, K> {
         self.monitor.end();
     }
 
-    /// Room for what a runner reads at once.
+    /// A buffer for the bytes that a runner reads at once.
     pub(crate) fn make_room(&self) -> Result<Vec<u8>, AllocError> {
         vec![in self.alloc; 0u8; ROOM]
     }
 }
 
 impl<R: Wait, S: Service + Watchable + Drop, K: Clock> Team<'_, R, S, K> {
-    /// Gives a connection to a worker, to each one in turn. One for which there is no memory is closed.
+    /// Gives a connection to a worker, to each one in turn. Without memory for it the connection is closed.
     pub(crate) fn give(&self, number: u64, conn: Box<Conn<S>>) {
         let count = self.seats.len().max(1);
         let place = usize::try_from(number).unwrap_or(0) % count;
@@ -106,7 +106,7 @@ impl<R: Wait, S: Service + Watchable + Drop, K: Clock> Team<'_, R, S, K> {
         }
     }
 
-    // Takes in what a worker was given. One that is closed is no longer served.
+    // Takes in the connections that a worker was given. A connection that is closed is no longer served.
     fn take_given(&self, seat: &Seat<S>, events: &mut EventLoop<S>, now: u64) {
         for _ in 0..u64::MAX {
             let Some(given) = seat.port.take(self.rt) else {
@@ -118,8 +118,8 @@ impl<R: Wait, S: Service + Watchable + Drop, K: Clock> Team<'_, R, S, K> {
         }
     }
 
-    // Begins a turn of a worker's connection that is next, and sleeps while there is none. None once there
-    // will be no more connections.
+    // Begins the turn of a worker's next connection, and sleeps while no connection is to have a turn. None
+    // once there will be no more connections.
     fn begin_turn(&self, seat: &Seat<S>) -> Option<Turn<S>> {
         let mut guard = seat.events.lock(self.rt);
         let events = &mut *guard;
@@ -138,7 +138,7 @@ impl<R: Wait, S: Service + Watchable + Drop, K: Clock> Team<'_, R, S, K> {
         None
     }
 
-    // Puts back a connection behind a turn, for the runner who ended it.
+    // Puts back a connection after a turn, for the runner that ended the turn.
     fn put_back(&self, seat: &Seat<S>, turn: Turn<S>) {
         let is_open = seat
             .events
@@ -150,7 +150,7 @@ impl<R: Wait, S: Service + Watchable + Drop, K: Clock> Team<'_, R, S, K> {
     }
 
     /// Runs a worker, until there will be no more connections or another thread relieves this one. Each read
-    /// of a connection fills this room.
+    /// of a connection fills `room`.
     pub(crate) fn run(&self, seat: &Seat<S>, mut room: Vec<u8>) {
         for _ in self.rt.forever() {
             let Some(mut turn) = self.begin_turn(seat) else {
@@ -171,7 +171,7 @@ impl<R: Wait, S: Service + Watchable + Drop, K: Clock> Team<'_, R, S, K> {
     /// ended.
     pub(crate) fn relieve(&self, seat: &Seat<S>, number: u64, room: Vec<u8>) {
         if seat.end_turn(number) {
-            // What was written in that turn may be news.
+            // A write in that turn may be news.
             self.ring();
             self.run(seat, room);
         }

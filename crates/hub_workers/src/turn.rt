@@ -5,7 +5,7 @@ use crate::conn::Conn;
 use hub_session::Service;
 use hub_shared::Watchable;
 
-/// A turn of a connection, which a runner has for as long as the turn goes on: nobody else has it meanwhile.
+/// A turn of a connection. A runner has it for as long as the turn goes on, and nobody else has it meanwhile.
 #[derive(Drop)]
 pub(crate) struct Turn<S: Service> {
     /// The number of the turn at its seat, by which its runner ends it.
@@ -13,14 +13,14 @@ pub(crate) struct Turn<S: Service> {
     /// The token of the connection.
     pub(crate) token: usize,
     pub(crate) conn: Box<Conn<S>>,
-    /// What the connection waits for, before the turn and then behind it.
+    /// The event for which the connection waits: before the turn, and then after it.
     pub(crate) awaits: Awaits,
     /// Whether the connection waited too long for its client.
     pub(crate) is_late: bool,
 }
 
 impl<S: Service + Watchable + Drop> Turn<S> {
-    /// Goes on with the connection, or gives it up where it is late. Each of its reads fills this room.
+    /// Goes on with the connection, or gives it up where it is late. Each read of the turn fills `room`.
     pub(crate) fn run(&mut self, room: &mut [u8]) {
         self.awaits = if self.is_late {
             self.conn.give_up()

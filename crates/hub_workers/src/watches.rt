@@ -6,7 +6,7 @@ use hub_shared::{Bell, Watch, Watchable};
 use std::alloc::{AllocError, Global};
 use std::sync::Arc;
 
-/// The connections whose streams are of one life.
+/// The connections whose streams are of one life, and the watch of these streams.
 #[derive(Drop)]
 struct Watched {
     life: u64,
@@ -15,7 +15,7 @@ struct Watched {
     tokens: Vec<usize>,
 }
 
-/// The connections of a worker whose streams are watched, by the lives that these are of.
+/// The connections of a worker whose streams are watched, by the lives of the streams.
 #[derive(Drop)]
 pub(crate) struct Watches {
     alloc: Global,
@@ -49,8 +49,8 @@ impl Watches {
         Ok(place)
     }
 
-    /// Notes a connection whose stream is of this life, and gives the watch that is to be set for it. It
-    /// costs a look at each life. An error says that there was no memory.
+    /// Notes a connection whose stream is of this life, and gives the watch that is to be set for the stream.
+    /// The cost is a look at each life. An error says that there was no memory.
     pub(crate) fn add(
         &mut self,
         life: u64,
@@ -65,8 +65,8 @@ impl Watches {
         Ok(watch)
     }
 
-    /// Forgets a connection whose stream was of this life. It costs a look at each life, and at each
-    /// connection of this one.
+    /// Forgets a connection whose stream was of this life. The cost is a look at each life, and at each
+    /// connection of this life.
     pub(crate) fn remove(&mut self, life: u64, token: usize) {
         for watched in &mut self.watched {
             if watched.life == life {
@@ -76,12 +76,12 @@ impl Watches {
         self.watched.retain(|watched| !watched.tokens.is_empty());
     }
 
-    /// Whether a watch may have news. From here on it has none, and whoever calls this looks at the watches.
+    /// Whether the bell was rung; from here on it is not. The caller looks at the watches afterwards.
     pub(crate) fn take_bell(&self) -> bool {
         self.bell.take()
     }
 
-    /// Tells the table the news of each watch.
+    /// Takes the news of each watch, and tells the table of it.
     pub(crate) fn take_news<S: Service + Watchable + Drop>(&self, table: &mut Table<S>) {
         for watched in &self.watched {
             if watched.watch.take() {

@@ -1,5 +1,5 @@
--- The step of each event, computed: a tool of proofs. That it gives steps, and the only ones, is proved in
--- `Answering`.
+-- The step of each event, computed: a tool of proofs. `Answering` proves that these are steps, and the only
+-- ones.
 use Rattle.std.specs.Prelude.{ℕ, List, [], ◌∷◌, length, map, true, if◌then◌else◌, Option, Some, None}
 use Rattle.std.specs.Prelude.{slice_get, nat_lt}
 use Rattle.hub_database.specs.Edits.{edit_of, draft_of}
@@ -26,18 +26,18 @@ pub record Answer : Type 0 where
   pub reply : Reply
   pub world : World
 
--- this reply, and this world after it
+-- the answer with this reply, and with this world after it
 abbrev pub answer_with : Reply → World → Answer
 answer_with reply world = record { reply = reply; world = world }
 
--- where this item is to go into the lane of feed f, which goes on so
+-- the answer where this item is to go into the lane of feed f, whose feed goes on as this feed
 abbrev pub push : World → ℕ → Subscription → Feed → ChangeItem → Answer
 push world f subscription feed item =
     if nat_lt (length subscription.lane) world.limits.lane
     then answer_with (Pushed item) (with_subscription world f (subscription_after_push subscription feed item))
     else answer_with Full world
 
--- of a Hand to a feed to which this is due
+-- the answer to a Hand to a feed to which this is due
 abbrev pub hand_due : World → ℕ → Subscription → Due → Answer
 hand_due world f subscription (DueRow c) =
     push world f subscription (after_row subscription.feed c.seq (length world.journal))
@@ -50,26 +50,26 @@ hand_due world f subscription DueNothing =
     (record subscription { feed = after_nothing subscription.feed (length world.journal) }))
 hand_due world f subscription DueGone = answer_with Gone world
 
--- of a Hand to feed f
+-- the answer to a Hand to feed f
 abbrev pub hand : World → ℕ → Option Subscription → Answer
 hand world f None = answer_with Gone world
 hand world f (Some subscription) = hand_due world f subscription (journal_due world.journal subscription.feed)
 
--- of a Heartbeat to feed f
+-- the answer to a Heartbeat to feed f
 abbrev pub beat : World → ℕ → Option Subscription → Answer
 beat world f None = answer_with Nothing world
 beat world f (Some subscription) =
     if is_beat_allowed subscription.feed then push world f subscription subscription.feed Beat else
     answer_with Nothing world
 
--- of a Begin
+-- the answer to a Begin
 abbrev pub opened : World → Params → Answer
 opened world params =
     if world.deleted then answer_with DatabaseDeleted world
     else if has_no_room world then answer_with TooManyFeeds world
     else answer_with (Opened (record { number = length world.feeds })) (with_feed world params)
 
--- what an event answers, and the world after it
+-- the reply to an event, and the world after it
 abbrev pub answer : World → Event → Answer
 answer world (Write docs) =
     answer_with (Outcomes (whole_batch (merges_result world (map edit_of docs)).outcomes))

@@ -28,7 +28,7 @@ use Rattle.hub_world.specs.Handed.{items_handed, items_taken}
 use Rattle.hub_world.specs.Laws.{IsAnswered, IsOnlyAnswer, RunsOnce}
 use Rattle.hub_world.specs.Worked.{HasReplies, HasHanded, HasTaken}
 
--- Hand
+-- the steps of Hand
 push_steps : (world : World) (id : FeedId) (s : Subscription) (feed : Feed) (item : ChangeItem)
     → subscription world id.number ≡ Some s
     → feed_after_due s.feed (journal_due world.journal s.feed) (length world.journal) ≡ feed
@@ -46,7 +46,7 @@ push_steps world id s feed item e p i =
       | inr t ↦ rw t (s, e, (item, i), ltb-false _ _ t, refl)
     ]
 
--- the item that is made of what is due
+-- the item that is made of a due
 abbrev item_at : World → Subscription → Due → Option ChangeItem
 item_at world subscription due =
     item_of_due (row_of world.journal subscription.feed.params.style subscription.feed.params.include_docs)
@@ -72,7 +72,7 @@ hand_steps world id None e =
     (ap (λ maybe_subscription. due_if_any (current world.journal) (feed_of maybe_subscription)) e, refl)
 hand_steps world id (Some s) e = due_steps world id s (journal_due world.journal s.feed) e refl
 
--- Heartbeat
+-- the steps of Heartbeat
 beat_steps : (world : World) (id : FeedId) (maybe_subscription : Option Subscription)
     → subscription world id.number ≡ maybe_subscription
     → Step world (Heartbeat id) (beat world id.number maybe_subscription).reply
@@ -122,7 +122,7 @@ pub is_answered : IsAnswered
 is_answered answered event =
     ((answer answered event).reply, (answer answered event).world, answer_steps answered event)
 
--- ---- the same the other way
+-- ---- each step is the answer
 
 item_pushes : (world : World) (f : ℕ) (subscription : Subscription) (due : Due) (item : ChangeItem)
     → item_at world subscription due ≡ Some item
@@ -266,7 +266,7 @@ runs_once old events = (
   λ other_replies other_new other. run_so old other_new events other_replies other,
 )
 
--- ---- what a worked run says, by what is computed
+-- ---- the replies of a worked run, by computing them
 
 pub has_replies : (limits : Limits) (events : List Event) (replies : List Reply)
     → replies_to (empty limits) events ≡ replies → HasReplies limits events replies

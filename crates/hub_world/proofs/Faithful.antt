@@ -46,7 +46,7 @@ ends_place place (End l m ∷ items) last n h c = elim (contains_cases _ _ items
   | inr d ↦ absurd (contains_none _ (subst (λ (xs : List ChangeItem). Contains xs (End last n)) h.1 d))
 ]
 
--- and nothing stands behind it
+-- no item comes after an End
 ends_last : (place : ℕ) (before later : List ChangeItem) (last n : ℕ)
     → EndsAt place (before ++ End last n ∷ later) → later ≡ []
 ends_last place [] later last n h = h.1
@@ -57,7 +57,7 @@ ends_last place (End l m ∷ before) later last n h =
     (subst (λ (items : List ChangeItem). Contains items (End last n)) h.1
     (Contains-append_right before (End last n ∷ later) (End last n) (contains_here _ _))))
 
--- the row of a sequence
+-- the row that has this sequence, where the sequence is among those of the rows
 row_at : (rows : List ChangeRow) (n : ℕ) → Contains (map (λ (r : ChangeRow). r.seq) rows) n
     → (row : ChangeRow) × Contains rows row × (row.seq ≡ n)
 row_at [] n c = absurd (contains_none n c)
@@ -66,7 +66,7 @@ row_at (row ∷ rows) n c = elim (contains_cases _ _ _ c) [
   | inr d ↦ let i = row_at rows n d in (i.0, contains_there row i.0 rows i.1, i.2)
 ]
 
--- two rows at one sequence, one of a front of the journal, are of one document
+-- two current rows of one sequence, one in a front of the journal and one in all of it, are of one document
 same_document : (journal : List Edit) (n : ℕ) (row other : Current) → Contains (current journal) row
     → Contains (current (take n journal)) other → other.seq ≡ row.seq → other.id ≡ row.id
 same_document journal n row other p q s =
@@ -87,7 +87,7 @@ row_document journal feed row c r p s =
     let seq : row.seq ≡ d.seq = ap (λ (x : ChangeRow). x.seq) r.shown.2 in
     ap (λ (x : ChangeRow). x.id) r.shown.2 ∙ same_document journal row.seen c d p r.shown.1 (sym seq ∙ s)
 
--- what a step hands was made of the journal of that step
+-- the row that a step hands has seen the journal of that step
 due_seen : (journal : List Edit) (feed : Feed) (due : Due) (row : ChangeRow)
     → item_of_due (row_of journal feed.params.style feed.params.include_docs) (current journal) due ≡ Some
     (Row row) → row.seen ≡ length journal
@@ -126,7 +126,7 @@ step_seen old (Heartbeat feed) (Pushed item) new f row m c =
     (subst (λ (x : ChangeItem). Contains (rows_of (if feed.number == f then x ∷ [] else [])) row) m.3 c))
 step_seen old _ _ new f row m c = absurd (contains_none row c)
 
--- what a step hands is handed
+-- the rows that a step hands are among the rows that the run hands
 rows_in : (f place : ℕ) (events : List Event) (replies : List Reply) (event : Event) (reply : Reply)
     (row : ChangeRow)
     → IsStepAt events replies place event reply → Contains (rows_of (handed_by f event reply)) row
@@ -147,7 +147,8 @@ rows_in f (suc place) (e ∷ events) (r ∷ replies) event reply row at c =
     (Contains-append_right (rows_of (handed_by f e r)) (rows_of (items_handed f events replies)) row
     (rows_in f place events replies event reply row at c))
 
--- The step at a place of a run: the world before it has the journal of that place, and the run adds to that.
+-- The step at a place of a run. The world before it has the journal of that place, and the run adds to that
+-- journal.
 record HasStepAt (J : List Edit) (event : Event) (reply : Reply) (new : World) : Type 0 where
   before : World
   behind : World
@@ -176,7 +177,7 @@ step_at zero old (e ∷ events) (r ∷ replies) new run event reply at =
 step_at (suc place) old (e ∷ events) (r ∷ replies) new run event reply at =
     step_at place run.0 events replies new run.2 event reply at
 
--- the journal behind the last event is that of the world which the run leaves
+-- the journal after the last event is that of the world which the run leaves
 journal_left : (old : World) (events : List Event) (replies : List Reply) (new : World)
     (run : Run old events replies new)
     → journal_at old events replies new run (length events) ≡ new.journal
@@ -186,7 +187,7 @@ journal_left old (event ∷ events) [] new run = absurd run
 journal_left old (event ∷ events) (reply ∷ replies) new run =
     journal_left run.0 events replies new run.2
 
--- each row is current at its step
+-- each handed row is current at its step
 current_at : (old : World) (events : List Event) (replies : List Reply) (new : World)
     (run : Run old events replies new) (f : ℕ) (feed : Feed)
     → RightlyHanded change_rows new.journal feed (items_handed f events replies)
@@ -208,7 +209,7 @@ current_at old events replies new run f feed right place event reply at = all_fr
     front
     (of.shown.0, of.shown.1, of.shown.2))
 
--- what a run handed is rightly handed
+-- the items that a run handed are rightly handed
 rightly : (limits : Limits) (events : List Event) (replies : List Reply) (world : World)
     → Run (empty limits) events replies world → (f : ℕ) (s : Subscription) → subscription world f ≡ Some s
     → RightlyHanded change_rows world.journal s.feed (items_handed f events replies)
@@ -261,7 +262,7 @@ faithful limits events replies world run own own_world own_run f s e =
     IsFaithful (journal_at (empty limits) events own own_world own_run) events told f s.feed) (sym same)
     (own_faithful limits events own own_world own_run f s e)
 
--- and right
+-- the replies of a run are right by its own journal
 pub handed_right : (limits : Limits) (events : List Event) (replies : List Reply) (world : World)
     → Run (empty limits) events replies world → AreRight limits events replies
 handed_right limits events replies world run own own_world own_run f s e =

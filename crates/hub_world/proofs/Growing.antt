@@ -1,4 +1,4 @@
--- An event that finds no memory is one that takes some.
+-- An event that finds no memory is an event that takes memory.
 use Rattle.std.proofs.Common.{◌≡◌, ◌∙◌, List, refl, sym, ap, subst}
 use Rattle.std.specs.Prelude.{Option, Some, None}
 use Rattle.hub_feed.specs.Host as feeds
@@ -19,7 +19,7 @@ use Rattle.hub_world.specs.World.{World}
 use Rattle.hub_world.proofs.Standing.{feed_found}
 use Rattle.hub_world.proofs.Stepping.{begin_leads}
 
--- a row is due
+-- a Hand takes memory where a row is due
 pub row_grows : (core : Core) (id : FeedId) → IsRowDue (feeds.due_of_number (hosted_of core.db) id.number)
     → (world : World) → Shows core world → NeedsMemory world (Hand id)
 row_grows core id due world h = from (entry_in id.number core.db.feeds) refl due
@@ -34,13 +34,13 @@ row_grows core id due world h = from (entry_in id.number core.db.feeds) refl due
         ap (λ (journal : List Edit). journal_due journal s.0.feed) h.journal ∙ ap (journal_due core.db.journal) s.2 in
         rw s.1 (subst IsRowDue (sym same) due)
 
--- a feed is opened
+-- a Begin takes memory where no refusal stands against the opening
 pub begin_grows : (core : Core) (params : FeedParams) → feeds.opening_refusal (hosted_of core.db) ≡ None
     → (world : World) → Shows core world → NeedsMemory world (Begin params)
 begin_grows core params free world h =
     let m = (begin_leads core params (record { number = core.db.next_feed }) refl free world h).1 in
     (m.0, m.1)
 
--- the same of the core of a program's world, as it is seen
+-- the same of the core of a program's world, as contracts see it
 pub fails_as : (core seen : Core) (event : Event) → core ≡ seen → MayFail core event → MayFail seen event
 fails_as core seen event same fails = subst (λ (other : Core). MayFail other event) same fails

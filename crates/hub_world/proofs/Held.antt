@@ -16,7 +16,7 @@ use Rattle.hub_world.specs.PlainList as list
 abbrev pub Lists : Type 0
 Lists = List (ℕ × ListState)
 
--- what the core has of a list
+-- the core's entry of a list has the items that the list holds
 pub entry_held : (number : ℕ) (lists : Lists)
     → entry_in number (map held_entry lists) ≡ option_map (λ (state : ListState). state.held)
     (entry_in number lists)
@@ -24,7 +24,7 @@ entry_held number [] = refl
 entry_held number (p ∷ lists) =
     elim (cases_Bool (nat_eq p.0 number)) [ inl t ↦ rw t refl | inr t ↦ rw t (entry_held number lists) ]
 
--- its back, its front, and all of it
+-- the back, the front and the items of a lane, by its list
 pub back_held : (number : ℕ) (lists : Lists)
     → back number (map held_entry lists) ≡ option_and_then last (entry_in number lists)
 back_held number lists =
@@ -63,7 +63,7 @@ all_held number lists =
     from None = refl
     from (Some state) = refl
 
--- a list changes
+-- a list changes, and its lane changes alike
 pub changed_held : (number : ℕ) (change : ListState → ListState) (refill : List ChangeItem → List ChangeItem)
     → ((state : ListState) → (change state).held ≡ refill state.held) → (lists : Lists)
     → map held_entry (with_change number change lists) ≡ with_change number refill (map held_entry lists)
@@ -80,7 +80,7 @@ changed_held number change refill same (p ∷ lists) =
     from true e = λ i. (p.0, same p.1 i) ∷ e i
     from false e = λ i. (p.0, p.1.held) ∷ e i
 
--- a list goes
+-- a list is removed, and its lane is removed
 pub without_held : (number : ℕ) (lists : Lists)
     → map held_entry (without number lists) ≡ without number (map held_entry lists)
 without_held number [] = refl
@@ -90,19 +90,19 @@ without_held number (p ∷ lists) =
       | inr t ↦ rw t (ap (λ (lanes : Lanes). (p.0, p.1.held) ∷ lanes) (without_held number lists))
     ]
 
--- a list comes
+-- a list is added, and its lane is added
 pub added_held : (number : ℕ) (state : ListState) (lists : Lists)
     → map held_entry (lists ++ (number, state) ∷ []) ≡ map held_entry lists ++ (number, state.held) ∷ []
 added_held number state [] = refl
 added_held number state (p ∷ lists) =
     ap (λ (lanes : Lanes). (p.0, p.1.held) ∷ lanes) (added_held number state lists)
 
--- lists that hold as many items at most
+-- lists of this capacity
 module _ (capacity : ℕ) where
   abbrev pub Fits : ℕ × ListState → Type 0
   Fits p = p.1.capacity ≡ capacity
 
-  -- so each of them
+  -- the capacity of one of these lists
   pub fits_entry : (number : ℕ) (state : ListState) (lists : Lists) → All Fits lists
       → entry_in number lists ≡ Some state → state.capacity ≡ capacity
   fits_entry number state [] fits is = absurd (none-some state is)
@@ -114,7 +114,7 @@ module _ (capacity : ℕ) where
         | inr t ↦ fits_entry number state lists (λ i d low. fits (suc i) d (omega arith)) (rw t at is)
       ]
 
-  -- and so once one changes, goes or comes
+  -- the lists have this capacity still once one of them changes, is removed or is added
   pub fits_changed : (number : ℕ) (change : ListState → ListState)
       → ((state : ListState) → (change state).capacity ≡ state.capacity) → (lists : Lists) → All Fits lists
       → All Fits (with_change number change lists)

@@ -1,4 +1,4 @@
--- What a run does to the journal: it adds edits at the end, and leaves it legal.
+-- The effect of a run on the journal: the run adds edits at the end, and leaves the journal legal.
 use Rattle.std.proofs.Common.{◌≡◌, ℕ, List, [], ◌∷◌, map, sym, ◌∙◌, ap, subst, refl}
 use Rattle.std.specs.Prelude.{Option, Some, None}
 use Rattle.std.proofs.lemmas.List.{append-nil}
@@ -75,7 +75,7 @@ step_journal old Delete Nothing new m = j m.1
 step_journal old Delete DatabaseDeleted new m = j m.1
 step_journal old Delete _ new m = absurd m
 
--- a fact about journals that each event keeps, each step keeps, and each run
+-- a fact about journals that each event keeps is kept by each step and each run
 module _ (P : List Edit → Type 0)
     (keeps : (world : World) (event : Event) → P world.journal → P (journal_after world event)) where
   pub run_journal : (old : World) (events : List Event) (replies : List Reply) (new : World)
@@ -101,7 +101,7 @@ legal_after world _ h = h
 pub stays_legal : StaysLegal
 stays_legal limits events replies w r = run_journal IsLegal legal_after (empty limits) events replies w r tt
 
--- one more event adds to what was added
+-- an event adds edits to a journal that had edits added to it
 adds_after : (journal : List Edit) (world : World) (event : Event) → Adds journal world.journal
     → Adds journal (journal_after world event)
 adds_after journal world (Write docs) a =

@@ -1,5 +1,5 @@
--- A fact about a subscription, what it handed and what was taken from it, that each thing that may happen to
--- one keeps, holds after every run.
+-- A fact about a subscription, its handed items and its taken items holds after every run, if each change
+-- that an event may make to a subscription keeps it.
 use Rattle.std.proofs.Common.{◌≡◌, ℕ, zero, suc, List, [], ◌∷◌, ◌++◌, length, map, drop, true}
 use Rattle.std.proofs.Common.{◌⊎◌, inl, inr, sym, ◌∙◌, ap, subst, refl, append_assoc, ◌≢◌}
 use Rattle.std.specs.Prelude.{Option, Some, None, slice_get, slice_set, option_map, ◌==◌, if◌then◌else◌}
@@ -29,7 +29,7 @@ use Rattle.hub_world.specs.declared.reply.Reply.TheVariants.{Pushed, Full, Nothi
 use Rattle.hub_world.specs.Step.{Step, Run}
 use Rattle.hub_world.specs.Handed.{handed_by, taken_by, items_handed, items_taken}
 
--- what may happen to a subscription subscription, whose list of handed items is h and of taken ones t
+-- each change of a subscription keeps the fact Q, where h lists the handed items and t the taken ones
 pub record IsKept (Q : List Edit → Subscription → List ChangeItem → List ChangeItem → Type 0) : Type 0 where
   pub grows : (journal edits : List Edit) (subscription : Subscription) (h t : List ChangeItem)
       → Q journal subscription h t → Q (journal ++ edits) subscription h t
@@ -58,13 +58,13 @@ pub record IsKept (Q : List Edit → Subscription → List ChangeItem → List C
       → subscription.lane ≡ item ∷ items → Q journal subscription h t
       → Q journal (record subscription { lane = items }) h (t ++ item ∷ [])
 
--- the fact at a feed's number: nothing was handed and taken where there is no such feed
+-- the fact at a feed's number; where there is no such feed, nothing was handed and nothing was taken
 abbrev pub In : (List Edit → Subscription → List ChangeItem → List ChangeItem → Type 0) → List Edit
     → Option Subscription → List ChangeItem → List ChangeItem → Type 0
 In Q journal None items others = (items ≡ []) × (others ≡ [])
 In Q journal (Some subscription) items others = Q journal subscription items others
 
--- a list with one place written
+-- the entry of a list at a place that was written
 pub get_set_same : (subscriptions : List Subscription) (f : ℕ) (other t : Subscription)
     → slice_get subscriptions f ≡ Some other → slice_get (slice_set subscriptions f t) f ≡ Some t
 get_set_same [] f other t e = absurd (cc)
@@ -80,7 +80,7 @@ get_set_other (subscription ∷ subscriptions) (suc f) zero other n = refl
 get_set_other (subscription ∷ subscriptions) (suc f) (suc g) other n =
     get_set_other subscriptions f g other (λ e. n (ap suc e))
 
--- a list with one more at the back
+-- the entries of a list with one more at the back
 pub get_push : (subscriptions : List Subscription) (other : Subscription) (g : ℕ)
     → (slice_get (subscriptions ++ other ∷ []) g ≡ slice_get subscriptions g)
     ⊎ ((slice_get subscriptions g ≡ None) × (slice_get (subscriptions ++ other ∷ []) g ≡ Some other))
@@ -90,13 +90,13 @@ get_push (subscription ∷ subscriptions) other zero = inl refl
 get_push (subscription ∷ subscriptions) other (suc g) = get_push subscriptions other g
 
 module _ (Q : List Edit → Subscription → List ChangeItem → List ChangeItem → Type 0) (k : IsKept Q) where
-  -- nothing happens to the feed
+  -- an event that leaves the feed as it is
   stays : (journal : List Edit) (maybe_subscription : Option Subscription) (items others : List ChangeItem)
       → In Q journal maybe_subscription items others
       → In Q journal maybe_subscription (items ++ []) (others ++ [])
   stays journal maybe_subscription items others i = simp append-nil i
 
-  -- the subscription f changes, by an item handed, one taken, or neither
+  -- the subscription f changes: an item is handed, an item is taken, or neither
   changes : (journal : List Edit) (subscriptions : List Subscription) (f g : ℕ)
       (subscription s' : Subscription)
       (rest t items others : List ChangeItem)
@@ -121,7 +121,7 @@ module _ (Q : List Edit → Subscription → List ChangeItem → List ChangeItem
             (stays journal (slice_get subscriptions g) rest t i))
       ]
 
-  -- it changes, and nothing is handed or taken
+  -- the subscription f changes, and nothing is handed or taken
   turns : (journal : List Edit) (subscriptions : List Subscription) (f g : ℕ) (subscription s' : Subscription)
       (items others : List ChangeItem)
       → slice_get subscriptions f ≡ Some subscription
@@ -141,7 +141,7 @@ module _ (Q : List Edit → Subscription → List ChangeItem → List ChangeItem
             (stays journal (slice_get subscriptions g) items others i)
       ]
 
-  -- more edits come
+  -- edits are added to the journal
   more_edits : (journal other_journal : List Edit) (maybe_subscription : Option Subscription)
       (items others : List ChangeItem)
       → ((edits : List Edit) × (other_journal ≡ journal ++ edits))
@@ -168,7 +168,7 @@ module _ (Q : List Edit → Subscription → List ChangeItem → List ChangeItem
             (rw (append-nil items ∙ none.0, append-nil others ∙ none.1) (k.begins journal params life))
       ]
 
-  -- every open feed is closed
+  -- the database is deleted, and every open feed ends
   closes : (journal : List Edit) (subscriptions : List Subscription) (g : ℕ) (items others : List ChangeItem)
       → In Q journal (slice_get subscriptions g) items others
       → In Q journal (slice_get (map ended_subscription subscriptions) g) (items ++ []) (others ++ [])
@@ -250,7 +250,7 @@ module _ (Q : List Edit → Subscription → List ChangeItem → List ChangeItem
         | inr other ↦ rw (ne_eqb f g other) (rw (ne_eqb f g other) at c)
       ]
 
-  -- one step
+  -- one step keeps the fact at every feed's number
   pub step_keeps : (old : World) (event : Event) (reply : Reply) (new : World) (g : ℕ) (h t : List ChangeItem)
       → Step old event reply new → In Q old.journal (subscription old g) h t →
       In Q new.journal (subscription new g) (h ++ handed_by g event reply) (t ++ taken_by g event reply)
@@ -300,7 +300,7 @@ module _ (Q : List Edit → Subscription → List ChangeItem → List ChangeItem
   step_keeps old Delete DatabaseDeleted new g h t m i = rw m.1 (stays old.journal (subscription old g) h t i)
   step_keeps old Delete _ new g h t m i = absurd m
 
-  -- a whole run
+  -- a whole run keeps the fact at every feed's number
   pub run_keeps : (old : World) (events : List Event) (replies : List Reply) (new : World)
       (g : ℕ) (items others : List ChangeItem)
       → Run old events replies new → In Q old.journal (subscription old g) items others →

@@ -1,4 +1,4 @@
--- An item behind those of a lane.
+-- An item that is pushed into a lane.
 use Rattle.std.proofs.Common.{◌≡◌, ◌∙◌, ℕ, ◌+◌, ◌-◌, List, [], ◌∷◌, ◌++◌, length, refl, sym, ap, arith}
 use Rattle.std.specs.Prelude.{Option, Some, option_map, option_and_then, slice_get, unwrap_or}
 use Rattle.std.proofs.lemmas.List.{length_push}
@@ -9,7 +9,7 @@ use Rattle.hub_model.specs.RightlyHanded.{ChangeItem}
 use Rattle.hub_model.proofs.Entries.{own_changed}
 use Rattle.hub_world.specs.Lane.{Lanes, back, lane_items}
 
--- it is the last
+-- the item is the last of the lane
 last_is : (items : List ChangeItem) (item : ChangeItem)
     → slice_get (items ++ item ∷ []) (length (items ++ item ∷ []) - 1) ≡ Some item
 last_is items item =

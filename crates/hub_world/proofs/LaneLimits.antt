@@ -20,18 +20,18 @@ use Rattle.hub_world.specs.Step.{Step, Run}
 use Rattle.hub_world.specs.Laws.{LanesAreLimited}
 use Rattle.hub_world.proofs.Kept.{get_set_same, get_set_other, get_push}
 
--- each of these lanes holds at most so many items
+-- each of these lanes holds at most n items
 abbrev AreLimited : ℕ → List Subscription → Type 0
 AreLimited n feeds =
     (g : ℕ) (subscription : Subscription) → slice_get feeds g ≡ Some subscription
     → length subscription.lane ≤ n
 
--- the world has this limit, and its lanes are within it
+-- the world has the limit n, and its lanes are within it
 record HasLimit (n : ℕ) (world : World) : Type 0 where
   limit : world.limits.lane ≡ n
   lanes : AreLimited n world.feeds
 
--- one of them is changed
+-- a feed changes, and its lane is within the limit
 changed_limited : (n : ℕ) (feeds : List Subscription) (f : ℕ) (subscription t : Subscription)
     → slice_get feeds f ≡ Some subscription → length t.lane ≤ n → AreLimited n feeds
     → AreLimited n (slice_set feeds f t)
@@ -45,7 +45,7 @@ changed_limited n feeds f subscription t here fits all g u there =
       | inr other ↦ all g u (sym (get_set_other feeds f g t other) ∙ there)
     ]
 
--- one is opened, with an empty lane
+-- a feed is opened, with an empty lane
 opened_limited : (n : ℕ) (feeds : List Subscription) (feed : Feed) → AreLimited n feeds
     → AreLimited n (feeds ++ record { feed = feed; lane = [] } ∷ [])
 opened_limited n feeds feed all g u there =
@@ -56,7 +56,7 @@ opened_limited n feeds feed all g u there =
           (same_Some _ _ (sym new.1 ∙ there)) (omega arith)
     ]
 
--- every open feed is closed
+-- every open feed ends, and its lane stays
 ended_limited : (n : ℕ) (feeds : List Subscription) → AreLimited n feeds → AreLimited n (map ended_subscription feeds)
 ended_limited n feeds all g u there =
     from (slice_get feeds g) refl (sym (slice_get-map ended_subscription feeds g) ∙ there)

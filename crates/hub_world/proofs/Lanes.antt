@@ -1,4 +1,4 @@
--- A list goes on fitting its feed, and what is taken is what was handed, in order.
+-- A list goes on fitting its feed, and the taken items are the handed items, in order.
 use Rattle.std.proofs.Common.{◌≡◌, ℕ, List, [], ◌∷◌, ◌++◌, false, sym, ◌∙◌}
 use Rattle.std.proofs.Common.{ap, subst, refl, append_assoc, inl, inr, ◌&&◌}
 use Rattle.std.specs.Prelude.{Option, Some, None}
@@ -22,7 +22,7 @@ use Rattle.hub_model.proofs.Fitting.{fits_nothing, fits_expire, fits_close, fits
 use Rattle.hub_world.proofs.StandingLists.{open_stands}
 use Rattle.hub_world.proofs.Kept.{IsKept, In, step_keeps, run_keeps}
 
--- the fitting alone
+-- the fact that the handed items fit the feed
 FitsAlone : List Edit → Subscription → List ChangeItem → List ChangeItem → Type 0
 FitsAlone journal subscription items others = Fits change_rows journal subscription.feed items
 
@@ -58,7 +58,7 @@ keeps_fitting old new event reply f items m i =
     (step_keeps FitsAlone fitting_kept old event reply new f items [] m
     (from_fits old.journal (subscription old f) items i))
 
--- what was taken, then what the lane has, is what was handed, but for what a finished feed's lane had
+-- the taken items, then the lane's, then the items that a finished feed dropped, are the handed items
 record Told (journal : List Edit) (subscription : Subscription)
     (items others : List ChangeItem) : Type 0 where
   pub fits : Fits change_rows journal subscription.feed items
@@ -66,7 +66,7 @@ record Told (journal : List Edit) (subscription : Subscription)
   pub in_order : others ++ (subscription.lane ++ dropped) ≡ items
   pub none : is_finished subscription.feed.status ≡ false → dropped ≡ []
 
--- a feed that has something due isn't finished
+-- a feed that has an item due is not finished
 due_unfinished : (journal : List Edit) (subscription : Subscription) (item : ChangeItem)
     → next_change journal subscription.feed ≡ Some item → is_finished subscription.feed.status ≡ false
 due_unfinished journal subscription item i = from subscription.feed.status refl

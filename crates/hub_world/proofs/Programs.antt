@@ -1,4 +1,4 @@
--- What each call of the program does to the core.
+-- The effect of each call of the program on the core.
 use Rattle.std.proofs.Common.{◌≡◌, ◌∙◌, ℕ, ◌+◌, ◌≤◌, List, [], ◌∷◌, ◌++◌, map, length, true, false, Bool}
 use Rattle.std.proofs.Common.{refl, sym, ap, subst, arith, ◌⊎◌, inl, inr}
 use Rattle.std.specs.Prelude.{Option, Some, None, All, option_and_then, unwrap_or, drop}
@@ -43,19 +43,19 @@ use Rattle.hub_world.proofs.Stepping.{Leads, beat_full, beat_lane, beat_pushed, 
 use Rattle.hub_world.proofs.Stepping.{begin_leads, due_lane, finish_leads, hand_full, hand_gone, hand_nothing}
 use Rattle.hub_world.proofs.Stepping.{hand_pushed, hand_shows, take_leads}
 
--- what lies under the lock
+-- the state under the lock
 abbrev pub Program : Type 0
 Program = LockedState Database ListState
 
--- what is told of a list that gave an item back
+-- the fact about a list that gave an item back: it holds as many items as it may
 abbrev pub Refuses : ListState → ChangeItem → Type 0
 Refuses state item = state.capacity ≤ length state.held
 
--- the lists are those of a world's lanes
+-- the capacity of each list is the limit of a lane
 abbrev pub HasLists : Program → Type 0
 HasLists program = (program.lane ≡ program.state.limits.lane) × All (Fits program.lane) program.senders
 
--- it goes on being of a world, where it leads to what shows one
+-- a program that is of a world leads to one that is of a world
 pub leads_world : (old new : Program) (event : Event) (reply : Reply) → IsWorld old
     → Leads (core_of old) event reply (core_of new) → HasLists new → IsWorld new
 leads_world old new event reply of leads lists =
@@ -97,7 +97,7 @@ module _ (program : Program) (number : ℕ) where
 
 -- ---- hands
 
--- an item was handed
+-- an item was handed: the result is Row or End
 abbrev pub HasHanded : Handed → Type 0
 HasHanded did.Row = ⊤
 HasHanded did.End = ⊤
@@ -109,7 +109,7 @@ pub has_handed : (told : Handed) → (told ≡ did.Row) ⊎ (told ≡ did.End) �
 has_handed told (inl is) = subst HasHanded (sym is) tt
 has_handed told (inr is) = subst HasHanded (sym is) tt
 
--- one more item lies in the lane of this number
+-- an item is pushed into the lane of this number
 module _ (program : Program) (number : ℕ) (item : ChangeItem) where
   pub sent_held : map held_entry (with_change number (λ (state : ListState). behind state item) program.senders)
       ≡ with_change number (λ (items : List ChangeItem). items ++ item ∷ []) (map held_entry program.senders)
@@ -124,7 +124,7 @@ module _ (program : Program) (number : ℕ) (item : ChangeItem) where
       fits_changed program.lane number (λ (state : ListState). behind state item)
       (λ state. refl) program.senders
 
--- A hand of the program to the feed of this number, which answers so.
+-- A hand of the program to the feed of this number, whose next item is this answer.
 module _ (program new : Program) (id : FeedId) (of : IsWorld program) where
   abbrev pub Handing : Next ChangeRow → Handed → Type 0
   Handing next done = Hands hosted_of with_hosted behind Refuses next program id.number done new
@@ -132,7 +132,7 @@ module _ (program new : Program) (id : FeedId) (of : IsWorld program) where
   abbrev answer : Next ChangeRow
   answer = feeds.next_of_number (hosted_of program.state) id.number
 
-  -- the hand answers so
+  -- the result of the hand is this answer
   abbrev pub told_as : Handed → Type 0
   told_as answers = Handing answer answers
 
@@ -167,7 +167,7 @@ module _ (program new : Program) (id : FeedId) (of : IsWorld program) where
     found : (items : List ChangeItem) × (entry_in id.number (core_of program).lanes ≡ Some items)
     found = due_lane (core_of program) id.number item gives.0 of.shown.0 of.shown.1
 
-    -- it is the last of the lane
+    -- the item is the last of the lane
     given_back : back id.number (core_of new).lanes ≡ Some item
     given_back = ap (back id.number) given_lanes ∙
         (pushed_back id.number item (core_of program).lanes found.0 found.1).0
@@ -183,7 +183,7 @@ module _ (program new : Program) (id : FeedId) (of : IsWorld program) where
           lanes = ls;
         }) (sent_held program id.number item))
 
-    -- it goes on being of a world
+    -- the program after the hand is of a world
     pub given_world : IsWorld new
     given_world =
         let lists : HasLists new = subst HasLists (sym gives.1)
@@ -197,7 +197,7 @@ module _ (program new : Program) (id : FeedId) (of : IsWorld program) where
               (_, hand_shows (core_of program) id item gives.0 of.shown.0 of.shown.1);
         }
 
-    -- where there is room for it this is a step
+    -- where the lane has room for the item, the hand is a step
     pub given_leads : (said : Reply) → said ≡ last_reply (back id.number (core_of new).lanes)
         → length (lane_items id.number (core_of new).lanes) ≤ new.state.limits.lane
         → Leads (core_of program) (event.Hand id) (whole_reply said) (core_of new)
@@ -213,7 +213,7 @@ module _ (program new : Program) (id : FeedId) (of : IsWorld program) where
         (subst (λ c. Leads (core_of program) (event.Hand id) (reply.Pushed item) c) given_core
         (hand_pushed (core_of program) id item gives.0 (omega (arith, within, grown, limit))))
 
-  -- and so is a hand that is told as it is
+  -- a hand with the result Full is a step
   pub full_leads : Handing answer did.Full
       → (new ≡ program) × Leads (core_of program) (event.Hand id) reply.Full (core_of program)
   full_leads hands = from answer refl hands
@@ -260,7 +260,7 @@ module _ (program new : Program) (id : FeedId) (of : IsWorld program)
   abbrev pub Beating : Handed → Type 0
   Beating done = Beats {S = Database} behind Refuses true program id.number done new
 
-  -- as the beat is told
+  -- the heartbeat was due, so the beat is as told
   pub as_due : (told : Handed)
       → Beats {S = Database} behind Refuses
       (feeds.is_beat_allowed_if_any (entry_in id.number program.state.feeds)) program id.number
@@ -338,7 +338,7 @@ module _ (program new : Program) (id : FeedId) (of : IsWorld program)
           (subst (λ c. Leads (core_of program) (event.Heartbeat id) (reply.Pushed Beat) c) beat_core
           (beat_pushed (core_of program) id due (omega (arith, within, grown, limit))))
 
--- ---- what keeps the lanes
+-- ---- steps that keep the lanes
 
 pub kept_lists : (old new : Program) → IsWorld old → new ≡ record old { state = new.state }
     → new.state.limits.lane ≡ old.state.limits.lane → HasLists new
@@ -368,7 +368,7 @@ module _ (old new : Program) (params : FeedParams) (id : FeedId) (of : IsWorld o
       subst HasLists (sym begun.step)
       (of.lane, fits_added old.lane old.state.next_feed k old.senders refl of.room)
 
--- why none is opened
+-- the fault for which no feed is opened
 abbrev fault_of : (deleted full : Bool) → OpenFault
 fault_of deleted full =
     unwrap_or (if deleted then Some open_fault.Deleted else if full then Some open_fault.TooManyFeeds else
@@ -415,7 +415,7 @@ told_memory program params is =
     from false false e = refl
 
 module _ (old new : Program) (id : FeedId) (of : IsWorld old) where
-  -- a take
+  -- a take from the lane of this feed
   module _ (rest : new ≡ record old { senders = with_change id.number list.without_front old.senders }) where
     pub took_leads : (item : Option ChangeItem)
         → item ≡ option_and_then list.front (entry_in id.number old.senders)
@@ -437,7 +437,7 @@ module _ (old new : Program) (id : FeedId) (of : IsWorld old) where
         subst HasLists (sym rest)
         (of.lane, fits_changed old.lane id.number list.without_front (λ k. refl) old.senders of.room)
 
-  -- an end of a feed
+  -- a finish of this feed
   module _
       (step : new ≡ record (stepped hosted_of with_hosted old (λ h. feeds.hosted_after_finish h id.number)) {
         senders = without id.number old.senders;

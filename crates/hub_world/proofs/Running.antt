@@ -30,7 +30,7 @@ new_shows core limits journal deleted feeds next_feed same life lanes = record {
   emptied = λ k d l. absurd (omega arith);
 }
 
--- what took place is the whole event, unless a batch stopped
+-- the event as it took place is the whole event, unless a batch stopped
 whole_docs : (docs : List Doc) (n : ℕ) → n ≡ length docs → take n docs ≡ docs
 whole_docs docs n e = ap (λ (k : ℕ). take k docs) e ∙ take-length docs
 
@@ -50,7 +50,7 @@ happened_whole old new (event.Take feed) r a s = refl
 happened_whole old new (event.Finish feed) r a s = refl
 happened_whole old new event.Delete r a s = refl
 
--- and its reply is the whole reply
+-- the reply to the event as it took place is the reply itself, unless a batch stopped
 pub same_batch : (batch : Batch) → batch.stopped ≡ false → whole_batch batch.replies ≡ batch
 same_batch batch s = ap (λ (b : Bool). record { replies = batch.replies; stopped = b }) (sym s)
 
@@ -77,7 +77,7 @@ applied_whole old new event reply applies answers whole w h =
       s.2,
     )
 
--- a run, and one step more
+-- a run with one step more is a run
 pub run_more : (old : World) (events : List Event) (replies : List Reply) (mid : World) (e : Event)
     (r : Reply) (new : World)
     → Run old events replies mid → Step mid e r new → Run old (events ++ e ∷ []) (replies ++ r ∷ []) new

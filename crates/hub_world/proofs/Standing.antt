@@ -1,4 +1,4 @@
--- A core and the world that it shows: what is in the one by what is in the other, and what changes in both.
+-- A core and the world that it shows: the parts of one by the parts of the other, and the changes of both.
 use Rattle.std.proofs.Common.{◌≡◌, ℕ, List, [], ◌∷◌, ◌++◌, length, map, drop, Bool, true, false}
 use Rattle.std.proofs.Common.{ap, refl, sym, ◌∙◌, ap₂, subst, arith, inl, inr, map-id}
 use Rattle.std.specs.Prelude.{Option, Some, None, get_or, if◌then◌else◌, ⊤}
@@ -25,7 +25,7 @@ pub use Rattle.hub_model.proofs.Entries.{changed_absent}
 use Rattle.hub_world.proofs.StandingLists.{shown, seen, looked, turned, left_out, added}
 use Rattle.hub_world.proofs.StandingLists.{counted, ended_stands, all_ended}
 
--- an entry that stays changes nothing
+-- a change that changes no value leaves the entries as they are
 pub changed_same : {A : Type 0} (number : ℕ) (entries : List (ℕ × A))
     → with_change number (λ a. a) entries ≡ entries
 changed_same number [] = refl
@@ -50,19 +50,19 @@ with_entry core f change refill =
       lanes = with_change f refill core.lanes;
     }
 
--- what the core has of a feed
+-- the core's entry of a feed is the world's feed, unless it is finished
 feed_seen : (core : Core) (world : World) (f : ℕ) → Shows core world
     → entry_in f core.db.feeds ≡ seen (λ s. s.feed) (subscription world f)
 feed_seen core world f sh =
     ap (entry_in f) (sym sh.feeds) ∙ looked (λ s. s.feed) 0 f f world.feeds (omega arith)
 
--- and of its lane
+-- the core's entry of its lane, likewise
 lane_seen : (core : Core) (world : World) (f : ℕ) → Shows core world
     → entry_in f core.lanes ≡ seen (λ s. s.lane) (subscription world f)
 lane_seen core world f sh =
     ap (entry_in f) (sym sh.lanes) ∙ looked (λ s. s.lane) 0 f f world.feeds (omega arith)
 
--- what the world's feed of this number is, by the entry that the core has of it
+-- the world's feed of this number, by the entry that the core has of it
 pub feed_found : (core : Core) (world : World) (f : ℕ) (feed : Feed) → Shows core world
     → entry_in f core.db.feeds ≡ Some feed
     → (s : Subscription) × (subscription world f ≡ Some s) × (s.feed ≡ feed)
@@ -82,7 +82,7 @@ feed_found core world f feed sh e =
           | inr t ↦ (s, q, same_Some s.feed feed (rw t at e), t, rw t at l)
         ]
 
--- where the core has none
+-- the world has no such feed, or a finished one, where the core has no entry
 pub feed_gone : (core : Core) (world : World) (f : ℕ) → Shows core world → entry_in f core.db.feeds ≡ None
     → IsGone (subscription world f) × (entry_in f core.lanes ≡ None)
 feed_gone core world f sh e =
@@ -98,7 +98,7 @@ feed_gone core world f sh e =
           | inr t ↦ absurd (none-some s.feed (sym (rw t at e)))
         ]
 
--- a feed that is not finished changes
+-- a feed that is not finished changes in the core and in the world
 pub entry_changed : (core : Core) (world : World) (f : ℕ) (φ : Feed → Feed)
     (ψ : List ChangeItem → List ChangeItem)
     (s : Subscription) (new : Subscription)
@@ -121,7 +121,7 @@ entry_changed core world f φ ψ s new sh i stands stands' feed lane = record {
   emptied = All-set IsEmptied world.feeds f new (λ t. absurd (both_ways _ stands' t)) sh.emptied;
 }
 
--- its journal is another
+-- the journal changes in the core and in the world
 pub journal_changed : (core : Core) (world : World) (journal : List Edit) → Shows core world
     → Shows (record core { db = record core.db { journal = journal } }) (record world { journal = journal })
 journal_changed core world journal sh = record {
@@ -135,7 +135,7 @@ journal_changed core world journal sh = record {
   emptied = sh.emptied;
 }
 
--- room for one more
+-- the core has room for one more feed just where the world has
 pub room_shown : (core : Core) (world : World) → Shows core world
     → is_full (hosted_of core.db) ≡ has_no_room world
 room_shown core world sh =
@@ -144,7 +144,7 @@ room_shown core world sh =
     ap length (sym sh.feeds) ∙ counted (λ s. s.feed) 0 world.feeds in
     rw (sh.given, limit, standing_feeds) refl
 
--- one feed more
+-- a feed is opened in the core and in the world
 pub feed_opened : (core : Core) (world : World) (params : Params) → Shows core world
     → Shows (record {
       db = with_hosted core.db (hosted_after_opening (hosted_of core.db) params);
@@ -169,7 +169,7 @@ feed_opened core world params sh =
       emptied = All-push IsEmptied world.feeds new sh.emptied (λ t. refl);
     }
 
--- the subscriber of a feed is gone
+-- a feed whose subscriber is gone is finished in the core and in the world
 pub feed_finished : (core : Core) (world : World) (f : ℕ) → Shows core world
     → Shows (record { db = record core.db { feeds = without f core.db.feeds }; lanes = without f core.lanes })
     (world_after_finish (subscription world f) f world)
@@ -209,7 +209,7 @@ feed_finished core world f sh =
           emptied = All-set IsEmptied world.feeds f new (λ t. refl) sh.emptied;
         }
 
--- the database is deleted
+-- the database is deleted in the core and in the world
 pub feeds_deleted : (core : Core) (world : World) → Shows core world
     → Shows (record core { db = deleted_database core.db })
     (record world { deleted = true; feeds = map ended_subscription world.feeds })
@@ -228,14 +228,14 @@ feeds_deleted core world sh = record {
       (λ k d l. λ t. sh.emptied k d l (sym (ended_stands (get_or world.feeds k d)) ∙ t));
 }
 
--- a finished feed
+-- a finished feed is not open
 over : (st : Status) → is_finished st ≡ true → is_open st ≡ false
 over Open t = sym t
 over Ending t = refl
 over Ended t = refl
 over Finished t = refl
 
--- the time of a gone feed
+-- the time of a gone feed changes nothing
 pub gone_expires : (core : Core) (world : World) (f : ℕ) → Shows core world → IsGone (subscription world f)
     → world_after_expiry (subscription world f) f world ≡ world
 gone_expires core world f sh gone = from (subscription world f) refl gone
@@ -248,7 +248,7 @@ gone_expires core world f sh gone = from (subscription world f) refl gone
         (ap (λ (subscriptions : List Subscription). record world { feeds = subscriptions })
         (set_back world.feeds f s q))
 
--- and the front of its lane
+-- a take from the lane of a gone feed finds nothing and changes nothing
 pub gone_takes : (core : Core) (world : World) (f : ℕ) → Shows core world → IsGone (subscription world f)
     → (lane_of (subscription world f) ≡ []) × (world_after_take (subscription world f) f world ≡ world)
 gone_takes core world f sh gone = from (subscription world f) refl gone

@@ -1,4 +1,4 @@
--- Entries by number, and those of the feeds that are not finished.
+-- Entries by number, and the entries of the feeds that are not finished.
 use Rattle.std.proofs.Common.{◌≡◌, ℕ, zero, suc, ◌+◌, ◌<◌, List, [], ◌∷◌, ◌++◌, length, map, Bool}
 use Rattle.std.proofs.Common.{true, false, not, ap, refl, sym, ◌∙◌, arith, inl, inr}
 use Rattle.std.specs.Prelude.{Option, Some, None, count_by, slice_get, slice_set, if◌then◌else◌}
@@ -11,25 +11,25 @@ use Rattle.hub_model.specs.Entries.{entry_in, with_change, without}
 use Rattle.hub_model.proofs.Entries.{changed_absent, without_absent}
 use Rattle.hub_world.specs.World.{Subscription, is_finished, ended_subscription}
 
--- this part of the feeds that are not finished, by their numbers from n
+-- this part of each feed that is not finished, by their numbers from n
 abbrev pub shown : {A : Type 0} → (Subscription → A) → ℕ → List Subscription → List (ℕ × A)
 shown part n subscriptions = map (λ p. (p.0, part p.1)) (unfinished_from n subscriptions)
 
--- and that of one, if it is such a feed
+-- this part of a feed, if there is one and it is not finished
 abbrev pub seen : {A : Type 0} → (Subscription → A) → Option Subscription → Option A
 seen part None = None
 seen part (Some subscription) =
     if is_finished subscription.feed.status then None else Some (part subscription)
 
 module _ {A : Type 0} (part : Subscription → A) where
-  -- the entries of a feed and those behind it
+  -- the entries of a feed and of the feeds after it
   abbrev entries : Bool → ℕ → Subscription → List Subscription → List (ℕ × A)
   entries b n subscription subscriptions =
       map (λ p. (p.0, part p.1))
       (if b then unfinished_from (n + 1) subscriptions else (n, subscription)
       ∷ unfinished_from (n + 1) subscriptions)
 
-  -- there is no number below the first
+  -- no entry has a number below the first
   pub none_below : (n g : ℕ) (subscriptions : List Subscription) → g < n
       → entry_in g (shown part n subscriptions) ≡ None
   none_below n g [] h = refl
@@ -41,7 +41,7 @@ module _ {A : Type 0} (part : Subscription → A) where
       from true e = e
       from false e = rw (ne_eqb n g (omega arith)) e
 
-  -- what the entry of a number is
+  -- the entry of a number is the part of the feed at its place
   pub looked : (n k g : ℕ) (subscriptions : List Subscription) → g ≡ n + k
       → entry_in g (shown part n subscriptions) ≡ seen part (slice_get subscriptions k)
   looked n k g [] h = refl
@@ -62,7 +62,7 @@ module _ {A : Type 0} (part : Subscription → A) where
       from true e = e
       from false e = rw (ne_eqb n g (omega arith)) e
 
-  -- a feed that is not finished changes
+  -- a feed that is not finished changes, and so does its entry
   pub turned : (n k g : ℕ) (subscriptions : List Subscription) (change : A → A)
       (subscription new : Subscription) → g ≡ n + k
       → slice_get subscriptions k ≡ Some subscription → is_finished subscription.feed.status ≡ false
@@ -87,7 +87,7 @@ module _ {A : Type 0} (part : Subscription → A) where
       from true r = r
       from false r = rw (ne_eqb n g (omega arith)) (ap (λ (ps : List (ℕ × A)). (n, part other) ∷ ps) r)
 
-  -- a feed finishes
+  -- a feed finishes, and its entry is removed
   pub left_out : (n k g : ℕ) (subscriptions : List Subscription) (subscription new : Subscription) → g ≡ n + k
       → slice_get subscriptions k ≡ Some subscription → is_finished new.feed.status ≡ true
       → shown part n (slice_set subscriptions k new) ≡ without g (shown part n subscriptions)
@@ -112,7 +112,7 @@ module _ {A : Type 0} (part : Subscription → A) where
       from true r = r
       from false r = rw (ne_eqb n g (omega arith)) (ap (λ (ps : List (ℕ × A)). (n, part other) ∷ ps) r)
 
-  -- one feed more
+  -- a feed is added, and its entry is added
   pub added : (n m : ℕ) (subscriptions : List Subscription) (subscription : Subscription)
       → m ≡ n + length subscriptions
       → is_finished subscription.feed.status ≡ false
@@ -129,7 +129,7 @@ module _ {A : Type 0} (part : Subscription → A) where
       from true r = r
       from false r = ap (λ (ps : List (ℕ × A)). (n, part other) ∷ ps) r
 
-  -- how many there are
+  -- the number of entries
   pub counted : (n : ℕ) (subscriptions : List Subscription)
       → length (shown part n subscriptions) ≡ count_by
       (λ subscription. not (is_finished subscription.feed.status)) subscriptions
@@ -152,7 +152,7 @@ open_stands Ending t = refl
 open_stands Ended t = refl
 open_stands Finished t = sym t
 
--- the end of its database makes no feed a finished one, and no finished one another
+-- the deletion of a database finishes no feed, and opens no finished feed again
 pub ended_stands : (subscription : Subscription)
     → is_finished (ended_subscription subscription).feed.status ≡ is_finished subscription.feed.status
 ended_stands subscription =
@@ -162,7 +162,7 @@ ended_stands subscription =
     ]
 
 module _ {A : Type 0} (part : Subscription → A) where
-  -- every feed ends
+  -- every feed ends, and every entry changes alike
   pub all_ended : (n : ℕ) (subscriptions : List Subscription) (change : ℕ × A → ℕ × A)
       → ((m : ℕ) (subscription : Subscription)
       → (m, part (ended_subscription subscription)) ≡ change (m, part subscription))

@@ -102,7 +102,7 @@ make_leads core docs outcomes journal e w h =
       journal_changed core w journal h,
     )
 
--- documents of either kind
+-- a write of documents leads from a core to the core with the journal after it, whichever write it is
 pub stored_leads : (new_edits : Bool) (core : Core) (docs : List Doc) (outcomes : List (Outcome Revision))
     (journal : List Edit)
     → docs_result new_edits core.db.deleted core.db.limits.journal core.db.journal docs
@@ -112,7 +112,7 @@ pub stored_leads : (new_edits : Bool) (core : Core) (docs : List Doc) (outcomes 
 stored_leads false core docs outcomes journal e = write_leads core docs outcomes journal e
 stored_leads true core docs outcomes journal e = make_leads core docs outcomes journal e
 
--- a batch of them that leads so is what its event and its reply tell
+-- a batch that leads so applies: the front of its documents was written, and its reply has their outcomes
 pub stored_applies : (new_edits : Bool) (old new : Core) (docs : List Doc) (batch : Batch)
     → Leads old (write_of new_edits (take (length batch.replies) docs))
     (Outcomes (whole_batch batch.replies)) new
@@ -122,7 +122,7 @@ pub stored_applies : (new_edits : Bool) (old new : Core) (docs : List Doc) (batc
 stored_applies false old new docs batch l a = (l, a)
 stored_applies true old new docs batch l a = (l, a)
 
--- they take memory
+-- a write of one document or more takes memory
 pub stored_may_fail : (new_edits : Bool) (core : Core) (docs : List Doc) → 0 < length docs
     → MayFail core (write_of new_edits docs)
 stored_may_fail false core docs n w h = n
@@ -189,7 +189,7 @@ pub delete_leads : (core : Core) → core.db.deleted ≡ false
     → Leads core Delete Nothing (record core { db = deleted_database core.db })
 delete_leads core e w h = (_, (h.deleted ∙ e, refl), feeds_deleted core w h)
 
--- ---- what is due
+-- ---- due items
 
 stays_open : (limit : Option ℕ) (rows : ℕ) → is_finished (status_after limit rows) ≡ false
 stays_open None rows = refl
@@ -199,7 +199,7 @@ stays_open (Some limit) rows = from (nat_le limit rows)
     from true = refl
     from false = refl
 
--- a feed that goes on is not finished
+-- a feed that goes on after a due item is not finished
 goes_on : (feed : Feed) (due : Due) (len : ℕ) → is_finished feed.status ≡ false
     → is_finished (feed_after_due feed due len).status ≡ false
 goes_on feed (DueRow c) len u = stays_open feed.params.limit _
@@ -207,7 +207,7 @@ goes_on feed (DueEnd last_seq) len u = refl
 goes_on feed DueNothing len u = u
 goes_on feed DueGone len u = u
 
--- the feed that has something due
+-- the feed to which an item is due
 pub due_feed : (journal : List Edit) (maybe_feed : Option Feed) (item : ChangeItem)
     → option_and_then (next_change journal) maybe_feed ≡ Some item → (feed : Feed) × (maybe_feed ≡ Some feed)
     × (next_change journal feed ≡ Some item)
@@ -232,12 +232,12 @@ module _ (core : Core) (f : ℕ) (item : ChangeItem) (ready : feeds.item_of_numb
 lane_limit : (core : Core) (world : World) → Shows core world → world.limits.lane ≡ core.db.limits.lane
 lane_limit core world h = ap (λ (limits : Limits). limits.lane) h.limits
 
--- the lane to whose feed it is due
+-- the lane of the feed to which an item is due
 pub due_lane : (core : Core) (f : ℕ) (item : ChangeItem) → feeds.item_of_number (hosted_of core.db) f ≡ Some item
     → (world : World) → Shows core world → (items : List ChangeItem) × (entry_in f core.lanes ≡ Some items)
 due_lane core f item ready world h = let s = at core f item ready world h in (s.0.lane, s.4)
 
--- what a lane holds that is found
+-- the number of items in a lane that the core has
 held_is : (core : Core) (f : ℕ) (items : List ChangeItem) → entry_in f core.lanes ≡ Some items
     → length (lane_items f core.lanes) ≡ length items
 held_is core f items is = ap (λ (o : Option (List ChangeItem)). length (unwrap_or o [])) is
@@ -248,7 +248,7 @@ handed_over world subscription item =
     subscription_after_push subscription (feed_after_due subscription.feed (journal_due world.journal subscription.feed)
     (length world.journal)) item
 
--- the world once an item was handed
+-- the world once the item that was due to a feed was handed
 pub hand_shows : (core : Core) (id : FeedId) (item : ChangeItem)
     (ready : feeds.item_of_number (hosted_of core.db) id.number ≡ Some item) (world : World) (h : Shows core world)
     → Shows (record {
@@ -302,7 +302,7 @@ hand_full core id item ready full w h =
       h,
     )
 
--- what answers Nothing has nothing due
+-- a feed whose next item is Nothing has nothing due
 due_nothing : (show : Current → ChangeRow) (rows : List Current) (due : Due)
     → next_of_due show rows due ≡ next.Nothing → due ≡ DueNothing
 due_nothing show rows (DueRow c) e = absurd (cc)
@@ -360,7 +360,7 @@ hand_nothing core id e w h = from (entry_in id.number core.db.feeds) refl
               (changed_same id.number core.lanes) shown,
         )
 
--- to a feed that is gone nothing is due, and no heartbeat
+-- to a feed that is gone neither an item nor a heartbeat is due
 gone_due : (world : World) (maybe_subscription : Option Subscription) → IsGone maybe_subscription
     → feeds.due_if_any (current world.journal) (feed_of maybe_subscription) ≡ DueGone
 gone_due world None g = refl
@@ -414,7 +414,7 @@ pub beating : (maybe_feed : Option Feed) → feeds.is_beat_allowed_if_any maybe_
 beating None e = absurd (cc)
 beating (Some feed) e = (feed, refl, e)
 
--- the lane of its feed
+-- the lane of the feed to which a heartbeat is due
 pub beat_lane : (core : Core) (f : ℕ) → feeds.is_beat_allowed_if_any (entry_in f core.db.feeds) ≡ true → (world : World)
     → Shows core world → (items : List ChangeItem) × (entry_in f core.lanes ≡ Some items)
 beat_lane core f beats world h =
@@ -422,7 +422,7 @@ beat_lane core f beats world h =
     let s = feed_found core world f b.0 h b.1 in
     (s.0.lane, s.4)
 
--- the feed that it is due to
+-- the feed to which a heartbeat is due, with its lane
 abbrev pub beaten : (core : Core) (f : ℕ) → feeds.is_beat_allowed_if_any (entry_in f core.db.feeds) ≡ true
     → (world : World) → Shows core world
     → (s : Subscription) × (subscription world f ≡ Some s) × (is_beat_allowed s.feed ≡ true)
@@ -432,7 +432,7 @@ beaten core f beats world h =
     let s = feed_found core world f b.0 h b.1 in
     (s.0, s.1, ap is_beat_allowed s.2 ∙ b.2, s.3, s.4)
 
--- the world once it was handed
+-- the world once a heartbeat was handed
 pub beat_shows : (core : Core) (id : FeedId)
     (beats : feeds.is_beat_allowed_if_any (entry_in id.number core.db.feeds) ≡ true)
     (world : World) (h : Shows core world)

@@ -1,5 +1,5 @@
--- What one call of the program does: its event takes place, or, of a batch that stops for memory, a front of
--- its documents comes (own).
+-- The effect of one call of the program: its event takes place. Of a batch that stops for lack of memory, the
+-- write of a front of its documents takes place (own).
 use Rattle.std.specs.Prelude.{◌≡◌, ◌<◌, List, length, take, Bool, true, false, IsTrue, ⊤}
 use Rattle.std.specs.Prelude.{Option, Some, None}
 use Rattle.hub_database.specs.Edits.{StopsAt}
@@ -24,27 +24,27 @@ abbrev pub last_reply : Option ChangeItem → Reply
 last_reply (Some item) = Pushed item
 last_reply None = Nothing
 
--- documents come: with their histories, or, as new edits, their revisions are made here
+-- the event of a write: documents with their histories, or, as new edits, with revisions that are made here
 abbrev pub write_of : (new_edits : Bool) → List Doc → Event
 write_of false docs = Write docs
 write_of true docs = Interactive docs
 
--- the event as it took place, given its reply: of a batch that stopped, the write of the documents before
--- the stop. Of a write of five documents whose batch stopped after three replies it is the write of the
--- first three.
+-- the event as it took place, by its reply. A batch that stopped is the write of the documents before the
+-- stop. Example: a write of five documents whose batch stopped after three replies is the write of the first
+-- three.
 abbrev pub event_as_applied : Event → Reply → Event
 event_as_applied (Write docs) (Outcomes batch) = Write (take (length batch.replies) docs)
 event_as_applied (Interactive docs) (Outcomes batch) = Interactive (take (length batch.replies) docs)
 event_as_applied event reply = event
 
--- the reply to what took place: of a batch that stopped, the one that has its outcomes and did not stop
+-- the reply to the event as it took place: a batch that stopped becomes a whole batch with its outcomes
 abbrev pub whole_reply : Reply → Reply
 whole_reply (Outcomes batch) = Outcomes (whole_batch batch.replies)
 whole_reply reply = reply
 
--- A batch that did not stop answers for each document. One that stopped answers for fewer, and the document
--- behind those needed room: of five documents with a known one in the middle it may answer for 0, 1, 3 or 4,
--- and never for 2.
+-- A batch that did not stop answers for each document. A batch that stopped answers for fewer, and the next
+-- document needed room. Of five documents with a known one in the middle such a batch may answer for 0, 1, 3
+-- or 4, and never for 2.
 pub record IsAnsweredFor (new_edits : Bool) (old : Core) (docs : List Doc) (batch : Batch) (new : Core) :
     Type 0 where
   pub whole : batch.stopped ≡ false → length batch.replies ≡ length docs
@@ -52,18 +52,18 @@ pub record IsAnsweredFor (new_edits : Bool) (old : Core) (docs : List Doc) (batc
   pub stops : IsTrue batch.stopped
       → StopsAt new_edits old.db.deleted new.db.journal (length batch.replies) docs
 
--- A reply to a write that led from the old core to the new one answers for its documents as above. Of a
--- reply to another event nothing is said.
+-- The batch of a write that led from the old core to the new one answers for the write's documents as above.
+-- Of any other reply nothing is said.
 abbrev pub Answers : Core → Event → Reply → Core → Type 0
 Answers old (Write docs) (Outcomes batch) new = IsAnsweredFor false old docs batch new
 Answers old (Interactive docs) (Outcomes batch) new = IsAnsweredFor true old docs batch new
 Answers old event reply new = ⊤
 
--- from each world that the old core shows the event leads, with this reply, to one that the new core shows
+-- with this reply the event leads from each world that the old core shows to a world that the new core shows
 abbrev pub CoreStep : Core → Event → Reply → Core → Type 0
 CoreStep old event reply new =
     (world : World) → Shows old world → (next : World) × Step world event reply next × Shows new next
 
--- what took place of the event, as its reply tells, leads from the old core to the new one
+-- the event as it took place, by its reply, leads from the old core to the new one
 abbrev pub Applies : Core → Event → Reply → Core → Type 0
 Applies old event reply new = CoreStep old (event_as_applied event reply) (whole_reply reply) new

@@ -1,5 +1,5 @@
--- The core of what a program keeps under a lock, and the world that it shows: its finished feeds are dropped,
--- and stay in the world (own).
+-- The core: the database and the lanes that a program keeps under a lock; and the world that a core shows.
+-- Finished feeds are dropped from the core, and stay in the world (own).
 use Rattle.std.specs.Prelude.{◌≡◌, ℕ, ◌+◌, List, [], ◌∷◌, length, map, true, All, if◌then◌else◌}
 use Rattle.hub_document.specs.declared.limits.Limits as hub
 use Rattle.hub_database.specs.Database.{Database}
@@ -9,25 +9,25 @@ use Rattle.hub_shared.specs.Locked.{LockedState}
 use Rattle.hub_world.specs.PlainList.{ListState}
 use Rattle.hub_world.specs.World.{World, Limits, Subscription, is_finished}
 
--- a database, and the lanes of its feeds by their numbers
+-- a core: a database, and the lanes of its feeds by their numbers
 pub record Core : Type 0 where
   pub db : Database
   pub lanes : List (ℕ × List ChangeItem)
 
--- the lane that a numbered outbox is, with its number
+-- the items that a numbered outbox holds, with its number
 abbrev pub held_entry : ℕ × ListState → ℕ × List ChangeItem
 held_entry p = (p.0, p.1.held)
 
--- the core of what lies under a lock
+-- the core of the state under a lock
 abbrev pub core_of : LockedState Database ListState → Core
 core_of l = record { db = l.state; lanes = map held_entry l.senders }
 
--- the limits that count here
+-- the limits of a world, by the limits of the hub
 abbrev pub limits_of : hub.Limits → Limits
 limits_of limits = record { journal = limits.journal; feeds = limits.feeds; lane = limits.lane }
 
--- of feeds numbered from n, those that are not finished, with their numbers. Of three feeds numbered from 4,
--- of which the second is finished, they are (4, the first) and (6, the third).
+-- the feeds that are not finished, with their numbers, of feeds numbered from n. Of three feeds numbered from
+-- 4, of which the second is finished, they are (4, the first) and (6, the third).
 abbrev pub unfinished_from : ℕ → List Subscription → List (ℕ × Subscription)
 unfinished_from n [] = []
 unfinished_from n (subscription ∷ subscriptions) =
@@ -50,7 +50,7 @@ lane_entry p = (p.0, p.1.lane)
 abbrev pub IsEmptied : Subscription → Type 0
 IsEmptied subscription = is_finished subscription.feed.status ≡ true → subscription.lane ≡ []
 
--- the core shows this world. Of a world with two feeds, of which feed 0 is finished, it has feed 1 and its
+-- the core shows this world. Where feed 0 of the world's two feeds is finished, the core has feed 1 with its
 -- lane alone, and 2 as the number of the next feed.
 pub record Shows (core : Core) (world : World) : Type 0 where
   pub limits : world.limits ≡ limits_of core.db.limits
@@ -62,8 +62,8 @@ pub record Shows (core : Core) (world : World) : Type 0 where
   pub lanes : map lane_entry (unfinished_feeds world) ≡ core.lanes
   pub emptied : All IsEmptied world.feeds
 
--- What lies under a lock shows some world, and each of its lanes holds as many items as its limits say. With
--- a limit of 64 that is the capacity of each lane, and of those that come.
+-- The state under a lock shows some world, and each of its lanes has the capacity that its limits say. With a
+-- limit of 64 that is the capacity of each lane, and of each lane of a feed that is opened later.
 pub record IsWorld (l : LockedState Database ListState) : Type 0 where
   pub lane : l.lane ≡ l.state.limits.lane
   pub room : All (λ (p : ℕ × ListState). p.1.capacity ≡ l.lane) l.senders

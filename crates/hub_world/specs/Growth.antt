@@ -1,4 +1,4 @@
--- Which events take memory, so that they may find none (own).
+-- The events that take memory, and so may find none (own).
 use Rattle.std.specs.Prelude.{◌≡◌, ◌<◌, length, false}
 use Rattle.hub_feed.specs.Host.{due_if_any}
 use Rattle.hub_feed.specs.Next.{IsRowDue}
@@ -9,10 +9,10 @@ use Rattle.hub_world.specs.declared.event.Event.{Event}
 use Rattle.hub_world.specs.declared.event.Event.TheVariants.{Write, Interactive, Begin, Hand, Heartbeat}
 use Rattle.hub_world.specs.declared.event.Event.TheVariants.{Expire, Take, Finish, Delete}
 
--- The event takes memory: a batch for its outcomes, a feed that is opened, a row that is made to be handed.
--- A row is made before its lane is looked at. So a Hand with a row due takes some even where the lane is
--- full, and one with an End due takes none. Neither does a heartbeat, nor a feed that is refused, since the
--- database is deleted.
+-- The event takes memory: a batch for its outcomes, a feed that is opened, a row that is made to be handed. A
+-- row is made before its lane is looked at. So a Hand with a row due takes memory even where the lane is
+-- full, and a Hand with an End due takes none. A heartbeat takes none. Nor does a Begin that is refused: the
+-- database is deleted, or has no room for a feed.
 abbrev pub NeedsMemory : World → Event → Type 0
 NeedsMemory world (Write docs) = 0 < length docs
 NeedsMemory world (Interactive docs) = 0 < length docs
@@ -25,6 +25,7 @@ NeedsMemory world (Take feed) = ⊥
 NeedsMemory world (Finish feed) = ⊥
 NeedsMemory world Delete = ⊥
 
--- the event may find no memory in the program's core: in each world that it shows the event takes some
+-- the event may find no memory in the program's core: the event takes memory in each world that the core
+-- shows
 abbrev pub MayFail : Core → Event → Type 0
 MayFail core event = (world : World) → Shows core world → NeedsMemory world event

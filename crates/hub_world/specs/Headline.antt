@@ -1,4 +1,4 @@
--- What the connection of a feed may rely on, whatever happens (CouchDB API reference, _changes).
+-- The promise to the connection of a feed, over every run (CouchDB API reference, _changes).
 use Rattle.std.specs.Prelude.{◌≡◌, ℕ, ◌<◌, ◌≤◌, List, [], ◌∷◌, ◌++◌, length, All, AllPairs}
 use Rattle.std.specs.Prelude.{Contains, IsTrue, Some}
 use Rattle.hub_model.specs.Current.{Current, current}
@@ -15,13 +15,14 @@ use Rattle.hub_world.specs.Handed.{IsStepAt, items_handed, handed_by, items_take
 use Rattle.hub_world.specs.declared.event.Event.{Event}
 use Rattle.hub_world.specs.declared.reply.Reply.{Reply}
 
--- What these replies to these events say of the feed of this number: what was taken off it is a front of
--- what it handed, and that is right and whole. `journals` has the journal before the event at each place, and
--- at the number of the events the one behind the last; `feed` is the feed as it is then. For example a feed
--- of the documents at 1 and 2 whose replies say that it handed row 1 and then row 2, and whose connection
--- took row 1, is faithful; one that handed row 2 alone with its place at 2 is not. A normal feed of eight
--- documents, two of which are written again behind its third row, hands the rows 1, 2, 3, 4, 6, 7 and 8 and
--- an End at 8 with 2 pending: rows 9 and 10 lie above its bound (proved: `BoundHolds`).
+-- These replies to these events are faithful to the feed of this number. The items that its connection took
+-- are a front of the items that it handed, and the handed items are right and whole. `journals` has the
+-- journal before the event at each place, and at the number of the events the journal after the last event;
+-- `feed` is the feed at that time. Example: a feed of the documents at 1 and 2 whose replies say that it
+-- handed row 1 and then row 2, and whose connection took row 1, is faithful. A feed that handed row 2 alone
+-- with its place at 2 is not. A normal feed of eight documents hands the rows 1, 2 and 3, and then two
+-- documents are written again. It goes on with the rows 4, 6, 7 and 8 and an End at 8 with 2 pending: rows 9
+-- and 10 lie above its bound (proved: `BoundHolds`).
 pub record IsFaithful (journals : ℕ → List Edit) (events : List Event) (replies : List Reply) (number : ℕ)
     (feed : Feed) : Type 0 where
   -- what the connection has taken is a prefix of what the feed handed out
@@ -49,8 +50,8 @@ pub record IsFaithful (journals : ℕ → List Edit) (events : List Event) (repl
       × (row.id ≡ entry.id)
 
 -- These replies to these events are faithful to each feed of a new database. The journals and the feed are
--- those of its run, of which there is one (law `answers`), whatever these replies say. So replies that tell
--- of no row where a row was due are refused, since the feed's place has moved.
+-- those of the one run of the events (law `answers`), whatever these replies say. So replies that tell of no
+-- row where a row was due are refused, since the feed's place has moved.
 abbrev pub AreFaithful : Limits → List Event → List Reply → Type 0
 AreFaithful limits events replies =
     (own : List Reply) (world : World) (run : Run (empty limits) events own world)
@@ -58,10 +59,10 @@ AreFaithful limits events replies =
     → subscription world number ≡ Some found →
     IsFaithful (journal_at (empty limits) events own world run) events replies number found.feed
 
--- By these replies each feed of a new database handed what is right for it. Beside the sentence this says
--- that rows lie above since and not above the place or a bound, `seen` never falls, an End names the place,
--- there are no more rows than the limit says, and heartbeats come only where one was asked for. So replies
--- that tell of row 1 while the feed's place is 0 may be faithful, and are not right.
+-- By these replies each feed of a new database handed the items that are right for it. Beside the sentence
+-- this says that rows lie above since and not above the place or a bound, and that `seen` never falls. An End
+-- names the place, there are no more rows than the limit says, and heartbeats come only where one was asked
+-- for. So replies that tell of row 1 while the feed's place is 0 may be faithful, and are not right.
 abbrev pub AreRight : Limits → List Event → List Reply → Type 0
 AreRight limits events replies =
     (own : List Reply) (world : World) → Run (empty limits) events own world

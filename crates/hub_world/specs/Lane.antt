@@ -7,7 +7,7 @@ use Rattle.hub_model.specs.Entries.{with_change, entry_in, AreRising}
 abbrev pub Lanes : Type 0
 Lanes = List (ℕ × List ChangeItem)
 
--- their numbers rise
+-- the numbers of the lanes rise
 abbrev pub IsRising : Lanes → Type 0
 IsRising lanes = AreRising lanes
 
@@ -15,7 +15,7 @@ IsRising lanes = AreRising lanes
 abbrev pub front : ℕ → Lanes → Option ChangeItem
 front number lanes = option_and_then (λ items. slice_get items 0) (entry_in number lanes)
 
--- the lanes, the front of this one taken
+-- the lanes after the front item of the lane of this number is taken
 abbrev pub without_front : ℕ → Lanes → Lanes
 without_front number lanes = with_change number (drop 1) lanes
 

@@ -1,4 +1,4 @@
--- What holds of every step and of every run of a database with feeds (CouchDB API reference, _changes).
+-- The laws of every step and every run of a database with feeds (CouchDB API reference, _changes).
 use Rattle.std.specs.Prelude.{◌≡◌, ℕ, ◌≤◌, List, [], ◌++◌, length, false, Option, Some, None}
 use Rattle.hub_model.specs.Journal.{Edit, IsLegal}
 use Rattle.hub_model.specs.RightlyHanded.{ChangeItem, RightlyHanded, Fits}
@@ -13,7 +13,7 @@ use Rattle.hub_world.specs.declared.reply.Reply.{Reply}
 abbrev pub IsAnswered : Type 0
 IsAnswered = (old : World) (event : Event) → (reply : Reply) × (new : World) × Step old event reply new
 
--- and no other: not another reply, nor another world
+-- an event has no other step from a world: no other reply, and no other new world
 abbrev pub IsOnlyAnswer : Type 0
 IsOnlyAnswer =
     (old new other_new : World) (event : Event) (reply other_reply : Reply)
@@ -27,18 +27,18 @@ RunsOnce = (old : World) (events : List Event) →
     × ((other_replies : List Reply) (other_new : World) → Run old events other_replies other_new
     → (other_replies ≡ replies) × (other_new ≡ new))
 
--- after every run each edit was acceptable after those before it
+-- after every run each edit of the journal was acceptable after the edits before it
 abbrev pub StaysLegal : Type 0
 StaysLegal =
     (limits : Limits) (events : List Event) (replies : List Reply) (world : World)
     → Run (empty limits) events replies world → IsLegal world.journal
 
--- the list is rightly handed for the feed; nothing was handed where there is none
+-- the list is rightly handed for the feed; where there is no feed, the list is empty
 abbrev pub IsRight : List Edit → Option Subscription → List ChangeItem → Type 0
 IsRight journal None items = items ≡ []
 IsRight journal (Some found) items = RightlyHanded change_rows journal found.feed items
 
--- the list fits the feed; nothing was handed where there is none
+-- the list fits the feed; where there is no feed, the list is empty
 abbrev pub FitsIn : List Edit → Option Subscription → List ChangeItem → Type 0
 FitsIn journal None items = items ≡ []
 FitsIn journal (Some found) items = Fits change_rows journal found.feed items
@@ -49,20 +49,20 @@ KeepsFitting = (old new : World) (event : Event) (reply : Reply) (number : ℕ) 
     Step old event reply new → FitsIn old.journal (subscription old number) items
     → FitsIn new.journal (subscription new number) (items ++ handed_by number event reply)
 
--- what a feed handed is rightly handed for the journal at the end
+-- the items that a feed handed are rightly handed for the journal at the end
 abbrev pub HandsRightly : Type 0
 HandsRightly = (limits : Limits) (events : List Event) (replies : List Reply) (world : World) (number : ℕ) →
     Run (empty limits) events replies world
     → IsRight world.journal (subscription world number) (items_handed number events replies)
 
--- what was taken from a feed is a prefix of what it handed
+-- the items that were taken from a feed are a prefix of the items that it handed
 abbrev pub TakesInOrder : Type 0
 TakesInOrder = (limits : Limits) (events : List Event) (replies : List Reply) (world : World) (number : ℕ) →
     Run (empty limits) events replies world
     → IsPrefixOf (items_taken number events replies) (items_handed number events replies)
 
--- of a feed that is not finished, what was taken and then what its lane holds is what it handed. Where the
--- rows 6, 7 and 8 were handed and row 6 was taken, its lane holds the rows 7 and 8.
+-- for a feed that is not finished, the items that were taken, and then those in its lane, are the items that
+-- it handed. Where the rows 6, 7 and 8 were handed and row 6 was taken, the lane holds the rows 7 and 8.
 abbrev pub HoldsTheRest : Type 0
 HoldsTheRest =
     (limits : Limits) (events : List Event) (replies : List Reply) (world : World) (number : ℕ)

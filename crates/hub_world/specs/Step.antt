@@ -1,4 +1,5 @@
--- What each event may answer and do, and whole runs (own; feeds by CouchDB API reference, _changes).
+-- The replies and effects that each event may have, and whole runs (own; feeds by CouchDB API reference,
+-- _changes).
 use Rattle.std.specs.Prelude.{◌≡◌, ◌≤◌, ℕ, zero, suc, List, [], ◌∷◌, length, map, true, false, Some}
 use Rattle.std.specs.Prelude.{slice_get}
 use Rattle.hub_database.specs.Edits.{edit_of, draft_of}
@@ -26,9 +27,9 @@ use Rattle.hub_world.specs.declared.reply.Reply.TheVariants.{Pushed, Full, Nothi
 abbrev pub whole_batch : List (Outcome Revision) → Batch
 whole_batch outcomes = record { replies = outcomes; stopped = false }
 
--- from old, the event may have this reply and lead to new. With three documents and a lane of 2, three Hands
--- to a new continuous feed have the replies Pushed row 1, Pushed row 2 and Full. After a Take, which has
--- Took row 1, a Hand has Pushed row 3 (proved: `LaneFills`).
+-- the event may have this reply, and lead from the world old to the world new. With three documents and a
+-- lane of 2, three Hands to a new continuous feed have the replies Pushed row 1, Pushed row 2 and Full. After
+-- a Take, which has the reply Took row 1, a Hand has Pushed row 3 (proved: `LaneFills`).
 abbrev pub Step : World → Event → Reply → World → Type 0
 Step old (Write docs) (Outcomes batch) new =
     (batch ≡ whole_batch (merges_result old (map edit_of docs)).outcomes)
@@ -88,9 +89,9 @@ Step old Delete Nothing new =
 Step old Delete DatabaseDeleted new = (old.deleted ≡ true) × (new ≡ old)
 Step old Delete _ new = ⊥
 
--- From old the events may have these replies, one each, and lead to new, one step after another. After edits
--- of a, b and then a again the events Begin, Hand, Hand, Hand, Hand have Opened 0, the row of b at 2, that
--- of a at 3, an End at 3, and Gone (proved: `AgainIsLater`).
+-- The events may have these replies, one each, and lead from old to new, one step after another. Example:
+-- after edits of a, b and then a again come the events Begin, Hand, Hand, Hand, Hand. Their replies are
+-- Opened 0, the row of b at 2, the row of a at 3, an End at 3, and Gone (proved: `AgainIsLater`).
 abbrev pub Run : World → List Event → List Reply → World → Type 0
 Run old [] [] new = new ≡ old
 Run old (event ∷ events) (reply ∷ replies) new =
@@ -98,9 +99,9 @@ Run old (event ∷ events) (reply ∷ replies) new =
 Run old [] (reply ∷ replies) new = ⊥
 Run old (event ∷ events) [] new = ⊥
 
--- The journal of a run before the event at this place, counted from 0; from the place behind the last event
--- on it is the journal that the run leaves. In a run of Write a, Write b and Hand 0 it is the empty list at
--- 0, a at 1, and a and b at 2 and 3.
+-- The journal of a run before the event at this place, counted from 0. From the number of the events on, it
+-- is the journal that the run leaves. In a run of Write a, Write b and Hand 0 it is the empty list at 0, a at
+-- 1, and a and b at 2 and 3.
 abbrev pub journal_at : (old : World) (events : List Event) (replies : List Reply) (new : World)
     → Run old events replies new → ℕ → List Edit
 journal_at old [] replies new run place = old.journal

@@ -41,7 +41,7 @@ pub record HasHanded (limits : Limits) (events : List Event) (number : ℕ) (ite
   pub has_replies : HasReplies limits events replies
   pub items_are : items_handed number events replies ≡ items
 
--- and these are taken from it
+-- in the run of the events these items are taken from the feed of this number
 pub record HasTaken (limits : Limits) (events : List Event) (number : ℕ) (items : List ChangeItem) :
     Type 0 where
   pub replies : List Reply
@@ -52,7 +52,7 @@ pub record HasTaken (limits : Limits) (events : List Event) (number : ℕ) (item
 abbrev pub narrow_limits : Limits
 narrow_limits = record { journal = 100; feeds = 1; lane = 2 }
 
--- room for all that these runs do
+-- limits that the worked runs do not reach
 abbrev pub roomy : Limits
 roomy = record { journal = 100; feeds = 10; lane = 64 }
 
@@ -60,20 +60,20 @@ roomy = record { journal = 100; feeds = 10; lane = 64 }
 abbrev pub feed : ℕ → FeedId
 feed number = record { number = number }
 
--- the document that comes with the history of this edit, and is stored as it
+-- the document with the history of this edit: it is stored as the edit
 abbrev pub document : Edit → Doc
 document edit =
     record { id = edit.id; rev = None; path = Some edit.path; deleted = edit.deleted; body = edit.body }
 
--- the documents of these edits come
+-- the write of the documents of these edits
 abbrev pub write_event : List Edit → Event
 write_event edits = Write (map document edits)
 
--- the reply to a batch
+-- the reply to a write that has these outcomes
 abbrev pub outcomes : List (Outcome Revision) → Reply
 outcomes list = Outcomes (whole_batch list)
 
--- what a feed asks for that shows winners alone, without documents and heartbeats
+-- the parameters of a feed that shows winners alone, without documents and heartbeats
 abbrev pub main_only_params : Mode → Since → Option ℕ → Filter → FeedParams
 main_only_params mode since limit filter =
     record {
@@ -88,7 +88,7 @@ main_only_params mode since limit filter =
       timeout = 60000;
     }
 
--- a row that shows this winner, made when there were so many edits
+-- a row that shows this winner, made when the journal had `seen` edits
 abbrev pub row : ℕ → List ℕ → Revision → ℕ → ChangeItem
 row seq id winner seen =
     Row (record { seq = seq; id = id; changes = winner ∷ []; deleted = false; doc = None; seen = seen })
@@ -97,11 +97,11 @@ row seq id winner seen =
 abbrev pub first : List ℕ → Edit
 first id = doc id (rev 1 (codes "a") ∷ [])
 
--- one that comes behind it
+-- a second edit of the document, whose parent is its first edit
 abbrev pub second : List ℕ → Edit
 second id = doc id (rev 2 (codes "b") ∷ rev 1 (codes "a") ∷ [])
 
--- a, b, then a again: b at 2, a at 3, and nothing at 1
+-- edits of a, b, then a again: a feed hands b at 2, a at 3, and nothing at 1
 abbrev pub AgainIsLater : Type 0
 AgainIsLater =
     HasReplies roomy (write_event (first (codes "a") ∷ first (codes "b") ∷ second (codes "a") ∷ [])
@@ -124,7 +124,7 @@ three_leaves =
     ∷ doc (codes "x") (rev 2 (codes "a") ∷ rev 1 (codes "q") ∷ []) ∷ doc (codes "x") (rev 1 (codes "z") ∷ [])
     ∷ []
 
--- a feed of this style hands out two rows of them, with documents
+-- the write of these leaves, and two Hands to a feed of this style that shows documents
 abbrev pub style_events : Style → List Event
 style_events style =
     write_event three_leaves
@@ -140,7 +140,7 @@ style_events style =
       timeout = 60000;
     }) ∷ Hand (feed 0) ∷ Hand (feed 0) ∷ []
 
--- the row of that document
+-- the row of the document x that lists these revisions
 abbrev pub shown_row : List Revision → ChangeItem
 shown_row changes =
     Row (record {
@@ -165,7 +165,8 @@ eight =
     first (1 ∷ []) ∷ first (2 ∷ []) ∷ first (3 ∷ []) ∷ first (4 ∷ []) ∷ first (5 ∷ []) ∷ first (6 ∷ [])
     ∷ first (7 ∷ []) ∷ first (8 ∷ []) ∷ []
 
--- a normal feed on them; after its third row those at 3 and 5 are written again, and so lie above its bound
+-- a normal feed on the eight: after its third row those at 3 and 5 are written again, and so lie above its
+-- bound
 abbrev pub BoundHolds : Type 0
 BoundHolds =
     HasHanded roomy (write_event eight ∷ Begin (main_only_params Normal (Plain 0) None All) ∷ Hand (feed 0) ∷ Hand (feed 0)
@@ -176,14 +177,14 @@ BoundHolds =
     ∷ row 4 (4 ∷ []) (rev 1 (codes "a")) 10 ∷ row 6 (6 ∷ []) (rev 1 (codes "a")) 10
     ∷ row 7 (7 ∷ []) (rev 1 (codes "a")) 10 ∷ row 8 (8 ∷ []) (rev 1 (codes "a")) 10 ∷ End 8 2 ∷ [])
 
--- on a database of three documents, with a narrow lane, the events behind their write have these replies
+-- with narrow limits, the events after the write of three documents have these replies
 abbrev pub HasThree : List Event → List Reply → Type 0
 HasThree events replies =
     HasReplies narrow_limits (write_event (first (1 ∷ []) ∷ first (2 ∷ []) ∷ first (3 ∷ []) ∷ []) ∷ events)
     (outcomes (Stored (rev 1 (codes "a")) ∷ Stored (rev 1 (codes "a")) ∷ Stored (rev 1 (codes "a")) ∷ [])
     ∷ replies)
 
--- the row of one of them
+-- the row of one of the three documents: its id is one byte, its sequence
 abbrev pub third : ℕ → ChangeItem
 third seq = row seq (seq ∷ []) (rev 1 (codes "a")) 3
 
@@ -195,8 +196,8 @@ LaneFills =
     (Opened (feed 0) ∷ Pushed (third 1) ∷ Pushed (third 2) ∷ Full ∷ Took (Some (third 1))
     ∷ Pushed (third 3) ∷ [])
 
--- a feed that begins after 2 of the database's life begins with the third row, and after 2 of another life
--- with the first
+-- a feed that begins after 2 of the database's life begins with the third row; one that begins after 2 of
+-- another life begins with the first
 abbrev pub LivesCount : Type 0
 LivesCount =
     HasThree (Begin (main_only_params Normal (Tagged 2 1) None All) ∷ Hand (feed 0) ∷ Hand (feed 0) ∷ [])
@@ -204,13 +205,13 @@ LivesCount =
     × HasThree (Begin (main_only_params Normal (Tagged 2 7) None All) ∷ Hand (feed 0) ∷ [])
     (Opened (feed 0) ∷ Pushed (third 1) ∷ [])
 
--- a feed hands out three rows, and is finished when one was taken
+-- a feed hands out three rows, and is finished after one of them was taken
 abbrev pub left_early : List Event
 left_early =
     write_event eight ∷ Begin (main_only_params Normal (Plain 5) None All) ∷ Hand (feed 0) ∷ Hand (feed 0) ∷ Take (feed 0)
     ∷ Hand (feed 0) ∷ Finish (feed 0) ∷ Take (feed 0) ∷ []
 
--- what is in the lane of a finished feed is never taken
+-- the items in the lane of a finished feed are never taken
 abbrev pub TakesAFront : Type 0
 TakesAFront =
     HasHanded roomy left_early 0
@@ -226,7 +227,7 @@ LongpollWaits =
     (Opened (feed 0) ∷ Nothing ∷ outcomes (Stored (rev 1 (codes "a")) ∷ [])
     ∷ Pushed (row 4 (codes "_design/x") (rev 1 (codes "a")) 4) ∷ Pushed (End 4 0) ∷ Gone ∷ [])
 
--- and where its time is over it ends at its place; a normal feed's time is never over
+-- a longpoll feed whose time is over ends at its place; a normal feed's time is never over
 abbrev pub TimeEnds : Type 0
 TimeEnds =
     HasThree (Begin (main_only_params Longpoll (Plain 0) None Design) ∷ Hand (feed 0) ∷ Expire (feed 0) ∷ Hand (feed 0)
@@ -234,7 +235,7 @@ TimeEnds =
     × HasThree (Begin (main_only_params Normal (Plain 0) None All) ∷ Expire (feed 0) ∷ Hand (feed 0) ∷ [])
     (Opened (feed 0) ∷ Nothing ∷ Pushed (third 1) ∷ [])
 
--- what is known, what contradicts, and a draft on no leaf change nothing
+-- a known edit, an edit that contradicts, and a draft on no leaf change nothing
 abbrev pub WritesAnswer : Type 0
 WritesAnswer =
     HasReplies roomy (write_event (second (codes "b") ∷ []) ∷ write_event (second (codes "b") ∷ [])
@@ -254,7 +255,7 @@ WritesAnswer =
 abbrev pub asks_beats : Mode → FeedParams
 asks_beats mode = record (main_only_params mode (Plain 0) None All) { heartbeat = Some 60000 }
 
--- a feed that waits hands heartbeats where it asks for them, while its lane has room
+-- a feed of a mode that waits hands heartbeats where it asks for them, while its lane has room
 abbrev pub BeatsAreAsked : Type 0
 BeatsAreAsked =
     HasThree (Begin (asks_beats Continuous) ∷ Heartbeat (feed 0) ∷ Heartbeat (feed 0) ∷ Heartbeat (feed 0)
@@ -273,13 +274,13 @@ DeletionEnds =
     (Opened (feed 0) ∷ Pushed (third 2) ∷ Nothing ∷ Pushed (End 2 1) ∷ Gone ∷ DatabaseDeleted
     ∷ DatabaseDeleted ∷ outcomes (Refused Deleted ∷ []) ∷ [])
 
--- the limit counts what passes, and 0 acts as 1
+-- the limit counts the rows that pass, and 0 acts as 1
 abbrev pub LimitCountsRows : Type 0
 LimitCountsRows =
     HasThree (Begin (main_only_params Normal (Plain 0) (Some 0) (DocIds ((3 ∷ []) ∷ (2 ∷ []) ∷ []))) ∷ Hand (feed 0)
     ∷ Hand (feed 0) ∷ []) (Opened (feed 0) ∷ Pushed (third 2) ∷ Pushed (End 2 1) ∷ [])
 
--- one feed more than there may be is refused until one is finished; no number is given twice
+-- one feed more than the limit allows is refused until another is finished; no number is given twice
 abbrev pub FeedsAreCounted : Type 0
 FeedsAreCounted =
     HasThree (Begin (main_only_params Continuous Now None All) ∷ Begin (main_only_params Continuous Now None All) ∷ Finish (feed 0)

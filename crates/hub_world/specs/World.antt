@@ -1,5 +1,5 @@
--- A database with its feeds and their lanes, and what happens to them (own; feeds by CouchDB API reference,
--- _changes).
+-- A database with its feeds and their lanes, and the effects of events on them (own; feeds by CouchDB API
+-- reference, _changes).
 use Rattle.std.specs.Prelude.{◌≡◌, ℕ, ◌<◌, ◌-◌, ◌^◌, ◌||◌, nat_le, List, [], ◌∷◌, ◌++◌, length, drop, Bool}
 use Rattle.std.specs.Prelude.{true, false, not, Option, Some, None, option_map, slice_get, slice_set}
 use Rattle.std.specs.Prelude.{count_by}
@@ -10,13 +10,13 @@ use Rattle.hub_model.specs.Journal.{Edit}
 use Rattle.hub_model.specs.Outcome.{StoresAll, stores_all, merge_result}
 use Rattle.hub_model.specs.RightlyHanded.{ChangeItem}
 
--- how much there may be at most
+-- the limits of a database
 pub record Limits : Type 0 where
   pub journal : ℕ
   pub feeds : ℕ  -- feeds that are not finished
   pub lane : ℕ  -- items that a lane holds
 
--- a feed, and its lane: what it handed that was not taken yet
+-- a feed, and its lane: the items that the feed handed and its connection has not taken yet
 pub record Subscription : Type 0 where
   pub feed : Feed
   pub lane : List ChangeItem
@@ -24,7 +24,7 @@ pub record Subscription : Type 0 where
 -- a database; a feed's number is its place in `feeds`, from 0, and finished feeds stay there
 pub record World : Type 0 where
   pub limits : Limits
-  pub life : ℕ  -- the number of its life, which stays
+  pub life : ℕ  -- the number of its life, which never changes
   pub journal : List Edit
   pub deleted : Bool
   pub feeds : List Subscription
@@ -33,7 +33,7 @@ pub record World : Type 0 where
 abbrev pub empty : Limits → World
 empty limits = record { limits = limits; life = 1; journal = []; deleted = false; feeds = [] }
 
--- whether its subscriber is gone
+-- whether the subscriber of a feed with this status is gone
 abbrev pub is_finished : Status → Bool
 is_finished Open = false
 is_finished Ending = false
@@ -44,34 +44,34 @@ is_finished Finished = true
 abbrev pub open_feeds : World → ℕ
 open_feeds world = count_by (λ s. not (is_finished s.feed.status)) world.feeds
 
--- whether there may be no feed more: as many as may be are not finished, or no number is left. Where there
--- may be one feed at most and one is open, no other may be opened; once that one is finished, another may
--- (proved: `FeedsAreCounted`).
+-- whether no more feed may be opened: as many feeds as the limit allows are not finished, or no number is
+-- left. With a limit of one feed and one feed that is not finished, no other may be opened. Once that feed is
+-- finished, another may (proved: `FeedsAreCounted`).
 abbrev pub has_no_room : World → Bool
 has_no_room world = nat_le world.limits.feeds (open_feeds world) || nat_le (2 ^ 64 - 1) (length world.feeds)
 
--- feed f, where there is one
+-- feed f with its lane, where there is one
 abbrev pub subscription : World → ℕ → Option Subscription
 subscription world f = slice_get world.feeds f
 
--- the world with this in the place of feed f
+-- the world with this subscription in the place of that of feed f
 abbrev pub with_subscription : World → ℕ → Subscription → World
 with_subscription world f subscription = record world { feeds = slice_set world.feeds f subscription }
 
--- the feed itself
+-- the feed of a subscription
 abbrev pub feed_of : Option Subscription → Option Feed
 feed_of maybe_subscription = option_map (λ s. s.feed) maybe_subscription
 
--- what was handed and not taken
+-- the items that were handed and not taken; none without a subscription
 abbrev pub lane_of : Option Subscription → List ChangeItem
 lane_of None = []
 lane_of (Some subscription) = subscription.lane
 
--- what writing these edits with their histories answers, and the journal after it
+-- the outcomes of a write of these edits with their histories, and the journal after it
 abbrev pub merges_result : World → List Edit → StoresAll
 merges_result world edits = stores_all (merge_result world.limits.journal) world.deleted world.journal edits
 
--- what writing these drafts answers, and the journal after it
+-- the outcomes of a write of these drafts, and the journal after it
 abbrev pub drafts_result : World → List Draft → StoresAll
 drafts_result world drafts = stores_all (draft_result world.limits.journal) world.deleted world.journal drafts
 
@@ -83,24 +83,24 @@ with_feed world params =
           ++ record { feed = new_feed params (length world.journal) world.life; lane = [] } ∷ [];
     }
 
--- the feed with its lane once the item went into it, and the feed went on so
+-- the subscription once the item went into its lane: its feed goes on as this feed
 abbrev pub subscription_after_push : Subscription → Feed → ChangeItem → Subscription
 subscription_after_push subscription feed item = record { feed = feed; lane = subscription.lane ++ item ∷ [] }
 
--- there is room in the lane of f, and new is the world with the item in it. Where a lane holds 2 items at
+-- the lane of feed f has room, and new is the world with the item in that lane. Where a lane holds 2 items at
 -- most, and has row 1 and row 2, there is no room for row 3 (proved: `LaneFills`).
 abbrev pub Pushes : World → ℕ → Subscription → Feed → ChangeItem → World → Type 0
 Pushes old f subscription feed item new =
     (length subscription.lane < old.limits.lane)
     × (new ≡ with_subscription old f (subscription_after_push subscription feed item))
 
--- the world once the time of feed f is over; without such a feed it stays as it is
+-- the world once the time of feed f is over; without such a feed the world stays as it is
 abbrev pub world_after_expiry : Option Subscription → ℕ → World → World
 world_after_expiry None f world = world
 world_after_expiry (Some subscription) f world =
     with_subscription world f (record subscription { feed = expired_feed subscription.feed })
 
--- the world once the front item of feed f's lane is taken: of row 1 and row 2 there row 2 stays
+-- the world once the front item of feed f's lane is taken: from row 1 and row 2 there stays row 2
 abbrev pub world_after_take : Option Subscription → ℕ → World → World
 world_after_take None f world = world
 world_after_take (Some subscription) f world =

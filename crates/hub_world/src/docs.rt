@@ -1,4 +1,4 @@
-//! Documents that come together.
+//! The documents of a write.
 
 use hub_document::Doc;
 use std::marker::Model;

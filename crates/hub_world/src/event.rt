@@ -1,10 +1,10 @@
-//! What may happen to a database with feeds.
+//! The events of a database with feeds.
 
 use crate::docs::Docs;
 use hub_feed::FeedId;
 use hub_params::FeedParams;
 
-/// An event. Each comes at once: its parts are not seen apart.
+/// An event. Each is one step: no other event comes between its parts.
 #[derive(Debug, Drop)]
 pub enum Event {
     /// Documents come with their histories, as a replicator sends them (CouchDB API reference,
@@ -14,7 +14,7 @@ pub enum Event {
     Interactive(Docs),
     /// A subscriber opens a feed (CouchDB API reference, `_changes`). `descending` is not looked at.
     Begin(FeedParams),
-    /// A feed is to hand what is due into its lane.
+    /// A feed is to hand its due item into its lane.
     Hand(FeedId),
     /// It is time for a heartbeat of a feed.
     Heartbeat(FeedId),

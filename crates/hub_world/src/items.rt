@@ -9,8 +9,8 @@ use std::fmt;
 use std::marker::Model;
 use std::snapshot::Snapshot;
 
-/// An item that lies in a lane, as only contracts know it. It has no bytes: who wants to see the item
-/// takes it.
+/// An item that lies in a lane. Contracts alone know the item: this value has no bytes. Code sees the item
+/// once `Event::Take` took it.
 #[derive(Drop)]
 pub struct ToldItem {
     item: Snapshot<Item<ChangeRow>>,
@@ -25,7 +25,7 @@ impl Model for ToldItem {
 }
 
 impl ToldItem {
-    /// This item.
+    /// The told form of an item.
     pub(crate) fn of(item: &Item<ChangeRow>) -> ToldItem
         ensures { result ≡ item.now }
     {
@@ -35,7 +35,7 @@ impl ToldItem {
     }
 }
 
-/// Items that were handed, the front first. Contracts see their list.
+/// Items that were handed and never taken, the front first. Contracts see their list.
 #[derive(Debug, Drop)]
 pub struct Items {
     pub(crate) items: VecDeque<Item<ChangeRow>>,

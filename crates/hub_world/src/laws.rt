@@ -1,5 +1,5 @@
-//! What holds of every run, by the definitions alone. Each law is the contract of a function that does
-//! nothing.
+//! The laws of every run, by the definitions alone. Each law is the contract of a function with an empty
+//! body.
 
 ghost use Rattle.hub_world.specs.Laws.{IsAnswered, IsOnlyAnswer, RunsOnce, StaysLegal, KeepsFitting};
 ghost use Rattle.hub_world.specs.Laws.{HandsRightly, TakesInOrder, HoldsTheRest, LanesAreLimited};
@@ -8,10 +8,10 @@ ghost use Rattle.hub_world.specs.Worked.{AgainIsLater, StylesList, BoundHolds, L
 ghost use Rattle.hub_world.specs.Worked.{LongpollWaits, TimeEnds, WritesAnswer, BeatsAreAsked};
 ghost use Rattle.hub_world.specs.Worked.{DeletionEnds, LimitCountsRows, LivesCount, FeedsAreCounted};
 
-/// Over every list of events, what a feed's connection has taken is a prefix of what the feed handed
-/// out: rows in strictly rising sequence, each its document's current row at its step, each passing
-/// the filter, none above last_seq, nothing after the end, and every current passing row between
-/// since and the feed's place among them.
+/// Over every list of events the items that a feed's connection has taken are a prefix of the items that the
+/// feed handed out. The rows among these are in strictly rising sequence. Each row is its document's current
+/// row at its step, passes the filter, and is not above last_seq. Nothing comes after the end. Every current
+/// passing row between since and the feed's place is among them.
 pub fn headline()
     ensures { Headline }
 {}
@@ -23,19 +23,19 @@ pub fn answers()
     ensures runs { RunsOnce }
 {}
 
-/// Over every run each edit was acceptable after those before it.
+/// After every run each edit of the journal was acceptable after the edits before it.
 pub fn stays_legal()
     ensures { StaysLegal }
 {}
 
-/// Each event leaves the list of what a feed handed, with the item that it handed, fitting the feed.
+/// A list of handed items that fits its feed fits it after each event, with the item that the event handed.
 pub fn keeps_fitting()
     ensures { KeepsFitting }
 {}
 
-/// Over every run what a feed handed is rightly handed for the journal at the end, what was taken
-/// from it is a prefix of that, the rest is in its lane until it is finished, and no lane holds more
-/// than the limit says.
+/// Over every run the items that a feed handed are rightly handed for the journal at the end, and the items
+/// that were taken are a prefix of them. The rest lies in the feed's lane until the feed is finished. No lane
+/// holds more items than the limit says.
 pub fn hands_and_takes()
     ensures rightly { HandsRightly }
     ensures in_order { TakesInOrder }
@@ -43,7 +43,7 @@ pub fn hands_and_takes()
     ensures limited { LanesAreLimited }
 {}
 
-/// What the definitions say of some small databases.
+/// Worked runs of some small databases, by the definitions.
 pub fn worked_runs()
     ensures again { AgainIsLater }
     ensures styles { StylesList }

@@ -1,4 +1,4 @@
-//! A database with its feeds in one thread, as the program keeps it under a lock, and what holds of every run
+//! A database with its feeds in one thread, as the program keeps it under a lock, and the laws of every run
 //! of it.
 #![tactic(auto)]
 

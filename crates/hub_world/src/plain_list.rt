@@ -1,4 +1,4 @@
-//! A plain list as a feed's outbox: what the feed handed lies in it until it is taken.
+//! A plain list as a feed's outbox: the items that the feed handed lie in it until they are taken.
 
 ghost use Rattle.std.specs.Prelude.{◌≡◌, ◌≤◌, length, Some, None, IfOk, IfSome, IfNone, ⊤};
 ghost use Rattle.hub_world.specs.PlainList.{held_of, last, new_list};
@@ -15,24 +15,24 @@ use std::marker::Model;
 use std::mem;
 use std::snapshot::Snapshot;
 
-/// What a list was sent, as only contracts know it: a snapshot of it has no bytes.
+/// The items that a list was sent. Contracts alone know them: a snapshot of this value has no bytes.
 #[derive(Drop)]
 pub(crate) enum Sent<T> {
-    /// Nothing yet.
+    /// No item yet.
     Nothing,
-    /// An item, behind what was sent before it.
+    /// An item, after the items that were sent before it.
     Behind(Snapshot<Sent<T>>, Snapshot<T>),
 }
 
-/// What a feed handed and its connection has not taken, the front first. It has the memory for as many
-/// items as it may hold from its beginning. Contracts see the label of the feed, the items, what else it was
-/// sent, and how many it holds at most.
+/// The items that a feed handed and its connection has not taken, the front first. From its opening on the
+/// list has memory for as many items as it may hold. Contracts see the label of the feed, these items, all
+/// items that the list was sent, and how many it holds at most.
 #[derive(Drop)]
 pub(crate) struct PlainList {
     label: FeedLabel<DbState>,
     held: VecDeque<Item<ChangeRow>>,
     sent: Snapshot<Sent<Item<ChangeRow>>>,
-    /// How many items it holds at most.
+    /// How many items the list holds at most.
     capacity: usize,
 }
 
@@ -54,7 +54,7 @@ impl Model for PlainList {
         (a.capacity ≤ deque_capacity a.held) × (length a.held.items ≤ a.capacity) };
 }
 
-/// It takes any item.
+/// A plain list allows every list of items.
 impl Sink<Item<ChangeRow>> for PlainList {
     ghost use Rattle.std.specs.Prelude.{⊤};
     ghost use Rattle.hub_world.specs.PlainList.{behind};
@@ -66,7 +66,7 @@ impl Sink<Item<ChangeRow>> for PlainList {
     ghost behind = { λ k item. behind k item };
 }
 
-/// Nobody watches it.
+/// Nobody watches a plain list, so `tell` does nothing.
 impl Outbox<DbState> for PlainList {
     ghost label = { λ k. k.label };
 
@@ -75,7 +75,7 @@ impl Outbox<DbState> for PlainList {
     fn tell(&self) {}
 }
 
-/// It has no other end.
+/// A plain list has no other end.
 impl TwoEnded<DbState> for PlainList {
     type Taker = ();
 
@@ -111,7 +111,7 @@ impl TwoEnded<DbState> for PlainList {
     ghost begins = { λ end l capacity. refl };
 }
 
-/// What it took is what it was sent.
+/// The items that the list took as a sink are those that it was sent.
 impl Receives<DbState> for PlainList {
     ghost use Rattle.std.proofs.Common.{refl};
 
@@ -139,7 +139,7 @@ impl Shelf<DbState> for PlainList {
 }
 
 impl PlainList {
-    /// The item that it was sent last, where it holds that still. Constant time.
+    /// The item that the list was sent last, where the list still holds it. Constant time.
     pub(crate) fn last(&self) -> Option<&Item<ChangeRow>>
         ensures some { IfSome result (λ item. last self.now ≡ Some item.now) }
         ensures none { IfNone result (last self.now ≡ None) }
@@ -149,7 +149,7 @@ impl PlainList {
     }
 }
 
-/// What a list holds, the front first; nothing where there is no list. Constant time.
+/// The items that a list holds, the front first; none where there is no list. Constant time.
 pub(crate) fn items_left(alloc: Global, list: Option<PlainList>) -> VecDeque<Item<ChangeRow>>
     ensures { result.items ≡ held_of list }
 {
@@ -159,7 +159,7 @@ pub(crate) fn items_left(alloc: Global, list: Option<PlainList>) -> VecDeque<Ite
     }
 }
 
-/// The handle of plain lists: nothing is to be asked or waited for.
+/// The handle of plain lists: it needs no runtime to ask, and no push waits.
 #[derive(Drop)]
 pub(crate) struct Directly;
 

@@ -1,4 +1,4 @@
-//! What comes of an event.
+//! The replies to events.
 
 ghost use Rattle.std.specs.Prelude.{◌≡◌};
 ghost use Rattle.hub_world.specs.Applied.{is_stopped};
@@ -12,17 +12,17 @@ use hub_model::Item;
 /// A reply to an event.
 #[derive(Drop)]
 pub enum Reply {
-    /// What became of each document, in order; where the batch stopped, of those before the stop.
+    /// The outcome of each document, in order; where the batch stopped, of the documents before the stop.
     Outcomes(Batch),
     /// The feed was opened.
     Opened(FeedId),
-    /// There are as many feeds as there may be, or no number is left for one more.
+    /// The database has as many feeds as its limit allows, or no number is left for one more feed.
     TooManyFeeds,
     /// The database was deleted before.
     DatabaseDeleted,
-    /// This item is now the last of the lane. Contracts know it, and who takes it sees it.
+    /// This item is now the last of the lane. Contracts know the item, and a later `Took` hands it out.
     Pushed(ToldItem),
-    /// The lane has no room for what is due.
+    /// The lane has no room for the due item.
     Full,
     /// There was nothing to do, or nothing to tell.
     Nothing,
@@ -30,12 +30,12 @@ pub enum Reply {
     Gone,
     /// This item was the front of the lane; none where it was empty.
     Took(Option<Item<ChangeRow>>),
-    /// What was handed and never taken, the front first.
+    /// The items that were handed and never taken, the front first.
     Left(Items),
 }
 
 impl Reply {
-    /// Whether it is that of a batch that found no memory for a document.
+    /// Whether this is the reply of a batch that found no memory for a document.
     pub(crate) fn is_stopped(&self) -> bool
         ensures { result ≡ is_stopped self.now }
     {

@@ -1,5 +1,5 @@
-//! A database with its feeds and their lanes, as one machine: what the program keeps under a lock, in one
-//! thread.
+//! A database with its feeds and their lanes, as one machine: the value that the program keeps under a lock,
+//! in one thread.
 
 ghost use Rattle.std.specs.Prelude.{◌≡◌, ◌<◌, ◌≤◌, length, IfOk, OnErr};
 ghost use Rattle.hub_world.specs.Applied.{Answers, Applies, CoreStep, last_reply, write_of};
@@ -24,8 +24,8 @@ use std::alloc::{AllocError, Global};
 use std::marker::Model;
 
 /// A database with its feeds and their lanes: the very `Locked` of the program, over lanes that are plain
-/// lists. Every event is one call of it, so that a list of events is an interleaving of whatever makes
-/// them.
+/// lists. An event changes it by at most one call of `Locked`. So a list of events is an interleaving of such
+/// calls, whoever makes them.
 #[derive(Drop)]
 pub struct World {
     locked: Locked<DbState, Plain, PlainList>,
@@ -54,7 +54,7 @@ impl World {
         }
     }
 
-    // Documents come: with their histories, or their revisions are made here.
+    // Stores documents: with their histories, or, as new edits, with revisions that are made here.
     fn write(&mut self, docs: Docs, new_edits: bool) -> Result<Reply, AllocError>
         ensures ok { IfOk result (λ reply. Applies self.old (write_of new_edits docs) reply self.new
             × Answers self.old (write_of new_edits docs) reply self.new) }
@@ -67,7 +67,7 @@ impl World {
         Ok(Reply::Outcomes(batch))
     }
 
-    // A feed is opened, with an empty lane.
+    // Opens a feed, with an empty lane.
     fn begin(&mut self, params: FeedParams) -> Result<Reply, AllocError>
         ensures ok { IfOk result (λ reply. Applies self.old (Event.Begin params) reply self.new) }
         ensures err { OnErr result ((self.new ≡ self.old) × MayFail self.old (Event.Begin params)) }
@@ -96,7 +96,7 @@ impl World {
         }
     }
 
-    // What is due to a feed goes into its lane.
+    // Hands the item that is due to a feed into its lane.
     fn hand(&mut self, feed: FeedId) -> Result<Reply, AllocError>
         ensures ok { IfOk result (λ reply. Applies self.old (Event.Hand feed) reply self.new) }
         ensures err { OnErr result ((self.new ≡ self.old) × MayFail self.old (Event.Hand feed)) }
@@ -109,9 +109,9 @@ impl World {
         }
     }
 
-    // A heartbeat that may be handed goes into the feed's lane. `Locked::beat` tells one that went there as
-    // it tells that none was due, so it is asked before. A due heartbeat that the lane does not refuse is its
-    // last item.
+    // Hands a heartbeat into the feed's lane, where one is due. `Locked::beat` answers the same for a
+    // heartbeat that it sent and for one that was not due, so `beat_due` is asked before. A due heartbeat
+    // that the lane does not refuse is the lane's last item.
     fn beat(&mut self, feed: FeedId) -> Reply
         ensures { Applies self.old (Event.Heartbeat feed) result self.new }
     {
@@ -124,7 +124,7 @@ impl World {
         }
     }
 
-    // A feed's time is over.
+    // Tells a feed that its time without an item is over.
     fn expire(&mut self, feed: FeedId) -> Reply
         ensures { Applies self.old (Event.Expire feed) result self.new }
     {
@@ -132,7 +132,7 @@ impl World {
         Reply::Nothing
     }
 
-    // A feed's subscriber is gone.
+    // Finishes a feed, whose subscriber is gone. The reply has the items that were left in its lane.
     fn finish(&mut self, feed: FeedId) -> Reply
         ensures { Applies self.old (Event.Finish feed) result self.new }
     {
@@ -142,7 +142,7 @@ impl World {
         })
     }
 
-    // The database is deleted, unless it was.
+    // Deletes the database, unless it was deleted before.
     fn delete(&mut self) -> Reply
         ensures { Applies self.old Event.Delete result self.new }
     {
@@ -152,9 +152,9 @@ impl World {
         Reply::Nothing
     }
 
-    /// Makes one event take place. Where a growth is refused all stays as it was, but for a batch: the
-    /// documents before the one that found no memory stay stored, and the reply says that it stopped.
-    /// It costs what the call of `Locked` does. No row is copied.
+    /// Makes one event take place. Where it finds no memory nothing changes, but for a batch: the documents
+    /// before the one that found no memory stay stored, and the reply says that the batch stopped. The cost
+    /// is that of the call of `Locked`. No row is copied.
     pub fn apply(&mut self, event: Event) -> Result<Reply, AllocError>
         ensures step { IfOk result (λ reply. Applies self.old event reply self.new) }
         ensures batch { IfOk result (λ reply. Answers self.old event reply self.new) }
@@ -173,7 +173,7 @@ impl World {
         }
     }
 
-    // Makes one event take place as a whole, or tells that a growth was refused.
+    // Makes one event take place as a whole. A batch that stopped is an `AllocError` too.
     fn apply_whole(&mut self, event: Event) -> Result<Reply, AllocError>
         ensures { IfOk result (λ reply. CoreStep self.old event reply self.new) }
     {
@@ -184,12 +184,12 @@ impl World {
         Ok(reply)
     }
 
-    /// Runs a list of events on a new database, up to the first that finds no memory. Over every list
-    /// of events, what a feed's connection has taken is a prefix of what the feed handed out: rows in
-    /// strictly rising sequence, each its document's current row at its step, each passing the filter,
-    /// none above last_seq, nothing after the end, and every current passing row between since and the
-    /// feed's place among them (`headline`). What each feed handed is right besides (`right`). The replies
-    /// and the world are those of the one run that the events have (`run`).
+    /// Runs a list of events on a new database. An event that finds no memory is an error. Over every list of
+    /// events (`headline`) the items that a feed's connection has taken are a prefix of the items that the
+    /// feed handed out. Their rows are in strictly rising sequence. Each is its document's current row at its
+    /// step, passes the filter, and is not above last_seq. Nothing comes after the end. Every current passing
+    /// row between since and the feed's place is among them. The handed items are right besides (`right`).
+    /// The replies and the world are those of the events' one run (`run`).
     pub fn run(
         alloc: Global,
         limits: Limits,

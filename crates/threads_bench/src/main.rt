@@ -1,7 +1,7 @@
-//! Measures a database that threads share, and prints microseconds: `writes FEEDS COUNT`, the time of so many
-//! writes beside feeds that are read; `news FEEDS ROUNDS`, for each write the time until every feed's reader took
-//! its row. Feeds are read as the workers of a server read them: a thread a processor polls its part of
-//! them, and sleeps until a write has news for them. With no argument it does nothing.
+//! Measures a database that threads share, and prints microseconds. `writes FEEDS COUNT` prints the time of
+//! so many writes beside feeds that are read. `news FEEDS ROUNDS` prints for each write the time until every
+//! feed's reader took its row. Feeds are read as by the workers of a server: a thread a processor polls its
+//! part of the feeds, and sleeps until a write has news for them. With no argument it does nothing.
 #![tactic(auto)]
 
 use hub_document::{Doc, Limits};
@@ -34,9 +34,9 @@ impl Clock for Free {
 struct Reader {
     /// Rung where its feeds have news.
     bell: Arc<Bell, Global>,
-    /// Its feeds share this.
+    /// The watch that its feeds share.
     watch: Arc<Watch, Global>,
-    /// It sleeps here while they have none.
+    /// The thread sleeps here while its feeds have no news.
     parker: Parker,
 }
 
@@ -56,7 +56,7 @@ impl Reader {
         self.bell.take() && self.watch.take()
     }
 
-    // Wakes it where its feeds have news.
+    // Wakes the thread where its feeds have news.
     fn wake(&self) {
         if self.bell.is_rung() {
             self.parker.unpark();
@@ -64,7 +64,7 @@ impl Reader {
     }
 }
 
-// What the threads of a run share.
+// The values that the threads of a run share.
 #[derive(Drop)]
 struct Scene {
     db: Db<Plain>,
@@ -108,7 +108,7 @@ impl Scene {
         }
     }
 
-    // Wakes the readers whose feeds have news, as whoever wrote does behind its turn.
+    // Wakes the readers whose feeds have news, as a runner of a server does after its turn.
     fn ring(&self) {
         for reader in &self.readers {
             reader.wake();
@@ -218,7 +218,7 @@ fn batches(alloc: Global, count: u64) -> Option<Vec<Vec<Doc>>> {
     Some(all)
 }
 
-// Waits until every feed is open, and its reader had time to sleep; or until a reader could not open its own.
+// Waits until every feed is open, and its reader had time to sleep; or until a reader could not go on.
 fn wait_for_feeds<R: Wait + time::Clock>(rt: &R, scene: &Scene) {
     for _ in rt.forever() {
         let is_over = scene.is_over.load(Ordering::SeqCst);
@@ -317,7 +317,7 @@ fn time_news<R: Wait + time::Clock + Print>(
     true
 }
 
-// What is measured.
+// The kind of measurement.
 #[derive(Clone, Copy)]
 enum Measure {
     Nothing,
@@ -325,7 +325,7 @@ enum Measure {
     News,
 }
 
-// What is measured, beside how many feeds, and how often.
+// A measurement: its kind, how many feeds are open, and how often it measures.
 #[derive(Clone, Copy, Drop)]
 struct Task {
     what: Measure,
@@ -349,7 +349,7 @@ fn run_measure<R: Wait + time::Clock + Print>(rt: &R, alloc: Global, scene: &Sce
     }
 }
 
-// Does the part of the thread of this number: a reader, or behind the last the one who measures.
+// Does the part of the thread of this number: a reader, or after the last reader the one that measures.
 fn take_part<R: Wait + time::Clock + Print>(
     rt: &R,
     alloc: Global,

@@ -1,4 +1,4 @@
--- What is found so far is that of the ids that were looked at.
+-- The sequences found so far are those of the ids that were looked at.
 use Rattle.std.proofs.Common.{◌≡◌, map, take, string_bytes}
 use Rattle.std.specs.List.{filter_map}
 use Rattle.hub_database.specs.Listing.{seq_of_row}

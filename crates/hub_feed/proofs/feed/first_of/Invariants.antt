@@ -1,4 +1,4 @@
--- What is found so far is the first row of the ids that were looked at.
+-- The sequence so far is that of the first row of the ids so far.
 use Rattle.std.proofs.Common.{◌≡◌, map, take, option_map, string_bytes}
 use Rattle.hub_model.specs.Current.{Current}
 use Rattle.hub_feed.specs.Reach.{first_listed}

@@ -2,7 +2,7 @@ use Rattle.std.proofs.Common.{◌+◌, ◌≤◌}
 use Rattle.hub_follower.specs.Peers.{Reaches, HasCountedCalls, calls_left, standing_of}
 use Rattle.hub_follower.proofs.driving.drive.Given as goal
 
--- the calls that are left fit into the turns that are left
+-- the calls that are left fit into the turns of the loop that are left
 abbrev pub invariant-loop : goal.invariant-loop
 invariant-loop g l = record {
   counted : HasCountedCalls l.core;

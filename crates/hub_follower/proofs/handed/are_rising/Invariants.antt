@@ -3,7 +3,7 @@ use Rattle.hub_model.specs.RightlyHanded.{rows_of}
 use Rattle.hub_follower.specs.Handed.{are_rising}
 use Rattle.hub_follower.proofs.handed.are_rising.Given as goal
 
--- what is left decides, behind the last row
+-- the rows so far rise, so the later items decide
 abbrev pub invariant-loop-item : goal.invariant-loop-item
 invariant-loop-item l =
     are_rising l.last l.seq l.seen (rows_of (drop l.item-index l.items))

@@ -2,7 +2,7 @@ use Rattle.std.proofs.Common.{◌≡◌, ◌++◌, drop}
 use Rattle.hub_follower.specs.LogText.{later_entries_text}
 use Rattle.hub_follower.proofs.log_text.put_later_entries.Given as goal
 
--- what was written so far, with the texts of the entries that are left, is all
+-- the bytes so far and the texts of the later entries are the whole text
 abbrev pub invariant-loop-entry : goal.invariant-loop-entry
 invariant-loop-entry l =
     l.out.items ++ later_entries_text (drop l.entry-index l.entries)

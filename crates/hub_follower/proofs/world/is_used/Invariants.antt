@@ -4,7 +4,7 @@ use Rattle.std.specs.Prelude.{string_bytes}
 use Rattle.std.specs.Str.{bytes_eq}
 use Rattle.hub_follower.proofs.world.is_used.Given as goal
 
--- the sessions so far are others
+-- no session so far has the id, so the later sessions decide
 abbrev pub invariant-loop-used : goal.invariant-loop-used
 invariant-loop-used l =
     list_any (bytes_eq l.session_id) (map string_bytes (drop l.used-index l.sessions))

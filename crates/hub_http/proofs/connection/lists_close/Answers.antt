@@ -7,7 +7,7 @@ use Rattle.httparse.specs.Grammar.{trim_ows}
 use Rattle.hub_http.specs.Heads.{same_word, comma}
 use Rattle.hub_http.proofs.connection.lists_close.Goals as goal
 
--- a test of the parts as they are is one of the parts as they are changed
+-- a test of each changed element is the test of the list of changed elements
 any_mapped : (p : List ℕ → Bool) (f : List ℕ → List ℕ) (xs : List (List ℕ))
     → list_any (λ x. p (f x)) xs ≡ list_any p (map f xs)
 any_mapped p f [] = refl

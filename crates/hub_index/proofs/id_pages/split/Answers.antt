@@ -10,7 +10,7 @@ upper c =
     c.in_ok-upper.ensures.items
     ∙ (take_rest c.deref.result.now 128 ∙ ap (λ (l : List ℕ). drop 128 l) c.deref.ensures.value)
 
--- the pages after the upper one was put behind
+-- the page that is cut, as it is read after the upper page was put behind it
 there : (c : goal.After-pages-1)
     → c.index_mut.result.now
     ≡ get_or (insert c.args.pages.now.items (c.args.page + 1) c.in_ok-upper.upper)

@@ -2,7 +2,7 @@ use Rattle.std.proofs.Common.{arith, ◌≡◌, get_or, ap}
 use Rattle.hub_model.proofs.Entries.{placed_at}
 use Rattle.hub_model.proofs.places.place_near.Goals as goal
 
--- the number stands there
+-- the entry at `near` has the number
 pub returns-then-entries-near : goal.returns-then-entries-near
 returns-then-entries-near g c =
     let e = c.index-entries-near.result in

@@ -3,7 +3,7 @@ use Rattle.std.proofs.lemmas.List.Sorted.{answers_always}
 use Rattle.hub_model.proofs.Entries.{searched}
 use Rattle.hub_model.proofs.places.place_of.Goals as goal
 
--- the closure gives an entry's number
+-- the closure gives the number of an entry
 pub returns : goal.returns
 returns g c =
     let facts = c.binary_search_by_key.ensures in

@@ -43,11 +43,11 @@ returns c =
     (let start : c.loop-number.number ≡ 0 = omega (arith, c.loop-number-test.false) in
     rw start at c.loop-number.invariant)
 
--- behind the last stem stands none
+-- no stem comes after the last one
 nothing_left : (P : Stem → Bool) (stems : List Stem) → list_any P (drop (length stems) stems) ≡ false
 nothing_left P stems = ap (list_any P) (drop_all (length stems) stems (omega arith))
 
--- no stem from here on, where none behind it is one and it is none
+-- no stem from here on passes, where none after this one does and this one does not
 none_from : (P : Stem → Bool) (stems : List Stem) (n : ℕ) (stem : Stem) → 0 < n → n ≤ length stems
     → stem ≡ get_or stems (n - 1) stem → P stem ≡ false → list_any P (drop n stems) ≡ false
     → list_any P (drop (n - 1) stems) ≡ false

@@ -10,7 +10,7 @@ use Rattle.hub_service.specs.Said.{Body}
 use Rattle.hub_service.proofs.Looks.{found_read, look_found, look_unfound, said_text, unfound_read}
 use Rattle.hub_service.proofs.diff.diff.Goals as goal
 
--- what a look for missing revisions finds
+-- the result of a look for missing revisions
 abbrev are_diffs : Vec RevisionsOfDoc Global → Database → Vec Diff Global → Type 0
 are_diffs asked db found = found.items ≡ diffs db.journal asked.items
 

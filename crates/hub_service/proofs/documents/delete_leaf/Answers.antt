@@ -14,7 +14,7 @@ use Rattle.hub_service.specs.declared.response.Response.{Response}
 use Rattle.hub_service.proofs.Looks.{some_is_some}
 use Rattle.hub_service.proofs.documents.delete_leaf.Goals as goal
 
--- what a look for the winner of an id finds
+-- the result of a look for the winner of an id
 abbrev is_winner : List ℕ → Database → Option Winner → Type 0
 is_winner id db found = found ≡ winner_in db id
 
@@ -27,7 +27,7 @@ leaf_missed id short known rev maybe_winner is has none =
     subst (λ s. DeletesLeaf id s rev (Err Missing)) (sym is)
     (inl (inl (refl, record { db = has.db; legal = has.legal; held = (has.held.0, sym has.held.1 ∙ none) })))
 
--- and where it finds one, the edit is written
+-- where a look finds a winner, the edit is written
 leaf_written : (id : List ℕ) (short : Option (List ℕ)) (known : List ℕ) (rev : Revision)
     (maybe_winner : Option Winner)
     (won : Winner) (r : Result Response Refusal) → short ≡ Some known

@@ -16,11 +16,11 @@ use Rattle.hub_service.specs.declared.response.Response.{Response}
 use Rattle.hub_service.proofs.Looks.{found_read, look_found, look_unfound, read_anyway, unfound_read}
 use Rattle.hub_service.proofs.documents.get.Goals as goal
 
--- what a look for a document of an id finds
+-- the result of a look for a document of an id
 abbrev is_lookup : List ℕ → Bool → Database → Lookup → Type 0
 is_lookup id revs db found = found ≡ lookup db.journal id revs
 
--- where revisions are asked for, they are what is read
+-- where `open_revs` is asked for, the answer is the revisions
 revs_asked : (id : List ℕ) (revs : Bool) (rev : Option (List ℕ)) (leaves : Option (List ℕ)) (text : List ℕ)
     (asked : Option OpenRevs) (r : Result Response Refusal) → leaves ≡ Some text → asked ≡ open_revs_in text
     → IsRead (λ db. gets_revs db.journal id revs asked) r
@@ -29,7 +29,7 @@ revs_asked id revs rev leaves text asked r some is read =
     subst (λ o. IsRead (λ db. gets_by db.journal id revs rev o) r) (sym some)
     (subst (λ a. IsRead (λ db. gets_revs db.journal id revs a) r) is read)
 
--- and where a revision is asked for, that is refused
+-- where `rev` is asked for without `open_revs`, the answer is a refusal
 rev_asked : {A : Type 0} (id : List ℕ) (revs : Bool) (f : A → List ℕ) (rev : Option A)
     (leaves : Option (List ℕ))
     → leaves ≡ None → is_some rev ≡ true
@@ -39,7 +39,7 @@ rev_asked id revs f (Some rev) leaves none some =
     read_anyway (λ db. gets_by db.journal id revs (Some (f rev)) leaves) (Refusing BadRev) (Err BadRev) refl
     (λ db. sym (ap (gets_by db.journal id revs (Some (f rev))) none))
 
--- else the document is read
+-- where neither is asked for, the answer is the document
 none_asked : {A : Type 0} (id : List ℕ) (revs : Bool) (f : A → List ℕ) (rev : Option A)
     (leaves : Option (List ℕ))
     (r : Result Response Refusal) → leaves ≡ None → is_some rev ≡ false

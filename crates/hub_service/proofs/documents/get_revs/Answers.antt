@@ -12,7 +12,7 @@ use Rattle.hub_service.specs.Said.{Refusing}
 use Rattle.hub_service.proofs.Looks.{found_read, look_found, look_unfound, read_anyway, unfound_read}
 use Rattle.hub_service.proofs.documents.get_revs.Goals as goal
 
--- what a look for revisions of an id finds
+-- the result of a look for revisions of an id
 abbrev are_revs : List ℕ → OpenRevs → Bool → Database → Vec OpenRev Global → Type 0
 are_revs id which revs db found = found.items ≡ open_revs db.journal id which revs
 

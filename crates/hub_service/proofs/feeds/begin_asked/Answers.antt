@@ -9,7 +9,7 @@ use Rattle.hub_service.specs.Moments.{HasDatabase}
 use Rattle.hub_service.proofs.Looks.{look_found, look_unfound, unfound_feed, unopened_feed}
 use Rattle.hub_service.proofs.feeds.begin_asked.Goals as goal
 
--- what a look for an answer that goes downwards finds
+-- the result of a look for an answer that goes downwards
 abbrev is_descending : FeedParams → Database → Descending → Type 0
 is_descending params db found = found ≡ descending db.journal db.life (params_of params)
 

@@ -11,7 +11,7 @@ use Rattle.hub_service.specs.Said.{Body}
 use Rattle.hub_service.proofs.Looks.{found_read, look_found, look_unfound, said_text, unfound_read}
 use Rattle.hub_service.proofs.info.info.Goals as goal
 
--- what a look for what a database says of itself finds
+-- the result of a look for the information of a database
 abbrev is_info : Database → Info → Type 0
 is_info db info = info ≡ info_of db.journal db.life
 

@@ -9,7 +9,7 @@ use Rattle.hub_service.specs.Moments.{IsRead}
 use Rattle.hub_service.proofs.Looks.{found_read, look_found, look_unfound, unfound_read}
 use Rattle.hub_service.proofs.locals.get.Goals as goal
 
--- what a look for a local document of an id finds
+-- the result of a look for a local document of an id
 abbrev is_local : List ℕ → Database → Option kept.Local → Type 0
 is_local id db found = option_map (local_named id) found ≡ local_of db.locals id
 

@@ -123,7 +123,7 @@ after c = record c.self.inside {
   deleted = c.recounted-self-inside.result;
 }
 
--- what they leave
+-- the invariant and the outcome, by these fields
 left : (c : goal.After-push_reserved) → IsWhole (after c)
     × (stores_edit c.self.inside.limits.journal (edits_inside c.self.inside) c.args.id c.args.edit
     ≡ record { outcome = Stored c.take-rev.result; journal = edits_inside (after c) })

@@ -1,4 +1,4 @@
--- What is found among the rows that are kept is the first in reach.
+-- The first row that is found among kept rows is the first in reach.
 use Rattle.std.proofs.Common.{◌<◌, AllPairs, map, string_bytes, refl, subst, sym}
 use Rattle.hub_model.specs.Current.{current}
 use Rattle.hub_model.specs.Entries.{entry_in}

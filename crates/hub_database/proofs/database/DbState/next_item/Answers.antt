@@ -1,4 +1,4 @@
--- What the feeds answer is what the database answers, and the rows that are kept stay so.
+-- The answer of the feeds is the database's, and the rows that are kept stay so.
 use Rattle.std.proofs.Common.{◌≡◌, ◌∙◌, length, sym, subst, ap, refl, rules, None}
 use Rattle.hub_model.specs.Current.{current}
 use Rattle.hub_model.specs.Entries.{entry_in}

@@ -3,7 +3,7 @@ use Rattle.std.specs.Prelude.{drop}
 use Rattle.hub_database.specs.Receipts.{receipts_from}
 use Rattle.hub_database.proofs.receipt.ReceiptRoom.fill.Given as goal
 
--- all receipts are those so far and those of what is left
+-- all receipts are the receipts so far and those of the documents that are left
 abbrev pub invariant-loop-id : goal.invariant-loop-id
 invariant-loop-id l = record {
   all : receipts_from l.before l.fn.self l.replies

@@ -1,4 +1,4 @@
--- Each pass of the loop either finds the first row in reach or goes on behind one that does not pass.
+-- Each pass of the loop finds the first row in reach, or moves the place to a row that does not pass.
 use Rattle.std.proofs.Common.{◌≡◌, true, false, sym, ◌∙◌, ap, subst, option_map, Some, None, arith}
 use Rattle.hub_model.specs.Current.{Current}
 use Rattle.hub_model.specs.Feed.{Feed}

@@ -1,4 +1,4 @@
--- Looking from the place reached so far finds what looking from the feed's place does.
+-- The first row in reach of the place so far is the first row in reach of the feed's place.
 use Rattle.std.proofs.Common.{◌≡◌, ◌≤◌, find}
 use Rattle.hub_model.specs.Feed.{is_in_reach}
 use Rattle.hub_feed.proofs.feed.FeedState.first_until.Given as goal

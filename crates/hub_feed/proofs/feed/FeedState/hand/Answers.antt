@@ -1,4 +1,4 @@
--- What is due by its sequence is what is due.
+-- The step that is due by the first sequence is the step that is due.
 use Rattle.std.proofs.Common.{◌≡◌, sym, ◌∙◌, ap, subst}
 use Rattle.std.specs.Prelude.{IfSome}
 use Rattle.hub_model.specs.Feed.{Feed, feed_after_due, after_nothing, next_due}

@@ -1,4 +1,4 @@
--- The row that is due by its sequence is a current one.
+-- The row of the sequence that is due is a current row.
 use Rattle.std.proofs.Common.{◌≡◌, sym, ◌∙◌, ap, subst}
 use Rattle.hub_model.specs.Feed.{Feed}
 use Rattle.hub_feed.specs.declared.next.Next.TheVariants.{Give}

@@ -1,4 +1,4 @@
--- The feed that stands here hands, and the others stay.
+-- The feed at this place hands, and the other feeds stay.
 use Rattle.std.proofs.Common.{◌≡◌, sym, subst, ap, refl, rules, arith, ℕ, List, Some}
 use Rattle.std.specs.Prelude.{position, slice_set, option_and_then, IfSome}
 use Rattle.hub_model.specs.Entries.{entry_in, is_of}

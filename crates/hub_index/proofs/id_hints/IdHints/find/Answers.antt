@@ -6,7 +6,7 @@ use Rattle.hub_index.specs.Order.{id_at}
 use Rattle.std.proofs.lemmas.Slice.Eq.{bytes_eq-Decides}
 use Rattle.hub_index.proofs.id_hints.IdHints.find.Goals as goal
 
--- a number of a text that is not empty has an id
+-- a number whose id is a text that is not empty is below the number of ids
 numbered : (ids : List (List ℕ)) (id : List ℕ) (n : ℕ) → id_at ids n ≡ id → 0 < length id → n < length ids
 numbered ids id n is some = from (cases_lt n (length ids))
   where

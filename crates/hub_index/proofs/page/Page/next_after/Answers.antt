@@ -15,7 +15,7 @@ returns-in_err-at c =
     c.self.inside.slots.items
     c.as_slice.result.now c.as_slice.ensures.value c.saturating_sub-from.ensures e)
 
--- the row that is found lies at a number of 64 bits
+-- the found row lies at a number of 64 bits
 fits : (c : goal.In_ok-at) → 256 * c.self.inside.number + (c.in_ok-at.at + 1) < 2 ^ 64
 fits c =
     let e : Some (c.in_ok-at.at, c.in_ok-at.document)

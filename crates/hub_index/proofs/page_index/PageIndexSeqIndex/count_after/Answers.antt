@@ -28,7 +28,7 @@ loop-at-init c =
     omega (arith, same) in
     total
 
--- what is counted with this page, and what is left
+-- the count with this page, and the count of the pages that are left
 counted : (c : goal.After-count_after-count)
     → (c.loop-at.count + c.count_after-count.result)
     + count_by (λ (row : ℕ × ℕ). nat_lt c.args.place row.0)

@@ -73,7 +73,7 @@ new-requires-clause-stands c =
     _ is c.standing_of-standing.result.parent c.kept-run.result.0 c.standing_of-standing.result.reach
     c.standing_of-standing.ensures.parent c.kept-run.ensures.run c.standing_of-standing.ensures.reach
 
--- the stem that is put to them
+-- the stem that comes to the stems
 abbrev stem_of : Joined-drop → Stem
 stem_of c = record {
   revisions = c.kept-run.result.0;
@@ -99,7 +99,7 @@ brings c =
     (c.standing_of-standing.ensures.count ∙ c.len.ensures) c.standing_of-standing.ensures.reach
     c.standing_of-standing.ensures.joins
 
--- the line that is kept is its path, where nothing stands behind that
+-- the line that the index keeps is that of the stem's path, where no revision stands behind the path's last
 line_of : (c : Joined-drop) → IsNewestLine c.if-whole.line2 (c.self.inside.stems.items ++ stem_of c ∷ [])
 line_of c =
     let xs = c.self.inside.stems.items in

@@ -5,7 +5,7 @@ use Rattle.hub_service.specs.Moments.{IsRead}
 use Rattle.hub_service.specs.Requests.{AnswersCall}
 use Rattle.hub_service.proofs.connection.Connection.call.Goals as goal
 
--- the database of the name was found, and what it says of itself names it so
+-- the database of the name was found, and its information has this name
 pub returns-in_ok-database-in-Info : goal.returns-in_ok-database-in-Info
 returns-in_ok-database-in-Info g c =
     let own = c.in_ok-database-in-Info.ensures.own in

@@ -5,7 +5,7 @@ use Rattle.hub_model.proofs.Entries.{stays_here}
 use Rattle.hub_shared.specs.Locked.{AreSendersOf}
 use Rattle.hub_shared.proofs.feed.HostFeed.watch.Goals as goal
 
--- who is told of a feed does not change what was sent for it
+-- a new watch of a feed does not change the items that were sent for the feed
 pub invariant_of-locked : goal.invariant_of-locked
 invariant_of-locked g c =
     let v = g.S.HostView in

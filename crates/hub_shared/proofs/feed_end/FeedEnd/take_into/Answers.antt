@@ -1,4 +1,4 @@
--- What was taken grows by the item, and stays a front of the items of the blocks.
+-- The taken items grow by the item, and stay a front of the items of the blocks.
 use Rattle.std.proofs.Common.{◌∙◌, sym, ap, subst, rules}
 use Rattle.std.proofs.lemmas.List.{nil_from_length}
 use Rattle.std.specs.Vec.Iter.{into_iter_items, into_iter_steps}
@@ -7,7 +7,7 @@ use Rattle.hub_shared.specs.Blocks.{items_in}
 use Rattle.hub_shared.proofs.Blocks.{end_goes_on, end_takes, front_more, items_more, right_so_far, some_then}
 use Rattle.hub_shared.proofs.feed_end.FeedEnd.take_into.Goals as goal
 
--- what the lane gave lies before and behind the item that is next, of the block that was begun
+-- after an item of the begun block, the items that the lane gave are still the taken ones and then the rest
 pub invariant_of-self : goal.invariant_of-self
 invariant_of-self g c =
     (front_more _ _ _ _ _ c.self.invariant.0 c.next-front.ensures.items, c.self.invariant.1)
@@ -23,7 +23,7 @@ returns-in-Some-clause-taken g c =
       right_so_far g.S.HostView.right c.self.inside.receiver rest whole c.self.invariant.1,
     )
 
--- the blocks that the lane gave are all those before, and this one
+-- the blocks that the lane gave are the earlier ones, and this one
 pub invariant_of-self-2 : goal.invariant_of-self-2
 invariant_of-self-2 g c =
     let more =

@@ -6,7 +6,7 @@ use Rattle.hub_world.proofs.Programs.{Program, kept_lists, leads_world}
 use Rattle.hub_world.proofs.Stepping.{Leads, delete_leads, from_same}
 use Rattle.hub_world.proofs.world.World.delete.Goals as goal
 
--- the step
+-- the step of the event
 leads : (c : goal.In-Ok)
     → Leads (core_of c.self.inside.locked) event.Delete reply.Nothing (core_of c.delete.new.self)
 leads c =

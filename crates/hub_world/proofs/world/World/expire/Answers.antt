@@ -7,7 +7,7 @@ use Rattle.hub_world.proofs.Stepping.{Leads, expire_leads, from_same}
 use Rattle.hub_world.proofs.world.World.expire.Goals as goal
 use Rattle.hub_world.proofs.world.World.expire.Goals.{After-expire}
 
--- the step
+-- the step of the event
 leads : (c : After-expire)
     → Leads (core_of c.self.inside.locked) (event.Expire c.args.feed) reply.Nothing
     (core_of c.expire.new.self)

@@ -8,7 +8,7 @@ use Rattle.hub_world.proofs.Stepping.{Leads, from_same}
 use Rattle.hub_world.proofs.world.World.finish.Goals as goal
 use Rattle.hub_world.proofs.world.World.finish.Goals.{After-items_left}
 
--- the step
+-- the step of the event
 leads : (c : After-items_left)
     → Leads (core_of c.self.inside.locked) (event.Finish c.args.feed) (reply.Left c.items_left.result.items)
     (core_of c.finish-list.new.self)

@@ -11,7 +11,7 @@ use Rattle.hub_world.proofs.Programs.{kept_lists, leads_world}
 use Rattle.hub_world.proofs.Stepping.{Leads, stored_leads, stored_applies, stored_may_fail, from_same}
 use Rattle.hub_world.proofs.world.World.write.Goals as goal
 
--- the step
+-- the step of the write of the stored documents
 leads : (c : goal.In-Ok)
     → Leads (core_of c.self.inside.locked)
     (write_of c.args.new_edits (take (length c.in-Ok.batch.replies) c.docs.inside.list.items))
