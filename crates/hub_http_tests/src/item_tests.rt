@@ -11,8 +11,8 @@ use std::test::Fail;
 /// A feed, and the texts of its items.
 ///
 /// - `feed MODE ROWS LIFE`: a feed of this mode that wrote ROWS rows, of a database in this life.
-/// - `row SEQ REV DOC`: the row of a sequence and a document, with a second revision REV unless REV is
-///   none. `doc SEQ REV DOC`: the same row, with the document in it. `end SEQ PENDING`, `beat`: the end and
+/// - `row SEQ REV DOC`: the row of a sequence and a document, with REV as second revision unless REV is no
+///   revision. `doc SEQ REV DOC`: the same row, with the document in it. `end SEQ PENDING`, `beat`: the end and
 ///   a heartbeat.
 /// - `update KIND SEQ NAME`: the row of a database in a feed of updates. `end_of_updates SEQ PENDING`,
 ///   `beat_of_updates`: the end and a heartbeat of that feed.
@@ -59,7 +59,7 @@ fn changes(alloc: Global, rev: RevId, other: Option<RevId>) -> Result<Changes, A
     }
 }
 
-// A row of a command's words: its sequence, its second revision, and its document. The row may bring it.
+// A row of a command's words: sequence, second revision, and document. The row may bring the document.
 fn row_of(alloc: Global, command: &str, brings: bool) -> Result<ChangeRow, DocFault> {
     let mut words = Words::of(command);
     let seq = words.number();

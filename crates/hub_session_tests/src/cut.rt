@@ -3,12 +3,12 @@
 use std::io;
 use std::io::{ErrorKind, Read, Write};
 
-/// Interruptions of calls: so many before each call that goes on.
+/// Interruptions of calls: `each` of them before each call that goes on.
 #[derive(Drop)]
 pub(crate) struct Pauses {
     /// How often each call is interrupted.
     pub(crate) each: u64,
-    /// How often the next one is.
+    /// How often the next call is still interrupted.
     pub(crate) left: u64,
 }
 
@@ -28,13 +28,13 @@ impl Pauses {
     }
 }
 
-/// Gives parts of a text, one a read, of at most so many bytes. Behind the text it fails, or ends.
+/// A reader of a text that gives at most `most` bytes a read. After the text it fails, or ends.
 #[derive(Drop)]
 pub(crate) struct CutReader<'a> {
     pub(crate) text: &'a [u8],
     /// The most bytes of a read.
     pub(crate) most: usize,
-    /// It fails, in place of ending.
+    /// The reader fails after its text, in place of ending.
     pub(crate) fails: bool,
     pub(crate) pauses: Pauses,
 }
@@ -50,18 +50,18 @@ impl Read for CutReader<'_> {
     }
 }
 
-/// Takes at most so many bytes a write, so many in all, and then fails. It notes where it was flushed.
+/// A writer that takes at most `most` bytes a write and `room` bytes in all, and then fails.
 #[derive(Drop)]
 pub(crate) struct CutWriter {
     pub(crate) held: Vec<u8>,
     /// The most bytes of a write.
     pub(crate) most: usize,
-    /// How many bytes it still takes.
+    /// How many bytes the writer still takes.
     pub(crate) room: usize,
     pub(crate) pauses: Pauses,
-    /// How many writes took some.
+    /// How many writes took bytes.
     pub(crate) writes: u64,
-    /// How many bytes it held at each flush.
+    /// How many bytes the writer held at each flush.
     pub(crate) flushed: Vec<usize>,
 }
 

@@ -4,8 +4,8 @@ use crate::holding::Holding;
 use hub_transcript::replay;
 use std::test::Fail;
 
-// Wherever an input ends, or its reader fails, the requests before are answered and nothing else: a whole
-// request is answered before the next read.
+// Wherever an input ends, or its reader fails, the requests before that are answered, and nothing else. A
+// whole request is answered before the next read.
 const CUTS: &str = r#"
 # a reader that fails, or ends
 > ask PUT /d HTTP/1.1\r\nHost: h\r\ncontent-length: 2\r\n\r\n{}

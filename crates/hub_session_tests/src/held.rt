@@ -1,4 +1,4 @@
-//! Sessions, held once and told.
+//! Sessions that are held once, and their outcomes.
 
 use crate::cut::{CutReader, CutWriter, Pauses};
 use crate::rows::Rows;
@@ -11,13 +11,13 @@ use std::cell::Cell;
 /// The most steps of a session of these tests.
 const STEPS: usize = 10_000;
 
-/// How a session is held.
+/// The settings by which a session is held.
 #[derive(Clone, Copy)]
 pub(crate) struct Setting {
     pub(crate) alloc: Global,
     /// The most bytes of a read.
     pub(crate) most_read: usize,
-    /// The reader fails behind its text, in place of ending.
+    /// The reader fails after its text, in place of ending.
     pub(crate) fails: bool,
     /// The most bytes of a write.
     pub(crate) most_written: usize,
@@ -25,33 +25,33 @@ pub(crate) struct Setting {
     pub(crate) room: usize,
     /// How often each call of the reader and the writer is interrupted.
     pub(crate) interrupts: u64,
-    /// The bits of the numbers of the items that are not ready.
+    /// The items that are not ready: bit N stands for the item N, from 0 on.
     pub(crate) late: u64,
     /// The stream stops in place of its End.
     pub(crate) stops: bool,
 }
 
-/// What became of a session.
+/// The outcome of a session.
 #[derive(Drop)]
 pub(crate) struct Told {
-    /// Why it closed; None where it goes on.
+    /// Why the session closed; None where it goes on.
     pub(crate) closing: Option<Closing>,
-    /// What was written.
+    /// The bytes that were written.
     pub(crate) output: Vec<u8>,
-    /// How many writes took some.
+    /// How many writes took bytes.
     pub(crate) writes: u64,
     /// How many bytes were written at each flush.
     pub(crate) flushed: Vec<usize>,
-    /// How often the writer faulted.
+    /// How often the writer faulted; 0 for a session that is stepped.
     pub(crate) faults: u64,
     /// How many streams were given back.
     pub(crate) given_back: u64,
-    /// How often it waited for news.
+    /// How often the session waited for news.
     pub(crate) waits: u64,
 }
 
 impl Told {
-    /// Nothing was held.
+    /// The outcome before any session is held.
     pub(crate) fn none(alloc: Global) -> Told {
         Told {
             closing: None,
@@ -87,7 +87,7 @@ impl Setting {
         }
     }
 
-    /// A writer that holds nothing, and takes so many bytes.
+    /// A writer that holds nothing yet, and takes `room` bytes.
     fn writer(&self, room: usize) -> CutWriter {
         CutWriter {
             held: Vec::new(self.alloc),
@@ -99,7 +99,7 @@ impl Setting {
         }
     }
 
-    /// The requests that are read.
+    /// The requests of a reader of this input.
     fn requests<'a>(&self, input: &'a [u8]) -> Requests<Tally<CutReader<'a>>> {
         let reader = CutReader {
             text: input,
@@ -110,7 +110,7 @@ impl Setting {
         Requests::new(self.alloc, Tally::new(reader))
     }
 
-    /// A service that was asked nothing.
+    /// A service before its first request.
     fn service<'a>(&self, news: &'a Cell<u64>) -> Rows<'a> {
         Rows {
             alloc: self.alloc,
@@ -125,7 +125,7 @@ impl Setting {
     }
 }
 
-/// What a closing and a writer tell.
+/// The outcome of a session with this closing and this writer.
 fn told_of(closing: Option<Closing>, writer: CutWriter, faults: u64, given_back: u64) -> Told {
     Told {
         closing,
@@ -138,9 +138,9 @@ fn told_of(closing: Option<Closing>, writer: CutWriter, faults: u64, given_back:
     }
 }
 
-/// What became of requests that are served: all of them, `once` the first alone. `again` they are served once
-/// more, to a writer that takes nothing: then its closing and its faults are told, and what was written
-/// before.
+/// The outcome of served requests: of all, or `once` of the first alone. `again` serves them once more, to
+/// a writer that takes nothing. The outcome has the closing and the faults of that second time, and the
+/// bytes of the first.
 pub(crate) fn served(setting: &Setting, input: &[u8], once: bool, again: bool) -> Told {
     let news = Cell::new(u64::MAX);
     let mut requests = setting.requests(input);
@@ -161,7 +161,7 @@ pub(crate) fn served(setting: &Setting, input: &[u8], once: bool, again: bool) -
     told_of(closing, writer.into_inner(), faults, service.dropped)
 }
 
-/// What became of a stream.
+/// The outcome of a stream that is sent alone. Its closing is None where it is complete, and else `Cut`.
 pub(crate) fn streamed(setting: &Setting) -> Told {
     let news = Cell::new(u64::MAX);
     let mut writer = Tally::new(setting.writer(setting.room));
@@ -176,7 +176,7 @@ pub(crate) fn streamed(setting: &Setting) -> Told {
     told_of(closing, writer.into_inner(), faults, service.dropped)
 }
 
-/// Sends all that a session has to send.
+/// Sends the bytes that wait in a session's outbox, until none are taken.
 fn drain<S: Service>(session: &mut Session<S>, writer: &mut CutWriter) {
     for _ in 0..STEPS {
         if session.send_to(writer) == Transfer::Took(0) {
@@ -185,12 +185,12 @@ fn drain<S: Service>(session: &mut Session<S>, writer: &mut CutWriter) {
     }
 }
 
-/// What a stepped session and its writer tell.
+/// The outcome of a stepped session and its writer.
 fn stepped(session: &Session<Rows<'_>>, writer: CutWriter) -> Told {
     told_of(session.closing(), writer, 0, session.service().dropped)
 }
 
-/// A session to which these bytes were offered, where there are some.
+/// A new session, to which the input was offered unless it is empty.
 fn opened<'a>(
     setting: &Setting,
     news: &'a Cell<u64>,
@@ -204,8 +204,8 @@ fn opened<'a>(
     Ok(session)
 }
 
-/// Offers a session the next part of an input, and answers where the part behind begins. Where there is no
-/// memory nothing is taken.
+/// Offers a session the next part of an input. Answers where the part after it begins. Out of memory, no
+/// byte is taken, and the answer is `start`.
 fn offer_part(session: &mut Session<Rows<'_>>, input: &[u8], start: usize, most: usize) -> usize {
     let end = start.saturating_add(most).min(input.len());
     let Some(part) = input.get(start..end) else {
@@ -218,7 +218,7 @@ fn offer_part(session: &mut Session<Rows<'_>>, input: &[u8], start: usize, most:
     }
 }
 
-/// What became of a session that is stepped, and waits for news before each item of a stream.
+/// The outcome of a session that is stepped, and waits for news before each item of a stream.
 pub(crate) fn driven(setting: &Setting, input: &[u8]) -> Result<Told, AllocError> {
     let news = Cell::new(0);
     let mut session = opened(setting, &news, b"")?;
@@ -245,7 +245,7 @@ pub(crate) fn driven(setting: &Setting, input: &[u8]) -> Result<Told, AllocError
     Ok(told)
 }
 
-/// Steps a session until it wants input or ends, and sends all that it has to send.
+/// Steps a session until it wants input or ends, and sends all its bytes.
 fn step_on(session: &mut Session<Rows<'_>>, writer: &mut CutWriter) {
     for _ in 0..STEPS {
         match session.step() {
@@ -257,7 +257,7 @@ fn step_on(session: &mut Session<Rows<'_>>, writer: &mut CutWriter) {
     drain(session, writer);
 }
 
-/// What became of a session that finds no memory for the bytes behind its input.
+/// The outcome of a session that finds no memory for the bytes after its input.
 pub(crate) fn refused(setting: &Setting, input: &[u8]) -> Result<Told, AllocError> {
     let news = Cell::new(u64::MAX);
     let mut session = opened(setting, &news, input)?;
@@ -270,7 +270,7 @@ pub(crate) fn refused(setting: &Setting, input: &[u8]) -> Result<Told, AllocErro
     Ok(stepped(&session, writer))
 }
 
-/// What became of a session that is given up twice behind its first step, and stepped once more.
+/// The outcome of a session that is given up twice after its first step, and stepped once more.
 pub(crate) fn given_up(setting: &Setting, input: &[u8]) -> Result<Told, AllocError> {
     let news = Cell::new(u64::MAX);
     let mut session = opened(setting, &news, input)?;

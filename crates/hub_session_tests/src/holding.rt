@@ -1,8 +1,8 @@
 //! Sessions that transcripts hold.
 //!
-//! With ample memory a session is as its settings say at once. Where a growth is refused it wrote a front of
-//! its answers: an answer behind which it goes on may be the refusal that tells out of memory, and so may the
-//! last one, and a stream may be cut. Held again over fresh values it is right.
+//! With ample memory, a session follows its settings at once. Where a growth is refused, its output is a
+//! front of the answers. Then a stream may be cut, or one answer may be the refusal that tells out of
+//! memory. Held again over fresh values, the session is right.
 
 use crate::held::{Setting, Told, driven, given_up, refused, served, streamed};
 use crate::shown::{Shown, undone};
@@ -12,33 +12,33 @@ use hub_transcript::{Answer, Subject, Words};
 use std::alloc::{AllocError, Global};
 use std::str;
 
-/// The head of the refusal that tells out of memory, behind which a session goes on, as it stands behind
-/// `HTTP/1.1 5`.
+/// The head of the refusal that tells out of memory, without `HTTP/1.1 5` at its front. The session goes on
+/// after this refusal.
 const REFUSED: &str =
     "03 Service Unavailable\r\nContent-Type: application/json\r\nContent-Length: 51\r\n\r\n";
 
-/// Its body, which no answer to HEAD has.
+/// The body of this refusal, which no answer to HEAD has.
 const REFUSED_BODY: &str = "{\"error\":\"out_of_memory\",\"reason\":\"out of memory\"}\n";
 
 /// Requests, and the sessions that are held over them.
 ///
-/// - `ask TEXT`: a request behind those before.
-/// - Settings. `ample`: none. `read_by N`, `write_by N`: at most so many bytes a read or a write. `fails`:
-///   the reader fails behind the requests, in place of ending. `room N`: how many bytes the writer takes.
-///   `interrupted N`: how often each call of the reader and the writer is. `late N`: the item of this number
-///   is not ready. `stops`: a stream stops in place of its End.
-/// - Sessions, which answer why they close, or `goes on`. `serve`: all requests are served; `serve_one`: the
-///   first; `serve_again`: behind the end once more, to a writer that takes nothing. `stream`: a stream is
-///   sent alone. `drive`: a session is stepped, and waits for news before each item. `lose`: a session is
-///   stepped, and there is no memory for the bytes behind the requests. `give_up`: a session is given up
-///   behind its first step.
-/// - Of the session that was held last: `output`, what was written, or `as before` where it is what was shown
-///   last, and nothing at first; `writes`; `flushes`, the bytes that were written at each; `faults`, those of
-///   the writer; `given_back`, the streams; `waits`, those for news.
+/// - `ask TEXT`: appends a request.
+/// - Settings. `ample`: none. `read_by N`, `write_by N`: at most N bytes a read or a write. `fails`: the
+///   reader fails after the requests, in place of ending. `room N`: the writer takes N bytes. `interrupted
+///   N`: each call of the reader and the writer is interrupted N times. `late N`: item N is not ready.
+///   `stops`: a stream stops in place of its End.
+/// - Sessions, which answer why they close, or `goes on`. `serve`: all requests are served. `serve_one`:
+///   the first alone. `serve_again`: all, and once more after their end, to a writer that takes nothing.
+///   `stream`: a stream is sent alone. `drive`: a session is stepped, and waits for news before each item.
+///   `lose`: a session is stepped, and has no memory for the bytes after the requests. `give_up`: a session
+///   is given up after its first step.
+/// - Parts of the last outcome. `output`: the bytes, or `as before` where they are those that were shown
+///   last, at first none. `writes`, `faults`, `waits`: their counts. `given_back`: the count of streams.
+///   `flushes`: the count of bytes at each.
 /// - `cuts SESSION`: a session is held over each front of the requests. `breaks SESSION`: it is held with
-///   room for each count of bytes below that of what was shown last. Where a session is not as with one byte
-///   less, it is told: why it closes, how many bytes are written, of `breaks` more or fewer than its room,
-///   and the faults of the writer.
+///   room for each count of bytes below those shown last. It is shown where it differs from that with one
+///   byte less. Shown are its closing, its bytes (for `breaks` counted from its room), whether they are a
+///   front, and its faults and waits.
 #[derive(Drop)]
 pub(crate) struct Holding {
     asked: Vec<u8>,
@@ -50,10 +50,10 @@ pub(crate) struct Holding {
 /// The words that name settings.
 const SETTINGS: &str = "ample read_by write_by fails room interrupted late stops";
 
-/// How a session is told in a line.
+/// A session in a line: its closing, whether its output is a front, and its bytes, faults and waits.
 type Line = (Option<Closing>, bool, usize, u64, u64);
 
-// Whether a session may have met no memory.
+// Whether memory may have been missing for a session.
 fn may_lack_memory(told: &Told) -> bool {
     match told.closing {
         Some(Closing::Fault(HttpFault::NoMemory) | Closing::Cut | Closing::Broken) => true,
@@ -61,12 +61,12 @@ fn may_lack_memory(told: &Told) -> bool {
     }
 }
 
-// What a session wrote, which is a text.
+// The output of a session, as a text.
 fn text_of(told: &Told) -> &str {
     str::from_utf8(told.output.as_slice()).unwrap_or("no text")
 }
 
-// Whether this is a front of the answers, of which one may be refused and tell out of memory.
+// Whether `output` is a front of the answers. One of its answers may be a refusal that tells out of memory.
 fn is_front(output: &str, whole: &str) -> bool {
     let Some((front, behind)) = output.split_once("HTTP/1.1 5") else {
         return whole.starts_with(output);
@@ -90,7 +90,7 @@ fn tell_closing(closing: Option<Closing>, answer: &mut Answer) -> Result<(), All
     }
 }
 
-// What became of a session; none where the word names none.
+// The outcome of a session; None where the word names no session.
 fn held(setting: &Setting, verb: &str, input: &[u8]) -> Result<Option<Told>, AllocError> {
     let told = match Words::of(verb).verb("serve serve_one serve_again stream drive lose give_up") {
         0 => served(setting, input, false, false),
@@ -105,8 +105,8 @@ fn held(setting: &Setting, verb: &str, input: &[u8]) -> Result<Option<Told>, All
     Ok(Some(told))
 }
 
-// What became of a session that met memory: one of three, where a growth may be refused. Of the others the
-// output is a front of the answers.
+// The outcome of a session that found memory. Where a growth may have been refused, up to three are held.
+// If the odd one's output is no front of the answers, the odd one is the outcome.
 fn held_at_last(
     setting: &Setting,
     verb: &str,
@@ -157,14 +157,14 @@ impl Holding {
         answer.line(Shown(output))
     }
 
-    // A session in a line: of what was written also whether it is a front of what was shown last.
+    // A session in a line: a front is one of the output shown last, and the bytes are counted from `room`.
     fn line_of(&self, told: &Told, room: usize) -> Line {
         let is_front = self.shown.starts_with(told.output.as_slice());
         let count = told.output.len().abs_diff(room);
         (told.closing, is_front, count, told.faults, told.waits)
     }
 
-    // Tells a session where it is not as before.
+    // Shows a session where its line differs from the line before.
     fn tell_change(
         &self,
         verb: &str,

@@ -1,14 +1,14 @@
-//! Where sessions flush, and what they give back.
+//! Where sessions flush, and which streams they give back.
 //!
-//! The head of a stream has 79 bytes, and a chunk of n bytes has n, its digits and 4: the head of the feed of
-//! two rows has 18, its rows 54 and 71, and its End begins at 222.
+//! The head of a stream has 79 bytes, and a chunk of n bytes has n, its digits and 4. So the first chunk of
+//! the feed of two rows has 18, its rows have 54 and 71, and its End begins at 222.
 
 use crate::holding::Holding;
 use hub_transcript::replay;
 use std::test::Fail;
 
-// Whole answers are flushed, each behind its last byte, and so is the reply to a fault. Before an item that
-// is not ready a stream is flushed, and at its end; so is what a stream wrote that stopped.
+// Whole answers are flushed, each after its last byte, and so is the reply to a fault. A stream is flushed
+// before an item that is not ready, at its end, and where it stops.
 const FLUSHES: &str = r#"
 # two answers are flushed
 > ask PUT /d HTTP/1.1\r\n\r\n
@@ -238,8 +238,8 @@ fn sessions_flush_where_they_should(rt: HostRuntime) -> Result<(), Fail> {
     replay::<Holding, _>(&rt, rt.alloc(), FLUSHES)
 }
 
-// A stream is given back wherever it is not sent on, and once; behind its End there is nothing to give back,
-// and no whole answer gives anything back.
+// A stream that is not sent to its End is given back, once. After its End there is nothing to give back,
+// and a whole answer gives nothing back.
 const GIVEN_BACK: &str = r#"
 # a whole feed
 > ask GET /normal HTTP/1.1\r\n\r\n

@@ -48,22 +48,22 @@ const FEEDS: &[Feed] = &[
     },
 ];
 
-/// Serves a feed of two rows, of a and of b, whose winner is deleted, and a feed of updates of d, which was
-/// made, edited and removed.
+/// A service of a feed of two rows, of a and of b, whose winner is deleted. It also has a feed of updates
+/// of d, which was made, edited and removed.
 #[derive(Drop)]
 pub(crate) struct Rows<'a> {
     pub(crate) alloc: Global,
     pub(crate) mode: Mode,
-    /// What is sent are updates.
+    /// The stream has updates, not rows.
     pub(crate) has_updates: bool,
     pub(crate) next: u64,
-    /// The bits of the numbers of the items that are not ready.
+    /// The items that are not ready: bit N stands for the item N, from 0 on.
     pub(crate) late: u64,
     /// The stream stops in place of its End.
     pub(crate) stops: bool,
-    /// How many streams were not sent on.
+    /// How many streams were given back.
     pub(crate) dropped: u64,
-    /// For how many items there are news, where a stream is polled.
+    /// How many items have news, where a stream is polled.
     pub(crate) news: &'a Cell<u64>,
 }
 
@@ -82,7 +82,7 @@ fn row(alloc: Global, seq: u64, doc: &str, rev: &str, deleted: bool) -> Option<I
 }
 
 impl Rows<'_> {
-    /// A stream from its first item. The life of the updates is 0, that of the rows 1.
+    /// A stream from its first item. The life in its sequences is 0 for updates, and 1 for rows.
     fn open(&mut self, mode: Mode, has_updates: bool) -> Answer {
         self.mode = mode;
         self.has_updates = has_updates;
@@ -90,7 +90,7 @@ impl Rows<'_> {
         Answer::Stream(mode, if has_updates { 0 } else { 1 })
     }
 
-    /// The item of this number of the rows.
+    /// The item of this number in a feed of rows; None out of memory, and where the stream stops.
     fn change(&self, number: u64) -> Option<Item<ChangeRow>> {
         match (number, self.mode) {
             (0, Mode::Longpoll) => Some(Item::Beat),

@@ -25,8 +25,8 @@ pub(crate) fn undone(alloc: Global, text: &str) -> Result<Vec<u8>, AllocError> {
     Ok(bytes)
 }
 
-/// Bytes as they are shown: what prints as it stands, the others by escapes. Behind each line feed a line
-/// begins.
+/// Bytes as they are shown: printing bytes as they stand, the others by escapes. A line begins after each
+/// line feed.
 #[derive(Drop)]
 pub(crate) struct Shown<'a>(pub(crate) &'a [u8]);
 

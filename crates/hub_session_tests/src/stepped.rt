@@ -4,8 +4,8 @@ use crate::holding::Holding;
 use hub_transcript::replay;
 use std::test::Fail;
 
-// A session waits once for each of its ten items. Where there is no memory for bytes that come, the client is
-// told so behind the answers before.
+// A session waits once for each of its ten items. Where there is no memory for bytes that come, the client
+// gets a refusal after the earlier answers.
 const STEPPED: &str = r#"
 # a session, whatever the cuts of its input and of its output
 > ask PUT /d HTTP/1.1\r\nHost: h\r\ncontent-length: 2\r\n\r\n{}

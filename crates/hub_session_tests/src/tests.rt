@@ -4,7 +4,7 @@ use crate::holding::Holding;
 use hub_transcript::replay;
 use std::test::Fail;
 
-// Two feeds of updates of each mode are sent. The end of a feed of updates names no pending rows.
+// Two normal and two continuous feeds of updates are sent. The end of such a feed names no pending rows.
 const WHOLE: &str = r#"
 # a session, whatever the cuts of its input and of its output
 > ask PUT /d HTTP/1.1\r\nHost: h\r\ncontent-length: 2\r\n\r\n{}

@@ -1,10 +1,10 @@
-//! Requests that are sent before earlier ones are answered, and clients that end what they send.
+//! Requests that are sent before earlier ones are answered, and clients that half-close.
 
 use crate::tests::running::plays;
 use std::test::Fail;
 
-/// Three feeds wait, with a request behind each, of which the last asks to be closed. One more is not
-/// answered.
+/// Three feeds wait, with a request after each. The last of these requests asks to close. The request after
+/// it is not answered.
 const BEHIND_FEEDS: &str = r#"
 # requests may come behind feeds that wait, of one database and of another
 > server 2

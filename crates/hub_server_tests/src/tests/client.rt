@@ -8,7 +8,7 @@ use std::io::{self, BufRead, BufReader, Read, Write};
 use std::net::{Shutdown, TcpStream};
 use std::time::Duration;
 
-/// How long a client waits for its server, in seconds, before the test fails.
+/// How long a read or a write of a client may wait for the server, in seconds, before the test fails.
 const PATIENCE: u64 = 50;
 
 /// How often a feed is asked for before the test fails.
@@ -16,37 +16,37 @@ const LOOKS: u64 = 500;
 
 /// A connection to a server.
 ///
-/// - `GET TARGET`, and so PUT, POST and DELETE, with a body behind the target or none: sends a request, and
+/// - `GET TARGET`, and so PUT, POST and DELETE, with a body after the target or none: sends a request, and
 ///   shows the status and the body of the answer.
-/// - `gets REQUEST`: the same, and shows the status alone.
+/// - `gets REQUEST`: sends a request, and shows the status of the answer alone.
 /// - `asks REQUEST`: sends a request.
 /// - `sends TEXT`: sends a text as it stands.
-/// - `repeats COUNT TEXT`: sends a text so often in one piece, with a number for `#`, from 1 on.
-/// - `types PLACE TEXT`: sends the byte of this place, if there is one.
-/// - `half-closes`: ends what it sends.
+/// - `repeats COUNT TEXT`: sends a text COUNT times in one piece, with a number for `#`, from 1 on.
+/// - `types PLACE TEXT`: sends the byte at this place of a text, from 1 on, if there is such a byte.
+/// - `half-closes`: ends the sending; the client still reads.
 /// - `answer`: shows the status and the body of the next answer.
 /// - `status`: reads the next answer, and shows its status.
 /// - `counts TEXT`: reads the next answer, and shows its status and how often its body has the text.
-/// - `begins REQUEST`: asks for a feed, again while there are too many, and shows the status of its answer,
-///   of whose head the first line is read.
-/// - `barely REQUEST`: the same, but no more than twelve bytes of the answer are taken of the socket. It is
+/// - `begins REQUEST`: asks for a feed, again while there are too many. Reads the first line of the
+///   answer's head, and shows its status.
+/// - `barely REQUEST`: the same, but takes no more than twelve bytes of the answer from the socket. It is
 ///   for a client that read nothing but whole answers before.
-/// - `follows REQUEST`: the same as `begins`, but the whole head is read. Shows whether chunks are behind it.
-/// - `chunk`: shows the next chunk.
-/// - `chunk TEXT`: shows the next chunk, but says `yes` if it is this text.
+/// - `follows REQUEST`: the same as `begins`, but reads the whole head. Shows whether chunks follow it.
+/// - `chunk`: shows the next chunk, or `the last` where it is empty.
+/// - `chunk TEXT`: the same, but says `yes` where the chunk is this text.
 /// - `row`, `row TEXT`: the same of the next chunk that is no heartbeat.
-/// - `chunks`, `chunks TEXT`: the same of all chunks that are left.
-/// - `takes COUNT`: shows the next bytes.
-/// - `skips COUNT`: reads the next bytes.
-/// - `byte`: reads the next byte, and no other is taken of the socket. It is for a client that read nothing
+/// - `chunks`, `chunks TEXT`: the same of all chunks that are left, in one.
+/// - `takes COUNT`: shows the next COUNT bytes.
+/// - `skips COUNT`: reads the next COUNT bytes.
+/// - `byte`: reads the next byte, and takes no other from the socket. It is for a client that read nothing
 ///   but bytes and whole answers before.
-/// - `rest`: waits for the end, and shows what came until then, with the bytes that were read by `byte`.
+/// - `rest`: waits for the end, and shows the bytes until then, with those that `byte` read.
 #[derive(Drop)]
 pub(crate) struct Client {
     alloc: Global,
     pub(crate) name: String,
     reader: BufReader<TcpStream>,
-    /// What was read byte by byte.
+    /// The bytes that `byte` and `rest` read.
     bytes: String,
 }
 
@@ -59,7 +59,7 @@ fn is_method(word: &str) -> bool {
     Words::of(word).verb("GET PUT POST DELETE") < 4
 }
 
-/// Has a connection wait so long for its server, and send at once.
+/// Has a connection wait `PATIENCE` seconds for its server, and send without delay.
 fn prepare(stream: &TcpStream) -> io::Result<()> {
     stream.set_read_timeout(Some(Duration::from_secs(PATIENCE)))?;
     stream.set_write_timeout(Some(Duration::from_secs(PATIENCE)))?;
@@ -79,7 +79,7 @@ impl Client {
         })
     }
 
-    /// Does what a command says, whose text is all behind the client's name.
+    /// Carries out a command. Its text is all that stands after the client's name.
     pub(crate) fn act(
         &mut self,
         rt: &impl Host,
@@ -102,7 +102,7 @@ impl Client {
         }
     }
 
-    /// Does what a command says that sends or reads.
+    /// Carries out a command that sends or reads.
     fn exchange(&mut self, verb: &str, text: &str, answer: &mut String) -> io::Result<()> {
         if self.write(verb, text)? {
             return Ok(());
@@ -110,7 +110,7 @@ impl Client {
         self.read(verb, text, answer)
     }
 
-    /// Does what a command says that sends; whether it is one.
+    /// Carries out a command that sends. False where the command is no such command.
     fn write(&mut self, verb: &str, text: &str) -> io::Result<bool> {
         match Words::of(verb).verb("asks sends repeats types half-closes") {
             0 => self.ask(text)?,
@@ -123,7 +123,7 @@ impl Client {
         Ok(true)
     }
 
-    /// Does what a command says that reads.
+    /// Carries out a command that reads.
     fn read(&mut self, verb: &str, text: &str, answer: &mut String) -> io::Result<()> {
         match Words::of(verb).verb("answer gets status counts byte rest") {
             0 => self.answer(answer),
@@ -139,7 +139,7 @@ impl Client {
         }
     }
 
-    /// Does what a command says that reads a part of an answer.
+    /// Carries out a command that reads a part of an answer.
     fn read_some(&mut self, verb: &str, text: &str, answer: &mut String) -> io::Result<()> {
         let part = match Words::of(verb).verb("chunk row chunks") {
             0 => self.chunk()?,
@@ -150,7 +150,7 @@ impl Client {
         self.compare(part.as_str(), text, answer)
     }
 
-    /// Does what a command says that reads so many bytes.
+    /// Carries out a command that reads a count of bytes. Any other command is answered `?`.
     fn read_text(&mut self, verb: &str, count: &str, answer: &mut String) -> io::Result<()> {
         let place = Words::of(verb).verb("takes skips");
         match count.parse() {
@@ -186,7 +186,7 @@ impl Client {
         self.send(text.as_str())
     }
 
-    /// Sends a text so often in one piece.
+    /// Sends a text in one piece, as often as its first word says.
     fn repeat(&self, mut words: Words) -> io::Result<()> {
         let count = words.number();
         let mut all = String::new(self.alloc);
@@ -198,7 +198,7 @@ impl Client {
         self.send(all.as_str())
     }
 
-    /// Sends the byte of a place of a text, of which 1 is the first.
+    /// Sends the byte at a place of a text, of which 1 is the first.
     fn type_one(&self, mut words: Words) -> io::Result<()> {
         let place = words.number();
         let mut at = 0u64;
@@ -222,7 +222,7 @@ impl Client {
         }
     }
 
-    /// The next bytes, so many.
+    /// The next `length` bytes, which are a text.
     fn text(&mut self, length: usize) -> io::Result<String> {
         let mut bytes = vec![in self.alloc; 0u8; length]?;
         self.reader.read_exact(bytes.as_mut_slice())?;
@@ -232,7 +232,7 @@ impl Client {
         }
     }
 
-    /// The status of the next answer, of whose head the first line is read.
+    /// The status of the next answer. Only the first line of its head is read.
     fn status(&mut self) -> io::Result<String> {
         let line = self.line()?;
         match line.as_str().strip_prefix("HTTP/1.1 ") {
@@ -241,7 +241,7 @@ impl Client {
         }
     }
 
-    /// The rest of a head: the length of the body, where it has no chunks.
+    /// Reads the rest of a head. The length of the body is None where the body comes in chunks.
     fn fields(&mut self) -> io::Result<Option<usize>> {
         let mut length = None;
         for _ in 0..u64::MAX {
@@ -256,7 +256,7 @@ impl Client {
         Ok(length)
     }
 
-    /// What is left of an answer behind the first line of its head.
+    /// The body of an answer. Of its head only the first line was read.
     fn body(&mut self) -> io::Result<String> {
         match self.fields()? {
             Some(length) => self.text(length),
@@ -264,7 +264,7 @@ impl Client {
         }
     }
 
-    /// The next chunk, which is empty behind the last.
+    /// The next chunk. After the last chunk it is empty.
     fn chunk(&mut self) -> io::Result<String> {
         let line = self.line()?;
         let Ok(length) = usize::from_str_radix(line.as_str(), 16) else {
@@ -301,7 +301,7 @@ impl Client {
         Ok(body)
     }
 
-    /// The next rows of a continuous feed, so many, in one.
+    /// The next `count` rows of a continuous feed, in one.
     pub(crate) fn rows(&mut self, count: u64) -> io::Result<String> {
         let mut rows = String::new(self.alloc);
         for _ in 0..count {
@@ -310,7 +310,7 @@ impl Client {
         Ok(rows)
     }
 
-    /// The rows of a normal feed that is asked for, as a continuous one has them: each on a line.
+    /// Asks for a normal feed. Its rows are as a continuous feed has them: each on a line.
     pub(crate) fn lines(&mut self, request: &str) -> io::Result<String> {
         self.ask(request)?;
         self.status()?;
@@ -344,7 +344,7 @@ impl Client {
         Ok(writeln!(answer, "{count} of {text}")?)
     }
 
-    /// Shows what came, but says `yes` where it is what was wanted, if something was.
+    /// Shows the found text: `yes` where it is the wanted one, if any, and `the last` where it is empty.
     fn compare(&self, found: &str, wanted: &str, answer: &mut String) -> io::Result<()> {
         if !wanted.is_empty() && found == wanted {
             return Ok(say(answer, "yes")?);
@@ -355,7 +355,7 @@ impl Client {
         Ok(show(self.alloc, answer, found)?)
     }
 
-    /// Asks for a feed, again while there are too many.
+    /// Asks for a feed, again after 10 milliseconds while the status is 503.
     fn begin(&mut self, rt: &impl Host, request: &str, answer: &mut String) -> io::Result<()> {
         for _ in 0..LOOKS {
             self.ask(request)?;
@@ -369,7 +369,7 @@ impl Client {
         Err(bad("no feed"))
     }
 
-    /// The same, with twelve bytes of the answer.
+    /// The same, with twelve bytes of an answer of status 200. Any other answer is read whole.
     fn begin_barely(
         &mut self,
         rt: &impl Host,
@@ -391,7 +391,7 @@ impl Client {
         Err(bad("no feed"))
     }
 
-    /// Reads the rest of a head.
+    /// Reads the rest of a head. Shows the length of the body, or `chunks`.
     fn head(&mut self, answer: &mut String) -> io::Result<()> {
         match self.fields()? {
             Some(length) => Ok(writeln!(answer, "{length} bytes")?),
@@ -407,7 +407,7 @@ impl Client {
         Ok(self.bytes.push(char::from(byte[0]))?)
     }
 
-    /// Shows what comes until the server has ended.
+    /// Shows the bytes that come until the server closes, after those that `byte` read.
     fn rest(&mut self, answer: &mut String) -> io::Result<()> {
         self.reader.read_to_string(&mut self.bytes)?;
         if !self.bytes.is_empty() {

@@ -3,8 +3,8 @@
 use crate::tests::running::plays;
 use std::test::Fail;
 
-/// Two feeds show what fifty connections write, each row once and in order, as the database has it. All
-/// writes are asked for before an answer is read, and the feeds are read while they are made.
+/// Two feeds show the writes of fifty connections, each row once and in order, as the database has it. All
+/// writes are sent before an answer is read. The feeds are read while the writes are made.
 const WRITERS: &str = r#"
 # fifty writers beside two feeds
 > server 53
@@ -31,9 +31,9 @@ the same 1000 rows
 the same 1000 rows
 "#;
 
-/// The documents are more than sockets hold, the lane, and the items that wait for it. No heartbeat is due in
-/// the feed of the slow client, so that nothing but its rows makes it go on. The feeds end with their
-/// database: a client that goes in a feed is seen only when the next bytes are sent to it.
+/// The documents are more than the sockets, the lane, and the items that wait for the lane can hold. No
+/// heartbeat is due in the slow client's feed, so only its rows make it go on. The feeds end with their
+/// database. A client that goes in a feed is seen only when the next bytes are sent to it.
 const SLOW: &str = r##"
 # a client that does not read holds no writer and no other reader, and gets every row in the end
 > server 3 lane 8

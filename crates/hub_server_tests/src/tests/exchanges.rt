@@ -3,7 +3,7 @@
 use crate::tests::running::plays;
 use std::test::Fail;
 
-/// How the program's stored run begins.
+/// The beginning of the program's stored run.
 const STORED_RUN: &str = r#"
 # the beginning of the stored run
 > server 1

@@ -1,4 +1,4 @@
-//! A connection that is held, or a database, does not hold the others.
+//! A connection that is held does not hold the others, nor does a database.
 
 use crate::tests::running::plays;
 use std::test::Fail;
@@ -24,8 +24,8 @@ yes
 {"ok":true,"id":"a","rev":"1-dfddbf319adb018d1e5ac3465b83542c"}\n
 "#;
 
-/// A pump is held inside the lock of `x`, and a write to `x` waits for that lock, to which it comes in the
-/// pause: `y` is read meanwhile, and `z` is made, which needs the names alone.
+/// A pump is held inside the lock of `x`. A write to `x` comes to that lock in the pause, and waits.
+/// Meanwhile `y` is read, and `z` is made, which needs the names alone.
 const DATABASE: &str = r#"
 # a database that is held holds no other
 > server 3 pump

@@ -3,8 +3,8 @@
 use crate::tests::running::plays;
 use std::test::Fail;
 
-/// At each point 125 clients go, all of them open at once. The document is longer than what a client reads at
-/// once. As many feeds as there may be can be opened behind them, and no other beside those.
+/// At each point 125 clients go, all of them open at once. The document is longer than one read of a
+/// client. After them as many feeds as the limit allows can be opened, and no other feed beside those.
 const THOUSAND: &str = r#"
 # a thousand clients that go leave the server as it was, and none of their feeds
 > server 1126 feeds 125
@@ -68,8 +68,8 @@ chunks
 {"error":"too_many_feeds","reason":"too many feeds"}\n
 "#;
 
-/// The feed of a client that goes without reading what was sent is gone, though nothing is written and no
-/// heartbeat is due: its system says so.
+/// A client goes, and does not read the bytes that were sent. Its feed is gone, though nothing is written
+/// and no heartbeat is due: the client's system tells the server.
 const BEFORE_IT_READ: &str = r#"
 # a client goes before it read
 > server 5 feeds 1

@@ -3,8 +3,8 @@
 use crate::tests::running::plays;
 use std::test::Fail;
 
-/// A request that is held holds up none of another connection, whichever worker has that, and its server
-/// comes to its end behind it, also where its client goes.
+/// A held request holds up no request of another connection, whichever worker has that connection. The
+/// server comes to its end after the held request, also where its client goes.
 const REQUEST: &str = r#"
 # a request is held beside many, and its client waits
 > server 66 request 1
@@ -32,7 +32,7 @@ yes
 {"ok":true,"id":"held","rev":"1-4e1586cea917d587557c98a09756d41d"}\n
 "#;
 
-/// The client of the request goes meanwhile.
+/// The client of the held request goes meanwhile.
 const GOES: &str = r#"
 # a request is held beside many, and its client goes
 > server 66 request 1
@@ -58,7 +58,7 @@ yes
 yes
 "#;
 
-/// A lock that is held holds up no call on another database, though more calls wait for it than there are
+/// A held lock holds up no call on another database, though more calls wait for the lock than there are
 /// workers. The writes come to the lock in the pause.
 const LOCK: &str = r#"
 # a lock is held beside many

@@ -3,8 +3,8 @@
 use crate::tests::running::plays;
 use std::test::Fail;
 
-/// The large request has 1,250 documents, of which each but the first has four thousand bytes. It is sent in two
-/// halves. Small clients are answered between them, and behind it before its answer is read.
+/// The large request has 1,250 documents, each but the first with 4,000 bytes of text. It is sent in two
+/// halves. Small clients are answered between them, and after them before the large answer is read.
 const BESIDE: &str = r##"
 # a request of five million bytes holds up no small one
 > server 33

@@ -1,9 +1,9 @@
-//! Answers that are longer than what sockets hold.
+//! Answers that are longer than the room of the sockets.
 
 use crate::tests::running::plays;
 use std::test::Fail;
 
-/// Requests are answered whose answers together are longer than what sockets hold.
+/// All requests are answered, though their answers together are longer than the room of the sockets.
 const FILLED: &str = r#"
 # answers fill the socket
 > server 1
@@ -23,8 +23,8 @@ const FILLED: &str = r#"
 {"_id":"a","_rev":"1-595b577f00833f3286f24543198997bb","text":"<4000>"}\n
 "#;
 
-/// Clients that go while a long answer is sent to them leave nothing of it: as many feeds as there may be can
-/// be had behind them.
+/// Clients go while a long answer is sent to them, and nothing of it stays. After them, as many feeds as
+/// the limit allows can be opened.
 const THAT_GO: &str = r##"
 # clients go in long answers
 > server 13 feeds 4

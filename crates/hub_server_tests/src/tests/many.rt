@@ -3,8 +3,8 @@
 use crate::tests::running::plays;
 use std::test::Fail;
 
-/// Each feed takes two of the 1,024 descriptors that a process may have where nothing else is said;
-/// `bench/feeds.py` has a thousand. The database that was made as the second has `-2` in its sequences.
+/// Each feed takes two of the 1,024 descriptors that a process may have by default. `bench/feeds.py` has a
+/// thousand feeds. The sequences of the database that was made second end in `-2`.
 const FEEDS: &str = r#"
 # a write to each of twenty databases reaches all twenty feeds of it, each once
 > server 401

@@ -10,31 +10,32 @@ use std::io;
 
 /// The clients of a case, each with a name.
 ///
-/// - `server COUNT`: a server for so many connections, within the limits of a hub that serves. This is the
-///   first command of a transcript, and the server is there before it.
-/// - `server COUNT feeds NUMBER`: the same, but a database has at most so many feeds.
-/// - `server COUNT lane NUMBER`: the same, but at most so many items of a feed wait for its client.
+/// - `server COUNT`: a server for COUNT connections, within the limits of a hub that serves. It is the
+///   first command of a transcript, and the server runs before it.
+/// - `server COUNT feeds NUMBER`: the same, but a database has at most NUMBER feeds.
+/// - `server COUNT lane NUMBER`: the same, but at most NUMBER items of a feed wait for its client.
 /// - `server COUNT request NUMBER`: the same, but the gate holds the requests of the connection of this
 ///   number.
 /// - `server COUNT pump`: the same, but the gate holds a feed inside the lock of its database.
-/// - `gate holds`: waits until somebody stands before the gate.
-/// - `gate opens`: says whether it held until now.
-/// - `pause COUNT`: waits for so many milliseconds.
+/// - `gate holds`: waits until a thread stands before the gate, and says whether one came.
+/// - `gate opens`: opens the gate, and says whether it held until now.
+/// - `pause COUNT`: waits for COUNT milliseconds.
 /// - `NAME connects`: a client of this name connects.
-/// - `NAME closes`: it closes.
-/// - `NAME rows COUNT`: it reads so many rows of a continuous feed, which are compared with those before.
-/// - `NAME lines REQUEST`: it asks for a normal feed, whose rows are compared with those before.
-/// - `NAME ..`: it does what is said at `Client`.
-/// - `each COUNT: COMMAND; COMMAND`: does the commands so often, with the number for `#`. Answers that are
-///   the same are shown once, behind their number.
-/// - `each COUNT COUNT: COMMAND; COMMAND`: does the same again so often, with the number for `@`.
+/// - `NAME closes`: the client closes.
+/// - `NAME rows COUNT`: reads COUNT rows of a continuous feed, and compares them with the case's first
+///   rows.
+/// - `NAME lines REQUEST`: asks for a normal feed, and compares its rows with the case's first rows.
+/// - `NAME ..`: the client carries out a command of `Client`.
+/// - `each COUNT: COMMAND; COMMAND`: does the commands COUNT times, with the number for `#`. Successive
+///   answers that are the same are shown once, after their count.
+/// - `each COUNT COUNT: COMMAND; COMMAND`: does so for each number of the second count, in place of `@`.
 ///
-/// In a text of a client `\r` and `\n` end lines, and `<N>` is N digits. An answer shows them so too.
+/// In a client's text `\r` and `\n` end lines, and `<N>` is N digits. An answer shows them so too.
 #[derive(Drop)]
 pub(crate) struct Room {
     alloc: Global,
     clients: Vec<Client>,
-    /// The rows that others are compared with.
+    /// The first rows of the case, with which others are compared.
     rows: String,
     long: Long,
 }
@@ -58,12 +59,12 @@ impl<R: Host> Subject<R> for Room {
     }
 }
 
-/// A yes or a no.
+/// Says `yes` or `no`.
 fn decide(answer: &mut String, is_so: bool) -> io::Result<()> {
     Ok(say(answer, if is_so { "yes" } else { "no" })?)
 }
 
-/// Does what a command of a gate says.
+/// Carries out a command of the gate.
 fn gate(rt: &impl Host, verb: &str, answer: &mut String) -> io::Result<()> {
     match Words::of(verb).verb("holds opens") {
         0 => decide(answer, rt.scene().is_held(rt)),
@@ -72,7 +73,7 @@ fn gate(rt: &impl Host, verb: &str, answer: &mut String) -> io::Result<()> {
     }
 }
 
-/// Waits for so many milliseconds.
+/// Waits for `count` milliseconds.
 fn pause(rt: &impl Host, count: &str, answer: &mut String) -> io::Result<()> {
     match count.parse() {
         Ok(count) => rt.pause(count),
@@ -82,7 +83,7 @@ fn pause(rt: &impl Host, count: &str, answer: &mut String) -> io::Result<()> {
 }
 
 impl Room {
-    /// Does what a command says, once or for each number.
+    /// Carries out a command, once or for each number.
     fn done(&mut self, rt: &impl Host, command: &str, answer: &mut String) -> io::Result<()> {
         match command.strip_prefix("each ") {
             Some(each) => self.each(rt, each, answer),
@@ -90,7 +91,7 @@ impl Room {
         }
     }
 
-    /// Does what one command says.
+    /// Carries out one command.
     fn once(&mut self, rt: &impl Host, command: &str, answer: &mut String) -> io::Result<()> {
         let mut words = Words::of(command);
         match words.verb("server gate pause") {
@@ -101,7 +102,7 @@ impl Room {
         }
     }
 
-    /// Has a client do what one command says, which begins with its name.
+    /// Has a client carry out one command, which begins with the client's name.
     fn have(&mut self, rt: &impl Host, command: &str, answer: &mut String) -> io::Result<()> {
         let mut words = Words::of(command);
         let name = words.word();
@@ -130,7 +131,7 @@ impl Room {
         Ok(())
     }
 
-    /// Where the client of this name stands.
+    /// The place of the client of this name.
     fn place(&self, name: &str) -> Option<usize> {
         for (place, client) in self.clients.iter().enumerate() {
             if client.name.as_str() == name {
@@ -147,7 +148,7 @@ impl Room {
         }
     }
 
-    /// Has a client do what a command says.
+    /// Has a client carry out a command.
     fn act(
         &mut self,
         rt: &impl Host,
@@ -164,7 +165,7 @@ impl Room {
         Ok(())
     }
 
-    /// Compares the rows that a client reads with those before.
+    /// Compares the rows that a client reads with the first rows of the case.
     fn rows(
         &mut self,
         place: usize,
@@ -190,7 +191,7 @@ impl Room {
         Ok(writeln!(answer, "{rows} {count} rows")?)
     }
 
-    /// Does commands for each number.
+    /// Carries out commands for each number.
     fn each(&mut self, rt: &impl Host, command: &str, answer: &mut String) -> io::Result<()> {
         let (head, commands) = command.split_once(": ").unwrap_or(("", ""));
         let mut words = Words::of(head);
@@ -203,7 +204,7 @@ impl Room {
         runs.end(answer)
     }
 
-    /// Does commands for each number, at one of the outer ones.
+    /// Carries out commands for each number, at one number of the outer count.
     fn rounds(
         &mut self,
         rt: &impl Host,
@@ -222,7 +223,7 @@ impl Room {
         Ok(())
     }
 
-    /// A text with a number for a sign.
+    /// A text with a number in place of a sign.
     fn replaced(&self, text: &str, sign: &str, number: u64) -> io::Result<String> {
         let number = format!(in self.alloc; "{number}")?;
         Ok(text.replace(self.alloc, sign, number.as_str())?)
@@ -234,7 +235,7 @@ impl Room {
         self.replaced(commands.as_str(), "@", at)
     }
 
-    /// Does commands behind one another.
+    /// Carries out commands one after another.
     fn round(&mut self, rt: &impl Host, commands: &str, said: &mut String) -> io::Result<()> {
         for command in commands.split("; ") {
             self.once(rt, command, said)?;
@@ -243,7 +244,7 @@ impl Room {
     }
 }
 
-/// Answers behind one another, of which those that are the same are shown once.
+/// Successive answers, of which those that are the same are shown once.
 #[derive(Drop)]
 struct Runs {
     said: String,
@@ -251,7 +252,7 @@ struct Runs {
 }
 
 impl Runs {
-    /// None yet.
+    /// No answer yet.
     fn new(alloc: Global) -> Runs {
         Runs {
             said: String::new(alloc),
@@ -270,7 +271,7 @@ impl Runs {
         Ok(())
     }
 
-    /// Shows the last answers.
+    /// Shows the last answers, once and after their count.
     fn end(&self, answer: &mut String) -> io::Result<()> {
         if self.count > 0 {
             writeln!(answer, "{} times", self.count)?;

@@ -15,23 +15,23 @@ use std::test::Fail;
 use std::thread::{self, JoinHandle, Threads};
 use std::time::{Clock, Duration};
 
-/// How often a gate looks before it gives up.
+/// How often a gate or its test looks, every 5 milliseconds, before it gives up.
 const LOOKS: u64 = 1_000;
 
-/// What a gate and its test tell each other.
+/// The state that a gate and its test share.
 #[derive(Drop)]
 pub(crate) struct Scene {
     alloc: Global,
-    /// Somebody stands before the gate.
+    /// A thread came to the gate.
     is_held: AtomicBool,
     /// The gate may open.
     is_open: AtomicBool,
-    /// The gate looked as often as it does, and opened.
+    /// The gate looked `LOOKS` times, and then let its thread pass.
     gave_up: AtomicBool,
 }
 
 impl Scene {
-    /// Nothing happened yet.
+    /// The state before any thread comes.
     pub(crate) fn new(alloc: Global) -> Result<Arc<Scene, Global>, AllocError> {
         let scene = Scene {
             alloc,
@@ -42,7 +42,7 @@ impl Scene {
         Ok(Arc::new(alloc, scene)?)
     }
 
-    /// Waits until somebody stands before the gate; whether one came.
+    /// Waits until a thread stands before the gate. False where none came.
     pub(crate) fn is_held(&self, rt: &impl Host) -> bool {
         for _ in 0..LOOKS {
             if self.is_held.load(Ordering::SeqCst) {
@@ -53,7 +53,7 @@ impl Scene {
         false
     }
 
-    /// Opens the gate; whether it had held until now.
+    /// Opens the gate. False where it gave up before.
     pub(crate) fn opens(&self) -> bool {
         let gave_up = self.gave_up.load(Ordering::SeqCst);
         self.is_open.store(true, Ordering::SeqCst);
@@ -61,7 +61,7 @@ impl Scene {
     }
 }
 
-/// Holds who passes a point, if there is one, until the gate may open.
+/// A gate that holds each thread at the point `held`, if there is one, until the test opens it.
 #[derive(Drop)]
 struct Held<R> {
     rt: R,
@@ -89,12 +89,12 @@ impl<R: Clock> Gate for Held<R> {
 #[derive(Drop)]
 struct Running {
     address: SocketAddr,
-    /// Whether it served all its connections to their ends.
+    /// Whether the server served all its connections to their ends.
     ended: JoinHandle<bool>,
 }
 
 impl Running {
-    /// Starts a server for so many connections on a free port.
+    /// Starts a server for `count` connections on a free port.
     fn start<R, G>(
         rt: &R,
         alloc: Global,
@@ -124,29 +124,29 @@ impl Running {
         Ok(Running { address, ended })
     }
 
-    /// Whether it served all its connections to their ends, which is waited for.
+    /// Waits for the server. Whether it served all its connections to their ends.
     fn ends<R: Threads>(self, rt: &R) -> bool {
         let Running { address: _, ended } = self;
         ended.join(rt)
     }
 }
 
-/// Where a case plays: the address of its server, and what its gate tells.
+/// The place where a case plays: the address of its server, and the state of its gate.
 #[derive(Drop)]
 pub(crate) struct Place {
     address: SocketAddr,
     scene: Arc<Scene, Global>,
 }
 
-/// What a case needs of its runtime and its place.
+/// The means of a case, from its runtime and its place.
 pub(crate) trait Host {
     /// A new connection to the server.
     fn connect(&self) -> io::Result<TcpStream>;
 
-    /// What the gate of the server tells.
+    /// The state of the server's gate.
     fn scene(&self) -> &Scene;
 
-    /// Waits for so many milliseconds.
+    /// Waits for `count` milliseconds.
     fn pause(&self, count: u64);
 }
 
@@ -167,8 +167,8 @@ where
     }
 }
 
-/// The limits of a server of which one is of this number; None where there is none of this name, or it may
-/// not have this number.
+/// The limits of a server, of which the named one has this number. None where there is no such name, or
+/// where the number is out of range: 1 to 1,024 for `feeds`, 1 to 64 for `lane`.
 fn limits(name: &str, number: u64) -> Option<Limits> {
     let mut limits = Limits::full();
     if name == "feeds" {
@@ -191,7 +191,7 @@ fn limits(name: &str, number: u64) -> Option<Limits> {
     None
 }
 
-/// The point that the gate of a server holds.
+/// The point at which the gate of a server holds, if any.
 fn point(name: &str, number: u64) -> Option<Point> {
     if name == "request" {
         return Some(Point::Request(number));
@@ -202,8 +202,8 @@ fn point(name: &str, number: u64) -> Option<Point> {
     None
 }
 
-/// The server that the first command of a transcript says: for how many connections, and the name and the
-/// number of what it has. None where no command says one, or several do.
+/// The server of a transcript: its count of connections, and the name and the number of its limit or its
+/// gate. None where no command says a server, or several do.
 fn server_of(transcript: &str) -> Option<(u64, &str, u64)> {
     let (_, commands) = transcript.split_once("\n> server ")?;
     if commands.contains("\n> server ") {
@@ -216,7 +216,7 @@ fn server_of(transcript: &str) -> Option<(u64, &str, u64)> {
     Some((count, name, words.number()))
 }
 
-/// Starts the server that the first command of a transcript says. What its gate tells goes to the scene.
+/// Starts the server that the first command of a transcript says. Its gate uses the scene.
 fn serve<R>(rt: &R, transcript: &str, scene: &Arc<Scene, Global>) -> Result<Running, Fail>
 where
     R: Threads
@@ -243,8 +243,8 @@ where
     Ok(Running::start(rt, scene.alloc, count, gate, limits)?)
 }
 
-/// Replays a transcript of one case over its server. Behind it its clients close, and the server comes to its
-/// end: it served all its connections to their ends.
+/// Replays a transcript of one case over its server. Then its clients close, and the server comes to its
+/// end. It has to have served all its connections to their ends.
 pub(crate) fn plays<R>(rt: &R, alloc: Global, transcript: &str) -> Result<(), Fail>
 where
     R: Abort

@@ -1,9 +1,9 @@
-//! Slow clients beside fast ones. The slow one does a little before each answer that a fast one gets.
+//! Slow clients beside fast ones. The slow client does a little before each answer to a fast one.
 
 use crate::tests::running::plays;
 use std::test::Fail;
 
-/// A client that sends a byte now and then holds up no other, and is answered.
+/// A client that sends a byte now and then holds up no other client, and is answered.
 const SENDS: &str = r#"
 # a client sends slowly
 > server 65
@@ -25,8 +25,8 @@ const SENDS: &str = r#"
 {"_id":"slow","_rev":"1-aaa1e3e67340ea5001b4c28c26b9f855","v":7}\n
 "#;
 
-/// A client that takes a byte now and then of an answer, which is longer than what sockets hold, holds up no
-/// other, and gets its bytes.
+/// A client takes a byte now and then of an answer that is longer than the room of the sockets. It holds up
+/// no other client, and gets all its bytes.
 const READS: &str = r##"
 # a client ends what it sends, and reads slowly what another reads at once
 > server 67

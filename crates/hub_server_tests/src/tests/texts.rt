@@ -2,7 +2,7 @@
 
 use std::alloc::{AllocError, Global};
 
-/// A text of so many digits, of which ten are the fewest.
+/// A text of `count` digits, rounded down to a multiple of ten.
 fn digits(alloc: Global, count: usize) -> Result<String, AllocError> {
     let mut text = String::new(alloc);
     for _ in 0..count / 10 {
@@ -19,7 +19,7 @@ pub(crate) struct Long {
 }
 
 impl Long {
-    /// There is none yet.
+    /// There is no long text yet.
     pub(crate) fn new(alloc: Global) -> Long {
         Long {
             alloc,
@@ -27,8 +27,8 @@ impl Long {
         }
     }
 
-    /// What a command's text means: `\r` and `\n` end lines, and `<N>` is N digits, which are the long text
-    /// from then on.
+    /// The meaning of a command's text: `\r` and `\n` end lines, and the first `<N>` is N digits. They are
+    /// the long text from then on.
     pub(crate) fn meant(&mut self, text: &str) -> Result<String, AllocError> {
         let text = text.replace(self.alloc, "\\r", "\r")?;
         let text = text.as_str().replace(self.alloc, "\\n", "\n")?;
@@ -44,7 +44,7 @@ impl Long {
         format!(in self.alloc; "{before}{long}{behind}")
     }
 
-    /// Appends what was said, with the long text as `<N>`.
+    /// Appends an answer, with the long text as `<N>`.
     pub(crate) fn append(&self, said: &str, answer: &mut String) -> Result<(), AllocError> {
         if self.text.is_empty() {
             return answer.push_str(said);
@@ -61,7 +61,7 @@ pub(crate) fn say(answer: &mut String, line: &str) -> Result<(), AllocError> {
     answer.push_str("\n")
 }
 
-/// Appends a text that came: the ends of its lines are seen as `\r` and `\n`, and lines end there too.
+/// Appends a text that came. Its CR and LF are shown as `\r` and `\n`, and a line ends after each LF.
 pub(crate) fn show(alloc: Global, answer: &mut String, text: &str) -> Result<(), AllocError> {
     let text = text.replace(alloc, "\r", "\\r")?;
     let text = text.as_str().replace(alloc, "\n", "\\n\n")?;
