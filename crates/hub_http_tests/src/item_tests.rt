@@ -12,8 +12,8 @@ use std::test::Fail;
 ///
 /// - `feed MODE ROWS LIFE`: a feed of this mode that wrote ROWS rows, of a database in this life.
 /// - `row SEQ REV DOC`: the row of a sequence and a document, with REV as second revision unless REV is no
-///   revision. `doc SEQ REV DOC`: the same row, with the document in it. `end SEQ PENDING`, `beat`: the end and
-///   a heartbeat.
+///   revision. `doc SEQ REV DOC`: the same row, with the document in it. `end SEQ PENDING`, `beat`: the end
+///   and a heartbeat.
 /// - `update KIND SEQ NAME`: the row of a database in a feed of updates. `end_of_updates SEQ PENDING`,
 ///   `beat_of_updates`: the end and a heartbeat of that feed.
 /// - `method NAME`: the name of a method.

@@ -8,7 +8,7 @@ use hub_transcript::Answer;
 use std::alloc::{AllocError, Global};
 use std::sync::Wait;
 
-/// The request that a text is; an error where it finds no memory, and each time where it is none.
+/// The request of a text. It is an error out of memory, and each time where the text is no request.
 fn request(alloc: Global, text: &str) -> Result<Request, AllocError> {
     let mut requests = Requests::new(alloc, Tally::new(text.as_bytes()));
     match requests.next() {
@@ -17,7 +17,7 @@ fn request(alloc: Global, text: &str) -> Result<Request, AllocError> {
     }
 }
 
-/// Has a service answer a request.
+/// Has a service answer the request of a text, and drops the answer.
 pub(crate) fn open<S: Service>(
     alloc: Global,
     service: &mut S,
@@ -28,7 +28,7 @@ pub(crate) fn open<S: Service>(
     Ok(())
 }
 
-/// Shows the next item of a feed of changes, asked for again where it finds no memory.
+/// Shows the sequence of a feed's next item. Where no item came, as out of memory, it asks once more.
 pub(crate) fn show_item<S: Service>(
     service: &mut S,
     answer: &mut Answer,

@@ -1,6 +1,6 @@
-//! Feeds of changes over bytes, and where those begin that ask for a sequence of this life or of another one.
+//! Feeds of changes over bytes, and where they begin for a sequence of this life or of another life.
 
-/// What feeds show of edits that came one after another.
+/// The rows of feeds after edits that came one after another.
 pub(crate) const ROWS: &str = r#"
 # a feed shows the rows with their documents, and an end
 > PUT /d

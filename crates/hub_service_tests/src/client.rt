@@ -1,4 +1,4 @@
-//! A client of a hub, whom transcripts say what to ask.
+//! A client of a hub. Transcripts give its requests.
 
 use crate::calls::{delete, open, show_item};
 use crate::texts::{asked, show};
@@ -14,30 +14,32 @@ use std::alloc::{AllocError, Global};
 use std::io::Read;
 use std::sync::Wait;
 
-/// A client of a hub, and what it asked so far.
+/// A client of a hub, and its requests so far.
 ///
-/// A request is `METHOD TARGET [BODY]`, where `-` is an empty body, and one with no body has no field. It is
-/// also `history N`, a batch of one document `x` whose history has N revisions, or `bytes TEXT`, in which
-/// `\r\n` stands for the end of a line. The bytes of an answer are shown as lines: `\n` stands for a line
-/// feed in a body or a chunk, `JSON of N` and `JSON in chunks` for the fields that each answer has, `:` for
-/// the end of a head, and `last chunk` for that. Behind them stands why the session closed, but at the end of
-/// its input.
+/// A request is `METHOD TARGET [BODY]`, where `-` is an empty body, and a request without a body has no
+/// header field. Other requests are `history N`, a batch of one document `x` whose history has N revisions,
+/// and `bytes TEXT`, in which `\r\n` ends a line. Answers are shown as lines. `\n` stands for a line feed
+/// in a body or a chunk, `JSON of N` and `JSON in chunks` for the fields that each answer has. `:` stands
+/// for the end of a head, and `last chunk` for that chunk. Then comes why the session closed, unless its
+/// input just ended.
 ///
-/// - `REQUEST`: the hub is asked it over a connection of its own, and a new hub is asked all requests so far
-///   over one connection, whose writer takes a byte a call. They answer the same, which is shown.
-/// - `send REQUEST`: the new hub alone is asked, behind all requests so far, and so below.
-/// - `cut REQUEST`: the input ends behind each byte of the request but the last. From which byte on the
-///   session closes why is shown. Nothing of the request is answered.
-/// - `fail REQUEST`: so the reader fails there. It gives one byte a call, and is interrupted before each.
-/// - `break REQUEST`: so the writer breaks behind each byte of the answer but the last.
+/// - `REQUEST`: the hub is asked over a connection of its own. A new hub is asked all requests so far over
+///   one connection, whose writer takes a byte a call. Both have to answer the same, which is shown.
+/// - `send REQUEST`: a new hub alone is asked, after all requests so far. So it is for the next three
+///   commands.
+/// - `cut REQUEST`: the input ends after 0, 1, .. bytes of the request, but not after all. The reasons why
+///   the session closes are shown, each with its first count. The request may have no answer.
+/// - `fail REQUEST`: the reader fails there, in place of ending. It gives one byte a call, and is
+///   interrupted before each.
+/// - `break REQUEST`: the writer breaks after 0, 1, .. bytes of the answer, but not after all.
 /// - `own REQUEST`: the hub alone is asked, over a connection of its own.
-/// - `tear REQUEST`: so it is asked again and again, where the writer breaks behind each byte of the answer
-///   but the last, and at last takes it whole.
-/// - `remove REQUEST`: one connection opens a feed and hands an item, another one removes the database `d`,
-///   and then the first one hands its next item.
+/// - `tear REQUEST`: the same again and again, where the writer breaks after 0, 1, .. bytes of the answer,
+///   and at last takes the whole answer.
+/// - `remove REQUEST`: one connection opens a feed and hands an item, another connection removes the
+///   database `d`, and then the first hands its next item.
 /// - `delete NAME`: a database is deleted under its lock, and its name stays.
-/// - `allow WHAT`: a new hub, within one more limit: `one feed`, `one database`, `two databases`,
-///   `one edit` or `two edits`.
+/// - `allow LIMIT`: a new hub, within one more limit: `one feed`, `one database`, `two databases`, `one
+///   edit` or `two edits`.
 #[derive(Drop)]
 pub(crate) struct Client {
     alloc: Global,
@@ -50,7 +52,7 @@ pub(crate) struct Client {
     answered: String,
 }
 
-/// What asks a hub for all that it shows.
+/// The requests for a hub's names, for its database `d` with the rows, and for its log of updates.
 const SHOWN: &str = concat!(
     "GET /_all_dbs HTTP/1.1\r\n\r\n",
     "GET /d HTTP/1.1\r\n\r\n",
@@ -58,19 +60,19 @@ const SHOWN: &str = concat!(
     "GET /_db_updates HTTP/1.1\r\n\r\n"
 );
 
-/// The commands that ask with a request otherwise than both hubs.
+/// The commands with a request that is not asked of both hubs.
 const VERBS: &str = "send cut fail break tear own remove";
 
-/// What removes the database `d`.
+/// The request that removes the database `d`.
 const REMOVAL: &str = "DELETE /d HTTP/1.1\r\n\r\n";
 
-/// The answer to a batch that stands already.
+/// The answer to a batch whose edits are stored already.
 const STORED: &str = concat!(
     "HTTP/1.1 201 Created\r\nContent-Type: application/json\r\nContent-Length: 3\r\n\r\n",
     "[]\n"
 );
 
-/// The answer to an edit of a document that stands already.
+/// The answer to an edit of a document that is stored already.
 const CONFLICT: &str = concat!(
     "HTTP/1.1 409 Conflict\r\nContent-Type: application/json\r\nContent-Length: 58\r\n\r\n",
     r#"{"error":"conflict","reason":"Document update conflict."}"#,
@@ -78,7 +80,7 @@ const CONFLICT: &str = concat!(
 );
 
 impl Client {
-    /// A client of a new hub within these limits, that asked nothing.
+    /// A client of a new hub within these limits, before its first request.
     fn new(alloc: Global, limits: Limits) -> Result<Client, AllocError> {
         Ok(Client {
             alloc,
@@ -109,8 +111,8 @@ impl Client {
         Ok(())
     }
 
-    /// What the hub writes over a connection of its own: behind a session for each byte of the answer `torn`,
-    /// whose writer breaks behind the bytes before it.
+    /// The output of the hub over a connection of its own. Before it, there is one session for each byte of
+    /// the answer `torn`, whose writer breaks before that byte.
     fn own<N: Wait>(&self, rt: &N, bytes: &str, torn: &str) -> Result<Told, AllocError> {
         let rooms = JsonRooms::new(self.alloc);
         let pumping = ByTurns::new(rt);
@@ -125,7 +127,7 @@ impl Client {
         serve_torn(self.alloc, &mut connection, bytes, torn)
     }
 
-    /// Shows what the hub writes over a connection of its own. An error says that it met no memory.
+    /// Shows the output of the hub over a connection of its own. An error says that memory was missing.
     fn look<N: Wait>(
         &self,
         rt: &N,
@@ -137,14 +139,14 @@ impl Client {
         if told.is_doubtful() {
             return Err(AllocError);
         }
-        // It writes nothing where it finds no memory.
+        // Out of memory, nothing is written: the answer has its room, and copies come before it.
         match show(self.alloc, answer, told.output.as_str(), told.closing) {
             Err(AllocError) => show(self.alloc, answer, told.output.as_str(), told.closing),
             shown => shown,
         }
     }
 
-    /// A service opens a feed and hands an item, a connection removes the database, and then the service
+    /// A service opens a feed and hands an item. Then a connection removes the database, and the service
     /// hands its next item.
     fn remove_during<N: Wait, S: Service>(
         &self,
@@ -159,7 +161,7 @@ impl Client {
         show_item(service, answer)
     }
 
-    /// The same of a connection.
+    /// The same with a connection as the service.
     fn remove<N: Wait>(&self, rt: &N, feed: &str, answer: &mut Answer) -> Result<(), AllocError> {
         let rooms = JsonRooms::new(self.alloc);
         let pumping = ByTurns::new(rt);
@@ -174,10 +176,10 @@ impl Client {
         self.remove_during(rt, &mut connection, feed, answer)
     }
 
-    /// Whether the hub writes the wanted answer over a connection of its own, also where a growth is refused.
-    /// Then the hub shows the same as before, and the error says that the request is to be made again. But an
-    /// edit of documents may stand behind the refusal: then made again it changes nothing, and the requests
-    /// behind it show that it stands.
+    /// Whether the hub writes the wanted answer over a connection of its own. Where a growth is refused,
+    /// the hub shows the same as before, and the error says that the request is to be made again. But an
+    /// edit of documents may be stored in spite of the refusal. Made again it changes nothing, and later
+    /// requests show that it is stored.
     fn is_held<N: Wait>(&self, rt: &N, bytes: &str, wanted: &str) -> Result<bool, AllocError> {
         let before = self.own(rt, SHOWN, "")?;
         let told = self.own(rt, bytes, "")?;
@@ -191,7 +193,7 @@ impl Client {
         self.is_standing(rt, bytes)
     }
 
-    /// Whether an edit of documents that stands already is told so.
+    /// Whether the hub answers an edit of documents as one that is stored already.
     fn is_standing<N: Wait>(&self, rt: &N, bytes: &str) -> Result<bool, AllocError> {
         let standing = if bytes.starts_with("POST ") {
             STORED
@@ -201,11 +203,11 @@ impl Client {
         if self.own(rt, bytes, "")?.is(standing, Closing::Finished)? {
             return Ok(true);
         }
-        // Where a front of a batch stood, its note may have filled the log: the rest is told so, and stands.
+        // The note of a front of the batch may have filled the log: the rest was refused, but stored.
         self.own(rt, bytes, "")?.is(standing, Closing::Finished)
     }
 
-    /// What a new hub writes, with ample memory.
+    /// The output of a new hub with ample memory.
     fn ample<N: Wait, R: Copy + Drop + Read>(&self, rt: &N, reader: R) -> Result<Told, AllocError> {
         let told = session(rt, self.alloc, self.limits, reader, usize::MAX)?;
         if !told.is_doubtful() {
@@ -218,26 +220,26 @@ impl Client {
         }
     }
 
-    /// These bytes behind those of all requests so far.
+    /// The bytes of all requests so far, and then these bytes.
     fn behind(&self, bytes: &str) -> Result<String, AllocError> {
         format!(in self.alloc; "{}{bytes}", self.asked)
     }
 
-    /// What was written behind the answers so far.
+    /// The output after the answers so far.
     fn given<'t>(&self, told: &'t Told) -> &'t str {
         told.output
             .strip_prefix(self.answered.as_str())
             .unwrap_or("other answers before")
     }
 
-    /// Shows what bytes behind all requests so far are answered by a new hub.
+    /// Shows the answer of a new hub to these bytes, after all requests so far.
     fn send<N: Wait>(&self, rt: &N, bytes: &str, answer: &mut Answer) -> Result<(), AllocError> {
         let all = self.behind(bytes)?;
         let told = self.ample(rt, all.as_bytes())?;
         show(self.alloc, answer, self.given(&told), told.closing)
     }
 
-    /// Asks both hubs for a request.
+    /// Asks both hubs with a request.
     fn ask<N: Wait>(&mut self, rt: &N, bytes: &str, answer: &mut Answer) -> Result<(), AllocError> {
         let all = self.behind(bytes)?;
         let told = self.ample(rt, all.as_bytes())?;
@@ -251,7 +253,7 @@ impl Client {
         Ok(())
     }
 
-    /// What a new hub writes whose input ends, or fails, behind so many bytes.
+    /// The output of a new hub whose input ends, or fails, after `left` bytes.
     fn ended<N: Wait>(
         &self,
         rt: &N,
@@ -273,7 +275,7 @@ impl Client {
         )
     }
 
-    /// Shows why sessions close whose input ends, or fails, behind each byte of a request but the last.
+    /// Shows why sessions close whose input ends, or fails, after 0, 1, .. bytes of a request, but not all.
     fn end<N: Wait>(
         &self,
         rt: &N,
@@ -297,7 +299,7 @@ impl Client {
         Ok(())
     }
 
-    /// Shows what is written where the writer breaks behind each byte of an answer but the last.
+    /// Breaks a writer after 0, 1, .. bytes of an answer. Shows the first output that is no front, if any.
     fn break_behind<N: Wait>(
         &self,
         rt: &N,
@@ -316,15 +318,15 @@ impl Client {
         answer.line("a front of it, wherever the writer breaks")
     }
 
-    /// Shows what the hub writes over a connection of its own, where first the writer breaks behind each
-    /// byte.
+    /// Shows the output of the hub over a connection of its own, after sessions whose writers break before
+    /// each byte of the answer.
     fn tear<N: Wait>(&self, rt: &N, bytes: &str, answer: &mut Answer) -> Result<(), AllocError> {
         let all = self.behind(bytes)?;
         let ample = self.ample(rt, all.as_bytes())?;
         self.look(rt, bytes, self.given(&ample), answer)
     }
 
-    /// Carries out the command of a place in `VERBS` that asks with these bytes.
+    /// Carries out the command at this place of `VERBS` with the bytes of its request.
     fn carry_out<N: Wait>(
         &self,
         rt: &N,
@@ -342,7 +344,7 @@ impl Client {
         }
     }
 
-    /// Carries out a command that asks with a request.
+    /// Carries out a command that has a request.
     fn request<N: Wait>(
         &mut self,
         rt: &N,

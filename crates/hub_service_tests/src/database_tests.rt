@@ -1,6 +1,6 @@
 //! Calls on a database that was deleted, and whose name still stands.
 
-/// A deleted database refuses each call, and a batch document by document; one that stands refuses none so.
+/// A deleted database refuses each call, and a batch document by document. Before, it does not.
 pub(crate) const DELETED: &str = r#"
 # a deleted database refuses each call, and a batch document by document, while its name stands; before it refuses none so
 > PUT /d

@@ -1,6 +1,6 @@
-//! What documents miss of revisions, over bytes.
+//! The missing revisions of documents, over bytes.
 
-/// Of several documents, of which some miss nothing, and of none.
+/// Questions about several documents, some of which miss nothing, and about no document.
 pub(crate) const DIFFS: &str = r#"
 # what documents miss of revisions, and the leaves that may stand behind these
 > PUT /d

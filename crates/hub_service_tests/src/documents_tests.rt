@@ -1,4 +1,4 @@
-//! Documents over bytes: which are refused, which are put, and what is shown of them.
+//! Documents over bytes: refused ones, documents that are put, and documents as they are shown.
 //!
 //! The hash of a revision that is made here is the MD5 of `[deleted,parent,id,body]`.
 
@@ -218,7 +218,7 @@ HTTP/1.1 201 Created, JSON of 64:
 {"ok":true,"id":"z","rev":"1-76761c3c3bcfe46d83fcc5006a8ab15b"}\n
 "#;
 
-/// What is shown of documents that came, and of values of each kind.
+/// Documents that came, and values of each kind, as they are shown.
 pub(crate) const SHOWN: &str = r#"
 # what is shown of edits that came
 > PUT /d

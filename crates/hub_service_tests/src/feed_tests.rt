@@ -1,6 +1,6 @@
 //! The hub over bytes: feeds of changes, one at a time.
 
-/// What feeds show: since when, of which documents, in which order, and what of each.
+/// The rows of feeds: from which sequence on, of which documents, in which order, and their contents.
 pub(crate) const FEEDS: &str = r#"
 # a feed begins above `since`, which counts as 0 where it is of another life, and never above the update sequence
 > allow one feed
@@ -376,7 +376,7 @@ d
 last chunk
 "#;
 
-/// Wherever the writing of a feed breaks, it is not held open: with one feed at a time the next is shown.
+/// A feed is not held open wherever its writing breaks: with one feed at a time, the next feed is shown.
 pub(crate) const BROKEN: &str = r#"
 # wherever the writing of a feed breaks, it is not held open: with one feed at a time the next is shown
 > allow one feed

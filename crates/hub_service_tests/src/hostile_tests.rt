@@ -26,7 +26,7 @@ HTTP/1.1 200 OK, JSON of 93:
 {"db_name":"d","doc_count":1,"doc_del_count":0,"update_seq":"1-1","instance_start_time":"0"}\n
 "#;
 
-/// Wherever the input ends, the requests before are answered and nothing else.
+/// Wherever the input ends, the requests before its end are answered, and nothing else.
 pub(crate) const CUT_INPUT: &str = r#"
 # wherever the input ends, the requests before are answered and nothing else
 > cut PUT /d

@@ -1,8 +1,8 @@
-//! Edits over bytes: on leaves and on what is none, and trees of digests.
+//! Edits over bytes: on leaves and on other revisions, and trees of digests.
 //!
 //! The hash of a revision that is made here is the MD5 of `[deleted,parent,id,body]`.
 
-/// Edits on leaves, and on what is none.
+/// Edits on leaves, and on revisions that are no leaf.
 pub(crate) const EDITS: &str = r#"
 # edits on what is above the highest generation, on no leaf, and on the leaf
 > PUT /d

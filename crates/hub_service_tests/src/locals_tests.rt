@@ -1,6 +1,6 @@
-//! Local documents over bytes: what is shown of them, and which are refused.
+//! Local documents over bytes: how they are shown, and which are refused.
 
-/// Local documents: what is shown of each, and the first fault.
+/// Local documents as they are shown, and the first fault of each.
 pub(crate) const LOCALS: &str = r#"
 # what is shown of local documents
 > PUT /d

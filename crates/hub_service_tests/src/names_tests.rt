@@ -1,6 +1,6 @@
-//! Which names have databases, and what the calls on them refuse.
+//! Which names have databases, and the refusals of the calls on them.
 
-/// Of several refusals the first is told: of the name, of what it names, and of the room.
+/// Of several refusals the first is the answer: of the name, of its database, and of the room.
 pub(crate) const REFUSED_IN_ORDER: &str = r#"
 # there is room for two databases
 > allow two databases
@@ -63,7 +63,7 @@ HTTP/1.1 200 OK, JSON of 18:
 ["a/$(1)+_-","c"]\n
 "#;
 
-/// Where the log is full, what it has no note of is not done; but an edit stands.
+/// Where the log is full, no database is made or removed, for lack of a note. But an edit is stored.
 pub(crate) const FULL_LOG: &str = r#"
 # there is room for one note
 > allow one edit
@@ -96,7 +96,7 @@ HTTP/1.1 200 OK, JSON of 93:
 {"db_name":"a","doc_count":1,"doc_del_count":0,"update_seq":"1-1","instance_start_time":"0"}\n
 "#;
 
-/// That a log is full is told behind every other refusal.
+/// The refusal of a full log comes after every other refusal.
 pub(crate) const BEFORE_A_FULL_LOG: &str = r#"
 # there is room for one name, and for one note
 > allow one database

@@ -1,6 +1,6 @@
 //! Documents and their revisions over bytes.
 
-/// What is shown of documents: the winner, all leaves, and listed revisions.
+/// Documents as they are shown: the winner, all leaves, and listed revisions.
 pub(crate) const SHOWN: &str = r#"
 # the winner of two leaves and a deleted one above them, a document whose winner is deleted, and one that is unknown
 > PUT /d
@@ -83,7 +83,7 @@ HTTP/1.1 200 OK, JSON of 78:
 [{"ok":{"_id":"a","_rev":"1-a","v":1}},{"ok":{"_id":"a","_rev":"2-c","v":3}}]\n
 "#;
 
-/// What is shown where histories come in parts and in any order.
+/// Documents whose histories come in parts and in any order, as they are shown.
 pub(crate) const PARTS: &str = r#"
 # a revision is shown with all that stands behind it by now, and a history that contradicts stores nothing
 > PUT /d

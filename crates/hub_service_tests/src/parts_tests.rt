@@ -1,7 +1,7 @@
 //! Parts of histories over bytes: roots that get parents, and lines that are joined.
 //!
-//! Four revisions alone and three edits beside them, each of which tells what stands behind one of them, make
-//! a line with three joins, which are told in three orders.
+//! Four revisions come alone. Three edits beside them each bring the revisions between two of these.
+//! Together they make a line with three joins. The edits come in three orders.
 
 /// Revisions that come before their parents, which a later edit tells.
 pub(crate) const PARTS: &str = r#"

@@ -1,6 +1,6 @@
 //! Where requests for documents go: ids with escapes, design documents, local ones, and ids that none has.
 
-/// Documents and design documents, of which each path names one that is there, or none.
+/// Documents and design documents. Each path names an existing document, or none.
 pub(crate) const DOCUMENTS: &str = r#"
 # of documents, which are there
 > PUT /d

@@ -1,7 +1,7 @@
 //! Questions to a database over bytes: its documents, their leaves and missing revisions, rows downwards, and
 //! local documents.
 
-/// What a database answers about documents with several leaves, and about local documents.
+/// The answers of a database about documents with several leaves, and about local documents.
 pub(crate) const QUESTIONS: &str = r#"
 # questions about a document with two leaves and a deleted one above them, and about a deleted document
 > PUT /d

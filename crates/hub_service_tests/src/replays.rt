@@ -1,4 +1,4 @@
-//! The tests of a client: all transcripts, by what they are about. One that fails names its case.
+//! The tests of a client: all transcripts, by their subjects. A transcript that fails names its case.
 
 use crate::client::Client;
 use crate::{
@@ -10,7 +10,7 @@ use crate::{
 use hub_transcript::replay;
 use std::test::Fail;
 
-/// What is shown of documents, what is stored, and what is refused.
+/// Documents as they are shown and stored, and refused documents.
 #[test]
 fn documents(rt: HostRuntime) -> Result<(), Fail> {
     for transcript in [
@@ -42,7 +42,7 @@ fn edits(rt: HostRuntime) -> Result<(), Fail> {
     Ok(())
 }
 
-/// Trees of revisions, also where histories come in parts, and what is missing of them.
+/// Trees of revisions, also where histories come in parts, and missing revisions.
 #[test]
 fn trees(rt: HostRuntime) -> Result<(), Fail> {
     for transcript in [

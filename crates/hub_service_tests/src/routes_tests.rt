@@ -1,6 +1,6 @@
-//! Where requests go: which paths and which methods there are, and what a request lends to its route.
+//! Where requests go: which paths and methods there are, and the texts that a request lends to its route.
 //!
-//! A request shows its route by its answer. What no answer shows is asked of the table of routes itself.
+//! A request shows its route by its answer. Where no answer shows it, the table of routes itself is asked.
 
 use hub_http::{MethodName, Request};
 use hub_routes::{Route, RouteFault, Routes};
@@ -10,7 +10,7 @@ use std::borrow::CowStr;
 use std::str;
 use std::test::Fail;
 
-/// What is asked of the hub itself.
+/// Requests to the hub itself.
 pub(crate) const SERVER: &str = r#"
 # of the server: the hub, its list of databases, and its log of updates
 > PUT /d
@@ -122,7 +122,7 @@ HTTP/1.1 404 Not Found, JSON of 41:
 {"error":"not_found","reason":"missing"}\n
 "#;
 
-/// What is asked of databases, whose names may have escapes.
+/// Requests to databases, whose names may have escapes.
 pub(crate) const DATABASES: &str = r#"
 # of databases
 > PUT /d
@@ -221,7 +221,7 @@ HTTP/1.1 404 Not Found, JSON of 41:
 {"error":"not_found","reason":"missing"}\n
 "#;
 
-/// What is asked behind the name of a database.
+/// Requests whose paths go on after the name of a database.
 pub(crate) const CALLS: &str = r#"
 # of the calls on a database
 > PUT /d
@@ -369,15 +369,15 @@ HTTP/1.1 405 Method Not Allowed, JSON of 61:
 "#;
 
 /// The table of routes. A command is a method and a target, in which `\` is the byte 255. The answer is the
-/// call, the name of the database, the id of the document and the query, or the fault. Behind `db` and `id`
-/// stands `*` where this is a text of its own.
+/// call, the name of the database, the id of the document and the query, or the fault. A `*` after `db` or
+/// `id` says that its text is not lent from the request.
 #[derive(Drop)]
 struct Table {
     alloc: Global,
     routes: Routes,
 }
 
-/// The request of a command, which has a length.
+/// The request of a command. It has a length, and its body is empty.
 fn request_of(alloc: Global, command: &str) -> Result<Request, AllocError> {
     let mut words = Words::of(command);
     let method = MethodName::new(alloc, words.word().as_bytes())?;
@@ -396,7 +396,7 @@ fn request_of(alloc: Global, command: &str) -> Result<Request, AllocError> {
     })
 }
 
-/// A star where a text is one of its own.
+/// A star for a text that is not lent.
 fn mark(text: &CowStr<'_>) -> &'static str {
     match text {
         CowStr::Owned(_) => "*",
@@ -491,7 +491,7 @@ PutLocal db=d id*=_local/a query=
 GetLocal db*=d id*=_local/a query=
 "#;
 
-/// What a request lends to its route, and targets that no client can send.
+/// The texts that a request lends to its route, and targets that no client can send.
 #[test]
 fn what_a_request_lends(rt: HostRuntime) -> Result<(), Fail> {
     replay::<Table, _>(&rt, rt.alloc(), LENT)

@@ -1,6 +1,6 @@
-//! The hub over bytes: what limits refuse, the last generation, and what closes a connection.
+//! The hub over bytes: refusals by limits, the last generation, and the closing of connections.
 
-/// What limits refuse: databases, edits, and notes of them.
+/// The refusals by limits: of databases, of edits, and of notes.
 pub(crate) const LIMITS: &str = r#"
 # with one database allowed a second is refused, and with two edits a third document
 > allow one database

@@ -17,7 +17,7 @@ fn full(alloc: Global, method: &str, target: &str, body: &str) -> Result<String,
     )
 }
 
-/// The bytes of a batch of one document `x`, whose history has so many revisions.
+/// The bytes of a batch of one document `x`, whose history has `count` revisions.
 fn history(alloc: Global, count: u64) -> Result<String, AllocError> {
     let ids = r#""a","#.repeat(alloc, count.saturating_sub(1) as usize)?;
     let body = format!(in alloc;
@@ -26,7 +26,7 @@ fn history(alloc: Global, count: u64) -> Result<String, AllocError> {
     full(alloc, "POST", "/d/_bulk_docs", body.as_str())
 }
 
-/// The bytes of a request: its form says `Client`.
+/// The bytes of a request, whose forms stand at `Client`.
 pub(crate) fn asked(alloc: Global, request: &str) -> Result<String, AllocError> {
     let mut words = Words::of(request);
     let method = words.word();
@@ -44,8 +44,8 @@ pub(crate) fn asked(alloc: Global, request: &str) -> Result<String, AllocError> 
     full(alloc, method, target, if body == "-" { "" } else { body })
 }
 
-/// What is shown in place of what: of a line feed, of the end of a line of a head or a chunk, of the fields
-/// that each answer has, of the last chunk, and of the end of a head.
+/// Texts of answers, each with the text that is shown in its place. They are a line feed, the end of a line
+/// of a head or a chunk, the fields that each answer has, the last chunk, and the end of a head.
 const SHOWN: &[(&str, &str)] = &[
     ("\n", r"\n"),
     ("\r\\n", "\n"),
@@ -61,7 +61,7 @@ const SHOWN: &[(&str, &str)] = &[
     ("\n\n", ":\n"),
 ];
 
-/// Shows what a session writes as lines, and why it closed where that is not the end of its input.
+/// Shows the output of a session as lines, and why it closed unless the closing is `Finished`.
 pub(crate) fn show(
     alloc: Global,
     answer: &mut Answer,

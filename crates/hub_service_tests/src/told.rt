@@ -1,22 +1,22 @@
-//! What sessions write, also those that find no memory.
+//! The output of sessions, also of those that find no memory.
 //!
-//! With ample memory a session is right at once. Where a growth is refused it writes a front of its answers
-//! and then the refusal that tells out of memory, behind which it may go on, or it is cut. Had again over a
-//! new hub it is right.
+//! With ample memory a session is right at once. Where a growth is refused, the session writes a front of
+//! its answers. Then it is cut, or the refusal that tells out of memory follows, and the session may go on.
+//! Over a new hub once more, the session is right.
 
 use hub_http::HttpFault;
 use hub_session::Closing;
 use std::alloc::AllocError;
 
-/// What a session wrote, and why it closed.
+/// The output of a session, and why it closed.
 #[derive(Drop)]
 pub(crate) struct Told {
     pub(crate) output: String,
     pub(crate) closing: Closing,
 }
 
-/// The refusals that tell out of memory: one behind which the session goes on, one that closes it, and one of
-/// a HEAD with the front of the answer behind it.
+/// The refusals that tell out of memory. The session goes on after the first, and closes with the second.
+/// The third is of a HEAD, with the front of the next answer after it.
 const REFUSALS: &[&str] = &[
     concat!(
         "HTTP/1.1 503 Service Unavailable\r\nContent-Type: application/json\r\n",
@@ -44,7 +44,7 @@ fn is_refusal(bytes: &[u8]) -> bool {
     })
 }
 
-/// Whether bytes are a front of what is expected, and then a refusal that tells out of memory.
+/// Whether bytes are a front of the expected ones, or such a front and a refusal that tells out of memory.
 fn is_refused(output: &[u8], expected: &[u8]) -> bool {
     for count in 0..output.len() {
         if expected.starts_with(&output[..count]) && is_refusal(&output[count..]) {
@@ -54,7 +54,7 @@ fn is_refused(output: &[u8], expected: &[u8]) -> bool {
     expected.starts_with(output)
 }
 
-/// Whether a session closes so that met no memory.
+/// Whether a session without memory may close so.
 fn is_doubtful(closing: Closing) -> bool {
     closing == Closing::Fault(HttpFault::NoMemory)
         || closing == Closing::Cut
@@ -62,8 +62,8 @@ fn is_doubtful(closing: Closing) -> bool {
 }
 
 impl Told {
-    /// Whether the session wrote what is expected, and closed so. An error says that it met no memory. A
-    /// writer that breaks has room for its refusals, where they are the shorter ones.
+    /// Whether the session wrote the expected output, and closed so. An error says that memory was missing.
+    /// A writer that is to break has room for a refusal, where that is shorter than the answer.
     pub(crate) fn is(&self, expected: &str, end: Closing) -> Result<bool, AllocError> {
         let (output, expected) = (self.output.as_bytes(), expected.as_bytes());
         let closing = self.closing;
@@ -79,7 +79,7 @@ impl Told {
         Ok(false)
     }
 
-    /// Whether the session may have met no memory.
+    /// Whether memory may have been missing for the session.
     pub(crate) fn is_doubtful(&self) -> bool {
         is_doubtful(self.closing) || self.output.contains("HTTP/1.1 503 ")
     }

@@ -1,4 +1,4 @@
-//! Trees of revisions over bytes: what stands in them, and which leaf wins.
+//! Trees of revisions over bytes: their revisions, and which leaf wins.
 
 /// Winners, leaves, missing revisions and paths of small trees.
 pub(crate) const TREES: &str = r#"

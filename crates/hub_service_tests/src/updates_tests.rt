@@ -1,6 +1,6 @@
-//! What feeds of the log of updates show, and what a feed of a database shows that is made again.
+//! The rows of feeds of the log of updates, and of feeds of a database that is made again.
 
-/// A row for each database and kind, whatever a feed is asked of documents.
+/// The log has a row for each database and kind. Parameters about documents change nothing in its feeds.
 pub(crate) const ROWS: &str = r#"
 # the log has a row for each kind
 > PUT /d
@@ -173,7 +173,7 @@ d
 last chunk
 "#;
 
-/// A sequence of an earlier life is none of the database that has the name now.
+/// A sequence of an earlier life of a name is no sequence of the database that has the name now.
 pub(crate) const AGAIN: &str = r#"
 # a sequence of an earlier life of a name is the beginning in the database that has the name now
 > PUT /d

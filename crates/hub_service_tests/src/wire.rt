@@ -10,10 +10,10 @@ use std::io;
 use std::io::{ErrorKind, Read, Write};
 use std::sync::Wait;
 
-/// Room for what a session writes, so that no growth is refused behind an effect.
+/// Room for the output of a session, in bytes, so that no growth is refused after an effect.
 const ROOM: usize = 65_536;
 
-/// Takes so many bytes a call at most, so many in all, and then none.
+/// A writer that takes at most `most` bytes a call and `room` bytes in all, and then none.
 #[derive(Drop)]
 struct Narrow {
     held: Vec<u8>,
@@ -34,7 +34,7 @@ impl Write for Narrow {
     }
 }
 
-/// Gives one byte a call, and is interrupted before each. Where it has given so many it fails.
+/// A reader that gives one byte a call, and is interrupted before each. After `left` bytes it fails.
 #[derive(Clone, Copy)]
 pub(crate) struct Failing<'a> {
     pub(crate) text: &'a [u8],
@@ -57,7 +57,7 @@ impl Read for Failing<'_> {
     }
 }
 
-/// The text that these bytes are; an error each time where they are none.
+/// The text of these bytes. It is an error, each time, where they are no text.
 pub(crate) fn text_of(bytes: Vec<u8>) -> Result<String, AllocError> {
     match String::from_utf8(bytes) {
         Ok(text) => Ok(text),
@@ -65,7 +65,7 @@ pub(crate) fn text_of(bytes: Vec<u8>) -> Result<String, AllocError> {
     }
 }
 
-/// A session with a new hub, whose writer takes one byte a call and so many in all.
+/// A session with a new hub, whose writer takes one byte a call and `room` bytes in all.
 pub(crate) fn session<N: Wait, R: Drop + Read>(
     rt: &N,
     alloc: Global,
@@ -84,8 +84,8 @@ pub(crate) fn session<N: Wait, R: Drop + Read>(
     Ok(Told { output, closing })
 }
 
-/// A session over a connection, whose writer takes so many bytes. An error says that there is no room for
-/// what it writes; then nothing was asked.
+/// A session over a connection, whose writer takes `room` bytes. It is an error where there is no memory
+/// for the output, before the first request, and where the output is no text.
 fn serve_over<N: Wait>(
     alloc: Global,
     connection: &mut Connection<'_, N, ByTurns<'_, N>>,
@@ -103,8 +103,8 @@ fn serve_over<N: Wait>(
     Ok(Told { output, closing })
 }
 
-/// Whether a session over a connection, whose writer has so much room, writes what it has room for of an
-/// answer. It is had again where it met no memory.
+/// Whether a session over a connection, whose writer takes `room` bytes, writes the front of an answer that
+/// fits there. Where memory was missing, it is held once more.
 fn is_torn<N: Wait>(
     alloc: Global,
     connection: &mut Connection<'_, N, ByTurns<'_, N>>,
@@ -120,8 +120,8 @@ fn is_torn<N: Wait>(
     }
 }
 
-/// A session over a connection, behind one for each byte of the answer `torn`, whose writer breaks behind the
-/// bytes before it. Behind one that writes other bytes it writes nothing.
+/// A session over a connection, after one for each byte of the answer `torn`, whose writer breaks before
+/// that byte. After a session with other output it writes nothing.
 pub(crate) fn serve_torn<N: Wait>(
     alloc: Global,
     connection: &mut Connection<'_, N, ByTurns<'_, N>>,

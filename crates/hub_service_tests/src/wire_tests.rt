@@ -1,6 +1,6 @@
 //! The hub over readers and writers as networks have them: of one byte a call, cut, broken, interrupted.
 
-/// Wherever a writer breaks, what it took is the front of what is written else.
+/// Wherever a writer breaks, its bytes are a front of the whole answer.
 pub(crate) const WRITERS: &str = r#"
 # wherever a writer breaks, what it took is a front
 > break PUT /d
@@ -28,7 +28,7 @@ d
 last chunk
 "#;
 
-/// Wherever a reader fails or a head ends, the requests before are answered and nothing else.
+/// Wherever a reader fails or a head ends, the requests before that are answered, and nothing else.
 pub(crate) const READERS: &str = r#"
 # wherever a reader fails, the requests before are answered and nothing else; interruptions change nothing
 > fail PUT /d

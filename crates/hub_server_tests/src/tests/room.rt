@@ -22,9 +22,8 @@ use std::io;
 /// - `pause COUNT`: waits for COUNT milliseconds.
 /// - `NAME connects`: a client of this name connects.
 /// - `NAME closes`: the client closes.
-/// - `NAME rows COUNT`: reads COUNT rows of a continuous feed, and compares them with the case's first
-///   rows.
-/// - `NAME lines REQUEST`: asks for a normal feed, and compares its rows with the case's first rows.
+/// - `NAME rows COUNT`: reads COUNT rows of a continuous feed, to compare them with the case's first.
+/// - `NAME lines REQUEST`: asks for a normal feed, to compare its rows with the case's first.
 /// - `NAME ..`: the client carries out a command of `Client`.
 /// - `each COUNT: COMMAND; COMMAND`: does the commands COUNT times, with the number for `#`. Successive
 ///   answers that are the same are shown once, after their count.
