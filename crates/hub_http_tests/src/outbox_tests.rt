@@ -14,7 +14,7 @@ use std::test::Fail;
 ///   `vector TEXT`: sends a vector of a text, which the outbox may keep, and shows the outcome.
 /// - `front`: shows a front of the bytes that are to go. `holds N`: whether at least N bytes are to go.
 ///   `empty`: whether no bytes are.
-/// - `sent N`: N bytes went, where so many are there.
+/// - `sent N`: N bytes went, where the outbox holds N.
 /// - `writer MOST REFUSALS ERROR`: a writer that takes at most MOST bytes a write, and has REFUSALS errors
 ///   before each write.
 /// - `hand N`: hands the waiting bytes to the writer N times, and shows the outcome of each transfer.

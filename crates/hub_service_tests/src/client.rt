@@ -25,12 +25,10 @@ use std::sync::Wait;
 ///
 /// - `REQUEST`: the hub is asked over a connection of its own. A new hub is asked all requests so far over
 ///   one connection, whose writer takes a byte a call. Both have to answer the same, which is shown.
-/// - `send REQUEST`: a new hub alone is asked, after all requests so far. So it is for the next three
-///   commands.
+/// - `send REQUEST`: a new hub alone is asked, after all requests so far, as in the next three commands.
 /// - `cut REQUEST`: the input ends after 0, 1, .. bytes of the request, but not after all. The reasons why
-///   the session closes are shown, each with its first count. The request may have no answer.
-/// - `fail REQUEST`: the reader fails there, in place of ending. It gives one byte a call, and is
-///   interrupted before each.
+///   the session closes are shown, each with its first count. The request gets no answer.
+/// - `fail REQUEST`: the reader fails there. It gives one byte a call, and is interrupted before each.
 /// - `break REQUEST`: the writer breaks after 0, 1, .. bytes of the answer, but not after all.
 /// - `own REQUEST`: the hub alone is asked, over a connection of its own.
 /// - `tear REQUEST`: the same again and again, where the writer breaks after 0, 1, .. bytes of the answer,
@@ -38,8 +36,8 @@ use std::sync::Wait;
 /// - `remove REQUEST`: one connection opens a feed and hands an item, another connection removes the
 ///   database `d`, and then the first hands its next item.
 /// - `delete NAME`: a database is deleted under its lock, and its name stays.
-/// - `allow LIMIT`: a new hub, within one more limit: `one feed`, `one database`, `two databases`, `one
-///   edit` or `two edits`.
+/// - `allow LIMIT`: a new hub, within one more limit: `one feed`, `one database`, `two databases`,
+///   `one edit` or `two edits`.
 #[derive(Drop)]
 pub(crate) struct Client {
     alloc: Global,

@@ -45,7 +45,7 @@ pub(crate) fn asked(alloc: Global, request: &str) -> Result<String, AllocError> 
 }
 
 /// Texts of answers, each with the text that is shown in its place. They are a line feed, the end of a line
-/// of a head or a chunk, the fields that each answer has, the last chunk, and the end of a head.
+/// of a head or a chunk, the fields of each answer, the last chunk, and the end of a head.
 const SHOWN: &[(&str, &str)] = &[
     ("\n", r"\n"),
     ("\r\\n", "\n"),
