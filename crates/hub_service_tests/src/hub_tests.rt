@@ -1,4 +1,4 @@
-//! A hub before anything happened to it, and one with two connections.
+//! A hub before anything happened to it, and a hub with two connections.
 
 /// An empty log of updates, and a feed whose database another connection removes.
 pub(crate) const HUBS: &str = r#"

@@ -3,7 +3,7 @@
 //! Four revisions come alone. Three edits beside them each bring the revisions between two of these.
 //! Together they make a line with three joins. The edits come in three orders.
 
-/// Revisions that come before their parents, which a later edit tells.
+/// Revisions that come before their parents. Later edits bring the parents.
 pub(crate) const PARTS: &str = r#"
 # a revision alone, its parent that comes with a later edit, and the last generation beside them
 > PUT /d

@@ -1,4 +1,4 @@
-//! Where requests for documents go: ids with escapes, design documents, local ones, and ids that none has.
+//! Where requests for documents go: ids with escapes, design documents, local ones, and unknown ids.
 
 /// Documents and design documents. Each path names an existing document, or none.
 pub(crate) const DOCUMENTS: &str = r#"

@@ -26,7 +26,7 @@ fn documents(rt: HostRuntime) -> Result<(), Fail> {
     Ok(())
 }
 
-/// Edits that come and that are made, also on leaves, and their histories.
+/// Edits that come, edits that are made here, also on leaves, and their histories.
 #[test]
 fn edits(rt: HostRuntime) -> Result<(), Fail> {
     for transcript in [

@@ -1,4 +1,4 @@
-//! A connection that is held does not hold the others, nor does a database.
+//! A connection that is held does not hold the others, nor does a held database.
 
 use crate::tests::running::plays;
 use std::test::Fail;
