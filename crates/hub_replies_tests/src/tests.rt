@@ -137,7 +137,7 @@ const BODIES: &str = r#"
 []
 "#;
 
-/// Bodies that are made of what no request gives.
+/// Bodies that are made of numbers and texts that no request gives.
 #[test]
 fn bodies(rt: HostRuntime) -> Result<(), Fail> {
     replay::<Maker, _>(&rt, rt.alloc(), BODIES)

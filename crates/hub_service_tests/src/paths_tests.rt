@@ -158,7 +158,7 @@ HTTP/1.1 404 Not Found, JSON of 41:
 {"error":"not_found","reason":"missing"}\n
 "#;
 
-/// Ids and names that are refused, and what is refused before them.
+/// Refused ids and names, and the refusals that come before theirs.
 pub(crate) const IDS: &str = r#"
 # of ids
 > PUT /d
