@@ -74,7 +74,7 @@ impl<R> Subject<R> for Session {
 }
 
 impl Session {
-    // Writes the answer. A command out of memory runs once more. It has to leave the info and the winner of `a`.
+    // Writes the answer. A command out of memory leaves the info and the winner of `a`, and runs once more.
     fn put_again(&mut self, command: &str, out: &mut String) -> Result<(), AllocError> {
         let (info, winner) = (self.state.info(), self.state.winner("a"));
         if self.run(command, out).is_ok() {

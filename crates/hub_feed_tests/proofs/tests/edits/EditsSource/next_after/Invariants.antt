@@ -1,4 +1,4 @@
--- What is found among all the edits is found among those that are left.
+-- The first row among the edits that are left is the first among all edits.
 use Rattle.std.proofs.Common.{◌≡◌, ◌+◌, drop}
 use Rattle.hub_feed_tests.specs.Edits.{rows_of}
 use Rattle.hub_feed.specs.Reach.{first_within}
