@@ -165,7 +165,7 @@ impl Counts {
     }
 }
 
-// The revisions of generations 1 to 6, of which trees are made, and those of generation 7.
+// The revisions of generations 1 to 6, from which histories take parts, and the revisions of generation 7.
 fn tree_revs(alloc: Global) -> Result<Vec<RevId>, AllocError> {
     let mut revs = Vec::new(alloc);
     for number in 0..21 {

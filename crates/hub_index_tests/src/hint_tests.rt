@@ -1,4 +1,4 @@
-//! Guesses of the numbers of ids, beside the ids.
+//! Guesses of the numbers of ids, compared with the ids.
 
 use crate::ids::Ids;
 use crate::tests::same;

@@ -1,4 +1,4 @@
-//! Numbers in the order of their ids, beside a list of the numbers.
+//! Numbers in the order of their ids, compared with a list of the numbers.
 
 ghost use Rattle.std.specs.Prelude.{map, string_bytes, OnOk};
 ghost use Rattle.hub_index.specs.Order.{IsOrder};

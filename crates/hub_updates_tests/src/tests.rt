@@ -26,7 +26,7 @@ struct Case {
 
 /// A step on a log, and its answer.
 enum Step {
-    /// Something happened to the database of this name.
+    /// A notice comes of a change of the database of this name.
     Note(UpdateKind, &'static str, Result<(), NoteFault>),
     /// How many notes there are.
     Length(u64),

@@ -152,8 +152,8 @@ fn update(alloc: Global, words: &mut Words<'_>) -> Result<String, AllocError> {
 
 /// Carries out one of these commands, or answers `?`:
 /// - `rev TEXT` reads a revision, and answers its hash, the revision of its parts, and its generation;
-/// - `one REV` answers whether this is the revision 3 of the MD5 of no bytes, has this digest and has any,
-///   and a row's list of this revision alone: as it is lent, by its places, and as the list of a copy;
+/// - `one REV` tells whether REV is the revision 3 of the MD5 of no bytes, and whether it has this digest or
+///   any. Then it shows a row's list of REV alone, as it is lent, by its places, and as the list of a copy;
 /// - `digest GENERATION` answers a revision of this digest, two texts of it in quotes, and a row's list of it
 ///   alone;
 /// - `changes REV ..` answers a row's list of these revisions;

@@ -12,7 +12,7 @@ use std::str;
 /// Reads documents and shows them. A command that finds a fault answers its reason.
 ///
 /// These commands read a document. They answer its id, `rev REV`, `deleted`, `path REV ..` and its members,
-/// as far as it has them, and then the text of the document, the text of a copy, and a copy of the members.
+/// as far as it has them. Then come the text of the document, the text of a copy, and a copy of the members.
 /// Of a path they answer also the head, the first two revisions, and a list of all:
 /// - `new TEXT` reads a text, of an edit that is made here, and `came TEXT` one of an edit that came;
 /// - `put ID | TEXT` and `put ID, REV | TEXT` read a text that is put under an id, and `put-came` reads it of

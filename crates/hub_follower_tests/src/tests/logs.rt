@@ -47,8 +47,8 @@ fn read_back(alloc: Global, word: &str) -> Result<Option<Log>, AllocError> {
     }
 }
 
-/// Tells a log: its last session with its sequence, and the sessions of its history, each with the sequence
-/// that it began at, the last one and the recorded one.
+/// Tells a log: its last session with its sequence, and the sessions of its history, each with the sequences
+/// of its beginning, of its end and of its record.
 pub(crate) fn tell_log(log: &Log, answer: &mut Answer) -> Result<(), AllocError> {
     let last = Told(Some(log.source_last_seq));
     answer.line(format_args!("{} {last}", log.session_id.as_str()))?;

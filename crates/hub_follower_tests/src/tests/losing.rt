@@ -47,7 +47,7 @@ impl<P: Peer + Drop> Desk<P> {
         }
     }
 
-    // Stores the documents of `first` and then those of `then` at the source. A session copies the first.
+    // Stores the documents of `first` at the source, which a session copies, and then those of `then`.
     fn write_all(&mut self) -> Result<(), AllocError> {
         if !self.first.is_empty() {
             put(self.alloc, &mut self.source, self.first.as_str())?;

@@ -45,7 +45,7 @@ fn write_all<R: Wait>(rt: &R, alloc: Global, source: &Db<Plain>, done: &AtomicU6
     Some(())
 }
 
-// Three rounds: whether the last one found nothing new. A checkpoint may fail.
+// Makes three rounds. Answers whether the last round found nothing new. A checkpoint may fail.
 fn run_three<S: Peer + Drop, T: Peer + Drop>(
     follower: &mut Follower<S, T>,
 ) -> Result<bool, FollowFault> {

@@ -11,8 +11,8 @@ use std::alloc::{AllocError, Global};
 /// The parts of a follower: logs, its machine, runs of its world, and the items of its feeds.
 ///
 /// Logs. A log is written `ID:SEQ/ID:SEQ,ID:SEQ..`: its last session with the recorded sequence, and then the
-/// sessions of its history, each of which began at 0; `none` is no log. A sequence is a number, with its life
-/// where the life is known, as `7-1`.
+/// sessions of its history, which began at 0. The word `none` is no log. A sequence is a number, with its
+/// life where the life is known, as `7-1`.
 ///
 /// - `log write LOG`: the log's text.
 /// - `log read TEXT`: the log of the text, or `none`. Shown is its last session with its sequence, and then

@@ -22,8 +22,8 @@ use std::str;
 /// - `make REV` and `make` make an edit on a revision or on none, and `delete REV` and `delete` a deletion;
 /// - `best edit` and `best delete` make one on the best leaf, where it is the winner;
 /// - `worst edit` and `worst delete` make one on the worst leaf that is not deleted;
-/// - `extend live` makes an edit on the best leaf, and `extend dead` a deletion on the worst leaf of all;
-///   they answer `another path` unless the path of the new edit is the edit and then the path of this leaf;
+/// - `extend live` makes an edit on the best leaf, and `extend dead` a deletion on the worst leaf of all.
+///   They answer `another path` unless the path of the new edit is the edit and then the path of this leaf;
 /// - `second` makes two edits ready on the winner, first a deletion and then another edit, and takes the
 ///   second while the first shares the winner's path.
 ///
@@ -34,7 +34,7 @@ use std::str;
 /// - `scattered COUNT COMMAND & ..` does too, with the numbers 0, 150, 300 and so on, modulo COUNT;
 /// - `same COUNT` gives two numbers that differ by COUNT the same first eight bytes of their digests.
 ///
-/// The other commands ask, and are those of `ask`.
+/// The other commands are the questions of `ask`.
 #[derive(Drop)]
 pub(super) struct Session {
     pub(super) alloc: Global,

@@ -74,7 +74,7 @@ impl Followed {
         }
     }
 
-    /// From here on this watch has news of the feed.
+    /// Puts a watch on the feed: it has news of the feed from here on.
     pub(crate) fn watch<R: Wait>(
         &self,
         rt: &R,

@@ -398,7 +398,7 @@ fn are_right(query: &str, shown: &[Shown], rows: &[ChangeRow]) -> bool {
     true
 }
 
-/// Whether rows show the last edit of each document of the feed.
+/// Whether rows show the last edit of each document that the feed shows.
 fn are_all(query: &str, shown: &[Shown], rows: &[ChangeRow]) -> bool {
     for wanted in shown {
         let is_last = wanted.next == u64::MAX && is_of(query, wanted.row.id.as_str());
