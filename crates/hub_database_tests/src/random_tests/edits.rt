@@ -50,8 +50,8 @@ pub(super) fn push(
     Ok(())
 }
 
-// Appends a part of the tree of this salt to a history: a revision and some of its ancestors. Each ancestor
-// has a random hash once in 20 times.
+// Appends a part of the tree of this salt to a history: a revision and some of its ancestors. About one
+// ancestor in 20 has a random hash.
 fn put_part(
     line: &mut Vec<RevId>,
     alloc: Global,

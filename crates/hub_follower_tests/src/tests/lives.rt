@@ -139,7 +139,7 @@ fn changes_begin_in_the_life_of_the_source(rt: HostRuntime) -> Result<(), Fail> 
 }
 
 // A source of life 2 with three documents, an empty target, and logs of one session. Each case tells where a
-// session begins, and how many documents it copies. A sequence of life 1 has no place in life 2. In the last
+// session begins, and how many documents it copies. A sequence of life 1 counts as 0 in life 2. In the last
 // case a session goes on from whole numbers: its entry has texts, and the older entry stays.
 const RECORDED: &str = r#"
 # the logs record 2 and 2
