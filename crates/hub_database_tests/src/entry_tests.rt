@@ -2,7 +2,7 @@
 
 /// Edits are shown as they came.
 ///
-/// The digest is that of `[false,"3-c","a",{}]`.
+/// The hash of the revision that is made here is the MD5 of `[false,"3-c","a",{}]`.
 pub(crate) const ENTRIES: &str = r#"
 # winners: of two leaves and a deleted one above them, of a deleted document, and of none
 > merge {"_id":"a","_rev":"1-a","v":1}

@@ -1,6 +1,6 @@
-//! The life of a database: where feeds begin that ask for a sequence of it or of another one, and its number.
+//! The life of a database: its number, and where feeds begin that ask for a sequence of this or another life.
 
-/// Feeds that wait begin in their life, and a database tells it.
+/// Feeds that wait begin in the life of their database, and a database tells its life.
 ///
 /// Each database is of life 6. Its three documents came in four edits: their rows are 2, 3 and 4.
 pub(crate) const LIVES: &str = r#"

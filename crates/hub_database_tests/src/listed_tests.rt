@@ -2,8 +2,8 @@
 
 /// Feeds of listed documents hand their rows.
 ///
-/// Of documents 1 to 300, each at the sequence of its number, the feeds list every fifteenth and one that is
-/// not there, or every hundredth, the last first.
+/// The database has the documents 1 to 300, each at the sequence of its number. The feeds list every
+/// fifteenth document and one that does not exist, or every hundredth, the last first.
 pub(crate) const LISTED: &str = r#"
 # a listed document that is edited goes behind the others, and one that comes goes behind that
 > next times 300

@@ -15,14 +15,14 @@ use std::alloc::{AllocError, Global};
 use std::process::Abort;
 use std::test::Fail;
 
-// What came.
+// How many edits had each outcome, and how many documents are live or deleted in the end.
 #[derive(Drop)]
 struct Counts {
     stored: u64,
     known: u64,
     contradicting: u64,
     conflicts: u64,
-    /// Edits behind whose paths more stands by now.
+    /// Edits whose revisions have more ancestors in the end than their writers told.
     grown: u64,
     live: u64,
     deleted: u64,
@@ -35,7 +35,7 @@ struct Document {
     model: Model,
 }
 
-// What becomes of a document in a tree alone.
+// The outcome of an edit in a tree alone.
 fn grow(tree: &mut RevTree, doc: Doc) -> Result<Outcome<RevId>, AllocError> {
     let Doc {
         id,
@@ -61,7 +61,7 @@ fn grow(tree: &mut RevTree, doc: Doc) -> Result<Outcome<RevId>, AllocError> {
     }
 }
 
-// What becomes of a document in a database.
+// The outcome of an edit in a database.
 fn store(
     alloc: Global,
     state: &mut DbState,
@@ -75,7 +75,7 @@ fn store(
 }
 
 impl Document {
-    // Takes one edit more.
+    // Takes one random edit more.
     fn step(
         &mut self,
         alloc: Global,
@@ -88,7 +88,7 @@ impl Document {
         self.take(alloc, state, counts, text.as_str(), is_made)
     }
 
-    // Takes a document: the database and the tree answer as the plain program does.
+    // Takes a document. The database and the tree have to answer as the plain program does.
     fn take(
         &mut self,
         alloc: Global,
@@ -110,7 +110,7 @@ impl Document {
         Err(Fail::new(format_args!("{text} is not {wanted:?}")))
     }
 
-    // Up to eight edits: then the database and the tree show what the plain program has.
+    // Takes one to eight edits. Then the database and the tree have to show the same as the plain program.
     fn run(
         &mut self,
         alloc: Global,
@@ -133,7 +133,7 @@ impl Document {
 }
 
 impl Counts {
-    // Takes in what became of an edit.
+    // Counts the outcome of an edit.
     fn count(&mut self, outcome: &Outcome<RevId>) {
         let count = match outcome {
             Outcome::Stored(_) => &mut self.stored,
@@ -144,7 +144,7 @@ impl Counts {
         *count = count.saturating_add(1);
     }
 
-    // Takes in what a document is in the end.
+    // Counts the grown edits of a document, and the document as live or deleted.
     fn count_document(&mut self, alloc: Global, model: &Model) -> Result<(), AllocError> {
         self.grown = self.grown.saturating_add(model.grown(alloc)?);
         match model.best(None) {
@@ -157,7 +157,7 @@ impl Counts {
 }
 
 impl Counts {
-    // How often the rarest of all came.
+    // The lowest of all counts.
     fn least(&self) -> u64 {
         let edits = self.stored.min(self.known).min(self.contradicting);
         let shown = self.grown.min(self.live).min(self.deleted);
@@ -165,7 +165,7 @@ impl Counts {
     }
 }
 
-// The revisions of the tree of which histories are parts, and some above it.
+// The revisions of generations 1 to 6, from which histories take parts, and the revisions of generation 7.
 fn tree_revs(alloc: Global) -> Result<Vec<RevId>, AllocError> {
     let mut revs = Vec::new(alloc);
     for number in 0..21 {

@@ -1,4 +1,4 @@
-//! The test of all transcripts. One that fails names its case.
+//! The test of all transcripts. A transcript that fails names its case.
 
 use crate::session::Session;
 use crate::{

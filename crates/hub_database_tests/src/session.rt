@@ -1,4 +1,4 @@
-//! A database that commands are put to, as in a database's shell.
+//! A database that carries out the commands of transcripts.
 
 mod asks;
 mod feeds;
@@ -14,35 +14,35 @@ use std::fmt::Write;
 // The number of the life of each database.
 const LIFE: u64 = 6;
 
-// The room of what a command is answered: behind a call that changes the database none is taken.
+// The bytes that an answer has room for. So no answer takes memory after a call that changed the database.
 const ROOM: usize = 4_000;
 
-/// A database of life 6. In a case whose name begins with `one feed: ` one feed of it may be open. A call
-/// that refuses a command answers `refused` and why.
+/// A database of life 6. In a case whose name begins with `one feed: ` it has room for one open feed. A
+/// command that is refused answers `refused` and why.
 ///
-/// Of itself, each document a JSON text without blanks:
+/// Commands on the database. Each document is a JSON text without blanks:
 ///
-/// - `merge DOC`: stores a document that another database made, and counts the edits
-/// - `bulk DOC`: stores one whose revision is made here, and counts the edits
-/// - `next`: stores one whose id is its sequence, with the revision `1-a`
-/// - `delete`: is deleted
-/// - `state`: counts its edits, once more as a host of feeds, and tells its life, and whether it was deleted
-/// - `entry SEQ`: names the document and the revision of an edit, and shows it as it came
+/// - `merge DOC`: stores a document that another database made, and tells the number of edits
+/// - `bulk DOC`: stores a document whose revision is made here, and tells the number of edits
+/// - `next`: stores a document whose id is its sequence, with the revision `1-a`
+/// - `delete`: deletes the database
+/// - `state`: tells the number of edits, the length as a host of feeds, the life, and whether it is deleted
+/// - `entry SEQ`: names the document and the revision of an edit, and shows the edit as it came
 /// - `winner ID`: tells the best leaf of a document
 ///
-/// Feeds by number (`feeds.rt`). A row is `Row SEQ/SEEN ID REV..`, with `deleted`, with its members:
+/// Commands on feeds, by number. A row is `Row SEQ/SEEN ID REV..`, and then has `deleted` and its members:
 ///
 /// - `open QUERY`: opens a feed
-/// - `take FEED`: shows what is to be handed next, and accepts it
-/// - `hand FEED`, `full FEED`: hands to a list that has room for one item, or is full
+/// - `take FEED`: shows the next item that the feed has to hand, and accepts it
+/// - `hand FEED`, `full FEED`: the feed hands into a list with room for one item, or for none
 /// - `beat-due FEED`: tells whether a beat is due
-/// - `expire FEED`, `finish FEED`: the feed's time is over, or it is finished
+/// - `expire FEED`, `finish FEED`: ends the feed's time, or finishes the feed
 ///
-/// `COMMAND times N` puts a command so many times.
+/// `COMMAND times N` carries out a command N times.
 ///
-/// Where a growth of a command is refused, the database shows the same as before it, and the same command
-/// then answers as it does with ample memory. So a transcript holds whichever one of its growths is refused;
-/// the growths of the test itself, as of a document's text, are among them.
+/// Where a growth of a command is refused, the database shows the same as before. The same command then
+/// answers as with ample memory. So a transcript holds whichever one growth is refused. The growths of the
+/// test itself are among them, as that of a document's text.
 #[derive(Drop)]
 pub(crate) struct Session {
     alloc: Global,
@@ -74,7 +74,7 @@ impl<R> Subject<R> for Session {
 }
 
 impl Session {
-    // What a command is answered. One that finds no memory leaves what the database shows, and is put again.
+    // Writes the answer. A command out of memory leaves the info and the winner of `a`, and runs once more.
     fn put_again(&mut self, command: &str, out: &mut String) -> Result<(), AllocError> {
         let (info, winner) = (self.state.info(), self.state.winner("a"));
         if self.run(command, out).is_ok() {
@@ -103,7 +103,7 @@ impl Session {
         }
     }
 
-    // Stores a document; an error where it found no memory, and each time where the text is none.
+    // Stores a document; an error out of memory, and each time where the text is no document.
     fn store(&mut self, text: &str, new_edits: bool) -> Result<(), AllocError> {
         let Ok(doc) = Doc::read(self.alloc, text.as_bytes(), new_edits) else {
             return Err(AllocError);
@@ -129,7 +129,7 @@ impl Session {
         self.store(text.as_str(), false)
     }
 
-    // Is deleted.
+    // Deletes the database.
     fn delete(&mut self, out: &mut String) -> Result<(), AllocError> {
         match self.state.delete() {
             Ok(()) => Ok(()),

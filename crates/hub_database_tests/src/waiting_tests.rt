@@ -1,6 +1,6 @@
 //! Feeds that wait: their heartbeats, and their ends once their time is over.
 
-/// Feeds that wait beat where it was asked for, and end once their time is over.
+/// Feeds that wait beat where a heartbeat was asked for, and end once their time is over.
 ///
 /// No feed 99 is ever opened.
 pub(crate) const WAITING: &str = r#"

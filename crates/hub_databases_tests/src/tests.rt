@@ -1,8 +1,8 @@
-//! What no request shows of a hub's databases: whom its changes tell, those who have a database that is
-//! removed, and threads. The rest is shown by `hub_service_tests`.
+//! Parts of a hub's databases that no request shows: the news of changes, handles of removed databases, and
+//! threads. `hub_service_tests` shows the rest.
 //!
-//! The transcripts hold whichever one of their growths is refused: the command is given once more. Those of
-//! threads that wait for one another do not (`locks`).
+//! The transcripts hold whichever one of their growths is refused, since the command is given once more. The
+//! test of threads that wait for one another does not hold then (`locks`).
 
 mod locks;
 mod shell;

@@ -15,7 +15,7 @@ use Rattle.hub_feed_tests.specs.Edits.{IsWithin}
 use Rattle.hub_feed.specs.Next.{next_of_due, feed_after_next}
 use Rattle.hub_feed.specs.declared.next.Next.TheVariants.{Give}
 
--- what is given is due, and its feed has not moved
+-- an item that is given is due (given_due), and its feed has not moved (given_stays)
 given_due : {R : Type 0} (show : Current → R) (rows : List Current) (due : Due) (item : Item R)
     → Give item ≡ next_of_due show rows due → item_of_due show rows due ≡ Some item
 given_due show rows (DueRow c) item e = cc
@@ -79,7 +79,7 @@ within_expire feed len h =
     cond_both (is_open feed.status && is_waiting_mode feed.params.mode) (record feed { status = Ending }) feed
     (λ x. IsWithin x len) (λ _. h) (λ _. h)
 
--- what is given may be accepted
+-- an item that is given may be accepted
 pub given_accepted : {R : Type 0} (show : Feed → Current → R) (rows : List Current)
     (item : Item R) (feed other : Feed) (len : ℕ)
     → Give item ≡ next_of_due (show feed) rows (next_due rows feed) → other ≡ feed_after_next feed (next_due rows feed) len

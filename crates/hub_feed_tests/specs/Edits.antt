@@ -4,7 +4,7 @@ use Rattle.std.specs.Prelude.{ℕ, ◌+◌, ◌≤◌, List, [], ◌∷◌, Opti
 use Rattle.hub_model.specs.Current.{Current}
 use Rattle.hub_model.specs.Feed.{Feed}
 
--- the rows of edits numbered from n, each with its document's id, or with none if a later one follows it
+-- the rows of edits numbered from n; an edit is the id of its document, or none where a later edit follows it
 abbrev pub rows_of : ℕ → List (Option (Bor (List ℕ))) → List Current
 rows_of n [] = []
 rows_of n (None ∷ edits) = rows_of (n + 1) edits

@@ -19,12 +19,12 @@ rows_between n (Some id ∷ edits) row h =
           × (row.seq < n + 1 + length edits) = rows_between (n + 1) edits row m in (omega arith, omega arith)
     ]
 
--- none is above the number of edits
+-- no row is above the number of edits
 pub rows_within : (edits : List (Option (Bor (List ℕ)))) (row : Current) → Contains (rows_of 1 edits) row
     → row.seq ≤ length edits
 rows_within edits row h = let i = rows_between 1 edits row h in omega arith
 
--- each is above those before it
+-- each row is above the rows before it
 pub rows_rise : (n : ℕ) (edits : List (Option (Bor (List ℕ))))
     → AllPairs (λ (row other : Current). row.seq < other.seq) (rows_of n edits)
 rows_rise n [] = λ i j other below inside. absurd (omega arith)

@@ -1,6 +1,6 @@
 //! Feeds over a plain list of edits.
 //!
-//! The rows of these edits take no memory. A list of ids takes some: where it finds none it is made again.
+//! The rows of these edits take no memory. A list of ids takes memory, and is made again where it finds none.
 
 ghost use Rattle.std.specs.Prelude.{length};
 ghost use Rattle.hub_feed_tests.specs.Edits.{IsWithin};
@@ -17,12 +17,12 @@ use std::fmt::Debug;
 use std::process::Abort;
 use std::test::Fail;
 
-// The value that was found is the one that is wanted. The comparison is proved here, and not in each test.
+// Fails unless the value found is the wanted value. The comparison is proved here, and not in each test.
 fn same<T: PartialEq + Debug>(rt: &impl Abort, found: &T, wanted: &T) {
     assert_eq!(rt; *found, *wanted);
 }
 
-// What a feed hands in one step.
+// The answer of a feed in one step.
 #[derive(Clone, Copy, Debug, PartialEq, Eq)]
 enum Step {
     Row(Shown),
@@ -47,7 +47,7 @@ fn params(mode: Mode, since: Since, limit: Option<u64>) -> FeedParams {
     }
 }
 
-// A row, as those parameters ask for it.
+// A row, as `params` asks for it.
 fn row(seq: u64) -> Step {
     Step::Row(Shown {
         seq,
@@ -79,7 +79,7 @@ fn begin(params: FeedParams, edits: &Edits) -> FeedState
     FeedState::begin(params, edits.length(), edits.life())
 }
 
-// What the feed hands now, without taking it.
+// The next step of the feed, without taking it.
 fn look(feed: &mut FeedState, edits: &Edits) -> Result<Step, AllocError>
     requires { IsWithin feed.old (length edits.now.ids.now) }
     ensures { IsWithin feed.new (length edits.now.ids.now) }
@@ -88,7 +88,7 @@ fn look(feed: &mut FeedState, edits: &Edits) -> Result<Step, AllocError>
     Ok(next_step_of(&next))
 }
 
-// Takes what the feed hands now.
+// Takes the next step of the feed.
 fn take(feed: &mut FeedState, edits: &Edits) -> Result<Step, AllocError>
     requires { IsWithin feed.old (length edits.now.ids.now) }
     ensures { IsWithin feed.new (length edits.now.ids.now) }
@@ -101,7 +101,7 @@ fn take(feed: &mut FeedState, edits: &Edits) -> Result<Step, AllocError>
     Ok(step)
 }
 
-// The feed hands these, step by step, each again until it is taken.
+// The feed hands these steps, one after the other. Each is looked at before it is taken.
 fn walk(rt: &impl Abort, feed: &mut FeedState, edits: &Edits, wanted: &[Step]) -> Result<(), Fail>
     requires { IsWithin feed.old (length edits.now.ids.now) }
     ensures { IsWithin feed.new (length edits.now.ids.now) }
@@ -161,7 +161,7 @@ fn since_and_limit_cut_a_feed(rt: HostRuntime) -> Result<(), Fail> {
     Ok(())
 }
 
-// The ids, in this order, where memory is found.
+// A list of ids, in this order; an error out of memory.
 fn list_of(alloc: Global, ids: &[&str]) -> Result<DocIds, AllocError> {
     let mut texts = Vec::new(alloc);
     for id in ids {
@@ -170,7 +170,7 @@ fn list_of(alloc: Global, ids: &[&str]) -> Result<DocIds, AllocError> {
     Ok(DocIds::new(texts))
 }
 
-// The ids, in this order, made again where no memory is found.
+// A list of ids, in this order, made again where it finds no memory.
 fn listed(alloc: Global, ids: &[&str]) -> Result<DocIds, AllocError> {
     match list_of(alloc, ids) {
         Ok(list) => Ok(list),

@@ -1,9 +1,9 @@
 //! Followers over databases of a hub, mostly as transcripts (`hub_transcript`).
 //!
-//! Where a growth is refused the call says so: no session begins, and a round or a checkpoint leaves the
-//! place. Made again, it does what it does with ample memory. So these tests hold whichever one of their
-//! growths is refused; the growths of the tests themselves, as of a document's text, are among them. That of
-//! threads is not (`threads`).
+//! A call whose growth is refused answers an error: no session begins, and a round or a checkpoint leaves the
+//! place. The call made again does its work as with ample memory. So these tests hold whichever one growth is
+//! refused. The growths of the tests themselves are among them, as that of a document's text. The growth of a
+//! thread is not (`threads`).
 
 mod copier;
 mod desk;
@@ -34,7 +34,7 @@ use std::{fmt, str};
 // The id of the replication logs.
 const LOG: &str = "_local/follower";
 
-/// A place as it is told: its number, with its life where that is known; or that there is none.
+/// A place as transcripts show it: its number, with `-` and its life where the life is known; or `none`.
 #[derive(Drop)]
 pub(crate) struct Told(pub(crate) Option<Seq>);
 
@@ -50,7 +50,7 @@ impl fmt::Display for Told {
     }
 }
 
-// A number that a word is; an error each time where it is none.
+// A word as a number; an error each time where the word is no number.
 fn number(word: &str) -> Result<u64, AllocError> {
     match word.parse() {
         Ok(number) => Ok(number),
@@ -58,7 +58,7 @@ fn number(word: &str) -> Result<u64, AllocError> {
     }
 }
 
-// The sequence that a word is, as a log has it; an error each time where it is none.
+// A word as a sequence, written as in a log; an error each time where the word is no sequence.
 fn seq_of(word: &str) -> Result<Seq, AllocError> {
     match word.split_once('-') {
         Some((n, life)) => Ok(Seq::of_life(number(n)?, number(life)?)),
@@ -69,7 +69,7 @@ fn seq_of(word: &str) -> Result<Seq, AllocError> {
     }
 }
 
-// The text that bytes are; an error each time where they are none.
+// Bytes as a text; an error each time where they are no UTF-8.
 fn text_of(bytes: &[u8]) -> Result<&str, AllocError> {
     match str::from_utf8(bytes) {
         Ok(text) => Ok(text),
@@ -77,8 +77,8 @@ fn text_of(bytes: &[u8]) -> Result<&str, AllocError> {
     }
 }
 
-// A database without documents, within these limits and of the life of this number, made again where that
-// finds no memory.
+// A database without documents, with these limits and this number of its life. Where memory for it is
+// refused, it is asked for once more.
 fn database(alloc: Global, limits: Limits, life: u64) -> Result<Db<Plain>, AllocError> {
     match Db::new(alloc, limits, life, Plain) {
         Ok((db, _handle)) => Ok(db),
@@ -86,7 +86,7 @@ fn database(alloc: Global, limits: Limits, life: u64) -> Result<Db<Plain>, Alloc
     }
 }
 
-// The documents that the words are; an error where they find no memory, and each time where one is none.
+// The documents that the words write; an error out of memory, and each time where a word is no document.
 fn docs(alloc: Global, words: &str) -> Result<Vec<Doc>, AllocError> {
     let mut docs = Vec::new(alloc);
     for text in words.split(' ') {
@@ -111,7 +111,7 @@ fn numbered(alloc: Global, count: u64) -> Result<Vec<Doc>, AllocError> {
     Ok(docs)
 }
 
-// Tells why a call fails, as a part of a line. That it found no memory is an error.
+// Tells why a call fails, as a part of a line. `NoMemory` is not told: it is an error of this function.
 fn tell_fault(alloc: Global, fault: FollowFault, answer: &mut Answer) -> Result<(), AllocError> {
     match fault {
         FollowFault::NoMemory => Err(AllocError),

@@ -1,4 +1,4 @@
-//! Guesses of the numbers of ids, beside the ids.
+//! Guesses of the numbers of ids, compared with the ids.
 
 use crate::ids::Ids;
 use crate::tests::same;
@@ -6,7 +6,7 @@ use hub_index::IdHints;
 use std::alloc::{AllocError, Global};
 use std::test::Fail;
 
-// Takes in an id under the next number, which is this.
+// Adds an id under the next number, which is `number`.
 fn add(ids: &mut Ids, hints: &mut IdHints, number: u32, id: String) -> Result<(), AllocError> {
     hints.remember(id.as_str(), number);
     ids.list.push(id)?;
@@ -26,7 +26,7 @@ fn ids_of(alloc: Global, count: u32) -> Result<(Ids, IdHints), AllocError> {
     Ok((ids, hints))
 }
 
-// These ids, which a text lists, and their hints.
+// The ids of a text, with blanks between them, and their hints.
 fn listed(alloc: Global, texts: &str) -> Result<(Ids, IdHints), AllocError> {
     let (mut ids, mut hints) = ids_of(alloc, 0)?;
     let mut number = 0u32;
@@ -37,7 +37,7 @@ fn listed(alloc: Global, texts: &str) -> Result<(Ids, IdHints), AllocError> {
     Ok((ids, hints))
 }
 
-// How many of the ids are found, each with its own number.
+// How many of the ids are found under their own numbers.
 fn found(ids: &Ids, hints: &IdHints) -> usize {
     let mut count = 0usize;
     let mut number = 0u32;
@@ -50,7 +50,7 @@ fn found(ids: &Ids, hints: &IdHints) -> usize {
     count
 }
 
-// Whether of so many ids none is found under the texts of greater numbers, nor under no text.
+// Whether, beside so many ids, no id is found for the text of a greater number, nor for an empty text.
 fn finds_no_other(alloc: Global, count: u32) -> Result<bool, AllocError> {
     let (ids, hints) = ids_of(alloc, count)?;
     let mut found = hints.find(&ids, "").is_some();
@@ -78,7 +78,7 @@ fn most_are_found_after_growth(rt: HostRuntime) -> Result<(), Fail> {
     Ok(())
 }
 
-// Texts whose hashes begin at one place, where there are 32 slots.
+// Texts whose hashes all begin at the same one of 32 slots.
 const COLLIDING: &str = "00001 00011 00017 00018 00020 00025 00027 00032 00035 00038 00041 00043";
 
 #[test]

@@ -1,4 +1,4 @@
-//! Numbers in the order of their ids, beside a list of the numbers.
+//! Numbers in the order of their ids, compared with a list of the numbers.
 
 ghost use Rattle.std.specs.Prelude.{map, string_bytes, OnOk};
 ghost use Rattle.hub_index.specs.Order.{IsOrder};
@@ -8,7 +8,7 @@ use hub_index::IdOrder;
 use std::alloc::{AllocError, Global};
 use std::test::Fail;
 
-// Takes in an id that is new, under the next number.
+// Adds an id under the next number, unless the id is there.
 fn enter(ids: &mut Ids, order: &mut IdOrder, alloc: Global, id: &str) -> Result<(), AllocError>
     requires { IsOrder (map string_bytes ids.old.list.items) order.old }
     ensures { OnOk result (IsOrder (map string_bytes ids.new.list.items) order.new) }
@@ -31,8 +31,8 @@ fn text_of(alloc: Global, number: u64) -> Result<String, AllocError> {
     format!(in alloc; "{:04}", number)
 }
 
-// Takes in so many ids, of which each is the one before it plus a step, up to a bound; and says
-// whether each has its number then, and the texts between them none.
+// Adds so many ids. Each is the id before it plus a step, modulo 9973. Answers whether each id then has its
+// number, and each other text below 9973 has none.
 fn agree_by_steps(alloc: Global, count: u32, first: u64, step: u64) -> Result<bool, AllocError> {
     let mut ids = Ids {
         list: Vec::new(alloc),
@@ -58,7 +58,7 @@ fn agree_by_steps(alloc: Global, count: u32, first: u64, step: u64) -> Result<bo
     Ok(agree)
 }
 
-/// None is found among none; ids are found that came in order, in the reverse order, and scattered.
+/// An order without ids finds none. Ids are found that came in order, in reverse order, and scattered.
 #[test]
 fn ids_are_found(rt: HostRuntime) -> Result<(), Fail> {
     assert!(rt; agree_by_steps(rt.alloc(), 0, 0, 3)?, "none");

@@ -1,4 +1,4 @@
-//! Rows in pages: what is read at their borders, and which pages are there.
+//! Rows in pages: reads at the borders of pages, and which pages are kept.
 
 ghost use Rattle.std.specs.Prelude.{◌≡◌, ◌+◌, ◌^◌, ◌<◌, ◌≤◌, ◌∷◌, [], IfOk, OnOk};
 ghost use Rattle.std.specs.List.{All};
@@ -59,7 +59,7 @@ fn bounds_end_rows_within_a_page(rt: HostRuntime) -> Result<(), Fail> {
     Ok(())
 }
 
-// Removes the row at a sequence: how many pages and rows are left.
+// Removes the row at a sequence. Answers how many pages and rows are left.
 fn left_without(index: &mut PageIndex, seq: u64) -> (u64, u64)
     requires { 0 < seq }
 {
@@ -121,7 +121,7 @@ fn an_index_may_have_one_row(rt: HostRuntime) -> Result<(), Fail> {
     Ok(())
 }
 
-// Moves the documents 1 to `count` behind all rows, in their order: document 1 goes to `from` + 1.
+// Moves the documents 1 to `count` above all rows, in their order: document 1 goes to `from` + 1.
 fn move_in_order(
     index: &mut PageIndex,
     plain: &mut Vec<(u64, u32)>,

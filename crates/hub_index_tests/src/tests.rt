@@ -1,7 +1,7 @@
-//! Rows that move, and what is read of them.
+//! Rows that move, and the reads of an index.
 //!
-//! Any one growth of a move may be refused. The move says so, the index shows the same as before, and the
-//! move is made again; made again it comes.
+//! Any one growth of a move may be refused. Then the move answers an error, and the index shows the same as
+//! before. The move made again succeeds.
 
 ghost use Rattle.std.specs.Prelude.{◌≡◌, ◌<◌, ◌≤◌, [], IfOk, OnOk};
 ghost use Rattle.std.specs.List.{All};
@@ -13,7 +13,7 @@ use std::fmt::Debug;
 use std::process::Abort;
 use std::test::Fail;
 
-/// The value that was found is the one that is wanted. The comparison is proved here, and not in each test.
+/// Fails unless the value found is the wanted value. The comparison is proved here, and not in each test.
 pub(crate) fn same<T: PartialEq + Debug>(rt: &impl Abort, found: &T, wanted: &T) {
     assert_eq!(rt; *found, *wanted);
 }
@@ -27,7 +27,7 @@ fn last_row<I: SeqIndex>(index: &I) -> Option<(u64, u32)> {
     index.last_before(u64::MAX)
 }
 
-// What an index shows: its first row, its last, and how many there are.
+// The first row of an index, its last row, and how many rows it has.
 fn shown<I: SeqIndex>(index: &I) -> (Option<(u64, u32)>, Option<(u64, u32)>, u64) {
     (first_row(index), last_row(index), index.count_after(0))
 }
@@ -51,7 +51,7 @@ pub(crate) fn move_again<I: SeqIndex>(
     }
 }
 
-// A plain list of no rows that has room for so many, asked for again where no memory is found.
+// An empty list of rows with room for so many, asked for again where no memory is found.
 pub(crate) fn room_for(alloc: Global, count: usize) -> Result<Vec<(u64, u32)>, AllocError>
     ensures { IfOk result (λ plain. plain.items ≡ []) }
 {
@@ -61,7 +61,7 @@ pub(crate) fn room_for(alloc: Global, count: usize) -> Result<Vec<(u64, u32)>, A
     }
 }
 
-// Documents 7, 8 and 9 at the sequences 1, 2 and 3, of which the first is then moved to 4.
+// Moves the documents 7, 8 and 9 to the sequences 1, 2 and 3, and then the document 7 to 4.
 pub(crate) fn four_moves<I: SeqIndex>(index: &mut I) -> Result<(), AllocError>
     requires { I.rows index.old ≡ [] }
 {
@@ -72,7 +72,7 @@ pub(crate) fn four_moves<I: SeqIndex>(index: &mut I) -> Result<(), AllocError>
     Ok(())
 }
 
-// The first row behind a place, the last before it, and how many there are behind it.
+// The first row after a place, the last row before it, and how many rows are after it.
 pub(crate) fn around<I: SeqIndex>(index: &I, place: u64) -> Around {
     (
         index.next_after(place, None),
@@ -81,7 +81,7 @@ pub(crate) fn around<I: SeqIndex>(index: &I, place: u64) -> Around {
     )
 }
 
-/// What stands around a place.
+/// The rows around a place.
 pub(crate) type Around = (Option<(u64, u32)>, Option<(u64, u32)>, u64);
 
 #[test]
@@ -163,7 +163,7 @@ pub(crate) fn move_both<I: SeqIndex>(
     Ok(())
 }
 
-// Whether an index answers at the place as a plain list, which rises, does.
+// Whether an index answers at a place as a plain list does. The sequences of the list rise.
 fn answers_as<I: SeqIndex>(index: &I, plain: &[(u64, u32)], place: u64, bound: u64) -> bool {
     let mut first = None;
     let mut within = None;

@@ -1,6 +1,6 @@
-//! What the two ends of a lane answer, in one thread and in two.
+//! The answers of the two ends of a lane, in one thread and in two.
 //!
-//! Any one growth may be refused, that of a thread among them: what met it says so, and is made again.
+//! Any one growth may be refused, also that of a thread. The refused call is an error, and is made again.
 
 ghost use Rattle.std.specs.Prelude.{◌≡◌, ◌<◌, ◌≤◌};
 
@@ -12,7 +12,7 @@ use std::sync::Wait;
 use std::test::Fail;
 use std::thread;
 
-// The value that was found is the one that is wanted. The comparison is proved here, and not in each test.
+// Fails unless the value found is the wanted value. The comparison is proved here, and not in each test.
 fn same<T: PartialEq + Debug>(rt: &impl Abort, found: &T, wanted: &T) {
     assert_eq!(rt; *found, *wanted);
 }
@@ -29,7 +29,7 @@ impl Kept<u64> for Below {
     ghost allows = { λ l numbers. All (λ n. n < l.limit) numbers };
 }
 
-// The two ends of an empty lane for so many numbers below a limit, which is made again where it finds no
+// The two ends of an empty lane for so many numbers below a limit. The lane is made again where it finds no
 // memory.
 fn lane(
     alloc: Global,
@@ -44,8 +44,8 @@ fn lane(
     }
 }
 
-// What comes back of a number: none where it was sent. One that the label does not allow is not
-// pushed.
+// The number that comes back from a push; None where it was sent. A number that the label does not allow
+// comes back without a push.
 fn push_below<R: Asks<Below, u64>>(
     rt: &R,
     sender: &mut Sender<Below, u64>,
@@ -60,10 +60,10 @@ fn push_below<R: Asks<Below, u64>>(
     }
 }
 
-// A push of a number, or a take, and what comes back of it.
+// A push of a number, or a take where there is no number; and the number that comes back or is taken.
 type Step = (Option<u64>, Option<u64>);
 
-// The first step that answers another thing than it says.
+// The first step that has another answer, with that answer.
 fn first_wrong<R: Asks<Below, u64>>(
     rt: &R,
     sender: &mut Sender<Below, u64>,
@@ -82,7 +82,7 @@ fn first_wrong<R: Asks<Below, u64>>(
     None
 }
 
-// In order, each once, and a number that finds the lane full comes back.
+// Items come in order, each once. A number that finds the lane full comes back.
 const LANE_OF_TWO: [Step; 10] = [
     (None, None),
     (Some(7), None),
@@ -137,7 +137,7 @@ fn send_all<R: Wait>(rt: &R, mut sender: Sender<Below, u64>, count: u64) {
     }
 }
 
-// Takes numbers from 0 on, until this many came or another one comes, and counts them.
+// Takes numbers from 0 on, until this many came or another number comes. Answers how many came in order.
 fn take_all<R: Wait>(rt: &R, receiver: &mut Receiver<Below, u64>, count: u64) -> u64 {
     let mut next = 0;
     for _ in rt.forever() {

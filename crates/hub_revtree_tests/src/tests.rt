@@ -1,6 +1,6 @@
 //! Trees of revisions, as transcripts.
 //!
-//! What answers over HTTP show of them is tested there, in `hub_service_tests`.
+//! `hub_service_tests` tests the answers over HTTP that show them.
 
 mod asks;
 mod best;

@@ -1,4 +1,4 @@
-//! What lies under a lock, as its users see it.
+//! Databases under locks, as their users see them.
 #![tactic(auto)]
 
 #[cfg(test)]

@@ -1,8 +1,8 @@
-//! Databases under locks, as threads that share them are answered: transcripts.
+//! Databases under locks: the answers to threads that share them, as transcripts.
 //!
-//! Where a growth is refused the call says so, the database shows the same as before it, and the same call
-//! then answers as it does with ample memory. So these tests hold whichever one of their growths is refused;
-//! the growths of the tests themselves, as of a document's text, are among them.
+//! Where a growth is refused the call is an error, and the database shows the same as before. The same call
+//! then answers as with ample memory. So these tests hold whichever one growth is refused. The growths of the
+//! tests themselves are among them, as that of a document's text.
 
 mod followed;
 mod handles;

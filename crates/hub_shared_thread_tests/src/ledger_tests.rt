@@ -13,7 +13,7 @@ use std::sync::Wait;
 use std::sync::ledger::{Blank, Ledger};
 use std::thread::{self, Threads};
 
-// What a thread gives back: its handle, and the receipts of all that was written through it.
+// The result of a thread: its handle, and the receipts of all edits that were written through it.
 #[derive(Drop)]
 struct Session<L: Ledger> {
     handle: Handle<Counted<L>>,
@@ -22,23 +22,23 @@ struct Session<L: Ledger> {
     ghost counted: { handle.count ≡ vec_len receipts },
 }
 
-// What both threads did.
+// The facts of both threads together.
 #[derive(Drop)]
 struct Report {
     /// How many receipts they got.
     receipts: u64,
     /// How many edits the journal has.
     update_seq: u64,
-    /// What the joined handles counted.
+    /// How many edits the joined handles counted.
     count: u64,
     /// Whether the journal has the edit of each receipt, and each document is read with the revision of its
     /// receipt.
     are_told: bool,
-    /// Whether a feed of the joined handles begins behind all edits, in the database's life.
+    /// Whether a feed of the joined handles begins after all edits, in the database's life.
     is_followed: bool,
 }
 
-// A hundred documents whose ids begin so.
+// A hundred documents whose ids begin with `front`.
 fn hundred(alloc: Global, front: &str) -> Result<Vec<Doc>, AllocError> {
     let mut docs = Vec::new(alloc);
     for number in 0..100u64 {
@@ -81,7 +81,7 @@ fn update_seq<C: Count, R: Wait>(rt: &R, handle: &mut Handle<C>) -> Result<u64, 
     }
 }
 
-// Whether each document that a receipt tells of is read with the receipt's revision.
+// Whether each document of a receipt is read with the receipt's revision.
 fn are_read<C: Count, R: Wait>(
     rt: &R,
     alloc: Global,
@@ -101,7 +101,7 @@ fn are_read<C: Count, R: Wait>(
     Some(true)
 }
 
-// Whether a feed of the handle begins behind so many edits, in the database's life.
+// Whether a feed of the handle begins after so many edits, in the database's life.
 fn is_followed<C: Count, R: Wait>(rt: &R, alloc: Global, db: &mut Handle<C>, edits: u64) -> bool {
     let Some(feed) = open(rt, alloc, db, "since=now", "") else {
         return false;
@@ -120,7 +120,7 @@ fn are_told<C: Count, R: Wait>(
     db.audit(rt, receipts).is_ok() && are_read(rt, alloc, db, receipts) == Some(true)
 }
 
-// Joins the handles, and compares what they know with the journal.
+// Joins the handles, and compares their count and their receipts with the journal.
 fn compare<L: Ledger + Send + Sync, R: Wait>(
     rt: &R,
     alloc: Global,
@@ -186,7 +186,7 @@ fn write_from_two<L: Ledger + Send + Sync + 'static, R: Threads + Wait + Sync>(
     compare(rt, alloc, one, other)
 }
 
-// The same with a ledger of its own.
+// Two threads write to a new database that has a ledger of its own.
 fn report_of_two<R: Threads + Wait + Sync>(rt: &R, alloc: Global) -> Result<Report, DbFault>
     ensures { IfOk result (λ report. report.update_seq ≡ report.receipts) }
 {

@@ -1,4 +1,4 @@
-//! What threads that share a database are answered, and what their feeds hand.
+//! The answers to threads that share a database, and the items of their feeds.
 
 mod readers;
 mod stress;
@@ -14,7 +14,7 @@ use std::sync::atomic::{AtomicU64, Ordering};
 use std::thread::{self, Threads};
 use std::time;
 
-/// A gate that counts how often the lock was held, and holds nobody; and a clock that goes on by so many
+/// A gate that counts how often the lock was held, and holds no thread; and a clock that goes on by `step`
 /// milliseconds with each reading.
 #[derive(Drop)]
 struct Pace {
@@ -66,7 +66,7 @@ impl Counts {
         }
     }
 
-    /// Counts an item: whether it is the next row, a beat, or an end that shows the rows that came.
+    /// Counts an item. Answers whether it is the next row, a beat, or an end at the last row.
     fn count(&mut self, item: &Item<ChangeRow>) -> bool {
         match item {
             Item::Row(row) => {
@@ -88,8 +88,8 @@ impl Counts {
 /// The number of the life of each database.
 pub(crate) const LIFE: u64 = 6;
 
-/// A new database whose lanes hold so many items, and of which one holding hands so many; None also where these
-/// are no limits.
+/// A new database whose lanes hold `lane` items, and whose holdings hand `hold` items; None also where one of
+/// these is below 1 or above 64.
 fn database(alloc: Global, lane: u64, hold: u64) -> Option<(Db<Plain>, Handle<Plain>)> {
     if lane == 0 || lane > 64 || hold == 0 || hold > 64 {
         return None;
@@ -100,7 +100,7 @@ fn database(alloc: Global, lane: u64, hold: u64) -> Option<(Db<Plain>, Handle<Pl
     Db::new(alloc, limits, LIFE, Plain).ok()
 }
 
-/// The document that the text is, which another database made.
+/// The document of a text, which another database made.
 fn doc_of(alloc: Global, text: &str) -> Option<Vec<Doc>> {
     let mut docs = Vec::new(alloc);
     docs.push(Doc::read(alloc, text.as_bytes(), false).ok()?)
@@ -108,8 +108,8 @@ fn doc_of(alloc: Global, text: &str) -> Option<Vec<Doc>> {
     Some(docs)
 }
 
-/// Stores the document that the text is, which another database made: its receipt, which passes an audit. None
-/// where it is not stored.
+/// Stores the document of a text, which another database made. Answers its receipt, which passes an audit;
+/// None where the document is not stored.
 fn put_text<R: Wait>(
     rt: &R,
     alloc: Global,
@@ -124,7 +124,7 @@ fn put_text<R: Wait>(
     receipts.pop()
 }
 
-/// Stores so many documents, and lets other threads on behind each; None where one is not stored.
+/// Stores so many documents, and lets other threads on after each; None where one is not stored.
 fn put_many<R: Wait>(rt: &R, alloc: Global, handle: &mut Handle<Plain>, count: u64) -> Option<()> {
     for number in 0..count {
         let text = format!(in alloc; r#"{{"_id":"d{number}","_rev":"1-a"}}"#).ok()?;
@@ -134,7 +134,7 @@ fn put_many<R: Wait>(rt: &R, alloc: Global, handle: &mut Handle<Plain>, count: u
     Some(())
 }
 
-/// A feed that the query and the body open; None where it is not opened.
+/// A feed with the parameters of a query and a body; None where it is not opened.
 pub(crate) fn open<C: Count, R: Wait>(
     rt: &R,
     alloc: Global,
@@ -146,7 +146,7 @@ pub(crate) fn open<C: Count, R: Wait>(
     handle.open_feed(rt, params).ok()
 }
 
-/// Who reads a feed beside its pump, which has `K` as its gate and its clock.
+/// A reader of a feed beside the feed's pump, which has `K` as its gate and its clock.
 trait Reader<R, K> {
     /// Takes items of the feed, and finishes it.
     fn read(&mut self, rt: &R, pace: &K, feed: Feed<Plain>);

@@ -1,4 +1,4 @@
-//! A list that takes what feeds hand.
+//! A list that takes the items of feeds.
 
 ghost use Rattle.std.specs.Prelude.{◌≡◌, [], IfOk};
 
@@ -6,7 +6,7 @@ use hub_feed::{Pushes, Sink};
 use std::alloc::{AllocError, Global};
 use std::marker::Model;
 
-/// A list that takes so many items at most, and has the room for them from the first.
+/// A list with a limit of items, and with the room for all of them from the first.
 #[derive(Drop)]
 pub(crate) struct Listed<I> {
     items: Vec<I>,
@@ -35,7 +35,7 @@ impl<I> Listed<I> {
         })
     }
 
-    /// What it took, the first item first.
+    /// The items that it took, the first item first.
     pub(crate) fn items(&self) -> &[I]
         ensures { result.now ≡ self.now.0 }
     {
@@ -53,7 +53,7 @@ impl<I> Sink<I> for Listed<I> {
     ghost behind = { λ list item. (list.0 ++ item ∷ [], list.1) };
 }
 
-/// A list is given its items through nothing.
+/// The handle by which a list gets its items. It has nothing in it.
 #[derive(Drop)]
 pub(crate) struct NoHandle;
 

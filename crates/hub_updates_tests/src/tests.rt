@@ -1,9 +1,9 @@
-//! Logs of updates as tables: what is noted, and what the feeds of a log hand.
+//! Logs of updates as tables: the notes of a log, and the items that its feeds hand.
 //!
-//! With ample memory each step is made once. Where a growth is refused the step says so, the log shows the
-//! same as before it, and made again the step has the answer that it has with ample memory. So these tests
-//! hold whichever one of their growths is refused; the growths of the tests themselves, as of a notice, are
-//! among them.
+//! With ample memory each step is made once. Where a growth is refused the step is an error, and the log
+//! shows the same as before. The step made again has the answer that it has with ample memory. So these tests
+//! hold whichever one growth is refused. The growths of the tests themselves are among them, as that of a
+//! notice.
 
 use crate::listed::{Listed, NoHandle};
 use crate::tests::Handed::{End, Full, Gone, Nothing, Row};
@@ -16,23 +16,23 @@ use hub_params::FeedParams;
 use hub_updates::{NoteFault, Notice, UpdatesState};
 use std::alloc::{AllocError, Global};
 
-/// A log of nothing, and what is done to it.
+/// An empty log, and the steps that are made on it.
 struct Case {
     name: &'static str,
-    /// Whether the log may have one note and one feed alone.
+    /// Whether the log has room for one note and one feed alone.
     narrow: bool,
     steps: &'static [Step],
 }
 
 /// A step on a log, and its answer.
 enum Step {
-    /// Something happened to the database of this name.
+    /// A notice comes of a change of the database of this name.
     Note(UpdateKind, &'static str, Result<(), NoteFault>),
     /// How many notes there are.
     Length(u64),
-    /// The feed that this query asks for is opened.
+    /// A feed with the parameters of this query is opened.
     Open(&'static str, Result<FeedId, OpenFault>),
-    /// What a feed hands next.
+    /// The outcome of the next hand of a feed.
     Hand(FeedId, Handed),
     /// Whether a beat is due to a feed.
     Beats(FeedId, bool),
@@ -40,14 +40,14 @@ enum Step {
     Expire(FeedId),
     /// A feed is finished.
     Finish(FeedId),
-    /// What a feed of a log heeds of this query.
+    /// The parameters of this query that a feed of a log heeds.
     Heeds(&'static str, Heeded),
 }
 
-/// What a feed hands.
+/// The outcome of a hand.
 enum Handed {
-    /// A row: what happened, to the database of which name, its sequence, and how many notes there
-    /// were.
+    /// A row: its kind, the name of its database, its sequence, and how many notes there were when it was
+    /// made.
     Row(UpdateKind, &'static str, u64, u64),
     /// Its end: the last sequence and how many rows are pending.
     End(u64, u64),
@@ -55,11 +55,11 @@ enum Handed {
     Nothing,
     /// Nothing any more.
     Gone,
-    /// What is due, to a list that is full and does not take it.
+    /// An item is due, and the list has no room for it.
     Full,
 }
 
-/// What a feed of a log heeds of its parameters. It shows every row, upwards, with the winner and without
+/// The parameters that a feed of a log heeds. The feed shows every row, upwards, with the winner and without
 /// a document.
 struct Heeded {
     mode: Mode,
@@ -82,7 +82,7 @@ struct Trial {
     state: UpdatesState,
 }
 
-// Limits of a log, which may have one note and one feed alone where they are narrow.
+// The limits of a log. Where they are narrow, it may have one note and one feed alone.
 fn limits(narrow: bool) -> Limits {
     let mut limits = Limits::full();
     if narrow {
@@ -92,7 +92,7 @@ fn limits(narrow: bool) -> Limits {
     limits
 }
 
-// The parameters that a query gives; an error where it finds no memory, and each time where it gives none.
+// The parameters of a query; an error out of memory, and each time where the query is refused.
 fn params_of(alloc: Global, query: &str) -> Result<FeedParams, AllocError> {
     match FeedParams::read(alloc, query.as_bytes(), b"") {
         Ok(params) => Ok(params),
@@ -100,7 +100,7 @@ fn params_of(alloc: Global, query: &str) -> Result<FeedParams, AllocError> {
     }
 }
 
-// Whether the parameters are heeded so.
+// Whether the parameters are those of `heeded`, and otherwise those of each feed of a log.
 fn is_heeded(params: &FeedParams, heeded: &Heeded) -> bool {
     params.mode == heeded.mode
         && params.since == heeded.since
@@ -113,7 +113,7 @@ fn is_heeded(params: &FeedParams, heeded: &Heeded) -> bool {
         && params.filter.passes("d")
 }
 
-// Whether a hand that did this, to a list that has this first item now, handed so.
+// Whether a hand has this outcome. `item` is the first item of its list after it.
 fn is_hand(did: Did, item: Option<&Item<UpdateRow>>, handed: &Handed) -> bool {
     match (did, item, handed) {
         (Did::Row, Some(Item::Row(row)), Row(kind, name, seq, seen)) => {
@@ -130,8 +130,8 @@ fn is_hand(did: Did, item: Option<&Item<UpdateRow>>, handed: &Handed) -> bool {
     }
 }
 
-// Whether a feed of a host hands this next. The list has room for one item, or for none where it is to be
-// full.
+// Whether the next hand of a feed has this outcome. The list has room for one item, or for none where the
+// outcome is `Full`.
 fn hands<H: FeedHost<Row = UpdateRow>>(
     alloc: Global,
     host: &mut H,
@@ -159,7 +159,7 @@ fn opens<H: FeedHost>(
 }
 
 impl Trial {
-    // Whether a notice of this has this answer. One that is handed back is the same, and lapses.
+    // Whether a notice has this answer. A notice that is handed back has to be the same, and lapses.
     fn notes(
         &mut self,
         kind: UpdateKind,
@@ -179,7 +179,7 @@ impl Trial {
         }
     }
 
-    // Whether a step has its answer; an error where it finds no memory.
+    // Whether a step has its answer; an error out of memory.
     fn holds(&mut self, step: &Step) -> Result<bool, AllocError> {
         match step {
             Note(kind, name, answer) => self.notes(*kind, name, *answer),
@@ -204,8 +204,8 @@ impl Trial {
         }
     }
 
-    // The same, also where a growth of it is refused. One that finds no memory leaves what the log shows for
-    // which it takes none, how many notes it has and whether beats are due to its feeds, and is made again.
+    // Whether a step has its answer, also where one of its growths is refused. A step out of memory has to
+    // leave the number of notes and the beats that are due, and is made again.
     fn holds_again(&mut self, step: &Step) -> bool {
         let notes = self.state.update_seq();
         let first = self.state.beat_due(FIRST);
@@ -221,7 +221,7 @@ impl Trial {
         }
     }
 
-    // How many steps have their answers, before the first that has another.
+    // How many steps have their answers, before the first step that has another answer.
     fn count_of(&mut self, steps: &[Step]) -> usize {
         let mut count = 0usize;
         for step in steps {
@@ -250,7 +250,7 @@ const AGAIN: &[Step] = &[
     Hand(FIRST, Gone),
 ];
 
-// A row in front of the feed's place gets a new sequence, above the feed's reach.
+// A row above the feed's place gets a new sequence, above the feed's bound.
 const LEFT: &[Step] = &[
     Note(Created, "cd", Ok(())),
     Note(Created, "d", Ok(())),
@@ -281,7 +281,7 @@ const FOLLOWED: &[Step] = &[
     Hand(FIRST, Gone),
 ];
 
-// A feed begins at a sequence of the log's life, 0, and with the first row at one of another life.
+// A feed begins after a sequence of the log's life, 0. For another life it begins at the first row.
 const LIVES: &[Step] = &[
     Note(Created, "d", Ok(())),
     Note(Created, "e", Ok(())),
@@ -354,7 +354,7 @@ const LONGPOLL: Heeded = Heeded {
     timeout: 5,
 };
 
-// What no parameter tells otherwise.
+// The parameters where a query says nothing of them.
 const PLAIN: Heeded = Heeded {
     mode: Mode::Normal,
     since: Since::Plain(0),
@@ -363,7 +363,7 @@ const PLAIN: Heeded = Heeded {
     timeout: 60000,
 };
 
-// Those of documents are not heeded.
+// The parameters of documents are not heeded.
 const PARAMETERS: &[Step] = &[
     Heeds(
         "feed=longpoll&since=2-0&limit=3&heartbeat=1000&timeout=5",
@@ -428,8 +428,8 @@ const CASES: &[Case] = &[
     },
 ];
 
-// The steps of each case, one at least, have their answers in a new log. Where one has another, the assertion
-// shows how many before it had theirs.
+// The steps of each case, one at least, have their answers in a new log. The assertion shows how many steps
+// have their answers before the first step that has another answer.
 #[test]
 fn logs_answer_each_step(rt: HostRuntime) {
     let alloc = rt.alloc();

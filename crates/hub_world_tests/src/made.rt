@@ -7,9 +7,9 @@ use std::fmt::Write;
 /// The ids of the documents.
 pub(crate) const IDS: &str = "a b c _design/x";
 
-// The parts of a command. Each line has the name of a part, a weight, and a text that the part may be, in which
-// the names of other parts stand between `<` and `>`. The weights of a part are `WEIGHTS` together. Three parts
-// are none of these (`Maker::part`).
+// The rules that make a command. Each line has the name of a part, a weight, and a text that the part may be.
+// In a text the names of other parts stand between `<` and `>`. The weights of a part add up to `WEIGHTS`.
+// Three parts have no rule (`Maker::part`).
 const RULES: &str = r#"
 event 1 delete
 event 6 write <document>
@@ -85,7 +85,7 @@ pub(crate) struct Random {
 }
 
 impl Random {
-    /// The next number, below this one; 0 below 0.
+    /// The next random number, below `end`; 0 where `end` is 0.
     pub(crate) fn below(&mut self, end: u64) -> u64 {
         self.state = self
             .state
@@ -107,7 +107,7 @@ pub(crate) fn word_at<'a>(words: &'a str, place: u64) -> &'a str {
     words.word()
 }
 
-// The text of a part that a number below `WEIGHTS` stands for.
+// The text of a part for a number below `WEIGHTS`.
 fn text_of(part: &str, number: u64) -> &'static str {
     let mut left = number;
     for line in RULES.split('\n') {
@@ -123,22 +123,22 @@ fn text_of(part: &str, number: u64) -> &'static str {
     ""
 }
 
-// The place among `IDS` of the id of the document at this place of a command; `usize::MAX` where there is none.
+// The place in `IDS` of the id of a command's document, by its place `at`; `usize::MAX` where there is none.
 fn place_of(command: &str, at: usize) -> usize {
     let doc = command.split(r#""_id":""#).skip(1).nth(at).unwrap_or("");
     let (id, _) = doc.split_once('"').unwrap_or(("", ""));
     Words::of(id).verb(IDS)
 }
 
-/// A maker of commands, and what it knows of the replies.
+/// A maker of commands, with the facts of the replies that it uses.
 #[derive(Drop)]
 pub(crate) struct Maker {
     pub(crate) random: Random,
     /// The command that was made last.
     pub(crate) command: String,
-    /// What is still to be made of it, the next text last.
+    /// The texts of the command still to be made, the next text last.
     texts: Vec<&'static str>,
-    /// The revision 1-a and those that the replies told, a blank behind each, and how many they are.
+    /// The revision 1-a and the revisions that replies told, each with a blank after it, and their number.
     revs: String,
     rev_count: u64,
     /// How many feeds were opened.
@@ -173,7 +173,7 @@ impl Maker {
         self.revs.push_str("1-a ")
     }
 
-    // Notes a document of the id at this place that was told to be stored under a revision.
+    // Notes that a document of the id at this place was stored under a revision.
     fn store(&mut self, place: usize, rev: &str) -> Result<(), AllocError> {
         self.length = self.length.saturating_add(1);
         if place < 4 {
@@ -183,7 +183,7 @@ impl Maker {
         write!(self.revs, "{rev} ")
     }
 
-    /// Notes what the reply to the last command tells.
+    /// Notes the facts of the reply to the last command.
     pub(crate) fn note(&mut self, reply: &str) -> Result<(), AllocError> {
         if reply.starts_with("opened") {
             self.feeds = self.feeds.saturating_add(1);
@@ -198,7 +198,7 @@ impl Maker {
         Ok(())
     }
 
-    // The number of a feed: mostly one of the last two, now and then any, or one that there is not.
+    // The number of a feed: mostly one of the last two, now and then any, or one that does not exist.
     fn feed(&mut self) -> u64 {
         if self.random.below(8) == 0 {
             return self.random.below(self.feeds.saturating_add(2));
@@ -207,8 +207,8 @@ impl Maker {
         self.feeds.saturating_sub(back)
     }
 
-    // Makes a part. A feed is told by its number, `number` is one below 16, and `known` a revision that a reply
-    // told.
+    // Makes a part. `feed` is the number of a feed, `number` is one below 16, and `known` is 1-a or a
+    // revision that a reply told.
     fn part(&mut self, part: &str) -> Result<(), AllocError> {
         match Words::of(part).verb("feed number known") {
             0 => {
@@ -231,7 +231,7 @@ impl Maker {
         }
     }
 
-    // Goes on with a text: up to its first part, and with that.
+    // Goes on with a text: its front up to the first part, and then this part.
     fn go_on(&mut self, text: &'static str) -> Result<(), AllocError> {
         let (front, rest) = text.split_once('<').unwrap_or((text, ""));
         self.command.push_str(front)?;

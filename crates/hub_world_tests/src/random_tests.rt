@@ -1,4 +1,4 @@
-//! Random events through `World`: each kind of reply comes, and the rows that are left are those that the
+//! Random events through `World`: each kind of reply comes, and the rows at the end are those that the
 //! replies told.
 
 use crate::made::{IDS, Maker, Random, word_at};
@@ -7,7 +7,7 @@ use std::alloc::{AllocError, Global};
 use std::fmt::Write;
 use std::test::Fail;
 
-// A database to which random events happen, and all that their replies tell, a line each.
+// A database with random events, and the texts of all replies, a line each.
 #[derive(Drop)]
 struct Run {
     alloc: Global,
@@ -35,20 +35,20 @@ impl Run {
         self.maker.note(self.shell.last())
     }
 
-    // Whether the reply to a step of a feed begins so.
+    // Whether the reply to a command on a feed begins with `wanted`.
     fn replies(&mut self, verb: &str, feed: u64, wanted: &str) -> Result<bool, AllocError> {
         let command = format!(in self.alloc; "{verb} {feed}")?;
         self.shell.apply(command.as_str())?;
         Ok(self.shell.last().starts_with(wanted))
     }
 
-    // Whether the feed shows next what is told so.
+    // Whether the newest feed hands an item next, and the reply that takes it begins with `wanted`.
     fn shows(&mut self, wanted: &str) -> Result<bool, AllocError> {
         let feed = self.maker.feeds;
         Ok(self.replies("hand", feed, "pushed")? && self.replies("take", feed, wanted)?)
     }
 
-    // Whether a new feed shows the document that was stored last at this sequence, if one was.
+    // Whether the newest feed shows the document whose last sequence this is, if there is one.
     fn shows_row(&mut self, seq: u64) -> Result<bool, AllocError> {
         for place in 0..4u64 {
             if self.maker.last.get(place as usize).copied() == Some(seq) {
@@ -59,8 +59,8 @@ impl Run {
         Ok(true)
     }
 
-    // Whether the rows behind this sequence of a life are the last ones that the replies told, each once
-    // and rising: of another life than 1 the sequence counts as 0.
+    // Whether the rows above this sequence of a life are the last ones that the replies told, each once and
+    // rising. A sequence of another life than 1 counts as 0.
     fn rows_are_told(&mut self, since: u64, life: u64) -> Result<bool, AllocError> {
         for feed in 0..self.maker.feeds {
             self.replies("finish", feed, "")?;
@@ -79,7 +79,7 @@ impl Run {
         self.shows("took end ")
     }
 
-    // Whether random events to a new database with small limits leave the rows that were told.
+    // Whether a new database with small limits has the told rows after 100 random events.
     fn is_right(&mut self) -> Result<bool, AllocError> {
         self.shell.room("2 2 12")?;
         self.maker.forget()?;
@@ -101,7 +101,7 @@ impl Run {
     }
 }
 
-// What the replies tell, one of each kind.
+// A part of the text of each kind of reply.
 const KINDS: &str = "
 wrote 1-
  Known
@@ -123,7 +123,7 @@ gone
 left 0
 left 1";
 
-// The first kind of reply that did not come.
+// The first kind of reply that did not come; empty where all came.
 fn missing(all: &str) -> &'static str {
     for kind in KINDS.split('\n') {
         if !all.contains(kind) {

@@ -9,20 +9,20 @@ use hub_world::{Docs, Event, Reply, World};
 use std::alloc::{AllocError, Global};
 use std::fmt::Write;
 
-// The room for the commands of a case, and for their replies.
+// The bytes of room for the commands of a case, and for the texts of their replies.
 const ROOM: usize = 16_384;
 
-/// A database with feeds, to which an event happens by each command. Feeds go by their numbers.
+/// A database with feeds. Each command makes one event happen. Feeds go by their numbers.
 ///
-/// - `write DOC ..`: documents come with their histories. One behind `~` has none.
-/// - `make DOC ..`: documents come whose revisions are to be made.
-/// - `begin QUERY`: a feed is opened that this query asks for; by `empty QUERY` one that may show no row.
+/// - `write DOC ..`: documents come with their histories. A document after `~` has no history.
+/// - `make DOC ..`: documents come whose revisions are made here.
+/// - `begin QUERY` opens a feed with the parameters of this query, and `empty QUERY` one with the limit 0.
 /// - `hand FEED`, `beat FEED`, `expire FEED`, `take FEED`, `finish FEED` and `delete`.
 ///
-/// Each answers what the reply tells. Two commands are no events:
+/// Each answers the text of its reply. Two commands are no events:
 ///
-/// - `room FEEDS LANE EDITS` begins anew within these limits. Without it they are the widest.
-/// - `run`: all events so far happen once more in a run of their own, which tells its replies.
+/// - `room FEEDS LANE EDITS` begins anew within these limits. Without it the limits are the widest.
+/// - `run`: all events so far happen once more, in a run of their own. It answers the texts of the replies.
 #[derive(Drop)]
 pub(crate) struct Shell {
     alloc: Global,
@@ -30,7 +30,7 @@ pub(crate) struct Shell {
     world: World,
     // The events so far, a line each.
     commands: String,
-    // What the last reply tells, or all those of a run.
+    // The text of the last reply, or of all replies of a run.
     last: String,
 }
 
@@ -52,7 +52,7 @@ impl<R> Subject<R> for Shell {
     }
 }
 
-// A number; an error each time where the text is none.
+// A text as a number; an error each time where it is no number.
 fn number(text: &str) -> Result<u64, AllocError> {
     match text.parse::<u64>() {
         Ok(number) => Ok(number),
@@ -60,8 +60,8 @@ fn number(text: &str) -> Result<u64, AllocError> {
     }
 }
 
-// The document of a text; an error where it finds no memory, and each time where the text is none. Behind `~`,
-// and where all revisions are to be made, it has no history.
+// The document of a text; an error out of memory, and each time where the text is no document. After `~`, and
+// where revisions are made here, the document has no history.
 fn doc(alloc: Global, text: &str, new_edits: bool) -> Result<Doc, AllocError> {
     let bare = text.strip_prefix('~').unwrap_or(text);
     match Doc::read(alloc, bare.as_bytes(), new_edits || bare.len() < text.len()) {
@@ -70,7 +70,7 @@ fn doc(alloc: Global, text: &str, new_edits: bool) -> Result<Doc, AllocError> {
     }
 }
 
-// The documents of these texts, but so many of the first.
+// The documents of these texts, without the first `skipped`.
 fn docs(alloc: Global, texts: &str, skipped: usize, new_edits: bool) -> Result<Docs, AllocError> {
     let mut list = Vec::new(alloc);
     for text in texts.split(' ').skip(skipped) {
@@ -81,7 +81,7 @@ fn docs(alloc: Global, texts: &str, skipped: usize, new_edits: bool) -> Result<D
     Ok(Docs { list })
 }
 
-// The event that opens a feed, which may show no row where that is said.
+// The event that opens a feed of a query. A feed that `is_empty` has the limit 0.
 fn begin(alloc: Global, query: &str, is_empty: bool) -> Result<Event, AllocError> {
     let Ok(mut params) = FeedParams::read(alloc, query.as_bytes(), b"") else {
         return Err(AllocError);
@@ -92,7 +92,7 @@ fn begin(alloc: Global, query: &str, is_empty: bool) -> Result<Event, AllocError
     Ok(Event::Begin(params))
 }
 
-// The event that a command is, but for so many of its documents.
+// The event of a command, without the first `skipped` of its documents.
 fn event(alloc: Global, command: &str, skipped: usize) -> Result<Event, AllocError> {
     let (verb, rest) = command.split_once(' ').unwrap_or((command, ""));
     match Words::of(verb).verb("write make begin empty delete") {
@@ -105,7 +105,7 @@ fn event(alloc: Global, command: &str, skipped: usize) -> Result<Event, AllocErr
     }
 }
 
-// The event that a verb is of the feed of this number.
+// The event of a verb, for the feed of this number.
 fn feed_event(verb: &str, number: u64) -> Result<Event, AllocError> {
     let feed = FeedId { number };
     match Words::of(verb).verb("hand beat expire take finish") {
@@ -130,12 +130,12 @@ impl Shell {
         })
     }
 
-    /// What the last reply tells.
+    /// The text of the last reply, or of all replies of a run.
     pub(crate) fn last(&self) -> &str {
         self.last.as_str()
     }
 
-    /// Begins anew within these limits: of feeds, of a lane, and of edits.
+    /// Begins anew within these limits: of feeds, of the items of a lane, and of edits.
     pub(crate) fn room(&mut self, rest: &str) -> Result<(), AllocError> {
         let mut words = Words::of(rest);
         let feeds = number(words.word())?;
@@ -156,8 +156,8 @@ impl Shell {
         Ok(())
     }
 
-    /// Makes the event take place that a command is. Where a document finds no memory, those before it stand,
-    /// and it comes again with those behind it.
+    /// Makes the event of a command happen. Where a document finds no memory, the documents before it stay,
+    /// and the event happens again with the other documents.
     pub(crate) fn apply(&mut self, command: &str) -> Result<(), AllocError> {
         let event = event(self.alloc, command, 0)?;
         match self.world.apply(event) {
@@ -166,7 +166,7 @@ impl Shell {
         }
     }
 
-    // Keeps what the reply to a command tells.
+    // Keeps the text of the reply to a command.
     fn tell(&mut self, command: &str, reply: &Reply) -> Result<(), AllocError> {
         self.last.clear();
         put_reply(&mut self.last, reply)?;
@@ -178,7 +178,7 @@ impl Shell {
         }
     }
 
-    // The same of the documents behind so many.
+    // Makes the event happen again without the first `skipped` documents, and adds the outcomes.
     fn apply_rest(&mut self, command: &str, skipped: usize) -> Result<(), AllocError> {
         let event = event(self.alloc, command, skipped)?;
         match &self.world.apply(event)? {

@@ -1,9 +1,8 @@
 //! Runs of small databases.
 //!
-//! With ample memory each event has its reply at once. Where a growth is refused the event says so, and
-//! made again it has the same reply; what it left is seen by the replies behind it. So these tests hold
-//! whichever one of their growths is refused; the growths of the tests themselves, as of a document's text,
-//! are among them.
+//! With ample memory each event has its reply at once. Where a growth is refused the event is an error. Made
+//! again it has the same reply, and later replies show the state that it left. So these tests hold whichever
+//! one growth is refused. The growths of the tests themselves are among them, as that of a document's text.
 
 use crate::shell::Shell;
 use hub_transcript::replay;

@@ -1,4 +1,4 @@
-//! Replies told as texts.
+//! Replies as texts.
 
 use hub_database::Batch;
 use hub_document::{ChangeRow, RevId};
@@ -9,13 +9,13 @@ use std::collections::VecDeque;
 use std::fmt::Write;
 use std::str;
 
-// A revision behind a blank.
+// A revision after a blank.
 fn put_rev(out: &mut String, rev: &RevId) -> Result<(), AllocError> {
     let hash = str::from_utf8(rev.hash()).unwrap_or("?");
     write!(out, " {}-{hash}", rev.generation())
 }
 
-// What a row shows.
+// A row: its sequence, its id, its revisions, and whether it is deleted and has its document.
 fn put_row(out: &mut String, row: &ChangeRow) -> Result<(), AllocError> {
     write!(out, "row {} {}", row.seq, row.id.as_str())?;
     for at in 0..row.changes.len() {
@@ -40,7 +40,7 @@ fn put_item(out: &mut String, item: &Item<ChangeRow>) -> Result<(), AllocError> 
     }
 }
 
-/// The outcomes of a batch, each behind a blank.
+/// The outcomes of a batch, each after a blank.
 pub(crate) fn put_outcomes(out: &mut String, batch: &Batch) -> Result<(), AllocError> {
     for outcome in batch.replies.as_slice() {
         match outcome {
@@ -51,7 +51,7 @@ pub(crate) fn put_outcomes(out: &mut String, batch: &Batch) -> Result<(), AllocE
     Ok(())
 }
 
-// The reply that tells nothing but its kind.
+// The word for the kind of a reply.
 fn word_of(reply: &Reply) -> &'static str {
     match reply {
         Reply::Outcomes(_) => "wrote",
@@ -68,7 +68,7 @@ fn word_of(reply: &Reply) -> &'static str {
     }
 }
 
-// How many items are left, and each of them behind a comma.
+// How many items are left, and then the items, each after a comma.
 fn put_left(out: &mut String, items: &VecDeque<Item<ChangeRow>>) -> Result<(), AllocError> {
     write!(out, " {}", items.len())?;
     for item in items {
@@ -78,7 +78,7 @@ fn put_left(out: &mut String, items: &VecDeque<Item<ChangeRow>>) -> Result<(), A
     Ok(())
 }
 
-/// What a reply tells.
+/// The text of a reply.
 pub(crate) fn put_reply(out: &mut String, reply: &Reply) -> Result<(), AllocError> {
     out.push_str(word_of(reply))?;
     match reply {
@@ -90,7 +90,7 @@ pub(crate) fn put_reply(out: &mut String, reply: &Reply) -> Result<(), AllocErro
     }
 }
 
-/// What the replies tell, a line each.
+/// The texts of replies, a line each.
 pub(crate) fn put_replies(out: &mut String, replies: &[Reply]) -> Result<(), AllocError> {
     for reply in replies {
         put_reply(out, reply)?;

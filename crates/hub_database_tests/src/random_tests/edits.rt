@@ -1,5 +1,5 @@
-//! Random edits of one document. Histories are parts of larger ones and come in any order; edits that are
-//! made here stand between them.
+//! Random edits of one document. Histories are parts of larger ones and come in any order. Edits that are
+//! made here come between them.
 
 ghost use Rattle.std.specs.Prelude.{◌<◌};
 
@@ -16,7 +16,7 @@ pub(super) struct Random {
 }
 
 impl Random {
-    /// The next number, below this one.
+    /// The next random number, below `end`.
     pub(super) fn below(&mut self, end: u64) -> u64
         requires { 0 < end }
         ensures { result < end }
@@ -29,7 +29,7 @@ impl Random {
     }
 }
 
-/// Puts the revision of a generation and of one of three hashes behind a history; none of the generation 0.
+/// Appends the revision of a generation, with one of three hashes, to a history. Generation 0 adds nothing.
 pub(super) fn push(
     line: &mut Vec<RevId>,
     alloc: Global,
@@ -50,8 +50,8 @@ pub(super) fn push(
     Ok(())
 }
 
-// Puts a part of the tree of this salt behind a history: a revision and some of those behind it. Now and then
-// one of them is another.
+// Appends a part of the tree of this salt to a history: a revision and some of its ancestors. About one
+// ancestor in 20 has a random hash.
 fn put_part(
     line: &mut Vec<RevId>,
     alloc: Global,
@@ -72,7 +72,7 @@ fn put_part(
     Ok(())
 }
 
-// Puts a history behind nothing: a part of the tree, or a revision on the leaf with some of those behind it.
+// Fills an empty history: with a part of the tree, or with a child of the leaf and some of its ancestors.
 fn put_history(
     line: &mut Vec<RevId>,
     alloc: Global,
@@ -93,7 +93,7 @@ fn put_history(
     line.extend_from_slice(&behind.as_slice()[..count])
 }
 
-// A document whose revision is to be made, on this one or on none.
+// The text of a document whose revision is made here, as a child of this revision or of none.
 fn draft(
     alloc: Global,
     id: &str,
@@ -112,7 +112,7 @@ fn draft(
     }
 }
 
-// Puts the revision behind a history that a draft would make here, if it would make one.
+// Appends the revision that a draft would make here to a history, if it would make one.
 fn put_made(line: &mut Vec<RevId>, alloc: Global, model: &Model, draft: &str) -> Result<(), Fail> {
     let doc = Doc::read(alloc, draft.as_bytes(), true)?;
     if let Some(rev) = model.made(alloc, &doc)? {
@@ -121,7 +121,7 @@ fn put_made(line: &mut Vec<RevId>, alloc: Global, model: &Model, draft: &str) ->
     Ok(())
 }
 
-// Some leaf, if there is one.
+// A random leaf, if there is one.
 fn some_leaf(
     alloc: Global,
     random: &mut Random,
@@ -132,7 +132,7 @@ fn some_leaf(
     Ok(leaves.get(place).copied())
 }
 
-// Puts the history of a document of a kind behind nothing; none where its revision is to be made.
+// Fills an empty history for a document of a kind. It stays empty where the revision is to be made here.
 fn put_line(
     line: &mut Vec<RevId>,
     alloc: Global,
@@ -151,8 +151,8 @@ fn put_line(
     Ok(())
 }
 
-/// Writes the document that comes next, and tells whether its revision is to be made. A revision as it would
-/// be made here is told by another database too, and alone.
+/// Writes the next document, and tells whether its revision is to be made here. Now and then the document
+/// comes from another database with the very revision that would be made here, and without ancestors.
 pub(super) fn next(
     alloc: Global,
     random: &mut Random,

@@ -9,7 +9,7 @@ use std::alloc::{AllocError, Global};
 pub(super) struct Edit {
     /// Its revision.
     pub(super) rev: RevId,
-    /// The revision, and those behind it that its writer told, newest first.
+    /// The revision and the ancestors that its writer told, newest first.
     pub(super) line: Vec<RevId>,
     /// Whether it deletes the document.
     pub(super) deleted: bool,
@@ -30,8 +30,8 @@ pub(super) fn place(line: &[RevId], rev: &RevId) -> Option<usize> {
 }
 
 impl Edit {
-    // Whether it is better, as a leaf: first the one that is not deleted, then the one of the greater
-    // generation, then the one of the greater hash.
+    // Whether this edit is the better leaf: one that is not deleted comes before a deleted one. Then the
+    // greater generation decides, and then the greater hash.
     fn is_better(&self, other: &Edit) -> bool {
         if self.deleted != other.deleted {
             return other.deleted;
@@ -43,11 +43,11 @@ impl Edit {
     }
 }
 
-/// What edits tell of a revision.
+/// The facts that edits tell of a revision.
 #[derive(Clone, Copy)]
 pub(super) struct Node {
     pub(super) is_known: bool,
-    /// Whether it is nobody's parent.
+    /// Whether no edit tells it as a parent.
     pub(super) is_leaf: bool,
     pub(super) parent: Option<RevId>,
     /// The place of its edit, or `usize::MAX` where it has none.
@@ -59,13 +59,13 @@ pub(super) struct Node {
 pub(super) struct Model {
     /// The document's id.
     pub(super) id: String,
-    /// What the tree is made of of which histories are parts.
+    /// The seed of the tree. Histories are parts of the tree.
     pub(super) salt: u64,
     pub(super) edits: Vec<Edit>,
 }
 
 impl Model {
-    /// What the edits tell of a revision.
+    /// The facts that the edits tell of a revision.
     pub(super) fn node(&self, rev: &RevId) -> Node {
         let mut node = Node {
             is_known: false,
@@ -91,7 +91,7 @@ impl Model {
         node
     }
 
-    // A revision, the next one, the parent of that, and so on.
+    // A line of revisions: `rev`, `next`, the parent of `next`, and so on, 101 at most.
     fn line_on(
         &self,
         alloc: Global,
@@ -115,7 +115,7 @@ impl Model {
         self.line_on(alloc, *rev, self.node(rev).parent)
     }
 
-    /// The best leaf, of those that are worse than this one where it is given.
+    /// The best leaf. Where `above` is given, the best of the leaves that are worse than `above`.
     pub(super) fn best(&self, above: Option<&Edit>) -> Option<&Edit> {
         let mut best: Option<&Edit> = None;
         for edit in &self.edits {
@@ -150,7 +150,7 @@ impl Model {
         Ok(leaves)
     }
 
-    // Whether the history gives a revision another parent than it has.
+    // Whether a history gives a revision another parent than the edits tell.
     fn contradicts(&self, line: &[RevId]) -> bool {
         for at in 0..line.len() {
             if let Some(told) = line.get(at.saturating_add(1))
@@ -163,8 +163,8 @@ impl Model {
         false
     }
 
-    // What an edit is made on that names this revision, or none: a leaf, or, where it is the first, nothing.
-    // None is a conflict.
+    // The parent of an edit that is made here on the named revision, or on none: a leaf, or no revision for
+    // the first edit. None is a conflict.
     fn chosen(&self, named: &Option<RevId>) -> Option<Option<RevId>> {
         if let Some(rev) = named {
             let node = self.node(rev);
@@ -181,7 +181,7 @@ impl Model {
         }
     }
 
-    /// The revision that a draft makes; None where that is a conflict.
+    /// The revision that a draft makes; None for a conflict, a known revision or a generation above 65535.
     pub(super) fn made(&self, alloc: Global, doc: &Doc) -> Result<Option<RevId>, AllocError> {
         let Some(parent) = self.chosen(&doc.rev) else {
             return Ok(None);
@@ -199,7 +199,7 @@ impl Model {
         })
     }
 
-    // What becomes of a document.
+    // The outcome of a document.
     fn outcome(&self, alloc: Global, doc: &Doc) -> Result<Outcome<RevId>, AllocError> {
         let Some(path) = &doc.path else {
             return Ok(match self.made(alloc, doc)? {
@@ -217,7 +217,7 @@ impl Model {
         Ok(Outcome::Stored(rev))
     }
 
-    // The history of the edit that a document is.
+    // The history of the edit that a document makes.
     fn history(&self, alloc: Global, doc: &Doc, rev: RevId) -> Result<Vec<RevId>, AllocError> {
         match &doc.path {
             Some(path) => Vec::from_slice(alloc, path.revisions()),
@@ -225,7 +225,7 @@ impl Model {
         }
     }
 
-    /// Takes a document, which gets this sequence if it is stored, and says what became of it.
+    /// Takes a document, and answers its outcome. A document that is stored gets this sequence.
     pub(super) fn take(
         &mut self,
         alloc: Global,

@@ -1,4 +1,4 @@
-//! Whether a database and a tree show what the plain program has.
+//! Whether a database and a tree show the same as the plain program.
 
 use super::model::{Edit, Model, place};
 use super::texts::put_doc;
@@ -9,7 +9,7 @@ use std::alloc::{AllocError, Global};
 use std::str;
 use std::test::Fail;
 
-// Whether these are the revisions below a generation.
+// Whether `found` are the revisions of `revs` below a generation, in order.
 fn are_below(found: &[RevId], revs: &[RevId], generation: u16) -> bool {
     let mut at = 0usize;
     for rev in revs {
@@ -23,7 +23,7 @@ fn are_below(found: &[RevId], revs: &[RevId], generation: u16) -> bool {
     at == found.len()
 }
 
-// Whether a document is shown as this edit, with this history.
+// Whether a document shows this edit, with this history.
 fn is_edit(
     alloc: Global,
     id: &str,
@@ -46,7 +46,7 @@ fn is_edit(
 }
 
 impl Model {
-    // Whether this is shown of a revision: its edit, with all that stands behind it, or that it has none.
+    // Whether `open` is right for a revision: its edit with all its ancestors, or `Missing` without an edit.
     fn is_open(&self, alloc: Global, rev: &RevId, open: &OpenRev) -> Result<bool, AllocError> {
         let Some(edit) = self.edits.get(self.node(rev).edit) else {
             return Ok(matches!(open, OpenRev::Missing(missing) if missing.is_same(rev)));
@@ -58,7 +58,7 @@ impl Model {
         is_edit(alloc, self.id.as_str(), edit, line.as_slice(), doc)
     }
 
-    // Whether this is shown of revisions.
+    // Whether `open` is right for each of these revisions.
     fn are_open(
         &self,
         alloc: Global,
@@ -101,8 +101,8 @@ impl Model {
         Ok(true)
     }
 
-    // Whether this is told of revisions: those that no edit tells of, and the leaves below the highest of
-    // them.
+    // Whether a diff of revisions is right: the revisions that no edit tells, and the leaves below the
+    // highest generation of them.
     fn is_diff(
         &self,
         asked: &[RevId],
@@ -124,7 +124,7 @@ impl Model {
         at == missing.len() && are_below(ancestors, leaves, highest)
     }
 
-    // Whether a tree has the same behind a revision, or knows it as little.
+    // Whether a tree has the same line of a revision, or does not know a revision that no edit tells.
     fn is_path(&self, alloc: Global, tree: &RevTree, rev: &RevId) -> Result<bool, AllocError> {
         let path = tree.path(alloc, rev)?;
         let Some(path) = &path else {
@@ -134,8 +134,8 @@ impl Model {
         Ok(self.node(rev).is_known && path.revisions() == line.as_slice())
     }
 
-    // Whether a tree has the same behind each of these revisions, has as many edits, and knows as many
-    // revisions of these.
+    // Whether a tree has the same line of each of these revisions, as many edits, and knows as many of these
+    // revisions.
     fn are_paths(
         &self,
         alloc: Global,
@@ -154,7 +154,7 @@ impl Model {
         Ok(tree.len() == self.edits.len() && tree.nodes() == nodes)
     }
 
-    // Whether a database has this winner.
+    // Whether a database has the same winner.
     fn is_winner(&self, state: &DbState) -> bool {
         match (state.winner(self.id.as_str()), self.best(None)) {
             (Some(winner), Some(best)) => {
@@ -175,7 +175,7 @@ impl Model {
         )
     }
 
-    // Whether a database answers what is asked for these revisions, of which some are missing.
+    // Whether a database answers rightly for these revisions, of which some are missing.
     fn is_answered(
         &self,
         alloc: Global,
@@ -201,7 +201,7 @@ impl Model {
         )
     }
 
-    // These revisions, and the others of all edits.
+    // These revisions, and then the other revisions that edits made.
     fn asked(&self, alloc: Global, tree: &[RevId]) -> Result<Vec<RevId>, AllocError> {
         let mut asked = Vec::from_slice(alloc, tree)?;
         for edit in &self.edits {
@@ -212,8 +212,8 @@ impl Model {
         Ok(asked)
     }
 
-    /// What a database or a tree shows otherwise, asked for these revisions and those of all edits; nothing
-    /// where both show the same.
+    /// Names the first answer of the database or the tree that differs, for these revisions and those of all
+    /// edits; an empty text where none differs.
     pub(super) fn other(
         &self,
         alloc: Global,
@@ -235,7 +235,7 @@ impl Model {
         Ok("")
     }
 
-    /// How many edits have more behind them by now than their writers told.
+    /// How many edits have revisions with more ancestors by now than their writers told.
     pub(super) fn grown(&self, alloc: Global) -> Result<u64, AllocError> {
         let mut count = 0u64;
         for edit in &self.edits {

@@ -1,4 +1,4 @@
-//! What a database tells of itself.
+//! The answers of a database about itself.
 
 use crate::session::Session;
 use crate::session::items::put_rev;
@@ -20,7 +20,7 @@ fn put_doc(alloc: Global, doc: &Doc, out: &mut String) -> Result<(), AllocError>
 }
 
 impl Session {
-    // Counts its edits, and tells its life.
+    // Tells the number of edits, the length as a host of feeds, the life, and whether it is deleted.
     pub(super) fn tell(&self, out: &mut String) -> Result<(), AllocError> {
         let (seq, life) = (self.state.update_seq(), self.state.life());
         let length = FeedHost::length(&self.state);
@@ -41,7 +41,7 @@ impl Session {
         }
     }
 
-    // Names an edit.
+    // Writes the id and the revision of an edit.
     fn put_name(&self, seq: u64, out: &mut String) -> Result<(), AllocError> {
         let Some((id, rev)) = self.state.entry(seq) else {
             return out.push_str("none");
@@ -50,7 +50,7 @@ impl Session {
         put_rev(out, &rev)
     }
 
-    // Tells the best leaf.
+    // Tells the best leaf of a document, and whether it is deleted.
     pub(super) fn winner(&self, id: &str, out: &mut String) -> Result<(), AllocError> {
         let Some(winner) = self.state.winner(id) else {
             return out.push_str("none\n");

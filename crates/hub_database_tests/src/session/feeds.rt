@@ -12,7 +12,7 @@ use hub_transcript::Words;
 use std::alloc::AllocError;
 use std::fmt::{Debug, Write};
 
-// What a feed has to hand, which is then accepted.
+// Answers the next item that a feed has to hand, and accepts it.
 fn take(state: &mut DbState, feed: FeedId) -> Result<Next<ChangeRow>, AllocError> {
     match state.next_item(feed)? {
         Next::Give(item) => {
@@ -24,7 +24,7 @@ fn take(state: &mut DbState, feed: FeedId) -> Result<Next<ChangeRow>, AllocError
     }
 }
 
-// Writes what a feed had to hand.
+// Writes the item that a feed had to hand.
 fn put_next(out: &mut String, next: &Next<ChangeRow>) -> Result<(), AllocError> {
     match next {
         Next::Give(item) => {
@@ -36,7 +36,7 @@ fn put_next(out: &mut String, next: &Next<ChangeRow>) -> Result<(), AllocError> 
     }
 }
 
-// Writes what a hand did, and the item that it handed.
+// Writes the outcome of a hand, and the item that it handed.
 fn put_handed(
     out: &mut String,
     did: &impl Debug,
@@ -50,7 +50,7 @@ fn put_handed(
 }
 
 impl Session {
-    // Opens a feed; an error where it found no memory, and each time where the query is refused.
+    // Opens a feed; an error out of memory, and each time where the query is refused.
     pub(super) fn open(&mut self, query: &str, out: &mut String) -> Result<(), AllocError> {
         let Ok(params) = FeedParams::read(self.alloc, query.as_bytes(), b"") else {
             return Err(AllocError);
@@ -62,7 +62,7 @@ impl Session {
         }
     }
 
-    // Hands what a feed has next to a list with room for so many.
+    // Hands the next item of a feed into a list with room for so many.
     fn hand(&mut self, feed: FeedId, room: usize, out: &mut String) -> Result<(), AllocError> {
         let mut list = Listed::new(self.alloc, room)?;
         let did = self.state.hand(feed, &NoHandle, &mut list)?;

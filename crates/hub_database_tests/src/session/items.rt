@@ -1,4 +1,4 @@
-//! What commands are answered, as texts.
+//! The texts of answers.
 
 use hub_document::{Body, ChangeRow, Changes, RevId};
 use hub_model::Item;
@@ -11,7 +11,7 @@ pub(super) fn put_refusal(out: &mut String, fault: &impl Debug) -> Result<(), Al
     writeln!(out, "refused {fault:?}")
 }
 
-/// Writes a revision behind a blank.
+/// Writes a revision after a blank.
 pub(super) fn put_rev(out: &mut String, rev: &RevId) -> Result<(), AllocError> {
     let hash = str::from_utf8(rev.hash()).unwrap_or("no text");
     write!(out, " {}-{hash}", rev.generation())
@@ -27,7 +27,7 @@ fn put_changes(out: &mut String, changes: &Changes) -> Result<(), AllocError> {
     Ok(())
 }
 
-// Writes members behind a blank.
+// Writes members after a blank.
 fn put_members(out: &mut String, body: &Body) -> Result<(), AllocError> {
     out.push_str(" ")?;
     out.push_str(str::from_utf8(body.as_bytes()).unwrap_or("no text"))
@@ -44,7 +44,7 @@ fn put_row(out: &mut String, row: &ChangeRow) -> Result<(), AllocError> {
     out.push('\n')
 }
 
-/// Writes what an item has, behind its word.
+/// Writes the contents of an item. The item's word stands before them.
 pub(super) fn put_item(out: &mut String, item: &Item<ChangeRow>) -> Result<(), AllocError> {
     match item {
         Item::Row(row) => put_row(out, row),

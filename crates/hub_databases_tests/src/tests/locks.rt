@@ -1,4 +1,4 @@
-//! A held database holds no other call, also while a write waits for it.
+//! A held database holds no call on other databases or on the hub, also while a write waits for it.
 
 use hub_databases::{Hub, HubDb};
 use hub_document::{Doc, Limits};
@@ -12,8 +12,8 @@ use std::test::Fail;
 use std::thread::{self, Threads};
 use std::time::{self, Duration};
 
-// A gate that holds a pump inside the lock until it is opened, and gives up after 1,000 looks, of a
-// millisecond each.
+// A gate that holds a pump inside the lock until the gate is opened. It gives up after 1,000 looks, with a
+// millisecond between two looks.
 #[derive(Drop)]
 struct Held<R: time::Clock> {
     rt: R,
@@ -51,7 +51,7 @@ impl<R: time::Clock> Gate for Held<R> {
     }
 }
 
-// A clock that stands.
+// A clock that stands still.
 #[derive(Drop)]
 struct Still;
 
@@ -114,15 +114,15 @@ fn opened<R: Wait>(rt: &R, alloc: Global, db: &HubDb) -> Result<Feed<Plain>, All
     }
 }
 
-// Writes to the database that a pump holds, once it stands at the gate. The write waits for the pump.
+// Writes to the database of the pump, once the pump is at the gate. The write waits for the pump.
 fn write_held<R: Wait + time::Clock>(rt: &R, alloc: Global, gate: &Held<R>, hub: &Hub) -> bool {
     wait_for(rt, &gate.is_reached);
     gate.is_writing.store(true, Ordering::SeqCst);
     writes(rt, alloc, hub, "a")
 }
 
-// Asks a hub once a write waits for the held database, which it is given 20 milliseconds for, and opens the
-// gate once all is answered.
+// Asks a hub while a write waits for the held database, and then opens the gate. The write has 20
+// milliseconds to come to the lock.
 fn ask_and_open<R: Wait + time::Clock>(rt: &R, alloc: Global, gate: &Held<R>, hub: &Hub) -> bool {
     wait_for(rt, &gate.is_writing);
     thread::sleep(rt, Duration::from_millis(20));
@@ -131,7 +131,7 @@ fn ask_and_open<R: Wait + time::Clock>(rt: &R, alloc: Global, gate: &Held<R>, hu
     is_answered
 }
 
-// A write that waits, beside calls that do not.
+// A write that waits for the held database, beside calls that do not wait.
 fn ask<R: Threads + Wait + time::Clock + Sync>(
     rt: &R,
     alloc: Global,
@@ -146,7 +146,7 @@ fn ask<R: Threads + Wait + time::Clock + Sync>(
     is_written && is_answered
 }
 
-// The same beside a pump of the database `a`.
+// The write and the calls, beside a pump of the database `a`.
 fn run<R: Threads + Wait + time::Clock + Sync>(
     rt: &R,
     alloc: Global,

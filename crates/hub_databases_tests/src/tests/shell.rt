@@ -9,7 +9,7 @@ use hub_transcript::{Answer, Subject, Words};
 use std::alloc::{AllocError, Global};
 use std::sync::{Arc, Wait};
 
-// A gate that holds nobody.
+// A gate that holds no thread.
 #[derive(Drop)]
 struct Open;
 
@@ -17,18 +17,18 @@ impl Gate for Open {
     fn pass(&self, _point: Point) {}
 }
 
-/// A hub, the database that is in use, and feeds of both. The commands:
+/// A hub, the database in use, a feed of the database, and a feed of the log of updates. The commands:
 ///
-/// - `create NAME` and `remove NAME` answer what the hub does.
-/// - `find NAME` has the database of this name in use from here on, also once it is removed, and answers its
+/// - `create NAME` and `remove NAME` answer the hub's outcome.
+/// - `find NAME` has the database of this name in use from here on, also after its removal, and answers its
 ///   name.
-/// - `write` writes one more document to the database in use, and answers what became of it. Where its note
-///   finds no memory the document stands, and the command is made again with another one: no answer tells how
-///   many there are.
+/// - `write` writes one more document to the database in use, and answers the outcome. Where its note finds
+///   no memory the document stays, and the command is given again with another document. So no answer tells
+///   the number of the documents.
 /// - `follow` opens a continuous feed of the database in use, from now on, and `follow-log` one of the log.
 ///   Each has a watch, and both watches ring one bell.
-/// - `hand` answers what one holding for the database's feed does, and `take` the next item that was handed.
-/// - `news` says what was told since the last time. `finish` finishes the feeds.
+/// - `hand` answers the outcome of one holding for the database's feed. `take` answers its next item.
+/// - `news` says which of the bell and the watches had news since the last time. `finish` finishes the feeds.
 #[derive(Drop)]
 pub(crate) struct Shell {
     alloc: Global,
@@ -67,7 +67,7 @@ impl Watches {
         })
     }
 
-    // Tells what was told since the last time.
+    // Tells which of the bell and the watches had news since the last time.
     fn news(&self, answer: &mut Answer) -> Result<(), AllocError> {
         if self.bell.take() {
             answer.text("bell\n")?;
@@ -109,7 +109,7 @@ impl<R: Wait> Subject<R> for Shell {
     }
 }
 
-// Writes what a call on the names told.
+// Writes the outcome of a call on the names.
 fn told(answer: &mut Answer, told: Result<(), HubFault>) -> Result<(), AllocError> {
     match told {
         Err(HubFault::NoMemory) => Err(AllocError),
@@ -117,7 +117,7 @@ fn told(answer: &mut Answer, told: Result<(), HubFault>) -> Result<(), AllocErro
     }
 }
 
-// The document of this number; an error where it finds no memory.
+// The document of this number; an error out of memory.
 fn docs(alloc: Global, number: u64) -> Result<Vec<Doc>, AllocError> {
     let text = format!(in alloc; r#"{{"_id":"{number}","_rev":"1-a"}}"#)?;
     let mut docs = Vec::with_capacity(alloc, 1)?;
@@ -128,7 +128,7 @@ fn docs(alloc: Global, number: u64) -> Result<Vec<Doc>, AllocError> {
     Ok(docs)
 }
 
-// What a feed that waits is asked for; an error where it finds no memory.
+// The parameters of a feed that waits; an error out of memory.
 fn waiting(alloc: Global) -> Result<FeedParams, AllocError> {
     match FeedParams::read(alloc, b"feed=continuous&since=now", b"") {
         Ok(params) => Ok(params),
@@ -137,7 +137,7 @@ fn waiting(alloc: Global) -> Result<FeedParams, AllocError> {
 }
 
 impl Shell {
-    // The database that is in use; an error each time where there is none.
+    // The database in use; an error each time where no database is in use.
     fn db(&self) -> Result<&HubDb, AllocError> {
         match &self.db {
             Some(db) => Ok(db),
@@ -164,7 +164,7 @@ impl Shell {
         }
     }
 
-    // Notes and tells what became of a document.
+    // Notes and tells the outcome of a document.
     fn note(&mut self, written: &Written, answer: &mut Answer) -> Result<(), AllocError> {
         match written.batch.replies.as_slice() {
             [Outcome::Stored(_)] => self.stored = self.stored.saturating_add(1),

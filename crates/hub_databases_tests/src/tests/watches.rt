@@ -1,11 +1,11 @@
-//! Whom the changes of a hub tell: feeds of the database that is changed, and feeds of the log of updates.
-//! And what those meet who have a database that was removed.
+//! The feeds that learn of a change of a hub: feeds of the changed database, and feeds of the log of updates.
+//! And the answers to handles of a removed database.
 
 use crate::tests::shell::Shell;
 use hub_transcript::replay;
 use std::test::Fail;
 
-// A write to the database and its removal tell of both, and what is done with another name of the log alone.
+// A write to the database and its removal give news to both feeds. Another name gives news to the log alone.
 const CHANGES: &str = r#"
 # changes of a hub are told
 > create d
@@ -47,7 +47,7 @@ Ok(())
 > news
 "#;
 
-/// A write and a removal tell feeds of both, and another name those of the log alone.
+/// A write and a removal give news to both feeds, and a call on another name to the log's feed alone.
 #[test]
 fn changes_of_a_hub_are_told(rt: HostRuntime) -> Result<(), Fail> {
     replay::<Shell, _>(&rt, rt.alloc(), CHANGES)
@@ -78,7 +78,7 @@ Err(BadName)
 Err(BadName)
 "#;
 
-/// Who has a removed database is refused, also where its name is given again.
+/// A handle of a removed database is refused, also where a new database has its name.
 #[test]
 fn a_removed_database_refuses_writes(rt: HostRuntime) -> Result<(), Fail> {
     replay::<Shell, _>(&rt, rt.alloc(), HELD)
@@ -105,7 +105,7 @@ the end at the last document, pending 0
 None
 "#;
 
-/// A feed that waits comes to its end where its database was removed.
+/// A feed that waits comes to its end where its database is removed.
 #[test]
 fn a_feed_of_a_removed_database_ends(rt: HostRuntime) -> Result<(), Fail> {
     replay::<Shell, _>(&rt, rt.alloc(), REMOVED)

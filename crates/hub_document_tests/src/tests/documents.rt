@@ -1,4 +1,4 @@
-//! Documents and local documents that texts are, as no answer over HTTP shows them.
+//! Texts of documents and local documents, as no answer over HTTP shows them.
 
 use super::session::Session;
 use hub_transcript::replay;

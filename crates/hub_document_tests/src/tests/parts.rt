@@ -1,4 +1,4 @@
-//! Commands on what is made of no document's text: revisions, rows, limits and sequences.
+//! Commands on values that come from no document's text: revisions, rows, limits and sequences.
 
 use super::shown::Out;
 use hub_document::{
@@ -14,13 +14,13 @@ const DIGEST: [u8; 16] = [
     0xd4, 0x1d, 0x8c, 0xd9, 0x8f, 0x00, 0xb2, 0x04, 0xe9, 0x80, 0x09, 0x98, 0xec, 0xf8, 0x42, 0x7e,
 ];
 
-// Writes a text that is made anew.
+// Writes a new text.
 fn put_text(text: Result<String, AllocError>, out: &mut Out) -> Result<(), DocFault> {
     out.put(text?.as_str());
     Ok(())
 }
 
-// What a text is as a revision.
+// The revision of a text: its hash, its parts and its generation.
 fn rev(alloc: Global, text: &str, out: &mut Out) -> Result<(), DocFault> {
     let Some(rev) = RevId::read(text) else {
         out.put("none");
@@ -33,7 +33,7 @@ fn rev(alloc: Global, text: &str, out: &mut Out) -> Result<(), DocFault> {
     put_text(format!(in alloc; " generation {}", rev.generation()), out)
 }
 
-// A row's revisions: how many, as they are lent, and by their places.
+// A row's revisions: `one` or `many` as they are lent, and the revisions at the places 0 to 2.
 fn put_lent(changes: &Changes, out: &mut Out) {
     match changes.lent() {
         LentChanges::One(rev) => out.rev("one", &rev.rev()),
@@ -48,7 +48,7 @@ fn put_lent(changes: &Changes, out: &mut Out) {
     }
 }
 
-// The same, and the list of a copy.
+// A row's revisions as they are lent and by place, the list of a copy, and their number.
 fn put_changes(alloc: Global, changes: &Changes, out: &mut Out) -> Result<(), DocFault> {
     put_lent(changes, out);
     let list = changes.copy(alloc)?.into_revisions(alloc)?;
@@ -56,7 +56,7 @@ fn put_changes(alloc: Global, changes: &Changes, out: &mut Out) -> Result<(), Do
     put_text(format!(in alloc; " len {}", changes.len()), out)
 }
 
-// Whether a revision has the digest, and the one revision of a row.
+// Whether a revision is the 3 of `DIGEST`, has this digest or has any, and the row's one revision.
 fn one(alloc: Global, text: &str, out: &mut Out) -> Result<(), DocFault> {
     let Some(rev) = RevId::read(text) else {
         out.put("none");
@@ -75,7 +75,7 @@ fn one(alloc: Global, text: &str, out: &mut Out) -> Result<(), DocFault> {
     put_changes(alloc, &Changes::one(alloc, rev)?, out)
 }
 
-// A copy of a revision of the digest in little memory, its text in quotes, and the one revision of a row.
+// A copy of the revision of `DIGEST` in little memory, two texts of it in quotes, and the row's one revision.
 fn digest(alloc: Global, generation: u64, out: &mut Out) -> Result<(), DocFault> {
     let generation = u16::try_from(generation).unwrap_or(1).max(1);
     let rev = DigestRev::new(generation, DIGEST).copy();
@@ -92,7 +92,7 @@ fn digest(alloc: Global, generation: u64, out: &mut Out) -> Result<(), DocFault>
     put_changes(alloc, &Changes::of_digest(rev), out)
 }
 
-// The row's revisions that these words are.
+// The row's revisions of a list of words.
 fn changes(alloc: Global, texts: &str) -> Result<Changes, AllocError> {
     let mut list = Vec::new(alloc);
     for text in texts.split(" ") {
@@ -103,7 +103,7 @@ fn changes(alloc: Global, texts: &str) -> Result<Changes, AllocError> {
     Ok(Changes::new(Revisions::new(list)))
 }
 
-// Writes a row, and what is written of it with these members.
+// Writes a row, and the text of its document where it has members.
 fn put_row(alloc: Global, row: &ChangeRow, out: &mut Out) -> Result<(), DocFault> {
     let (id, deleted) = (row.id.as_str(), row.deleted);
     put_text(
@@ -152,17 +152,17 @@ fn update(alloc: Global, words: &mut Words<'_>) -> Result<String, AllocError> {
 
 /// Carries out one of these commands, or answers `?`:
 /// - `rev TEXT` reads a revision, and answers its hash, the revision of its parts, and its generation;
-/// - `one REV` answers whether this is the revision 3 of the MD5 of no bytes, has this digest and has any,
-///   and the row's revisions that it is alone: as they are lent, by their places, and as the list of a copy;
-/// - `digest GENERATION` answers a revision of this digest and two texts of it in quotes, and the row's
-///   revisions that it is alone;
-/// - `changes REV ..` answers the row's revisions that these are;
-/// - `row MARK TEXT REV ..` answers a copy of a row of a document that is read with these revisions, and what
-///   is written of it, where MARK is `deleted` or `live`;
+/// - `one REV` tells whether REV is the revision 3 of the MD5 of no bytes, and whether it has this digest or
+///   any. Then it shows a row's list of REV alone, as it is lent, by its places, and as the list of a copy;
+/// - `digest GENERATION` answers a revision of this digest, two texts of it in quotes, and a row's list of it
+///   alone;
+/// - `changes REV ..` answers a row's list of these revisions;
+/// - `row MARK TEXT REV ..` answers a copy of a row of the document of a text, with these revisions, and the
+///   text of its document; MARK is `deleted` or `live`;
 /// - `update KIND SEQ SEEN NAME` answers a copy of a row of the log of updates;
 /// - `sequence SEQ LIFE` answers a text in quotes;
-/// - `limits` are those of a hub that serves;
-/// - `no-memory` is the reason of this fault;
+/// - `limits` answers the limits of a hub that serves;
+/// - `no-memory` answers the reason of this fault;
 /// - `plain TEXT` answers whether a text needs no escape.
 pub(super) fn part(alloc: Global, command: &str, out: &mut Out) -> Result<(), DocFault> {
     let mut words = Words::of(command);

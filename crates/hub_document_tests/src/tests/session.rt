@@ -11,17 +11,17 @@ use std::str;
 
 /// Reads documents and shows them. A command that finds a fault answers its reason.
 ///
-/// These read a document, and answer its id, `rev REV`, `deleted`, `path REV ..` and its members, as far as
-/// they are there, then what is written of it, and what of a copy, then a copy of its members, and at last
-/// the head of its path, the first two revisions, and a list of all:
+/// These commands read a document. They answer its id, `rev REV`, `deleted`, `path REV ..` and its members,
+/// as far as it has them. Then come the text of the document, the text of a copy, and a copy of the members.
+/// Of a path they answer also the head, the first two revisions, and a list of all:
 /// - `new TEXT` reads a text, of an edit that is made here, and `came TEXT` one of an edit that came;
-/// - `put ID | TEXT` and `put ID, REV | TEXT` read what is put under an id, and `put-came` with an edit that
-///   came;
-/// - `byte NUMBER TEXT` reads a text that has the byte of this number in place of its `$`, and `room NUMBER
-///   TEXT` reads it with a room.
+/// - `put ID | TEXT` and `put ID, REV | TEXT` read a text that is put under an id, and `put-came` reads it of
+///   an edit that came;
+/// - `byte NUMBER TEXT` reads a text with the byte of this number in place of its `$`, and `room NUMBER TEXT`
+///   reads it with a room.
 ///
 /// These read a local document, or its id:
-/// - `local COUNT ID | TEXT` answers what is written of it with so many edits, its members and its id;
+/// - `local COUNT ID | TEXT` answers the text of a local document with so many edits, its members and its id;
 /// - `local-id TEXT` answers whether the text is an id, as it stands.
 ///
 /// The other commands are those of `part`.
@@ -50,12 +50,12 @@ impl<R> Subject<R> for Session {
     }
 }
 
-// The text that these bytes are.
+// Bytes as a text.
 fn text_of(bytes: &[u8]) -> &str {
     str::from_utf8(bytes).unwrap_or("no text")
 }
 
-// The document that the value of a text is under an id.
+// The document that is put under an id, from the value of a text.
 fn put(alloc: Global, rest: &str, new_edits: bool) -> Result<Doc, DocFault> {
     let (place, text) = rest.split_once(" | ").unwrap_or((rest, ""));
     let (id, rev) = match place.split_once(", ") {
@@ -66,7 +66,7 @@ fn put(alloc: Global, rest: &str, new_edits: bool) -> Result<Doc, DocFault> {
     put_doc(alloc, id, rev, new_edits, &value)
 }
 
-// The document that a text is with a byte of this number in it, read with a room or without.
+// The document of a text with a byte of this number in it, read with a room or without.
 fn with_byte(alloc: Global, rest: &str, room: bool) -> Result<Doc, DocFault> {
     let mut words = Words::of(rest);
     let byte = u8::try_from(words.number()).unwrap_or(0);
@@ -81,7 +81,7 @@ fn with_byte(alloc: Global, rest: &str, room: bool) -> Result<Doc, DocFault> {
     read_doc(alloc, &value, true)
 }
 
-// A local document: what is written of it with so many edits, its members and its id.
+// A local document: its text with so many edits, its members and its id.
 fn local(alloc: Global, rest: &str, out: &mut Out) -> Result<(), DocFault> {
     let mut words = Words::of(rest);
     let count = words.number();

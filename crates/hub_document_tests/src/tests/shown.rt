@@ -1,9 +1,9 @@
-//! What is shown of a document.
+//! The texts that show a document.
 
 use hub_document::{Doc, DocFault, Path, RevId, Revisions};
 use std::alloc::Global;
 
-/// What a command is answered. It has room for each answer, and what finds none there is left out.
+/// The answer to a command. It has room for each answer, and a part without room is left out.
 #[derive(Drop)]
 pub(super) struct Out {
     pub(super) bytes: Vec<u8>,
@@ -15,19 +15,19 @@ impl Out {
         let _ = self.bytes.extend_from_slice(text.as_bytes());
     }
 
-    /// Appends a text and the bytes behind it.
+    /// Appends a text, and bytes after it.
     pub(super) fn both(&mut self, text: &str, bytes: &[u8]) {
         self.put(text);
         let _ = self.bytes.extend_from_slice(bytes);
     }
 
-    /// Appends a text and a revision behind a blank.
+    /// Appends a text, and a revision after a blank.
     pub(super) fn rev(&mut self, text: &str, rev: &RevId) {
         self.both(text, b" ");
         let _ = rev.print(&mut self.bytes);
     }
 
-    /// Appends a text and each revision behind a blank.
+    /// Appends a text, and each revision after a blank.
     pub(super) fn revs(&mut self, text: &str, revs: &[RevId]) {
         self.put(text);
         for rev in revs {
@@ -51,7 +51,7 @@ fn whole(doc: &Doc, out: &mut Out) {
     out.both(" ", doc.body.as_bytes());
 }
 
-// What is written of a document, and a copy of its members.
+// The text of a document, the text of its copy, and a copy of its members, a line each.
 fn written(alloc: Global, doc: &Doc, out: &mut Out) -> Result<(), DocFault> {
     let body = doc.body.copy(alloc)?;
     out.put("\n");
@@ -62,7 +62,7 @@ fn written(alloc: Global, doc: &Doc, out: &mut Out) -> Result<(), DocFault> {
     Ok(())
 }
 
-// The head of a path, the first two revisions of a copy, and the list of those of a copy, of a copy of it.
+// The head of a path, the first two revisions of a copy, and a copied list of the revisions of another copy.
 fn put_path(alloc: Global, path: &Path, out: &mut Out) -> Result<(), DocFault> {
     let front = path.copy(alloc)?.front(2);
     let list = Revisions::new(path.copy(alloc)?.into_revisions()).copy(alloc)?;

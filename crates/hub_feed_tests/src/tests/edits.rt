@@ -8,13 +8,13 @@ use hub_feed::{Source, is_ahead};
 use hub_model::Style;
 use std::alloc::AllocError;
 
-/// The documents of the edits: of one that a later one of its document follows, none.
+/// The document of each edit; none where a later edit of the same document follows.
 #[derive(Clone, Copy)]
 pub struct Edits<'a> {
     pub ids: &'a [Option<&'a str>],
 }
 
-/// A row, and how it was asked for.
+/// A row, with the parameters by which it was asked for.
 #[derive(Clone, Copy, Debug, PartialEq, Eq)]
 pub struct Shown {
     pub seq: u64,

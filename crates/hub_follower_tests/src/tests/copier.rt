@@ -9,43 +9,43 @@ use hub_transcript::{Answer, Subject, Words};
 use std::alloc::{AllocError, Global};
 use std::sync::Wait;
 
-/// A source and a target, at first empty and of the life 1, and a follower of one into the other. A place is
-/// told as a log has it: its number, with its life where that is known.
+/// A source and a target, both empty at first and of the life 1, and a follower of the source into the
+/// target. A sequence is shown as in a log: its number, with its life where the life is known.
 ///
-/// - `make END LIFE [LIMIT]`: a new database in the place of `source` or `target`, also for the session that
-///   is on, with room for one `feed` or one `edit` alone, where that is the limit.
-/// - `put DOC ..`: stores documents at the source with their histories, and tells how many edits it has.
-/// - `fill N`: stores the documents d0, d1 and so on there, each with the revision 1-a.
-/// - `delete END`: deletes the database.
-/// - `keep END LOG`: keeps a log there, which is written as in `logs`.
-/// - `logs ID`: the sessions to come have logs of this id.
-/// - `loses END N LOSS`: the sessions to come lose the call of this number of the end, `before` its effect or
-///   `after` it.
-/// - `session ID`: a session begins, and tells its place. Where none begins, it tells why, and how many
-///   faults source and target counted, and how many of them their databases did. In `session ID numbers` the
-///   databases are told no lives of the sequences that they are asked for changes above.
-/// - `round`: tells what a round did, and its place.
-/// - `copy`: makes rounds until there is nothing new and one more, of which it tells the same.
-/// - `checkpoint`: records the place, and tells what the logs of source and target record.
-/// - `end`: ends the session, and tells how many faults were counted, as `session` does.
-/// - `library ID OTHER`: copies the source by the example of README.md, in a session of this id, and of the
-///   other one where that finds no memory.
+/// - `make END LIFE [LIMIT]`: puts a new database in the place of `source` or `target`. The running session
+///   has it too. The limit `feed` gives room for one feed, the limit `edit` for one edit.
+/// - `put DOC ..`: stores documents with their histories at the source, and tells how many edits it has.
+/// - `fill N`: stores N documents d0, d1 and so on there, each with the revision 1-a, and tells the same.
+/// - `delete END`: deletes the database of an end.
+/// - `keep END LOG`: keeps a log at an end. The log is written as `Values` says.
+/// - `logs ID`: later sessions have logs of this id.
+/// - `loses END N LOSS`: later sessions lose the call of this number of an end, `before` its effect or
+///   `after` it. Calls are counted from 1.
+/// - `session ID`: begins a session, and tells its place. A failed start tells why, then how many faults
+///   source and target counted, and how many of those their databases counted. In `session ID numbers` a call
+///   for changes has the number of its sequence alone, without the life.
+/// - `round`: makes a round, and tells its outcome and the place after it.
+/// - `copy`: makes rounds until a round finds nothing new, and one round more, told as `round` tells it.
+/// - `checkpoint`: records the place, and tells the sequences that the logs of source and target record.
+/// - `end`: ends the session, and tells the counts of faults as `session` does.
+/// - `library ID OTHER`: copies the source by the example of README.md, in a session of the first id. Out of
+///   memory, it copies once more, in a session of the other id.
 /// - `count`: tells how many edits the target has.
-/// - `log END`: the text of the log.
-/// - `leaves ID`: the leaves of a document at both ends, best first.
-/// - `changes SEQ`: how many rows the source lists above a sequence, and where they end.
-/// - `missing SEQ`: the documents of which the target misses revisions that the source lists above it.
-/// - `first DOC ..`: what the source has when a first session copies it, and records that.
-/// - `then DOC ..`: what it gets behind that.
-/// - `ids ID ..`: the documents that it then has.
-/// - `lose END N LOSS`: between two new databases a second session, which loses such a call, and a third one,
-///   which loses none. It tells how the second one ended, and how many edits the target then had; and where
-///   the third one began, and how many edits are copied behind it: the target has all the source's leaves and
-///   as many edits, and both logs record all of them.
+/// - `log END`: tells the text of the log that an end keeps, or `none`.
+/// - `leaves ID`: tells the leaves of a document at both ends, best first.
+/// - `changes SEQ`: tells how many rows the source lists above a sequence, and where they end.
+/// - `missing SEQ`: tells the documents of which the target misses revisions that the source lists above SEQ.
+/// - `first DOC ..`: sets the documents that `lose` has its first session copy and record.
+/// - `then DOC ..`: sets the documents that `lose` stores at the source after that session.
+/// - `ids ID ..`: sets the ids of the documents whose leaves `lose` compares in the end.
+/// - `lose END N LOSS`: runs sessions between two new databases. The second one loses such a call, the third
+///   loses none. It tells how the second session ended, how many edits the target had then, where the third
+///   one began, and how many edits the target has at last. The target then has the source's leaves and as
+///   many edits, and both logs record all of them.
 ///
-/// Where a growth of a session of `lose` that loses a call is refused, the third one goes on as behind any
-/// other failure. All is made until it tells the same twice: where a call that is to be lost finds no memory
-/// itself, it has no effect.
+/// Where a growth of the second session of `lose` is refused, the third one goes on as after any failure. A
+/// call that is to be lost, but finds no memory itself, has no effect. So `lose` runs all sessions until two
+/// runs tell the same.
 #[derive(Drop)]
 pub(crate) struct Copier<'a, R: Wait> {
     rt: &'a R,
@@ -54,7 +54,7 @@ pub(crate) struct Copier<'a, R: Wait> {
     desk: Desk<DbPeer<'a, R>>,
 }
 
-// The limits of a database with room for one feed or one edit alone, or of a hub that serves.
+// The limits of a database with room for one `feed` or one `edit`, or else those of a hub that serves.
 fn limits_of(limit: &str) -> Limits {
     let mut limits = Limits::full();
     if limit == "feed" {
@@ -67,7 +67,7 @@ fn limits_of(limit: &str) -> Limits {
 }
 
 impl<'a, R: Wait> Copier<'a, R> {
-    // The database of the end of this name.
+    // The database of an end.
     fn db(&self, name: &str) -> &Db<Plain> {
         if name == "source" {
             &self.source
@@ -76,7 +76,7 @@ impl<'a, R: Wait> Copier<'a, R> {
         }
     }
 
-    // Puts a new database in the place of one.
+    // Puts a new database in the place of the source or the target.
     fn make(&mut self, is_source: bool, life: u64, limits: Limits) -> Result<(), AllocError> {
         let alloc = self.desk.alloc;
         let db = database(alloc, limits, life)?;
@@ -108,7 +108,7 @@ impl<'a, R: Wait> Copier<'a, R> {
         }
     }
 
-    // Runs sessions that lose a call until two runs are alike.
+    // Runs the sessions of `lose` until two runs tell the same, three times at most.
     fn lose(&mut self, lost: Lost, answer: &mut Answer) -> Result<(), AllocError> {
         let mut last = String::new(self.desk.alloc);
         for _ in 0..3 {

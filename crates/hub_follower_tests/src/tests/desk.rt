@@ -15,7 +15,7 @@ use std::alloc::{AllocError, Global};
 /// A peer of a follower, some of whose calls may be lost.
 pub(crate) type End<P> = FaultPeer<Held<P>>;
 
-/// Which call of each end is lost, and how; 0: none.
+/// The number of the call that is lost at each end, and how it is lost. 0: none is lost.
 #[derive(Clone, Copy)]
 pub(crate) struct Lost {
     source: u64,
@@ -33,7 +33,7 @@ impl Lost {
         }
     }
 
-    /// What a command says of the call that is lost.
+    /// Reads the lost call from the words `END N LOSS` of a command.
     pub(crate) fn read(words: &mut Words<'_>) -> Result<Lost, AllocError> {
         let is_source = words.word() == "source";
         let call = number(words.word())?;
@@ -51,7 +51,7 @@ impl Lost {
     }
 }
 
-/// Two peers, and a follower of one into the other, as `Copier` tells them.
+/// Two peers, and a follower of the first into the second. `Copier` lists the commands.
 #[derive(Drop)]
 pub(crate) struct Desk<P> {
     pub(crate) alloc: Global,
@@ -59,15 +59,15 @@ pub(crate) struct Desk<P> {
     pub(crate) target: Held<P>,
     pub(crate) follower: Option<Follower<End<P>, End<P>>>,
     log_id: String,
-    /// What the sessions of a user lose.
+    /// The lost calls of the sessions that `session` begins.
     lost: Lost,
-    /// What `lose` gives the source before a first session and behind it, and the documents.
+    /// The documents that `lose` stores before its first session and after it, and the ids of both.
     pub(crate) first: String,
     pub(crate) then: String,
     pub(crate) ids: String,
 }
 
-// Tells how many faults the source and the target counted, and of these their databases.
+// Tells how many faults the source and the target counted, and how many of these their databases counted.
 fn tell_faults<P: Peer + Drop>(
     source: End<P>,
     target: End<P>,
@@ -100,7 +100,7 @@ impl<P: Peer + Drop> Desk<P> {
         })
     }
 
-    /// A session begins, unless that fails.
+    /// Begins a session. A start that fails is answered.
     pub(crate) fn begin(
         &mut self,
         session_id: &str,
@@ -120,7 +120,7 @@ impl<P: Peer + Drop> Desk<P> {
         }
     }
 
-    // A session begins, and tells its place, or why none begins.
+    // Begins a session, and tells its place. A failed start tells why, and the counts of faults.
     fn session(&mut self, words: &mut Words<'_>, answer: &mut Answer) -> Result<(), AllocError> {
         let session_id = words.word();
         let tells_lives = words.rest() != "numbers";
@@ -132,7 +132,7 @@ impl<P: Peer + Drop> Desk<P> {
         tell_place("", &self.follower, answer)
     }
 
-    // Records the place, and tells what both logs record.
+    // Records the place, and tells the sequences that both logs record.
     fn checkpoint(&mut self, answer: &mut Answer) -> Result<(), AllocError> {
         tell_checkpoint(self.alloc, &mut self.follower, answer)?;
         tell_logs(&mut self.source, &mut self.target, answer)
@@ -164,7 +164,7 @@ impl<P: Peer + Drop> Desk<P> {
         }
     }
 
-    // The example of README.md, under another id where it finds no memory.
+    // Runs the example of README.md, and once more under the other id where it finds no memory.
     fn copied(&mut self, words: &mut Words<'_>, answer: &mut Answer) -> Result<(), AllocError> {
         let ids = (words.word(), words.rest());
         if copies(self.alloc, &self.source, &self.target, ids) {
@@ -228,7 +228,7 @@ impl<P: Peer + Drop> Desk<P> {
         }
     }
 
-    // Takes what `lose` gives the source.
+    // Keeps a text for `lose`: documents of the source, or ids.
     fn give(&mut self, command: &str, answer: &mut Answer) -> Result<(), AllocError> {
         let mut words = Words::of(command);
         let place = words.verb("first then ids");

@@ -1,13 +1,13 @@
-//! What a follower does, and tells of it, whatever its peers are.
+//! The calls of a follower, and the lines that tell them, whatever its peers are.
 //!
-//! A call that finds no memory is an error. It leaves the place, and the command is given once more.
+//! A call that finds no memory is an error, and leaves the place. The command is then given once more.
 
 use crate::tests::{Told, tell_fault};
 use hub_follower::{FollowFault, Follower, Peer, Round};
 use hub_transcript::Answer;
 use std::alloc::{AllocError, Global};
 
-/// Rounds until there is nothing new.
+/// Makes rounds until a round finds nothing new; a fault where 100 rounds are not enough.
 pub(crate) fn copy_all<S: Peer + Drop, T: Peer + Drop>(
     follower: &mut Follower<S, T>,
 ) -> Result<(), FollowFault> {
@@ -19,7 +19,7 @@ pub(crate) fn copy_all<S: Peer + Drop, T: Peer + Drop>(
     Err(FollowFault::Peer)
 }
 
-/// Tells the place of a session behind this text.
+/// Tells the place of a session, with `front` before it.
 pub(crate) fn tell_place<S: Peer + Drop, T: Peer + Drop>(
     front: &str,
     kept: &Option<Follower<S, T>>,
@@ -34,7 +34,7 @@ pub(crate) fn tell_place<S: Peer + Drop, T: Peer + Drop>(
     }
 }
 
-/// Makes a round, and tells what it did, and the place behind it.
+/// Makes a round, and tells its outcome and the place after it.
 pub(crate) fn tell_round<S: Peer + Drop, T: Peer + Drop>(
     alloc: Global,
     kept: &mut Option<Follower<S, T>>,
@@ -54,7 +54,7 @@ pub(crate) fn tell_round<S: Peer + Drop, T: Peer + Drop>(
     tell_place("", kept, answer)
 }
 
-/// Makes rounds until there is nothing new, and one more.
+/// Makes rounds until a round finds nothing new, and one round more, which it tells.
 pub(crate) fn tell_copy<S: Peer + Drop, T: Peer + Drop>(
     alloc: Global,
     kept: &mut Option<Follower<S, T>>,
@@ -69,7 +69,7 @@ pub(crate) fn tell_copy<S: Peer + Drop, T: Peer + Drop>(
     }
 }
 
-/// Records a follower's place, and tells why that fails, where it does.
+/// Records a follower's place. A failure tells why.
 pub(crate) fn tell_checkpoint<S: Peer + Drop, T: Peer + Drop>(
     alloc: Global,
     kept: &mut Option<Follower<S, T>>,

@@ -13,7 +13,7 @@ use hub_transcript::{Answer, Words, replay};
 use std::alloc::{AllocError, Global};
 use std::test::Fail;
 
-/// A database of one thread, the same behind its deletion, and the items that a feed of it handed.
+/// Two databases with the same edits, of which `above` deletes the second, and items of a feed of the first.
 #[derive(Drop)]
 pub(crate) struct Handed {
     alloc: Global,
@@ -24,7 +24,7 @@ pub(crate) struct Handed {
     items: Vec<Item<ChangeRow>>,
 }
 
-// The revisions that the words are; an error where they find no memory, and each time where one is none.
+// The revisions of a list with commas; an error out of memory, and each time where a part is no revision.
 fn revisions(alloc: Global, texts: &str) -> Result<Revisions, AllocError> {
     let mut revs = Vec::new(alloc);
     for text in texts.split(',') {
@@ -36,12 +36,12 @@ fn revisions(alloc: Global, texts: &str) -> Result<Revisions, AllocError> {
     Ok(Revisions::new(revs))
 }
 
-// The part of a word before its first colon, and the part behind it.
+// The part of a word before its first colon, and the part after it.
 fn cut(word: &str) -> (&str, &str) {
     word.split_once(':').unwrap_or((word, ""))
 }
 
-// The row that a word is. It says that it is deleted where its only leaf is 2-b, which is.
+// The row that a word writes. It is deleted where its only leaf is 2-b, which deletes its document here.
 fn row_of(alloc: Global, word: &str) -> Result<ChangeRow, AllocError> {
     let (seq, rest) = cut(word);
     let (id, rest) = cut(rest);
@@ -59,7 +59,7 @@ fn row_of(alloc: Global, word: &str) -> Result<ChangeRow, AllocError> {
     })
 }
 
-// The item that a word is.
+// The item that a word writes: `beat`, `end:LAST`, or a row.
 fn item_of(alloc: Global, word: &str) -> Result<Item<ChangeRow>, AllocError> {
     if word == "beat" {
         return Ok(Item::Beat);
@@ -73,7 +73,7 @@ fn item_of(alloc: Global, word: &str) -> Result<Item<ChangeRow>, AllocError> {
     Ok(Item::Row(row_of(alloc, word)?))
 }
 
-/// The items that the words are, which stand behind one another with this sign between them.
+/// The items that the words write. This sign stands between two words.
 pub(crate) fn items_of(
     alloc: Global,
     words: &str,
@@ -88,7 +88,7 @@ pub(crate) fn items_of(
     Ok(items)
 }
 
-// The leaves that a row shows, as they are told.
+// The leaves that a row shows, with commas between them.
 fn leaves_of(alloc: Global, row: &ChangeRow) -> Result<Vec<u8>, AllocError> {
     let mut text = Vec::new(alloc);
     for at in 0..row.changes.len() {
@@ -115,7 +115,7 @@ fn tell_item(alloc: Global, item: &Item<ChangeRow>, answer: &mut Answer) -> Resu
     }
 }
 
-// Stores documents. Where one finds no memory, those before it stand; written again, they are known.
+// Stores documents. Out of memory, the documents before the failing one stay; written again, they are known.
 fn write(db: &mut DbState, docs: Vec<Doc>) -> Result<(), AllocError> {
     match db.write_edits(docs, false) {
         Ok(batch) if !batch.stopped => Ok(()),
@@ -123,7 +123,7 @@ fn write(db: &mut DbState, docs: Vec<Doc>) -> Result<(), AllocError> {
     }
 }
 
-// What a follower asks of a feed.
+// The parameters of a follower's feed.
 fn asked(since: u64) -> FeedParams {
     FeedParams {
         mode: Mode::Normal,
@@ -157,7 +157,7 @@ impl Handed {
         answer.line(format_args!("{} edits", self.db.update_seq()))
     }
 
-    // Tells whether items are right, and once the database is deleted.
+    // Tells whether items are right. The deleted database has to decide as the other one does.
     fn decide(
         &self,
         since: u64,
@@ -181,7 +181,7 @@ impl Handed {
         self.decide(since, items.as_slice(), answer)
     }
 
-    // Opens a feed. Where that finds no memory there is none.
+    // Opens a feed. Out of memory, no feed is opened.
     fn open(&mut self, since: u64) -> Result<(), AllocError> {
         match self.db.open_feed(asked(since)) {
             Ok(feed) => {
@@ -193,7 +193,7 @@ impl Handed {
         }
     }
 
-    // Takes and tells what the feed hands next. Where that finds no memory it is due still.
+    // Takes the next item of the feed, and tells it. Out of memory, the item stays due.
     fn hand(&mut self, answer: &mut Answer) -> Result<(), AllocError> {
         let Some(feed) = self.feed else {
             return answer.line("no feed");
@@ -210,7 +210,7 @@ impl Handed {
         }
     }
 
-    // Whether rows of so many documents, and their end, are right.
+    // Tells whether the rows of so many documents, with their end, are right.
     fn rows(&mut self, count: u64, answer: &mut Answer) -> Result<(), AllocError> {
         write(&mut self.db, numbered(self.alloc, count)?)?;
         write(&mut self.deleted, numbered(self.alloc, count)?)?;
@@ -242,7 +242,7 @@ impl Handed {
     }
 }
 
-// What feeds hand, also where documents move between their rows.
+// Items that feeds hand, also where documents move between their rows.
 const FEEDS: &str = r#"
 # three documents
 > put {"_id":"a","_revisions":{"start":2,"ids":["c","a"]}} {"_id":"b","_rev":"1-b"} {"_id":"x","_revisions":{"start":2,"ids":["b","q"]},"_deleted":true} {"_id":"x","_revisions":{"start":2,"ids":["a","q"]}} {"_id":"x","_rev":"1-z"}
@@ -313,8 +313,8 @@ fn what_feeds_hand_is_right(rt: HostRuntime) -> Result<(), Fail> {
     replay::<Values, _>(&rt, rt.alloc(), FEEDS)
 }
 
-// Behind edits of three documents, of which x has three leaves; and behind a parent that came late. A hundred
-// rows are an answer, and one more are none.
+// The database has edits of three documents, of which x has three leaves. In a later case a document's parent
+// came late. An answer has a hundred rows at most.
 const DECIDED: &str = r#"
 # rows of all documents, and above a sequence
 > put {"_id":"a","_revisions":{"start":2,"ids":["c","a"]}} {"_id":"b","_rev":"1-b"} {"_id":"x","_revisions":{"start":2,"ids":["b","q"]},"_deleted":true} {"_id":"x","_revisions":{"start":2,"ids":["a","q"]}} {"_id":"x","_rev":"1-z"}

@@ -10,12 +10,12 @@ use std::alloc::{AllocError, Global};
 use std::cell::RefCell;
 use std::rc::Rc;
 
-/// A peer that a test holds beside a follower. The test may put another one in its place, as where a database
-/// is made again. A call that fails is counted.
+/// A peer that a test holds beside a follower. The test may put another peer in its place, as where a
+/// database is made again. Each fault of the peer is counted.
 #[derive(Drop)]
 pub(crate) struct Held<P> {
     peer: Rc<RefCell<P>>,
-    /// Whether it is told the life of the sequence that it is asked for changes above, or the number alone.
+    /// Whether a call for changes has the life of its sequence, or the number alone.
     tells_lives: bool,
     faults: u64,
 }
@@ -29,7 +29,7 @@ impl<P: Peer + Drop> Held<P> {
         })
     }
 
-    /// The same peer for a follower, which has counted nothing.
+    /// The same peer for a follower, with a count of 0 faults.
     pub(crate) fn again(&self, tells_lives: bool) -> Result<Held<P>, AllocError> {
         Ok(Held {
             peer: self.peer.clone()?,
@@ -54,7 +54,7 @@ impl<P: Peer + Drop> Held<P> {
         }
     }
 
-    // The sequence, or its number alone.
+    // The sequence for the peer: with its life, or its number alone.
     fn told(&self, since: Seq) -> Seq {
         if self.tells_lives {
             return since;
@@ -65,7 +65,7 @@ impl<P: Peer + Drop> Held<P> {
         }
     }
 
-    // The outcome of a call, whose fault is counted.
+    // The outcome of a call. A fault of the peer is counted.
     fn counted<A>(&mut self, outcome: Result<A, CallFault>) -> Result<A, CallFault>
         ensures same { result ≡ outcome }
         ensures counts { CallCounts result self.old.faults self.new.faults }
@@ -78,7 +78,7 @@ impl<P: Peer + Drop> Held<P> {
 }
 
 impl<P: Peer + Drop> Peer for Held<P> {
-    // nothing is said of its answers
+    // a call may have any answer
     ghost gives = { λ s call answer new. Unit };
 
     ghost loses = { λ s call new. Unit };

@@ -4,10 +4,10 @@ use crate::tests::copier::Copier;
 use hub_transcript::replay;
 use std::test::Fail;
 
-// A known revision with another parent changes nothing, and takes no sequence; a later one takes its parent's
-// place among the leaves. Of a revision whose parent is not known the parent may come later, with a new head;
-// a known head with more behind it changes nothing. A leaf that is deleted stays a leaf; where it was the
-// only one, the document has that one leaf. The copy has what the source has.
+// A known revision with another parent changes nothing, and takes no sequence. A later revision takes its
+// parent's place among the leaves. The unknown parent of a revision may come later, under a new head. A known
+// head with more ancestors changes nothing. A deleted leaf stays a leaf, and may be the document's only leaf.
+// The copy has the source's leaves.
 const HISTORIES: &str = r#"
 # a leaf that goes on is copied
 > put {"_id":"x","_revisions":{"start":2,"ids":["b","a"]}} {"_id":"x","_revisions":{"start":3,"ids":["c","p","a"]}}

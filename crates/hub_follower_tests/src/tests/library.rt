@@ -38,7 +38,7 @@ fn copy_once<P: Peer + Drop>(
     copy(alloc, source.again(true)?, target.again(true)?, session_id)
 }
 
-/// Whether that copies all, also where a growth of it is refused: then under another id.
+/// Whether the example succeeds. Out of memory, it runs once more, under the other id.
 pub(crate) fn copies<P: Peer + Drop>(
     alloc: Global,
     source: &Held<P>,
@@ -51,7 +51,7 @@ pub(crate) fn copies<P: Peer + Drop>(
     }
 }
 
-// The ids of two sessions, each with the one of a session that is made where it finds no memory.
+// Each command has the id of a session, and the id of another one where the first finds no memory.
 const COPIED: &str = r#"
 # a database is copied
 > put {"_id":"a","_rev":"1-a"} {"_id":"b","_rev":"1-b"}

@@ -4,8 +4,8 @@ use crate::tests::copier::Copier;
 use hub_transcript::replay;
 use std::test::Fail;
 
-// The second round begins at 0 of the new life. With numbers alone it goes on behind 2, and leaves out the
-// first two documents of the new source for good.
+// The second round begins at 0 of the new life. With numbers alone the second round goes on after 2, and
+// leaves out the first two documents of the new source for good.
 const MADE_AGAIN: &str = r#"
 # a source that is made again is copied anew
 > make source 1
@@ -69,8 +69,8 @@ source {"_id":"d","_rev":"1-d","_revisions":{"start":1,"ids":["d"]}}
 target {"_id":"d","_rev":"1-d","_revisions":{"start":1,"ids":["d"]}}
 "#;
 
-// While there is no source a round fails, and the place stays. It becomes 0 of the new life, though nothing
-// moves, and then the new source's.
+// Without a source a round fails, and the place stays. With an empty new source a round is idle, and the
+// place becomes 0 of the new life. Then the place follows the new source.
 const EMPTY_AT_FIRST: &str = r#"
 # a source that is made again is empty at first
 > make source 1
@@ -108,8 +108,8 @@ fn a_source_that_is_made_again_is_copied_anew(rt: HostRuntime) -> Result<(), Fai
     replay::<Copier<'_, HostRuntime>, _>(&handle, rt.alloc(), EMPTY_AT_FIRST)
 }
 
-// Sequences that a source of life 1 with two documents is asked for changes above, a number alone or with a
-// life, and how many rows it answers.
+// A source of life 1 with two documents is asked for changes above sequences, each a number alone or with a
+// life. Each answer tells how many rows there are.
 const CHANGES: &str = r#"
 # changes begin in the life of the source
 > put {"_id":"a","_rev":"1-a"} {"_id":"b","_rev":"1-b"}
@@ -138,9 +138,9 @@ fn changes_begin_in_the_life_of_the_source(rt: HostRuntime) -> Result<(), Fail> 
     replay::<Copier<'_, HostRuntime>, _>(&handle, rt.alloc(), CHANGES)
 }
 
-// A source of life 2 with three documents, an empty target, and their logs of one session. Where a session
-// begins, and how many documents it copies. A sequence of the first life is none in the second. At last a
-// session goes on from whole numbers: its own entry has texts, and the older one stays as it was.
+// A source of life 2 with three documents, an empty target, and logs of one session. Each case tells where a
+// session begins, and how many documents it copies. A sequence of life 1 counts as 0 in life 2. In the last
+// case a session goes on from whole numbers: its entry has texts, and the older entry stays.
 const RECORDED: &str = r#"
 # the logs record 2 and 2
 > make source 2

@@ -7,8 +7,8 @@ use hub_transcript::{Answer, Words, replay};
 use std::alloc::{AllocError, Global};
 use std::test::Fail;
 
-// An entry of a history, or a last session; an error where it finds no memory, and each time where the word
-// is none.
+// The entry of a history, or the last session, that a word `ID:SEQ` writes; an error out of memory, and each
+// time where the word has no sequence.
 fn entry_of(alloc: Global, word: &str) -> Result<HistoryEntry, AllocError> {
     let (session_id, seq) = word.split_once(':').unwrap_or((word, ""));
     let seq = seq_of(seq)?;
@@ -20,7 +20,7 @@ fn entry_of(alloc: Global, word: &str) -> Result<HistoryEntry, AllocError> {
     })
 }
 
-/// The log that a word is.
+/// The log that a word writes, as `Values` says.
 pub(crate) fn log_of(alloc: Global, word: &str) -> Result<Log, AllocError> {
     let (last, entries) = word.split_once('/').unwrap_or((word, ""));
     let mut history = Vec::new(alloc);
@@ -35,7 +35,7 @@ pub(crate) fn log_of(alloc: Global, word: &str) -> Result<Log, AllocError> {
     })
 }
 
-// The log that is read where the one that a word is was written.
+// The log of a word, written as a text and read back. The word `none` is no log.
 fn read_back(alloc: Global, word: &str) -> Result<Option<Log>, AllocError> {
     if word == "none" {
         return Ok(None);
@@ -47,8 +47,8 @@ fn read_back(alloc: Global, word: &str) -> Result<Option<Log>, AllocError> {
     }
 }
 
-/// Tells a log: its last session with its sequence, and the sessions of its history, each with the sequence
-/// that it began at, the last one and the recorded one.
+/// Tells a log: its last session with its sequence, and the sessions of its history, each with the sequences
+/// of its beginning, of its end and of its record.
 pub(crate) fn tell_log(log: &Log, answer: &mut Answer) -> Result<(), AllocError> {
     let last = Told(Some(log.source_last_seq));
     answer.line(format_args!("{} {last}", log.session_id.as_str()))?;
@@ -67,7 +67,7 @@ fn write(alloc: Global, word: &str, answer: &mut Answer) -> Result<(), AllocErro
     answer.line(text_of(text.as_slice())?)
 }
 
-// Tells the log that a text is.
+// Reads a log from its text, and tells it.
 fn read(alloc: Global, text: &str, answer: &mut Answer) -> Result<(), AllocError> {
     match Log::read(alloc, text.as_bytes())? {
         Some(log) => tell_log(&log, answer),
@@ -83,7 +83,7 @@ fn agree(alloc: Global, words: &mut Words<'_>, answer: &mut Answer) -> Result<()
     answer.line(format_args!("up to {common}"))
 }
 
-// Tells how many entries of a long history are read.
+// Tells how many entries are read of a log whose history has `count`.
 fn history(alloc: Global, count: u64, answer: &mut Answer) -> Result<(), AllocError> {
     let mut log = log_of(alloc, "S:1/S:1")?;
     for _ in 1..count {
@@ -183,7 +183,7 @@ fn sequences_up_to_which_logs_agree(rt: HostRuntime) -> Result<(), Fail> {
     replay::<Values, _>(&rt, rt.alloc(), AGREED)
 }
 
-// Each place may have a whole number or a text, whatever the others have.
+// Each sequence of a log may be a whole number or a text, whatever its other sequences are.
 const TEXTS: &str = r#"
 # a log is read as it was written
 > log write S"2:7-1/S"2:7-1,S1:4

@@ -1,4 +1,4 @@
-//! Sessions that lose a call, and the sessions behind them.
+//! Sessions that lose a call, and the sessions after them.
 
 use crate::tests::Told;
 use crate::tests::desk::{Desk, Lost};
@@ -17,7 +17,7 @@ fn end_of(done: &Result<Option<Seq>, FollowFault>) -> &'static str {
     }
 }
 
-// Copies all and records the place, up to the first call that fails: where that began.
+// Copies all and records the place, up to the first call that fails. Answers the place of the beginning.
 fn copy_and_record<S: Peer + Drop, T: Peer + Drop>(
     follower: &mut Follower<S, T>,
 ) -> Result<Option<Seq>, FollowFault> {
@@ -28,7 +28,7 @@ fn copy_and_record<S: Peer + Drop, T: Peer + Drop>(
 }
 
 impl<P: Peer + Drop> Desk<P> {
-    // A session up to its checkpoint, or up to the call that fails: where it began.
+    // A session up to its checkpoint, or up to the call that fails. Answers the place at which it began.
     fn whole_session(&mut self, session_id: &str, lost: Lost) -> Result<Option<Seq>, FollowFault> {
         if let Some(failed) = self.begin(session_id, true, lost)? {
             return Err(failed.fault);
@@ -39,7 +39,7 @@ impl<P: Peer + Drop> Desk<P> {
         }
     }
 
-    // A session that loses nothing: where it began.
+    // A session that loses no call. Answers the place at which it began.
     fn faultless_session(&mut self, session_id: &str) -> Result<Option<Seq>, AllocError> {
         match self.whole_session(session_id, Lost::nothing()) {
             Ok(place) => Ok(place),
@@ -47,7 +47,7 @@ impl<P: Peer + Drop> Desk<P> {
         }
     }
 
-    // Stores what the source has, of which a first session copies the first part.
+    // Stores the documents of `first` at the source, which a session copies, and then those of `then`.
     fn write_all(&mut self) -> Result<(), AllocError> {
         if !self.first.is_empty() {
             put(self.alloc, &mut self.source, self.first.as_str())?;
@@ -56,7 +56,7 @@ impl<P: Peer + Drop> Desk<P> {
         put(self.alloc, &mut self.source, self.then.as_str())
     }
 
-    // How many edits the target has, where these are all that the source has, and both logs record that.
+    // How many edits the target has; None unless the source's leaves and edits are there and recorded.
     fn whole_count(&mut self) -> Result<Option<u64>, AllocError> {
         let stored = count(&mut self.source)?;
         let place = Some(Seq::of_life(stored, 1));
@@ -72,8 +72,8 @@ impl<P: Peer + Drop> Desk<P> {
         Ok(if is_whole { Some(stored) } else { None })
     }
 
-    /// All sessions between two new databases: how the one that loses a call ended, how many edits the target
-    /// then had, where the next one began, and how many edits are copied and recorded in the end.
+    /// Runs all sessions between two new databases. Tells how the session that loses a call ended, how many
+    /// edits the target had then, where the next session began, and how many edits are copied and recorded.
     pub(crate) fn run(&mut self, lost: Lost) -> Result<String, AllocError> {
         self.write_all()?;
         let end = end_of(&self.whole_session("S2", lost));

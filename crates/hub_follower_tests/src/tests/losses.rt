@@ -4,8 +4,8 @@ use crate::tests::copier::Copier;
 use hub_transcript::replay;
 use std::test::Fail;
 
-// The source is asked for its log, the changes, three documents, the changes again, and to keep its log;
-// the target for its log, what it misses, to store, and to keep its log.
+// The calls of the source: its log, the changes, three documents, the changes again, and keeping its log. The
+// calls of the target: its log, the missing revisions, storing, and keeping its log.
 const ALL: &str = r#"
 # peers come back from a failed start
 > loses source 1 before
@@ -68,9 +68,9 @@ a peer failed, target 5; then from 5-1 to 5
 copied, target 5; then from 5-1 to 5
 "#;
 
-// Behind a first copy of revisions alone, of which one is deleted, edits tell their parents: on a known head,
-// which changes nothing, and on new ones. Of z the first line is joined by the second edit, and that by the
-// third.
+// A first session copies revisions without ancestors, of which one is deleted. Later edits tell the parents:
+// under a known head, which changes nothing, and under new heads. The three later edits of z lengthen the
+// line of 7-g down to 4-d, to 2-b and to 1-a.
 const PARENTS: &str = r#"
 # a session of parents that come behind a first copy
 > first {"_id":"x","_rev":"2-b"} {"_id":"x","_rev":"3-c","_deleted":true} {"_id":"y","_rev":"5-e"} {"_id":"z","_rev":"7-g"} {"_id":"z","_revisions":{"start":5,"ids":["e","d"]}} {"_id":"z","_rev":"2-b"}
@@ -136,7 +136,7 @@ fn whatever_is_lost_all_is_copied(rt: HostRuntime) -> Result<(), Fail> {
     replay::<Copier<'_, HostRuntime>, _>(&handle, rt.alloc(), ALL)
 }
 
-// Histories end above the first generation: leaves, winners and what stands behind each are copied.
+// Histories end above the first generation. Leaves, winners and their ancestors are copied.
 #[test]
 fn whatever_is_lost_parents_are_copied(rt: HostRuntime) -> Result<(), Fail> {
     let handle = &rt;

@@ -4,8 +4,8 @@ use crate::tests::copier::Copier;
 use hub_transcript::replay;
 use std::test::Fail;
 
-// A round asks for a hundred rows, and finishes its feed. A session that does not begin tells how many faults
-// its source and its target counted.
+// A round asks for a hundred rows, and finishes its feed. A failed start tells the faults that its source and
+// its target counted.
 const ROUNDS: &str = r#"
 # a round copies and the next is idle
 > put {"_id":"a","_rev":"1-a"} {"_id":"b","_rev":"1-b"}

@@ -1,11 +1,11 @@
-//! Followers that stop behind an earlier checkpoint.
+//! Followers that stop after an earlier checkpoint.
 
 use crate::tests::copier::Copier;
 use hub_transcript::replay;
 use std::test::Fail;
 
-// The target is a copy of the source up to 2, which both logs record; the source has one document more. The
-// source is asked for its log, the changes, the document, the changes again, and to keep its log.
+// The target is a copy of the source up to 2, which both logs record. The source has one document more. Its
+// calls: its log, the changes, the document, the changes again, and keeping its log.
 const SOURCE_CALLS: &str = r#"
 # a follower that stopped at a call of its source
 > first {"_id":"a","_rev":"1-a"} {"_id":"b","_rev":"1-b"}
@@ -37,7 +37,7 @@ a peer failed, target 3; then from 2-1 to 3
 copied, target 3; then from 3-1 to 3
 "#;
 
-// The target is asked for its log, what it misses, to store, and to keep its log.
+// The calls of the target: its log, the missing revisions, storing, and keeping its log.
 const TARGET_CALLS: &str = r#"
 # a follower that stopped at a call of its target
 > first {"_id":"a","_rev":"1-a"} {"_id":"b","_rev":"1-b"}
@@ -65,8 +65,8 @@ a peer failed, target 3; then from 3-1 to 3
 copied, target 3; then from 3-1 to 3
 "#;
 
-// Behind the merge and before the checkpoint: the next session begins at the old checkpoint, the target
-// misses nothing, and nothing is stored again.
+// The follower stops after the merge and before the checkpoint. The next session begins at the old
+// checkpoint, the target misses nothing, and nothing is stored again.
 const BEFORE_CHECKPOINT: &str = r#"
 # a follower that stopped before its checkpoint
 > put {"_id":"a","_rev":"1-a"} {"_id":"b","_rev":"1-b"}

@@ -34,7 +34,7 @@ fn tell_kept(alloc: Global, session: &Session, answer: &mut Answer) -> Result<()
     tell_log(&target, answer)
 }
 
-// A session begins, where no call is owed.
+// Begins a session, where no call is owed.
 fn start(alloc: Global, core: &mut FollowCore, session_id: &str) -> Result<(), AllocError> {
     let session_id = String::from_str(alloc, session_id)?;
     if core.is_free() {
@@ -43,7 +43,7 @@ fn start(alloc: Global, core: &mut FollowCore, session_id: &str) -> Result<(), A
     Ok(())
 }
 
-// The log that is asked for is absent.
+// Answers a call for a log: there is none.
 fn absent(alloc: Global, core: &mut FollowCore, answer: &mut Answer) -> Result<(), AllocError> {
     let done = match core.next_call() {
         Some(Call::GetSource) => core.accept(alloc, Answered::Log(None)),
@@ -56,7 +56,7 @@ fn absent(alloc: Global, core: &mut FollowCore, answer: &mut Answer) -> Result<(
     }
 }
 
-// Tells the logs that are to be kept.
+// Tells the logs that the owed call keeps.
 fn kept(alloc: Global, core: &FollowCore, answer: &mut Answer) -> Result<(), AllocError> {
     match core.next_call() {
         Some(Call::PutSource(session)) => tell_kept(alloc, session, answer),
@@ -93,7 +93,7 @@ fn go_on(
     }
 }
 
-/// Carries out a command on a machine, and tells what call it owes then, and its place.
+/// Carries out a command on a machine. Tells the call that the machine owes after it, and its place.
 pub(crate) fn answer_of_machine(
     alloc: Global,
     core: &mut FollowCore,

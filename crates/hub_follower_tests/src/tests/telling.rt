@@ -1,6 +1,6 @@
-//! What is done to a peer, and told of it.
+//! Calls on a peer, and the lines that tell their answers.
 //!
-//! Each call is an error where it finds no memory, and each time where the peer fails.
+//! A call is an error out of memory, and each time where the peer fails.
 
 use crate::tests::{LOG, Told, docs, text_of};
 use hub_database::OpenRev;
@@ -9,7 +9,7 @@ use hub_follower::{Changes, Log, Peer, Seq};
 use hub_transcript::Answer;
 use std::alloc::{AllocError, Global};
 
-/// What a peer lists above a sequence.
+/// The rows that a peer lists above a sequence, with their end.
 pub(crate) fn rows_above<P: Peer>(peer: &mut P, since: Seq) -> Result<Changes, AllocError> {
     match peer.changes(since) {
         Ok(changes) => Ok(changes),
@@ -17,7 +17,7 @@ pub(crate) fn rows_above<P: Peer>(peer: &mut P, since: Seq) -> Result<Changes, A
     }
 }
 
-/// How many edits a peer has: where its changes end.
+/// How many edits a peer has: the sequence at which its changes end.
 pub(crate) fn count<P: Peer>(peer: &mut P) -> Result<u64, AllocError> {
     let mut since = Seq::beginning();
     for _ in 0..100 {
@@ -38,8 +38,8 @@ pub(crate) fn store<P: Peer>(peer: &mut P, docs: Vec<Doc>) -> Result<(), AllocEr
     }
 }
 
-/// Stores the documents that the words are. Where one finds no memory, those before it stand; written again,
-/// they are known.
+/// Stores the documents that the words write. Out of memory, the documents before the failing one stay;
+/// written again, they are known.
 pub(crate) fn put<P: Peer>(alloc: Global, peer: &mut P, words: &str) -> Result<(), AllocError> {
     store(peer, docs(alloc, words)?)
 }
@@ -56,7 +56,7 @@ fn listed(alloc: Global, changes: Changes) -> Result<Vec<Asked>, AllocError> {
     Ok(asked)
 }
 
-// The texts of revisions with their histories, each behind a blank.
+// The texts of revisions with their histories, each after a blank.
 fn texts_of<P: Peer>(alloc: Global, peer: &mut P, asked: &Asked) -> Result<Vec<u8>, AllocError> {
     let Ok(found) = peer.open_revs(asked) else {
         return Err(AllocError);
@@ -140,7 +140,7 @@ pub(crate) fn keep<P: Peer>(peer: &mut P, log: Log) -> Result<(), AllocError> {
     }
 }
 
-/// Tells how many rows a peer lists above a sequence, and where they end.
+/// Tells how many rows a peer lists above a sequence, and the sequence at which they end.
 pub(crate) fn tell_changes<P: Peer>(
     peer: &mut P,
     since: Seq,
@@ -151,7 +151,7 @@ pub(crate) fn tell_changes<P: Peer>(
     answer.line(format_args!("{} rows up to {end}", changes.rows.len()))
 }
 
-/// Tells the documents of which a target misses revisions that a source lists above a sequence.
+/// Tells the documents of which a target misses revisions that a source lists above a sequence, and how many.
 pub(crate) fn tell_missing<P: Peer>(
     alloc: Global,
     source: &mut P,

@@ -16,7 +16,7 @@ const EDITS: u64 = 2000;
 
 const DOCUMENTS: u64 = 50;
 
-// The text of an edit: a new revision of its document, a child of it, or a conflict. Each seventh deletes.
+// The text of an edit: a first revision, a child of it, or a conflict. Each seventh edit deletes.
 fn edit_text(alloc: Global, number: u64) -> Result<String, AllocError> {
     let doc = number % DOCUMENTS;
     let round = number / DOCUMENTS;
@@ -45,7 +45,7 @@ fn write_all<R: Wait>(rt: &R, alloc: Global, source: &Db<Plain>, done: &AtomicU6
     Some(())
 }
 
-// Three rounds: whether the last one found nothing new. A checkpoint may fail.
+// Makes three rounds. Answers whether the last round found nothing new. A checkpoint may fail.
 fn run_three<S: Peer + Drop, T: Peer + Drop>(
     follower: &mut Follower<S, T>,
 ) -> Result<bool, FollowFault> {
@@ -65,7 +65,7 @@ fn run_three<S: Peer + Drop, T: Peer + Drop>(
 }
 
 // One session of three rounds: whether the last round found nothing new. Each seventh answer of the target is
-// lost, and each 61st of the source, which is asked once for each document: a round asks for 50.
+// lost, and each 61st of the source. A round asks the source for 50 documents, one call for each.
 fn three_rounds<S: Peer + Drop, T: Peer + Drop>(
     alloc: Global,
     source: S,
@@ -80,7 +80,7 @@ fn three_rounds<S: Peer + Drop, T: Peer + Drop>(
     }
 }
 
-// Such a session between two databases.
+// A session of three rounds between two databases.
 fn session<R: Wait>(
     rt: &R,
     alloc: Global,
@@ -94,7 +94,7 @@ fn session<R: Wait>(
     three_rounds(alloc, source, target, session_id.as_str())
 }
 
-// Sessions, one after the other, until one that began behind the last edit found nothing new.
+// Sessions, one after the other, until a session that began after the last edit found nothing new.
 fn follow_all<R: Wait>(
     rt: &R,
     alloc: Global,
@@ -131,7 +131,7 @@ fn run<R: Threads + Wait + Sync>(
 }
 
 // How many edits a source has, and how many documents have the same leaves at both ends, before the first
-// that has others.
+// document that has other leaves.
 fn agreed_count<S: Peer, T: Peer>(
     alloc: Global,
     source: &mut S,

@@ -8,45 +8,44 @@ use hub_follower::FollowCore;
 use hub_transcript::{Answer, Subject, Words};
 use std::alloc::{AllocError, Global};
 
-/// What a follower is made of.
+/// The parts of a follower: logs, its machine, runs of its world, and the items of its feeds.
 ///
-/// Logs. A log is written `ID:SEQ/ID:SEQ,ID:SEQ..`: its last session, with the sequence that it recorded, and
-/// those of its history, each of which began at 0; `none` is no log. A sequence is a number, with its life
-/// where that is known, as `7-1`.
+/// Logs. A log is written `ID:SEQ/ID:SEQ,ID:SEQ..`: its last session with the recorded sequence, and then the
+/// sessions of its history, which began at 0. The word `none` is no log. A sequence is a number, with its
+/// life where the life is known, as `7-1`.
 ///
 /// - `log write LOG`: the log's text.
-/// - `log read TEXT`: the log that the text is: its last session with its sequence, and behind it the
-///   sessions of its history, each with the sequence that it began at, the last one and the recorded one; or
-///   `none`.
+/// - `log read TEXT`: the log of the text, or `none`. Shown is its last session with its sequence, and then
+///   the sessions of its history, each with the sequences of its beginning, of its end and of its record.
 /// - `log agree LOG LOG`: the sequence up to which the logs of source and target agree, read from their
 ///   texts.
-/// - `log history N`: how many entries are read of a log with a history of so many, or `none`.
+/// - `log history N`: how many entries are read of a log whose history has N, or `none`.
 ///
 /// Runs of two empty databases and a follower, each from its beginning.
 ///
-/// - `run EVENT ..`: lets these events happen one behind the other, and tells the follower's place, and
-///   whether it owes a call. An event is `write`, by which the source stores a and b, `start ID`, `round`,
-///   `checkpoint`, `answer`, `changes ITEM+ITEM..`, `lost-before`, `lost-after` or `restart`.
+/// - `run EVENT ..`: lets these events happen one after the other. Tells the follower's place, and whether it
+///   owes a call. An event is `write`, by which the source stores a and b, `start ID`, `round`, `checkpoint`,
+///   `answer`, `changes ITEM+ITEM..`, `lost-before`, `lost-after` or `restart`.
 ///
-/// A follower's machine without a session. Each command tells what call it owes then, and its place.
+/// A follower's machine without a session. Each command tells the call then owed, and the place.
 ///
 /// - `machine look`: changes nothing.
-/// - `machine start ID`: a session begins, where no call is owed.
-/// - `machine absent`: the log that is asked for is absent.
-/// - `machine round`, `machine checkpoint`: one begins.
-/// - `machine fail`: the call that is owed fails.
-/// - `machine kept`: tells before that the logs that are to be kept at the source and at the target.
+/// - `machine start ID`: begins a session, where no call is owed.
+/// - `machine absent`: answers a call for a log: there is none.
+/// - `machine round`, `machine checkpoint`: begins a round or a checkpoint.
+/// - `machine fail`: the owed call fails.
+/// - `machine kept`: tells first the place, and the logs that the source and the target are to keep.
 ///
-/// A database of one thread, and items that a feed of it handed. A row is told as `SEQ:ID:REV,REV..:SEEN`:
-/// its sequence, its document, its leaves, and the update sequence when it was made; an end as `end:LAST`,
-/// and a heartbeat as `beat`.
+/// A database of one thread, and items that its feed handed. A row is written as `SEQ:ID:REV,REV..:SEEN`: its
+/// sequence, its document, its leaves, and the update sequence when the row was made. An end is written as
+/// `end:LAST`, and a heartbeat as `beat`.
 ///
 /// - `put DOC ..`: stores documents with their histories, and tells how many edits there are.
-/// - `feed SINCE`: opens a feed as a follower asks for it.
-/// - `hand`: tells what the feed hands next.
-/// - `handed`: whether what the feed handed is right.
-/// - `above SINCE ITEM ..`: whether these items are right above a sequence.
-/// - `rows N`: stores the documents d0, d1 and so on, and tells whether a row of each, and their end, are
+/// - `feed SINCE`: opens a feed with the parameters of a follower.
+/// - `hand`: tells the next item that the feed hands.
+/// - `handed`: tells whether the items that the feed handed are right.
+/// - `above SINCE ITEM ..`: tells whether these items are right above a sequence, also of a deleted database.
+/// - `rows N`: stores the documents d0, d1 and so on, and tells whether a row of each, with their end, is
 ///   right.
 #[derive(Drop)]
 pub(crate) struct Values {

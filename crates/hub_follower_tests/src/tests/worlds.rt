@@ -8,11 +8,11 @@ use hub_transcript::{Answer, Words, replay};
 use std::alloc::{AllocError, Global};
 use std::test::Fail;
 
-// Two documents, b behind a.
+// Two documents, a and then b.
 const TWO: &str = r#"{"_id":"a","_rev":"1-a"} {"_id":"b","_rev":"1-b"}"#;
 
-// The event that a word alone is, by its place among the verbs of `next_event`; an error each time where it
-// is none.
+// The event of a verb that needs no more words, by its place among the verbs of `next_event`; an error each
+// time where the place is of no such verb.
 fn event_of(place: usize) -> Result<FollowEvent, AllocError> {
     match place {
         0 => Ok(FollowEvent::Round),
@@ -25,7 +25,7 @@ fn event_of(place: usize) -> Result<FollowEvent, AllocError> {
     }
 }
 
-// The event that the next words are; an error where they find no memory, and each time where they are none.
+// The event that the next words write; an error out of memory, and each time where they write no event.
 fn next_event(alloc: Global, words: &mut Words<'_>) -> Result<FollowEvent, AllocError> {
     match words.verb("round checkpoint answer lost-before lost-after restart write start changes") {
         6 => Ok(FollowEvent::Write(docs(alloc, TWO)?)),
@@ -35,7 +35,7 @@ fn next_event(alloc: Global, words: &mut Words<'_>) -> Result<FollowEvent, Alloc
     }
 }
 
-// All events that the words are.
+// All events that the words write.
 fn events_of(alloc: Global, words: &mut Words<'_>) -> Result<Vec<FollowEvent>, AllocError> {
     let mut events = Vec::new(alloc);
     for _ in 0..words.rest().len() {

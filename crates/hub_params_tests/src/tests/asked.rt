@@ -5,18 +5,18 @@ use hub_params::{DocParams, FeedParams, ParamFault, read_tagged};
 use hub_transcript::{Answer, Subject, Words};
 use std::alloc::{AllocError, Global};
 
-/// The ids of which a filter shows some.
+/// The ids on which filters are tried.
 const PROBES: &[&str] = &["", "a", "b", "c", "A", "é", "a b", "_design/a", "_design"];
 
-/// What is asked.
+/// A body, and commands that read queries and texts.
 ///
-/// - `body TEXT`: the body of the queries behind. `byte N`: one more byte of it.
-/// - `read QUERY`: the parameters of a feed, as a copy of them has them, where they differ from those of a
-///   query that names none. `whole QUERY`: all of the parameters. Either answers a fault by its reason.
-/// - `shows QUERY`: the ids that the filter of a query passes, of `PROBES`. `ids QUERY`: the ids that it
-///   lists.
-/// - `waits QUERY`: whether the mode of a query waits. `begins QUERY`: where its feed begins, in the life 3
-///   with 9 edits.
+/// - `body TEXT`: sets the body of the queries that follow. `byte N`: appends one byte to it.
+/// - `read QUERY`: a copy of the parameters of a feed, as far as they differ from those of an empty query.
+///   `whole QUERY`: all of the parameters. A fault answers its reason.
+/// - `shows QUERY`: the ids of `PROBES` that the filter of a query passes. `ids QUERY`: the ids that the
+///   filter lists.
+/// - `waits QUERY`: whether the mode of a query waits. `begins QUERY`: the sequence at which its feed begins,
+///   in the life 3 with 9 edits.
 /// - `tagged TEXT`: the sequence and the life of a text.
 /// - `doc QUERY`: the parameters of a document.
 #[derive(Drop)]
@@ -30,7 +30,7 @@ fn text_of(alloc: Global, params: &FeedParams) -> Result<String, AllocError> {
     format!(in alloc; "{params:?}")
 }
 
-// The text of the parameters of a query that names none.
+// The text of the parameters of an empty query.
 fn usual(alloc: Global) -> Result<String, AllocError> {
     match FeedParams::read(alloc, b"", b"") {
         Ok(params) => text_of(alloc, &params),
@@ -61,7 +61,7 @@ fn tell_ids(filter: &Filter, answer: &mut Answer) -> Result<(), AllocError> {
     Ok(())
 }
 
-// The parts of a text that are none of the usual one, a line each.
+// The members of a text that the usual text does not have, a line each.
 fn tell_unusual(text: &str, usual: &str, answer: &mut Answer) -> Result<(), AllocError> {
     for member in text.split(", ") {
         if !usual.contains(member) {
@@ -77,7 +77,7 @@ fn tell_tagged(text: &str, answer: &mut Answer) -> Result<(), AllocError> {
 }
 
 impl Asked {
-    // The parts of the text of a copy of parameters that are none of the usual ones.
+    // Tells the members of a copy of parameters that the usual text does not have.
     fn tell(&self, params: &FeedParams, answer: &mut Answer) -> Result<(), AllocError> {
         let copy = params.copy(self.alloc)?;
         let text = text_of(self.alloc, &copy)?;
@@ -89,7 +89,7 @@ impl Asked {
         answer.text(text.as_str())
     }
 
-    // Answers a command of a query's parameters.
+    // Answers a command on the parameters of a query.
     fn ask(&self, verb: &str, params: &FeedParams, answer: &mut Answer) -> Result<(), AllocError> {
         match Words::of(verb).verb("read whole shows ids waits begins") {
             0 => self.tell(params, answer),
@@ -120,7 +120,7 @@ impl Asked {
         Ok(())
     }
 
-    // A number that is none is the byte 0.
+    // A text that is no number of a byte gives the byte 0.
     fn put_byte(&mut self, number: &str) -> Result<(), AllocError> {
         self.body.push(number.parse().unwrap_or(0))?;
         Ok(())

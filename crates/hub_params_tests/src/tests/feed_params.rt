@@ -1,4 +1,4 @@
-//! What feeds are asked. The outcomes are those that the rules give, by hand.
+//! The parameters of feeds. The outcomes are worked out from the rules by hand.
 
 use crate::tests::asked::Asked;
 use hub_transcript::replay;

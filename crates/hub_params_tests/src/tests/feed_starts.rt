@@ -1,4 +1,4 @@
-//! Where feeds begin (`since`). The outcomes are those that the rules give, by hand.
+//! Where feeds begin (`since`). The outcomes are worked out from the rules by hand.
 
 use crate::tests::asked::Asked;
 use hub_transcript::replay;

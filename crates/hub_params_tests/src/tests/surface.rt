@@ -1,4 +1,4 @@
-//! The words that parameters are made of, as their users ask them.
+//! The questions to modes and to beginnings of feeds, and texts of sequences with lives, as users ask them.
 
 use crate::tests::asked::Asked;
 use hub_transcript::replay;

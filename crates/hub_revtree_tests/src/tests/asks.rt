@@ -1,4 +1,4 @@
-//! What a tree is asked.
+//! The questions to a tree.
 
 use super::session::Session;
 use hub_document::RevId;
@@ -6,12 +6,12 @@ use hub_transcript::Words;
 use std::alloc::AllocError;
 use std::str;
 
-// What is said of a revision that is known, or is not.
+// The word for a revision that is known, or is not.
 fn known(is_known: bool) -> &'static str {
     if is_known { "known" } else { "unknown" }
 }
 
-// A sum of the revisions so far, and of one more: its generation, and each byte of its hash.
+// A sum over the revisions so far and one more: over its generation, and each byte of its hash.
 fn summed(sum: u64, rev: &RevId) -> u64 {
     let mut sum = sum
         .wrapping_mul(1_000_003)
@@ -66,7 +66,7 @@ impl Session {
         Ok(())
     }
 
-    // All that a tree tells of a revision.
+    // Whether a revision is known, its edit, and its path.
     fn rev(&mut self, rev: &RevId) -> Result<(), AllocError> {
         let is_known = self.tree.knows(rev);
         self.put(known(is_known), &[]);
@@ -77,7 +77,7 @@ impl Session {
         }
     }
 
-    // Whether the edit of a revision deletes the document, and its members, where there is one.
+    // Whether the edit of a revision deletes the document, and the edit's members, where there is an edit.
     fn put_edit(&mut self, rev: &RevId) {
         match self.tree.deleted(rev) {
             Some(true) => self.put(" deleted", &[]),
@@ -90,7 +90,7 @@ impl Session {
         }
     }
 
-    // How many revisions the path of a revision has, their sum, and for how many the path has room.
+    // How many revisions the path of a revision has, their sum, and how many the path has room for.
     fn path(&mut self, rev: &RevId) -> Result<(), AllocError> {
         let Some(path) = self.tree.path(self.alloc, rev)? else {
             return self.say("no path", &[]);
@@ -135,9 +135,9 @@ impl Session {
     /// - `leaves` and `missing REV ..`: lists of revisions;
     /// - `edit NUMBER`: the edit of this number;
     /// - `rev REV`: whether it is known, whether its edit deletes the document, its members, and its path;
-    /// - `path REV`: how many revisions its path has, a sum of these in their order, and for how many there is
-    ///   room;
-    /// - `knows REV`: whether it is known.
+    /// - `path REV`: how many revisions its path has, a sum of them in their order, and how many the path has
+    ///   room for;
+    /// - `knows REV`: whether the revision is known.
     pub(super) fn ask(&mut self, mut words: Words) -> Result<(), AllocError> {
         match words.verb("sizes winner leaves missing edit rev path knows") {
             0 => self.sizes(),

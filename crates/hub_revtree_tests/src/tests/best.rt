@@ -1,9 +1,9 @@
 //! The best leaf of a tree with so many edits that it has an index, as its leaves are taken one by one.
 //!
-//! The numbers of the leaves are from 0 on. So the best of 307 has the number 306, and where 20 of them are
-//! gone from above, from below or from both ends by turns, it is 286, 306 or 296. A leaf that is extended by
-//! an edit that is not deleted is of the second generation, and so above those of the first. In the last case
-//! one leaf is left after 256 steps, and after 257 none that is not deleted.
+//! The leaves have the numbers from 0 on. So the best of 307 leaves has the number 306. Once 20 leaves are
+//! gone from above, from below or from both ends by turns, the best has the number 286, 306 or 296. An edit
+//! that extends a leaf and is not deleted has the second generation, above the leaves of the first. In the
+//! last case one leaf is left after 256 steps, and after 257 steps each leaf is deleted.
 
 use crate::tests::session::Session;
 use hub_transcript::replay;

@@ -1,4 +1,4 @@
-//! Small trees: how many edits, revisions and leaves they have, and what no answer over HTTP shows of them.
+//! Small trees: how many edits, revisions and leaves they have, and facts that no answer over HTTP shows.
 //!
 //! `hub_service_tests` has most of these cases too, with their winners, leaves, paths and bodies.
 

@@ -1,7 +1,7 @@
 //! A tree with so many edits that it has an index.
 //!
-//! First the numbers 0, 1, 50, 300, 600 and 650 are those of edits, and 900 and 1250 of none. Then the
-//! numbers from 0 to 399 are those of edits.
+//! In the first case there are edits for the numbers 0, 1, 50, 300, 600 and 650, and none for 900 and 1250.
+//! In the second case there are edits for the numbers from 0 to 399.
 
 use crate::tests::session::Session;
 use hub_transcript::replay;

@@ -1,4 +1,4 @@
-//! Lines of many edits, which are kept once, and share what stands behind them.
+//! Lines of many edits. A line is kept once, and lines share the revisions that they have in common.
 
 use crate::tests::session::Session;
 use hub_transcript::replay;

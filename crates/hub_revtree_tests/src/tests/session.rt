@@ -1,4 +1,4 @@
-//! The interpreter of transcripts: what is done to a tree.
+//! The interpreter of transcripts, and its commands that change a tree.
 
 use hub_document::{Body, Doc, DocId, Path, RevId};
 use hub_revtree::{EditFault, MergeFault, Merged, Ready, RevTree};
@@ -7,49 +7,49 @@ use std::alloc::{AllocError, Global};
 use std::fmt::Write;
 use std::str;
 
-/// A tree without edits. A command that finds no memory leaves what the tree shows in constant time, for
-/// which it takes none, or answers `changed`; then it is given once more. So these tests hold whichever one
-/// of their growths is refused.
+/// A tree, at first without edits. A command out of memory has to leave the number of edits and the best
+/// leaf, which cost constant time and no memory, or it answers `changed`. Else it is given once more. So
+/// these tests hold whichever one growth is refused.
 ///
-/// These merge an edit that a document brings, and answer `added`, `known` or `contradicts`:
-/// - `merge TEXT` takes it;
+/// These commands merge the edit of a document, and answer `added`, `known` or `contradicts`:
+/// - `merge TEXT` merges it;
 /// - `look TEXT` looks at it, and answers `new REV` where it is new;
 /// - `take TEXT` looks at it, and takes it where it is new;
-/// - `long GENERATION` takes a path down to the first generation, of revisions with the hash `a`.
+/// - `long GENERATION` merges a path down to the first generation, of revisions with the hash `a`.
 ///
-/// These make an edit of the document `a` without members, and answer `made`, `conflict` or
+/// These commands make an edit of the document `a` without members, and answer `made`, `conflict` or
 /// `generation limit`:
-/// - `make REV` and `make` make one on a revision or on none, and `delete REV` and `delete` one that deletes;
+/// - `make REV` and `make` make an edit on a revision or on none, and `delete REV` and `delete` a deletion;
 /// - `best edit` and `best delete` make one on the best leaf, where it is the winner;
 /// - `worst edit` and `worst delete` make one on the worst leaf that is not deleted;
-/// - `extend live` makes one on the best leaf, and `extend dead` one that deletes on the worst leaf of all;
-///   they answer `another path` where that of the edit is not the edit and the path of this leaf;
-/// - `second` makes two edits ready on the winner, a deletion and one that is none, and takes the second
-///   while the first shares what stands behind it.
+/// - `extend live` makes an edit on the best leaf, and `extend dead` a deletion on the worst leaf of all.
+///   They answer `another path` unless the path of the new edit is the edit and then the path of this leaf;
+/// - `second` makes two edits ready on the winner, first a deletion and then another edit, and takes the
+///   second while the first shares the winner's path.
 ///
-/// These repeat commands, which stand with ` & ` between them, and answer what they answer the first time,
-/// and what they answer otherwise. The times have the numbers from 0 on. In the commands `%n;` is the number,
-/// `%3;` the number in three digits, and `%MORE;` the digest of the number and so many more:
+/// These repeat commands, which stand with ` & ` between them. They answer the answers of the first time, and
+/// then each answer of a later time that differs. The times have the numbers from 0 on. In the commands `%n;`
+/// is the number, `%3;` the number in three digits, and `%MORE;` the digest of the number plus MORE:
 /// - `times COUNT COMMAND & ..` repeats them so often;
-/// - `scattered COUNT COMMAND & ..` does, but neither the lowest number comes first nor the highest;
-/// - `same COUNT` gives two numbers that differ by so many the same first eight bytes of their digests.
+/// - `scattered COUNT COMMAND & ..` does too, with the numbers 0, 150, 300 and so on, modulo COUNT;
+/// - `same COUNT` gives two numbers that differ by COUNT the same first eight bytes of their digests.
 ///
-/// The other commands ask, and are those of `ask`.
+/// The other commands are the questions of `ask`.
 #[derive(Drop)]
 pub(super) struct Session {
     pub(super) alloc: Global,
     pub(super) tree: RevTree,
-    /// What the command is answered.
+    /// The answer to the command.
     pub(super) out: Vec<u8>,
     /// The id of the documents that are made.
     id: DocId,
     /// The number of the time.
     number: u64,
-    /// Two numbers that differ by so many have the same first eight bytes.
+    /// Two numbers that differ by so many have digests with the same first eight bytes.
     same: u64,
 }
 
-// The answers have this room, so that a call that was made does not fail for its answer.
+// The bytes that an answer has room for. So a call that was made does not fail for its answer.
 const ROOM: usize = 65_536;
 
 impl<R> Subject<R> for Session {
@@ -81,7 +81,7 @@ impl<R> Subject<R> for Session {
 }
 
 impl Session {
-    /// Writes a word, and each revision behind a blank. What finds no room is left out.
+    /// Writes a word, and each revision after a blank. Text that finds no room is left out.
     pub(super) fn put(&mut self, word: &str, revs: &[RevId]) {
         let _ = self.out.extend_from_slice(word.as_bytes());
         for rev in revs {
@@ -90,14 +90,14 @@ impl Session {
         }
     }
 
-    /// Writes a line of the answer: a word, and each revision behind a blank.
+    /// Writes a line of the answer: a word, and each revision after a blank.
     pub(super) fn say(&mut self, word: &str, revs: &[RevId]) -> Result<(), AllocError> {
         self.put(word, revs);
         let _ = self.out.push(b'\n');
         Ok(())
     }
 
-    // Writes the digits of the number of the time, of this kind.
+    // Writes the digits of this kind for the number of the time.
     fn put_digits(&self, kind: &str, text: &mut String) {
         let number = self.number;
         let _ = match kind {
@@ -112,7 +112,7 @@ impl Session {
         };
     }
 
-    // A command at the number of the time.
+    // A command, with the number of the time filled in.
     fn filled(&self, command: &str) -> Result<String, AllocError> {
         let mut text = String::with_capacity(self.alloc, command.len().saturating_add(512))?;
         for piece in command.split("%") {
@@ -139,7 +139,7 @@ impl Session {
         }
     }
 
-    // Repeats commands. A time with the answer of the first says nothing.
+    // Repeats commands. A time with the answer of the first time writes nothing.
     fn times(&mut self, stride: u64, words: &mut Words<'_>) -> Result<(), AllocError> {
         let count = words.number();
         let mut first = 0;
@@ -158,8 +158,8 @@ impl Session {
         Ok(())
     }
 
-    // Merges the edit that a document brings, or looks at it, or takes it then; an error also where it is no
-    // document with a revision.
+    // Merges the edit of a document, or looks at it, or looks at it and takes it; an error also where the
+    // text is no document with a path.
     fn bring(&mut self, verb: usize, text: &[u8]) -> Result<(), AllocError> {
         let Ok(doc) = Doc::read(self.alloc, text, false) else {
             return Err(AllocError);
@@ -187,7 +187,7 @@ impl Session {
         }
     }
 
-    // Looks at an edit, and takes it then where that is asked.
+    // Looks at an edit, and takes a new one where `takes` says so.
     fn look(
         &mut self,
         path: Path,
@@ -216,7 +216,7 @@ impl Session {
         }
     }
 
-    // Merges a path of revisions with the hash `a`, from this generation on.
+    // Merges a path from this generation down to the first, of revisions with the hash `a`.
     fn long(&mut self, start: &str) -> Result<(), AllocError> {
         let count = Words::of(start).number().saturating_sub(1);
         let ids = r#""a","#.repeat(self.alloc, count as usize)?;
@@ -226,7 +226,7 @@ impl Session {
         self.bring(0, text.as_bytes())
     }
 
-    // Makes an edit without members, and says what becomes of it.
+    // Makes an edit without members, and says its outcome.
     fn edit(&mut self, on: Option<RevId>, deleted: bool) -> Result<Option<RevId>, AllocError> {
         let body = Body::empty(self.alloc)?;
         let made = self.tree.extend(&self.id, on, deleted, body);
@@ -274,7 +274,7 @@ impl Session {
         self.make(leaf, deleted)
     }
 
-    // The path of a revision; of none it is empty.
+    // The path of a revision; empty for no revision and for an unknown one.
     fn path_of(&self, rev: &Option<RevId>) -> Result<Vec<RevId>, AllocError> {
         if let Some(rev) = rev
             && let Some(path) = self.tree.path(self.alloc, rev)?
@@ -295,7 +295,7 @@ impl Session {
         Ok(leaf.copied())
     }
 
-    // Makes an edit on the best leaf, or one that deletes on the worst of all, and looks at its path.
+    // Makes an edit on the best leaf, or a deletion on the worst of all, and looks at its path.
     fn extend(&mut self, dead: bool) -> Result<(), AllocError> {
         let leaf = self.end_leaf(dead)?;
         let behind = self.path_of(&leaf)?;
@@ -303,8 +303,8 @@ impl Session {
         self.look_behind(&made, behind.as_slice())
     }
 
-    // Looks whether the path of an edit is the edit and what is behind it. It is asked for again where it
-    // finds no memory.
+    // Says `another path` unless the path of an edit is the edit and then `behind`. The path is asked for
+    // again where it finds no memory.
     fn look_behind(&mut self, made: &Option<RevId>, behind: &[RevId]) -> Result<(), AllocError> {
         let path = match self.path_of(made) {
             Err(AllocError) => self.path_of(made)?,
@@ -316,7 +316,7 @@ impl Session {
         self.say("another path", &[])
     }
 
-    // Makes an edit that deletes ready on the winner.
+    // Makes a deletion of the winner ready.
     fn ready_deletion(&mut self) -> Result<Ready, AllocError> {
         let winner = self.tree.winner();
         let body = Body::empty(self.alloc)?;
@@ -326,7 +326,7 @@ impl Session {
         }
     }
 
-    // Takes an edit on the winner that is none of deletion, and gives its revision.
+    // Takes an edit on the winner that does not delete, and gives its revision.
     fn take_extended(&mut self) -> Result<RevId, AllocError> {
         let winner = self.tree.winner();
         let body = Body::empty(self.alloc)?;
@@ -348,7 +348,7 @@ impl Session {
         self.say(if is_same { "the same" } else { "made" }, &[])
     }
 
-    // Carries out a command at the number of the time.
+    // Carries out a command, with the number of the time filled in.
     fn made(&mut self, command: &str) -> Result<(), AllocError> {
         let command = self.filled(command)?;
         self.carry_out(command.as_str())

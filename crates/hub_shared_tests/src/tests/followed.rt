@@ -10,7 +10,7 @@ use std::sync::atomic::{AtomicU64, Ordering};
 use std::sync::{Arc, Wait};
 use std::time;
 
-/// A gate that counts how often the lock was held, and holds nobody; and a clock that goes on by so many
+/// A gate that counts how often the lock was held, and holds no thread; and a clock that goes on by `step`
 /// milliseconds with each reading.
 #[derive(Drop)]
 pub(crate) struct Pace {
@@ -46,10 +46,10 @@ impl Clock for Pace {
 
 /// A feed of a database, until it is finished. Its commands:
 ///
-/// - `hand` answers what the feed's own holding of the lock hands; `hold`, `beat` and `expire` what a turn of
-///   a holding answers that names the feed by its number.
-/// - `take` answers the next item of its lane, and `poll` the next item that a poll gives.
-/// - `pump` pumps it. `finish` finishes it: what is left of it.
+/// - `hand` answers the outcome of the feed's own holding of the lock; `hold`, `beat` and `expire` answer the
+///   outcome of a holding that names the feed by its number.
+/// - `take` answers the next item of its lane, and `poll` the next item of a poll.
+/// - `pump` pumps it. `finish` finishes it, and answers the items that are left of it.
 /// - `held` answers how often the lock was held for it, `due` the reading of the clock at which it is due,
 ///   and `over` whether it is over.
 #[derive(Drop)]
@@ -58,12 +58,12 @@ pub(crate) struct Followed {
     id: FeedId,
     feed: Option<Feed<Plain>>,
     pace: Pace,
-    // Whether a poll gave its end.
+    // Whether a poll gave the feed's end.
     has_ended: bool,
 }
 
 impl Followed {
-    /// A feed whose clock goes on by so many milliseconds with each reading.
+    /// A feed with a clock that goes on by `step` milliseconds with each reading.
     pub(crate) fn new(alloc: Global, feed: Feed<Plain>, step: u64) -> Followed {
         Followed {
             alloc,
@@ -74,7 +74,7 @@ impl Followed {
         }
     }
 
-    /// From here on this watch has news of the feed.
+    /// Puts a watch on the feed: it has news of the feed from here on.
     pub(crate) fn watch<R: Wait>(
         &self,
         rt: &R,
@@ -105,7 +105,7 @@ impl Followed {
         }
     }
 
-    // The same of the commands of a feed that is not finished.
+    // Carries out a command of a feed that is not finished.
     fn run_open<R: Wait>(
         &mut self,
         rt: &R,
@@ -140,7 +140,7 @@ impl Followed {
         put_debug(&handed, answer)
     }
 
-    // A feed that is over and gave no end found no memory.
+    // Polls the feed. A feed that is over and gave no end found no memory: this is an error.
     fn poll<R: Wait>(&mut self, rt: &R, answer: &mut Answer) -> Result<(), AllocError> {
         let Some(feed) = &mut self.feed else {
             return answer.line("finished");

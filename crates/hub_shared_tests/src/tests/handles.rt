@@ -1,4 +1,4 @@
-//! What the calls of a handle answer.
+//! The answers to the calls of a handle.
 
 use crate::tests::shared::Shared;
 use hub_transcript::replay;

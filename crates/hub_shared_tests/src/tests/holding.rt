@@ -1,4 +1,4 @@
-//! What one holding of the lock hands.
+//! The items that one holding of the lock hands.
 
 use crate::tests::shared::Shared;
 use hub_transcript::replay;

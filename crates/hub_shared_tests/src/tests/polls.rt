@@ -1,4 +1,4 @@
-//! Feeds that are polled: what a poll gives, when the feed is due, and what tells of news.
+//! Feeds that are polled: the items of polls, when a feed is due, and the news of its watch.
 
 use crate::tests::shared::Shared;
 use hub_transcript::replay;
@@ -318,8 +318,8 @@ fn a_feed_is_told_of_changes(rt: HostRuntime) -> Result<(), Fail> {
     replay::<Shared, _>(&rt, rt.alloc(), TOLD)
 }
 
-// A feed that found no memory for a row is over, and handed the rows before it: another feed goes on behind
-// these.
+// A feed that found no memory for a row is over, and handed the rows before it. Another feed goes on after
+// these rows.
 const BEHIND: &str = r#"
 # three rows come in order, whichever one finds no memory
 > load {"_id":"a","_rev":"1-a"} {"_id":"b","_rev":"1-b"} {"_id":"c","_rev":"1-c"}

@@ -1,4 +1,4 @@
-//! Receipts of what was stored, and their audit.
+//! Receipts of stored edits, and their audit.
 
 use crate::tests::shared::Shared;
 use hub_transcript::replay;

@@ -16,34 +16,34 @@ use std::time;
 /// The number of the life of each database.
 const LIFE: u64 = 6;
 
-// The room for the commands of a case.
+// The bytes of room for the commands of a case.
 const ROOM: usize = 8_192;
 
 /// A database behind its lock, and its feeds. The commands:
 ///
 /// - `limits LANE HOLD FEEDS JOURNAL` begins anew, with a database within these limits. Without it the limits
 ///   are the widest.
-/// - `write DOC ..` writes documents that another database made: what became of each, and a receipt of each
-///   that was stored. `load` is the same, and shows the receipts alone. The receipts are kept.
-/// - `store DOC ..` stores documents whose revisions are made here, without receipts: what became of each.
-///   `edit DOC` stores one: its revision, or the fault.
+/// - `write DOC ..` writes documents of another database. It answers the outcome of each, and keeps and
+///   answers a receipt of each that was stored. `load` is the same, and answers the receipts alone.
+/// - `store DOC ..` stores documents whose revisions are made here, without receipts, and answers the outcome
+///   of each. `edit DOC` stores one, and answers its revision, or the fault.
 /// - `local TEXT` stores a local document, and answers how often it was written.
 /// - `look ID` answers how many edits there are, whether there is a document of this id, and how often the
 ///   local document was written. `look` alone is a look that finds no memory.
 /// - `ask info`, `ask get ID`, `ask history ID`, `ask winner ID`, `ask leaves ID` and `ask local` are
-///   questions. So are `ask falling QUERY` for the rows downwards, and `ask missing ID REV` whether a revision
-///   is missing. `delete` deletes the database.
-/// - `audit` compares all receipts that are kept with the journal. `audit AT SEQ ID REV` does so with this
-///   one in the place of the one at this place, from 0 on.
-/// - `open QUERY STEP` opens a feed of the database, whose clock goes on by so many milliseconds with each
-///   reading: where it begins, and of which life its sequences are; or the fault.
+///   questions. So are `ask falling QUERY`, for the rows downwards, and `ask missing ID REV`, whether a
+///   revision is missing. `delete` deletes the database.
+/// - `audit` compares all kept receipts with the journal. `audit AT SEQ ID REV` first puts this receipt in
+///   the place AT, counted from 0.
+/// - `open QUERY STEP` opens a feed of the database, whose clock goes on by STEP milliseconds with each
+///   reading. It answers the sequence at which the feed begins, and the life of its sequences; or the fault.
 /// - `VERB FEED` is a command of a feed (`Followed`). The feeds are numbered from 1 on.
-/// - `watch FEED WATCH` has a watch watch a feed, and `news WATCH` says what is told by that watch and its
-///   bell, and takes it. There are two, 1 and 2.
+/// - `watch FEED WATCH` puts a watch on a feed. `news WATCH` tells the news of this watch and its bell, and
+///   takes the news. The watches are numbered from 1 on.
 /// - `rows` polls a new feed of the database until it waits. A feed that finds no memory for a row is over:
-///   another one goes on behind the rows that it handed.
+///   another feed goes on after the rows that it handed.
 ///
-/// Where a command finds no memory, the earlier commands of the case are put to a new database.
+/// After a command out of memory, the earlier commands of the case are carried out on a new database.
 #[derive(Drop)]
 pub(crate) struct Shared {
     database: Database,
@@ -73,7 +73,7 @@ impl<R: Wait + time::Clock> Subject<R> for Shared {
     }
 }
 
-/// Who sends feeds: a bell, and a watch that rings it.
+/// A sender of feeds: a bell, and a watch that rings it.
 #[derive(Drop)]
 struct Sender {
     bell: Arc<Bell, Global>,
@@ -87,7 +87,7 @@ impl Sender {
         Ok(Sender { bell, watch })
     }
 
-    // Writes what is told, and takes it.
+    // Writes the news of the bell and the watch, and takes the news.
     fn news(&self, answer: &mut Answer) -> Result<(), AllocError> {
         if self.bell.is_rung() {
             answer.line("rung")?;
@@ -102,7 +102,7 @@ impl Sender {
     }
 }
 
-// The documents that the texts are; an error where they find no memory, and each time where one is none. The
+// The documents of these texts; an error out of memory, and each time where a text is no document. The
 // revisions of new edits are made here.
 fn docs(alloc: Global, texts: &str, new_edits: bool) -> Result<Vec<Doc>, AllocError> {
     let mut docs = Vec::new(alloc);
@@ -115,7 +115,7 @@ fn docs(alloc: Global, texts: &str, new_edits: bool) -> Result<Vec<Doc>, AllocEr
     Ok(docs)
 }
 
-// The parameters of a query; an error where they find no memory, and each time where it is refused.
+// The parameters of a query; an error out of memory, and each time where the query is refused.
 fn params(alloc: Global, query: &str) -> Result<FeedParams, AllocError> {
     match FeedParams::read(alloc, query.as_bytes(), b"") {
         Ok(params) => Ok(params),
@@ -124,7 +124,7 @@ fn params(alloc: Global, query: &str) -> Result<FeedParams, AllocError> {
 }
 
 // How many edits there are, whether there is a document of this id, and how often the local document was
-// written. It takes no memory, but says so without an id.
+// written. It takes no memory. Without an id it answers that it found none.
 fn looked(state: &DbState, id: &str) -> Result<(u64, bool, u64), DbFault> {
     if id == "" {
         return Err(DbFault::NoMemory);
@@ -137,7 +137,7 @@ fn looked(state: &DbState, id: &str) -> Result<(u64, bool, u64), DbFault> {
     Ok((edits, state.winner(id).is_some(), count))
 }
 
-// The question whether a revision of a document is missing; an error each time where it is none.
+// The question whether a revision of a document is missing; an error each time where the text is no revision.
 fn missing(alloc: Global, words: &mut Words<'_>) -> Result<Question, AllocError> {
     let id = words.word();
     let Some(rev) = RevId::read(words.rest()) else {
@@ -150,7 +150,7 @@ fn missing(alloc: Global, words: &mut Words<'_>) -> Result<Question, AllocError>
     Ok(Question::RevsDiff(asked))
 }
 
-// A question of the document of this id.
+// A question about the document of this id.
 fn question_of(verb: usize, id: String) -> Question {
     match verb {
         3 => Question::Get { id, revs: false },
@@ -165,7 +165,7 @@ fn question_of(verb: usize, id: String) -> Question {
     }
 }
 
-// A question.
+// The question of a command.
 fn question(alloc: Global, rest: &str) -> Result<Question, AllocError> {
     let mut words = Words::of(rest);
     match words.verb("info falling missing get history winner leaves local") {
@@ -176,8 +176,8 @@ fn question(alloc: Global, rest: &str) -> Result<Question, AllocError> {
     }
 }
 
-// Polls a feed until it gives no row, and writes the rows: whether it then waits. The sequence of the last row
-// is kept.
+// Polls a feed until it gives no row, nine times at most, and writes the rows. Answers whether the feed then
+// waits. The sequence of the last row is kept in `last`.
 fn put_rows<R: Wait>(
     rt: &R,
     alloc: Global,
@@ -239,7 +239,7 @@ impl Database {
         }
     }
 
-    // The same of the commands that are of no documents.
+    // Carries out a command that is of no documents.
     fn run_other<R: Wait + time::Clock>(
         &mut self,
         rt: &R,
@@ -264,7 +264,7 @@ impl Database {
         }
     }
 
-    // The same of the commands of a feed.
+    // Carries out a command of a feed.
     fn run_feed<R: Wait + time::Clock>(
         &mut self,
         rt: &R,
@@ -299,7 +299,7 @@ impl Database {
         Ok(())
     }
 
-    // Has the sender of this number watch a feed. Senders are made as they are named.
+    // Puts the watch of the sender of this number on a feed. Senders are made as they are named.
     fn watch<R: Wait>(&mut self, rt: &R, feed: u64, sender: usize) -> Result<(), AllocError> {
         for _ in self.senders.len()..sender {
             self.senders.push(Sender::new(self.alloc)?)?;
@@ -325,7 +325,7 @@ impl Database {
         }
     }
 
-    // Writes what became of documents, where that is asked for, and their receipts, which are kept.
+    // Writes the outcomes of documents, where they are asked for, and their receipts, and keeps the receipts.
     fn keep(
         &mut self,
         accepted: Accepted,
@@ -367,7 +367,7 @@ impl Database {
         }
     }
 
-    // Where storing it finds no memory, it changes nothing.
+    // Stores a local document. A call that finds no memory has to change nothing.
     fn local<R: Wait>(
         &mut self,
         rt: &R,
@@ -436,7 +436,7 @@ impl Database {
         }
     }
 
-    // Keeps a feed, and writes where it begins, and of which life its sequences are.
+    // Keeps a feed, and writes the sequence at which it begins, and the life of its sequences.
     fn follow(
         &mut self,
         feed: Feed<Plain>,
@@ -448,7 +448,7 @@ impl Database {
         answer.line(format_args!("since {since} of life {life}"))
     }
 
-    // A continuous feed behind this sequence.
+    // A continuous feed that begins after this sequence.
     fn feed_behind<R: Wait>(&mut self, rt: &R, last: u64) -> Result<Feed<Plain>, AllocError> {
         let query = format!(in self.alloc; "feed=continuous&since={last}")?;
         let params = params(self.alloc, query.as_str())?;

@@ -1,4 +1,4 @@
-//! How rows, items, revisions and the outcomes of writes are written.
+//! The texts of rows, items, revisions and the outcomes of writes.
 
 use hub_database::{Answer as DbAnswer, DbFault, Descending, Diff, Lookup, OpenRev, Receipt};
 use hub_document::{Body, ChangeRow, Doc, RevId};
@@ -82,7 +82,7 @@ pub(crate) fn put_item(
     }
 }
 
-// Writes leaves: a document as its text.
+// Writes the document of each revision, or the revision where it is missing.
 fn put_opened(alloc: Global, opened: &[OpenRev], answer: &mut Answer) -> Result<(), AllocError> {
     for open in opened {
         match open {
@@ -93,7 +93,7 @@ fn put_opened(alloc: Global, opened: &[OpenRev], answer: &mut Answer) -> Result<
     Ok(())
 }
 
-// Writes which revisions are missing, and what may be their ancestors.
+// Writes the missing revisions of each document, and their possible ancestors.
 fn put_diffs(diffs: &[Diff], answer: &mut Answer) -> Result<(), AllocError> {
     for diff in diffs {
         answer.line(diff.id.as_str())?;
@@ -107,7 +107,7 @@ fn put_diffs(diffs: &[Diff], answer: &mut Answer) -> Result<(), AllocError> {
     Ok(())
 }
 
-// Writes rows downwards, and where they end.
+// Writes rows downwards, and then their last sequence, how many are pending, and the life.
 fn put_falling(alloc: Global, falling: &Descending, answer: &mut Answer) -> Result<(), AllocError> {
     for row in &falling.rows {
         put_row(alloc, row, answer)?;
@@ -119,7 +119,7 @@ fn put_falling(alloc: Global, falling: &Descending, answer: &mut Answer) -> Resu
 }
 
 /// Writes the answer to a question: a document as its text, a winner as its revision and its mark. An error
-/// where it found no memory.
+/// out of memory.
 pub(crate) fn put_answer(
     alloc: Global,
     told: &Result<DbAnswer, DbFault>,
@@ -139,7 +139,7 @@ pub(crate) fn put_answer(
     }
 }
 
-/// Writes what became of documents: of one that was stored its revision, and each other outcome.
+/// Writes the outcomes of documents: the revision of a document that was stored, and each other outcome.
 pub(crate) fn put_replies(
     replies: &[Outcome<RevId>],
     answer: &mut Answer,
@@ -153,7 +153,7 @@ pub(crate) fn put_replies(
     Ok(())
 }
 
-/// Writes receipts: of each its sequence, its document's id, and its revision.
+/// Writes receipts: the sequence, the document's id and the revision of each.
 pub(crate) fn put_receipts(receipts: &[Receipt], answer: &mut Answer) -> Result<(), AllocError> {
     for receipt in receipts {
         let rev = Rev(receipt.rev);

@@ -1,4 +1,4 @@
-//! Watches and bells: who is told of a write. Two send feeds, and there are three feeds of a database.
+//! Watches and bells: which of them have news of a write. Two senders send three feeds of a database.
 
 use crate::tests::shared::Shared;
 use hub_transcript::replay;

@@ -22,9 +22,9 @@ struct Case {
     step: u64,
     /// How many documents the reader writes, once the pump has held the lock.
     later: u64,
-    /// How many items it then waits for. Where these are none it takes what the finished feed still has.
+    /// How many items the reader then waits for. With 0 it takes the items that the finished feed still has.
     items: u64,
-    /// What comes: rows, beats and ends.
+    /// How many rows, beats and ends come.
     wanted: (u64, u64, u64),
 }
 
@@ -112,13 +112,13 @@ fn wait_for_pump<R: Wait>(rt: &R, pace: &Pace) {
     }
 }
 
-/// Whether the lane of a feed is full, and its pump still there.
+/// Whether the lane of a feed is full, and the feed is not over.
 fn is_full<R: Wait>(rt: &R, feed: &Feed<Plain>) -> bool {
     let handed = feed.hold(rt, Turn::Hand, &Pace::new(0));
     matches!(handed, Ok(Handed::Full)) && !feed.is_over()
 }
 
-/// Counts what a finished feed still has; whether it came in order.
+/// Counts the items that a finished feed still has. Answers whether they came in order.
 fn count_left<R: Wait>(rt: &R, feed: Feed<Plain>, counts: &mut Counts) -> bool {
     let mut end = feed.finish(rt);
     let mut is_well = true;
@@ -131,7 +131,7 @@ fn count_left<R: Wait>(rt: &R, feed: Feed<Plain>, counts: &mut Counts) -> bool {
     is_well
 }
 
-/// Counts the next items, which are waited for; whether so many came, in order.
+/// Waits for the next items and counts them. Answers whether so many came, in order.
 fn count_next<R: Wait>(rt: &R, feed: &mut Feed<Plain>, items: u64, counts: &mut Counts) -> bool {
     let mut left = items;
     let mut is_well = true;
@@ -159,7 +159,7 @@ struct Reading {
     handle: Handle<Plain>,
     case: &'static Case,
     counts: Counts,
-    /// Whether all came in order.
+    /// Whether all items came in order.
     is_well: bool,
 }
 
@@ -178,14 +178,14 @@ impl<R: Wait> Reader<R, Pace> for Reading {
 }
 
 impl Reading {
-    /// Whether what was wanted came.
+    /// Whether the wanted items came.
     fn is_wanted(&self) -> bool {
         let counts = &self.counts;
         self.is_well && (counts.rows, counts.beats, counts.ends) == self.case.wanted
     }
 }
 
-/// Whether what is wanted comes in a case.
+/// Whether the wanted items come in a case.
 fn holds<R: Threads + Wait + time::Clock + Sync>(
     rt: &R,
     alloc: Global,

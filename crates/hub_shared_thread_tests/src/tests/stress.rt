@@ -1,5 +1,5 @@
-//! Many writers, and feeds of each mode, at once: what each reader took is compared with what a database of one
-//! thread shows, which makes the edits that the receipts tell, in their order.
+//! Many writers, and feeds of each mode, at once. The rows of each reader are compared with those of a
+//! database of one thread. This database makes the edits of the receipts, in their order.
 
 use crate::tests::{LIFE, Pace, Reader, database, is_pumped, open, put_text};
 use hub_document::ChangeRow;
@@ -16,8 +16,8 @@ const EDITS: u64 = 50;
 
 const DOCUMENTS: u64 = 20;
 
-/// What the threads of a run share, and a clock that stands while there are writers, and then goes on by a
-/// second with each reading.
+/// The database that the threads of a run share, and a clock. The clock stands while there are writers, and
+/// then goes on by a second with each reading.
 #[derive(Drop)]
 struct Scene {
     db: Db<Plain>,
@@ -43,7 +43,7 @@ impl Clock for Scene {
     }
 }
 
-/// An edit: its sequence, and which one of which writer it is.
+/// An edit: its sequence, its writer, and which edit of the writer it is.
 #[derive(Drop)]
 struct Edit {
     seq: u64,
@@ -51,8 +51,8 @@ struct Edit {
     number: u64,
 }
 
-/// What a thread brings back: the edits of a writer, or the rows of a reader and its last end; whether the reader
-/// is late, and whether the thread got on.
+/// The result of a thread: the edits of a writer, or the rows of a reader and its last end; whether the
+/// reader is late, and whether the thread succeeded.
 #[derive(Drop)]
 struct Brought {
     edits: Vec<Edit>,
@@ -62,8 +62,8 @@ struct Brought {
     is_well: bool,
 }
 
-/// The text of a writer's edit: the first of a document, its child, and one that conflicts with both. Each
-/// seventh deletes. Each writer has its own generations.
+/// The text of a writer's edit: the first edit of a document, its child, or an edit that conflicts with both.
+/// Each seventh edit deletes. Each writer has its own generations.
 fn edit_text(alloc: Global, writer: u64, number: u64) -> Result<String, AllocError> {
     let writer = writer % 8;
     let doc = (number % DOCUMENTS + 3 * writer) % DOCUMENTS;
@@ -103,7 +103,7 @@ fn make_edits<R: Wait>(
     Some(())
 }
 
-/// What the feed of the thread of this number is asked for. The last one has the stopped reader.
+/// The query of the feed of each thread, by number. The last feed has the stopped reader.
 const FEEDS: &[&str; 9] = &[
     "feed=normal",
     "feed=normal&style=all_docs",
@@ -116,7 +116,7 @@ const FEEDS: &[&str; 9] = &[
     "feed=continuous&timeout=50",
 ];
 
-/// The same of any number: the threads behind the last feed have none of their own.
+/// The query for any number. The threads after the last feed have no feed of their own.
 fn query_of(number: usize) -> &'static str {
     match FEEDS.get(number) {
         Some(query) => *query,
@@ -129,7 +129,7 @@ const SOME: &str = r#"{"doc_ids":["d3","d7","d19"]}"#;
 
 const SOME_IDS: &[&str; 3] = &["d3", "d7", "d19"];
 
-/// A feed that goes on behind a sequence of the database's life; None where its label says another one.
+/// A feed that goes on after a sequence of the database's life; None where its label says otherwise.
 fn follow<R: Wait>(
     rt: &R,
     alloc: Global,
@@ -146,7 +146,7 @@ fn follow<R: Wait>(
 }
 
 impl Brought {
-    /// Nothing yet.
+    /// A result with nothing in it yet.
     fn new(alloc: Global, is_late: bool) -> Brought {
         Brought {
             edits: Vec::new(alloc),
@@ -157,7 +157,7 @@ impl Brought {
         }
     }
 
-    /// Keeps an item; whether the feed may go on behind it.
+    /// Keeps an item. Answers whether the feed may go on after it.
     fn keep(&mut self, item: Item<ChangeRow>) -> bool {
         match item {
             Item::Row(row) => self.is_well &= self.rows.push(row).is_ok(),
@@ -190,7 +190,7 @@ impl Brought {
         }
     }
 
-    /// Takes what is left of a finished feed.
+    /// Takes the items that are left of a finished feed.
     fn read_left<R: Wait>(&mut self, rt: &R, feed: Feed<Plain>) {
         let mut receiver = feed.finish(rt);
         for _ in 0..EDITS {
@@ -203,8 +203,8 @@ impl Brought {
 }
 
 impl<R: Wait + time::Clock> Reader<R, Scene> for Brought {
-    /// Takes all items until the feed's end, slowly. A late reader takes nothing until the writers are done, and
-    /// then what is left.
+    /// Takes all items until the feed's end, slowly. A late reader takes no item until the writers are done,
+    /// and then the items that are left.
     fn read(&mut self, rt: &R, scene: &Scene, mut feed: Feed<Plain>) {
         if self.is_late {
             wait_for_writers(rt, scene);
@@ -226,7 +226,7 @@ fn wait_for_writers<R: Wait + time::Clock>(rt: &R, scene: &Scene) {
     }
 }
 
-/// Reads one feed, which goes on where the last one ended, beside its pump; None where it was not opened.
+/// Reads one feed, which goes on where the last one ended, beside its pump; None where one of these fails.
 fn read_next<R: Threads + Wait + time::Clock + Sync>(
     rt: &R,
     alloc: Global,
@@ -240,7 +240,7 @@ fn read_next<R: Threads + Wait + time::Clock + Sync>(
     (is_pumped && brought.is_well).then_some(())
 }
 
-/// Reads one feed after the other, until one began that the writers were done before; None where one fails.
+/// Reads one feed after the other, until one began after the writers were done; None where one fails.
 fn read_all<R: Threads + Wait + time::Clock + Sync>(
     rt: &R,
     alloc: Global,
@@ -259,7 +259,7 @@ fn read_all<R: Threads + Wait + time::Clock + Sync>(
     Some(())
 }
 
-/// What the thread of this number does: eight feeds, a stopped reader, and writers.
+/// The work of the thread of this number: eight feeds, a stopped reader, and writers.
 fn part<R: Threads + Wait + time::Clock + Sync>(
     rt: &R,
     alloc: Global,
@@ -281,7 +281,7 @@ fn part<R: Threads + Wait + time::Clock + Sync>(
     brought
 }
 
-/// The writer of the edit of this sequence, and which one of its edits it is; None where none has it.
+/// The writer of the edit of this sequence, and the edit's number with it; None where no writer has it.
 fn edit_of(parts: &[Brought], seq: u64) -> Option<(u64, u64)> {
     for part in parts {
         if let Some(edit) = part.edits.iter().find(|edit| edit.seq == seq) {
@@ -299,7 +299,7 @@ struct Shown {
     next: u64,
 }
 
-/// The row of the edit of this sequence, the last one so far.
+/// The row of the edit of this sequence, which is the last edit so far.
 fn row_of<R: Wait>(
     rt: &R,
     alloc: Global,
@@ -318,7 +318,7 @@ fn row_of<R: Wait>(
     }
 }
 
-/// Makes a writer's edit in the database of one thread: its row; None where it has another sequence.
+/// Makes a writer's edit in the database of one thread. Answers its row; None where it has another sequence.
 fn remake<R: Wait>(
     rt: &R,
     alloc: Global,
@@ -331,7 +331,7 @@ fn remake<R: Wait>(
     row_of(rt, alloc, handle, seq)
 }
 
-/// Adds a row: it is the next one of its document.
+/// Adds a row, which is the next one of its document.
 fn add(shown: &mut Vec<Shown>, row: ChangeRow) -> Option<()> {
     for earlier in shown.iter_mut() {
         if earlier.next == u64::MAX && earlier.row.id.as_str() == row.id.as_str() {
@@ -346,7 +346,7 @@ fn add(shown: &mut Vec<Shown>, row: ChangeRow) -> Option<()> {
         .ok()
 }
 
-/// What a database of one thread shows of so many edits; None where one of these is missing.
+/// The rows that a database of one thread shows of so many edits; None where an edit is missing.
 fn remade<R: Wait>(rt: &R, alloc: Global, parts: &[Brought], count: u64) -> Option<Vec<Shown>> {
     let (_db, mut handle) = database(alloc, 4, 8)?;
     let mut shown = Vec::new(alloc);
@@ -364,7 +364,7 @@ fn is_of(query: &str, id: &str) -> bool {
     !query.contains("_doc_ids") || SOME_IDS.contains(&id)
 }
 
-/// Whether a row shows a document as the wanted one does, with all its leaves or its winner alone.
+/// Whether a row shows its document as the wanted row does, with all its leaves or its winner alone.
 fn is_as(query: &str, row: &ChangeRow, wanted: &Shown) -> bool {
     let leaves = wanted.row.changes.len();
     let count = if query.contains("all_docs") {
@@ -382,8 +382,8 @@ fn is_as(query: &str, row: &ChangeRow, wanted: &Shown) -> bool {
     is_current && is_same && row.changes.len() == count && row.deleted == wanted.row.deleted
 }
 
-/// Whether rows rise, and each is what was there of a document of the feed once there were as many edits as it
-/// says.
+/// Whether rows rise, and each shows a document of the feed as it was once there were as many edits as the
+/// row says (`seen`).
 fn are_right(query: &str, shown: &[Shown], rows: &[ChangeRow]) -> bool {
     let mut last = 0;
     for row in rows {
@@ -398,7 +398,7 @@ fn are_right(query: &str, shown: &[Shown], rows: &[ChangeRow]) -> bool {
     true
 }
 
-/// Whether rows show the last edit of each document of the feed.
+/// Whether rows show the last edit of each document that the feed shows.
 fn are_all(query: &str, shown: &[Shown], rows: &[ChangeRow]) -> bool {
     for wanted in shown {
         let is_last = wanted.next == u64::MAX && is_of(query, wanted.row.id.as_str());
@@ -409,8 +409,8 @@ fn are_all(query: &str, shown: &[Shown], rows: &[ChangeRow]) -> bool {
     true
 }
 
-/// Whether what the thread of this number brought is right: a reader all that its feed shows, and the stopped
-/// reader what fits its lane. A writer brought no rows.
+/// Whether the result of the thread of this number is right. A reader has all rows that its feed shows. The
+/// stopped reader has the rows that fit its lane. A writer has no rows.
 fn is_right(shown: &[Shown], number: usize, brought: &Brought) -> bool {
     let (query, rows) = (query_of(number), brought.rows.as_slice());
     let is_whole = if number < 8 {
@@ -421,7 +421,7 @@ fn is_right(shown: &[Shown], number: usize, brought: &Brought) -> bool {
     brought.is_well && is_whole && are_right(query, shown, rows)
 }
 
-/// What the readers, and so many writers, bring back.
+/// The results of the readers and of so many writers.
 fn raced<R: Threads + Wait + time::Clock + Sync>(
     rt: &R,
     alloc: Global,
@@ -437,7 +437,7 @@ fn raced<R: Threads + Wait + time::Clock + Sync>(
     thread::map_indices(rt, alloc, count, &|number| part(rt, alloc, &scene, number)).ok()
 }
 
-/// Whether what each thread brought is right.
+/// Whether the result of each thread is right.
 fn are_all_right(shown: &[Shown], parts: &[Brought]) -> bool {
     for number in 0..parts.len() {
         if !is_right(shown, number, &parts[number]) {
@@ -447,7 +447,7 @@ fn are_all_right(shown: &[Shown], parts: &[Brought]) -> bool {
     true
 }
 
-/// Whether the readers take what so many writers are told.
+/// Whether the readers take the edits of which so many writers have receipts.
 fn are_told<R: Threads + Wait + time::Clock + Sync>(
     rt: &R,
     alloc: Global,

@@ -1,4 +1,4 @@
-//! One worker that sends the feeds of two databases, while others write to these.
+//! One worker that sends the feeds of two databases, while other threads write to these.
 
 use crate::tests::{Counts, Pace, database, open, put_many};
 use hub_shared::{Bell, Feed, Handle, Plain, Watch};
@@ -10,10 +10,10 @@ use std::time::{Clock, Duration};
 /// How many documents are written to each database, one at a time.
 const WRITES: u64 = 200;
 
-/// How often the worker looks at its bell before it gives up, a millisecond apart where it is not rung.
+/// How often the worker looks at its bell before it gives up. It sleeps a millisecond after a silent look.
 const LOOKS: u64 = 20_000;
 
-/// A feed, and what came of it.
+/// A feed, and the counts of its items.
 #[derive(Drop)]
 struct Shown {
     feed: Feed<Plain>,
@@ -21,7 +21,7 @@ struct Shown {
 }
 
 impl Shown {
-    /// Polls the feed until it waits; whether each item was the next row.
+    /// Polls the feed until it waits. Answers whether each item was the next row.
     fn catch_up<R: Wait>(&mut self, rt: &R) -> bool {
         let pace = Pace::new(0);
         let mut next = None;
@@ -40,7 +40,7 @@ impl Shown {
     }
 }
 
-/// What a worker sends of one database: feeds that share a watch.
+/// The feeds of one database that a worker sends. They share a watch.
 #[derive(Drop)]
 struct Watched {
     watch: Arc<Watch, Global>,
@@ -68,7 +68,7 @@ impl Watched {
         Some(())
     }
 
-    /// Polls the feeds until each waits, if there is news; whether each item was the next row of its feed.
+    /// Where there is news, polls each feed until it waits. Answers whether each item was the next row.
     fn catch_up<R: Wait>(&mut self, rt: &R) -> bool {
         if !self.watch.take() {
             return true;
@@ -87,7 +87,7 @@ impl Watched {
     }
 }
 
-/// Whether each feed gets all its rows, as the bell is rung for them.
+/// Whether each feed gets all its rows. The worker polls feeds only where the bell was rung.
 fn works<R: Wait + Clock>(rt: &R, bell: &Bell, first: &mut Watched, second: &mut Watched) -> bool {
     for _ in 0..LOOKS {
         if first.is_whole() && second.is_whole() {
@@ -102,7 +102,7 @@ fn works<R: Wait + Clock>(rt: &R, bell: &Bell, first: &mut Watched, second: &mut
     false
 }
 
-/// Whether a worker sends what two threads write, each to a database of its own.
+/// Whether a worker sends the documents that two threads write, each to a database of its own.
 fn sends_written<R: Threads + Wait + Clock + Sync>(
     rt: &R,
     alloc: Global,
@@ -125,7 +125,7 @@ fn sends_written<R: Threads + Wait + Clock + Sync>(
     is_sent && is_first && is_second
 }
 
-/// The same of two new databases, whose lanes hold two items, with three feeds each.
+/// Whether a worker sends all of two new databases, whose lanes hold two items, with three feeds each.
 fn sends_all<R: Threads + Wait + Clock + Sync>(rt: &R, alloc: Global) -> Option<bool> {
     let bell = Arc::new(alloc, Bell::new()).ok()?;
     let (mut first, mut second) = (Watched::new(alloc, &bell)?, Watched::new(alloc, &bell)?);

@@ -1,4 +1,4 @@
--- What is given is due, and the edits hold the feed that has taken it.
+-- An item that is given is due. The feed that has taken it is not beyond the edits.
 use Rattle.std.proofs.Common.{length, sym, ◌∙◌, subst}
 use Rattle.hub_model.specs.Current.{Current}
 use Rattle.hub_model.specs.Feed.{Feed, next_due}

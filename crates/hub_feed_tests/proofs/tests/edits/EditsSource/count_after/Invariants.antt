@@ -1,4 +1,4 @@
--- What is counted so far, and what is left to count, are all there is.
+-- The count so far and the rows left to count are together all pending rows.
 use Rattle.std.proofs.Common.{◌≡◌, ◌+◌, ◌≤◌, drop}
 use Rattle.hub_model.specs.Current.{pending}
 use Rattle.hub_feed_tests.specs.Edits.{rows_of}

@@ -1,4 +1,4 @@
--- What is found among all the edits is found among those that are left.
+-- The first row after the place and up to the bound is the same among all edits and among those left.
 use Rattle.std.proofs.Common.{◌≡◌, ◌+◌, drop}
 use Rattle.hub_feed_tests.specs.Edits.{rows_of}
 use Rattle.hub_feed.specs.Reach.{first_within}
