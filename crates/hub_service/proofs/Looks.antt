@@ -171,9 +171,9 @@ look_found {A} gives found a (inr is) finds =
   where
     by : (given : Result A DbFault) → Ok a ≡ with_refusal given
         → IfOk given (λ a. (is.db.deleted ≡ false) × found is.db a) → IsFound found (Ok a)
-    by (Ok b) same said_unless_deleted =
-        subst (IsFound found) (sym same) (record { db = is.db; legal = is.legal; held = said_unless_deleted })
-    by (Err e) same said_unless_deleted = absurd (cc)
+    by (Ok b) same holds =
+        subst (IsFound found) (sym same) (record { db = is.db; legal = is.legal; held = holds })
+    by (Err e) same holds = absurd (cc)
 
 -- a look that gave no value found a deleted database, or memory was missing
 pub look_unfound : {A : Type 0} (gives : Bor Database → Result A DbFault → Type 0)
@@ -232,7 +232,7 @@ pub stored_whole : (new_edits : Bool) (docs : List Doc) (given : Result Written 
     → IfOk given (λ w. IsStoredBy false 0 (record { parts = 0; count = 0 }) new_edits docs w.batch)
     → IfOk given (λ w. IsSome w.lapsed → HasStored w.batch.replies)
     → IfOk (with_refusal given) (IsStored new_edits docs)
-stored_whole new_edits docs (Ok local_after_write) stored lapsed = record { stored = stored; lapsed = lapsed }
+stored_whole new_edits docs (Ok batch) stored lapsed = record { stored = stored; lapsed = lapsed }
 stored_whole new_edits docs (Err e) stored lapsed = tt
 
 -- an edit that was refused is answered with its refusal

@@ -76,7 +76,7 @@ module _ {R : Type 0} (wrap : Item R → StreamItem) (sent : FeedState R → Sen
       → IsSentOf wrap right (behind_item feed s.item) items end → IsSentOf wrap right feed (item ∷ items) end
   one_more feed item items end mid s later = record {
     handed = s.item ∷ later.handed;
-    wrapped = ap (λ i. i ∷ items) s.wrapped ∙ ap (λ label. wrap s.item ∷ label) later.wrapped;
+    wrapped = ap (λ i. i ∷ items) s.wrapped ∙ ap (λ tail. wrap s.item ∷ tail) later.wrapped;
     rest = later.rest;
     front = grown feed.label feed.taken s.item (later.handed ++ later.rest) later.front;
     whole = later.whole;
@@ -124,26 +124,26 @@ module _ {R : Type 0} (wrap : Item R → StreamItem) (sent : FeedState R → Sen
       s.behind ∙ ap (λ b. if b then None else Some (sent (behind_item feed s.item))) is
 
   -- the items that are sent, after items that were taken before
-  sent_behind_itemn : {n : ℕ} {s t : Option Sent} {items : List StreamItem} {end : StreamEnd}
+  sent_after_taken : {n : ℕ} {s t : Option Sent} {items : List StreamItem} {end : StreamEnd}
       → Streams connection_rules n s items end t
       → (feed : FeedState R) → s ≡ Some (sent feed) → IsAllowedBeginning right (receiver_of feed)
       → IsSentOf wrap right feed items end
-  sent_behind_itemn
+  sent_after_taken
       (Streams.goes_on {s = s} {mid = mid} {item = item} {items = items} {end = end} given is more) feed
       at allowed =
       let x = step_from feed s item mid at given in
       one_more feed item items end mid x
-      (sent_behind_itemn more (behind_item feed x.item) (still_sent feed item mid x is) x.allowed)
-  sent_behind_itemn (Streams.ends {s = s} {t = t} {item = item} given is) feed at allowed =
+      (sent_after_taken more (behind_item feed x.item) (still_sent feed item mid x is) x.allowed)
+  sent_after_taken (Streams.ends {s = s} {t = t} {item = item} given is) feed at allowed =
       last feed item Complete t (step_from feed s item t at given) is
-  sent_behind_itemn (Streams.ends_broken {s = s} {t = t} {item = item} given is) feed at allowed =
+  sent_after_taken (Streams.ends_broken {s = s} {t = t} {item = item} given is) feed at allowed =
       last feed item Broken t (step_from feed s item t at given) is
-  sent_behind_itemn (Streams.stops mid given dropped) feed at allowed =
+  sent_after_taken (Streams.stops mid given dropped) feed at allowed =
       none_more feed Stopped allowed (λ c. cc)
-  sent_behind_itemn (Streams.loses mid lost given dropped) feed at allowed =
+  sent_after_taken (Streams.loses mid lost given dropped) feed at allowed =
       none_more feed NoMemory allowed (λ c. cc)
-  sent_behind_itemn (Streams.breaks dropped) feed at allowed = none_more feed Broken allowed (λ c. cc)
-  sent_behind_itemn (Streams.gives_up dropped many) feed at allowed =
+  sent_after_taken (Streams.breaks dropped) feed at allowed = none_more feed Broken allowed (λ c. cc)
+  sent_after_taken (Streams.gives_up dropped many) feed at allowed =
       none_more feed Exhausted allowed (λ c. cc)
 
   -- the items that are sent of a feed, where there is one
@@ -154,7 +154,7 @@ module _ {R : Type 0} (wrap : Item R → StreamItem) (sent : FeedState R → Sen
       at some =
       let x = step_from feed s item mid at given in
       one_more feed item items end mid x
-      (sent_behind_itemn more (behind_item feed x.item) (still_sent feed item mid x is) x.allowed)
+      (sent_after_taken more (behind_item feed x.item) (still_sent feed item mid x is) x.allowed)
   sent_of (Streams.ends {s = s} {t = t} {item = item} given is) feed at some =
       last feed item Complete t (step_from feed s item t at given) is
   sent_of (Streams.ends_broken {s = s} {t = t} {item = item} given is) feed at some =
