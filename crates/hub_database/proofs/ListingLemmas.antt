@@ -295,7 +295,7 @@ pub first_is : (feed : Feed) (journal : List Edit) (ids : List (List ℕ)) (plac
     → rows ≡ passing_sequences (DocIds ids) journal
     → first ≡ find (λ n. nat_lt place n && is_within bound n) rows
     → IsFirst first (current journal) (Some feed)
-first_is feed journal ids place bound rows first lists p b r is is_waiting_mode =
+first_is feed journal ids place bound rows first lists p b r is found_first =
     is ∙ (ap (λ z. find (λ n. nat_lt z n && is_within bound n) rows) p
     ∙ (ap (λ z. find (λ n. nat_lt feed.place n && is_within z n) rows) b
     ∙ (ap (find (is_between feed.place feed.bound))

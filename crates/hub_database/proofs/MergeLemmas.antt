@@ -345,7 +345,7 @@ one_reply old new doc o r stands is stored rest =
         × IfErr z (λ e. (new ≡ old) × ((e ≡ db_fault.NoMemory)
         ⊎ ((f : Fault) × (e ≡ db_fault.Refused f)
         × (one_draft_result old.deleted old.limits.journal old.journal doc ≡ refusal_result old.journal f))))
-    by (Ok rev) new_revision none = (same ∙ new_revision, tt)
+    by (Ok rev) stored none = (same ∙ stored, tt)
     by (Err e) none (still, inl want) = (tt, (stays still, inl want))
     by (Err e) none (still, inr (f, told, refused)) = (tt, (stays still, inr (f, told, same ∙ refused)))
 

@@ -131,12 +131,12 @@ module _ (journal later_journal : List Edit) (since last : ℕ) (rows : List Cha
       → (row : ChangeRow) → Contains rows row → row.seq ≡ n → IsRow (take row.seen journal) AllDocs false row
       → InAsked (map revisions_of_row rows) id revision
   in_row n edit id revision current q leaf row c at fits =
-      let shown_edit = row_is (take row.seen journal) false row fits in
+      let as_row = row_is (take row.seen journal) false row fits in
       let as_leaf =
-      leaf_then n edit id revision (take row.seen journal) (drop row.seen journal) shown_edit.0
+      leaf_then n edit id revision (take row.seen journal) (drop row.seen journal) as_row.0
       (sym (take-append-drop row.seen journal))
-      (subst (λ z. IsCurrent (take row.seen journal) z shown_edit.0) at shown_edit.1) current q leaf in
-      let same : row.id ≡ id = sym shown_edit.2 ∙ as_leaf.0 in (
+      (subst (λ z. IsCurrent (take row.seen journal) z as_row.0) at as_row.1) current q leaf in
+      let same : row.id ≡ id = sym as_row.2 ∙ as_leaf.0 in (
         revisions_of_row row,
         contains_map revisions_of_row row rows c,
         same,
@@ -259,7 +259,7 @@ opened_in journal id (r ∷ revs) got legal q =
     at (Some e) s (Ok edits) ih t =
         let k = ih edits refl in
         let is : e ∷ edits ≡ got = cc in
-        let shown_edit = shown_is journal id r e legal s in (
+        let copy_shown = shown_is journal id r e legal s in (
           λ f c. ⊎_elim
               (λ (v : e ≡ f). subst (λ z. IsCopy journal z) v
               (record {
@@ -267,15 +267,15 @@ opened_in journal id (r ∷ revs) got legal q =
                 rest = [];
                 r = r;
                 split = append-nil journal;
-                shown = subst (λ z. IsShown journal z r e) (sym shown_edit.named) shown_edit;
+                shown = subst (λ z. IsShown journal z r e) (sym copy_shown.named) copy_shown;
               }))
               (λ v. k.0 f v) (contains_cases e f edits (subst (λ z. Contains z f) (sym is) c)),
           λ revision c. ⊎_elim
               (λ (v : r ≡ revision). (
                 e,
                 subst (λ z. Contains z e) is (contains_here e edits),
-                shown_edit.named,
-                subst (λ z. IsHead e z) v shown_edit.head,
+                copy_shown.named,
+                subst (λ z. IsHead e z) v copy_shown.head,
               ))
               (λ v.
               let g = k.1 revision v in

@@ -169,8 +169,8 @@ pub receipts_added : (new_edits gone : Bool) (limit : ℕ) (journal other_journa
     → (n : ℕ) (ids : List (List ℕ)) (replies : List (Outcome Revision)) (receipts : List Receipt)
     → n ≡ length journal → ids ≡ ids_of docs → replies ≡ os → receipts ≡ receipts_from n ids replies
     → AreAdded journal other_journal receipts
-receipts_added new_edits gone limit journal other_journal docs os is n ids replies receipts e f g new_revision =
-    subst (λ r. AreAdded journal other_journal r) (sym (new_revision ∙ (λ k. receipts_from (e k) (f k) (g k))))
+receipts_added new_edits gone limit journal other_journal docs os is n ids replies receipts e f g numbered =
+    subst (λ r. AreAdded journal other_journal r) (sym (numbered ∙ (λ k. receipts_from (e k) (f k) (g k))))
     (writes_added new_edits gone limit journal other_journal docs os is)
 
 -- there are as many edits as receipts
