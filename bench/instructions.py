@@ -4,16 +4,16 @@
     python3 bench/instructions.py [--only TEXT] PROGRAM [PROGRAM ..]
     python3 bench/instructions.py --few [--keep FILE] PROGRAM
 
-runs each program over the same requests under valgrind's callgrind, and prints a line for each case. The
-line has the instructions of the first program, and of each other program the ratio to these. A program is any build of
-changes_hub, so two states of the hub can be compared. Instructions repeat where times do not. A case that
-reads has a setup, which is run alone too, and the difference is printed. All programs have to answer with
-the same bytes. The line of a case in which they do not says so.
+runs each program over the same requests under valgrind's callgrind, and prints a line for each case. The line
+has the instructions of the first program, and of each other program the ratio to these. A program is any
+build of changes_hub, so two states of the hub can be compared. Instructions repeat where times do not. A case
+that reads has a setup, which is run alone too, and the difference is printed. All programs have to answer
+with the same bytes. The line of a case in which they do not says so.
 
-With --keep the instructions of the first program are written to FILE too, a case a line: the name, a tab,
-the number. The file bench/instructions.txt is of this form, from the last state that was landed. Without --keep each line
-has at its end the number of the case in bench/instructions.txt, and the ratio to it. --few takes the cases of
-FEW alone, in about a minute.
+With --keep the instructions of the first program are written to FILE too, a case a line: the name, a tab, the
+number. The file bench/instructions.txt is of this form, from the last state that was landed. Without --keep
+each line has at its end the number of the case in bench/instructions.txt, and the ratio to it. --few takes
+the cases of FEW alone, in about a minute.
 """
 
 import argparse

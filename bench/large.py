@@ -4,9 +4,9 @@
     python3 bench/large.py [--documents N] [--program FILE]
 
 starts the proved hub (./hub builds it; or another program of the same commands), and stores N documents of
-one database in batches. Then it asks for large answers one after the other. These are all rows, all rows with their
-documents, all rows downwards, and the missing ones of 100,000 revisions. For each answer the script prints
-its bytes, its seconds, and the kB by which the hub's memory rose above its size before the request.
+one database in batches. Then it asks for large answers one after the other. These are all rows, all rows with
+their documents, all rows downwards, and the missing ones of 100,000 revisions. For each answer the script
+prints its bytes, its seconds, and the kB by which the hub's memory rose above its size before the request.
 
 The status is 1 where a feed upwards takes 1 MiB or more: its rows are to go out as they are made. Only
 Python's standard library is used, and Linux's files of a process (`clear_refs`, `status`).

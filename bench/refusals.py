@@ -265,7 +265,7 @@ class Tcp:
         return self.tools.get("refused") > 0
 
     def has_failed_to_start(self):
-        """Whether the hub, which did not answer its first request, could not begin: no request is answered."""
+        """Whether the hub could not begin, after its first request had no answer: then no request has one."""
         first = self.tools.get("first")
         self.tools.allow()
         answered = self.ask("control", b"GET / HTTP/1.1\r\n\r\n").status == 200
