@@ -11,7 +11,7 @@ No figure is asserted. `--keep` writes the rates of the first program by those o
 bench/out/beside.json. The script takes wrk and curl. A figure is read beside the load and the share of the
 processors that the host took, which are printed too.
 
-`bench/hyper` is such a server, of the hub's routes and bytes over hyper and tokio:
+`bench/hyper` is such a server, of the measured routes in nearly the hub's bytes, over hyper and tokio:
 
     (cd bench/hyper && cargo build --release --offline)
     python3 bench/beside.py hub=crates/changes_hub/out/changes_hub hyper=bench/hyper/target/release/hyper_hub

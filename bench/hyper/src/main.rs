@@ -1,11 +1,12 @@
-//! The server that the hub is measured beside: the same routes and the same bytes, over hyper and tokio.
+//! The server that the hub is measured beside: the measured routes in nearly the same bytes, over hyper and tokio.
 //!
 //!     hyper_hub serve 127.0.0.1:5984
 //!
 //! It makes databases, stores documents, one by one and in batches, reads them, and serves normal and continuous
 //! feeds. A database is a map and a log behind one mutex. The server keeps no trees of revisions, no filters and no
 //! limits, and takes names and ids as the path has them. It knows only the parameters `since`, `include_docs`, `feed`
-//! and `heartbeat`. Its answers have a `Date`, which hyper writes by itself. A chunk of a feed has up to 512 rows.
+//! and `heartbeat`. Its answers have a `Date`, which hyper writes by itself. Its sequences are numbers, and a chunk of
+//! a feed has up to 512 rows.
 
 use futures_util::stream;
 use hyper::body::{to_bytes, Bytes};
