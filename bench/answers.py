@@ -1,7 +1,7 @@
 """Reads the hub's answers strictly: each byte has to stand where docs/PROFILE.md says.
 
 An answer is a head and a body of a known length, or chunks. Bytes that are no answer raise `Wrong`. A hub
-that says nothing for too long raises `Late`.
+that sends no byte for too long raises `Late`.
 """
 
 import json
@@ -9,7 +9,7 @@ import os
 import re
 import select
 
-# The seconds that a hub may say nothing.
+# The seconds for which a hub may send no byte.
 PATIENCE = 20
 PHRASES = {
     200: b"OK",
@@ -45,7 +45,7 @@ class Late(Exception):
 
 
 class Source:
-    """The bytes that come from a pipe or a socket. A reset counts as an end."""
+    """The bytes that come from a pipe or a socket. A reset of the connection counts as an end."""
 
     def __init__(self, number, patience=PATIENCE):
         self.number, self.patience = number, patience
@@ -68,14 +68,14 @@ class Source:
         return bool(some)
 
     def through(self, mark):
-        """The bytes up to a mark and with it, or all that is left where none comes."""
+        """The bytes up to a mark and with it, or all other bytes where no mark comes."""
         while mark not in self.held:
             if not self.read():
                 return self.take(len(self.held))
         return self.take(self.held.index(mark) + len(mark))
 
     def exactly(self, count):
-        """So many bytes, or all that is left where fewer come."""
+        """So many bytes, or all other bytes where fewer come."""
         while len(self.held) < count and self.read():
             pass
         return self.take(min(count, len(self.held)))
@@ -86,12 +86,12 @@ class Source:
         return taken
 
     def is_at_end(self):
-        """Waits until it is known whether more bytes come."""
+        """Waits for more bytes or the end, and says whether the end came."""
         return not self.held and not self.read()
 
 
 class Bytes(Source):
-    """Bytes that are all there."""
+    """A source whose bytes have all come."""
 
     def __init__(self, held):
         self.held, self.has_ended = bytearray(held), True
@@ -102,7 +102,7 @@ class Answer:
 
     def __init__(self):
         self.parts = []
-        # None where nothing came.
+        # None where no byte came.
         self.status = None
         # Whether the head says that the connection closes.
         self.closes = False
@@ -110,9 +110,9 @@ class Answer:
         self.chunks = None
         self.length = 0
         self.body = b""
-        # Whether all of it came.
+        # Whether the whole answer came.
         self.is_whole = False
-        # Whether nothing was answered on its connection before it.
+        # Whether it is the first answer on its connection.
         self.is_first = False
 
     @property
@@ -125,7 +125,7 @@ class Answer:
 
 
 def read_head(source, answer):
-    """Reads a head; nothing at all leaves the answer as it is."""
+    """Reads a head into the answer. Without a byte the answer stays as it is."""
     head = source.through(b"\r\n\r\n")
     if not head:
         return
@@ -144,7 +144,7 @@ def read_head(source, answer):
 
 
 def read_chunk(source, answer):
-    """Reads the next chunk; its text, empty for the last one, and None where the stream was cut."""
+    """Reads the next chunk, and returns its text: empty for the last chunk, None where the stream was cut."""
     line = source.through(b"\r\n")
     answer.parts.append(line)
     if not line.endswith(b"\r\n"):
@@ -166,7 +166,7 @@ def read_chunk(source, answer):
 
 
 def read_chunks(source, answer):
-    """Reads chunks to the last, or to where the stream was cut."""
+    """Reads chunks to the last chunk, or to the place where the stream was cut."""
     while read_chunk(source, answer):
         pass
     answer.body = b"".join(answer.chunks)
@@ -185,7 +185,7 @@ def read_body(source, answer):
 
 def read_answer(source, is_head=False):
     """Reads an answer to its end, or to the end of the bytes. A hub that finds no memory to read a request
-    does not know that it is a HEAD, and closes behind an answer with its body."""
+    does not know that the request is a HEAD. It sends an answer with a body, and closes the connection."""
     answer = Answer()
     read_head(source, answer)
     if answer.status is None:
@@ -200,7 +200,7 @@ def read_answer(source, is_head=False):
 
 
 def check_json(text):
-    """A body is one JSON value and a line feed."""
+    """Checks that a body is one JSON value and a line feed."""
     if not text.endswith(b"\n"):
         raise Wrong("a body without its line feed: %r" % text[-200:])
     try:
@@ -210,7 +210,7 @@ def check_json(text):
 
 
 def check_stream(text):
-    """A whole feed is one JSON value, or one on each line where it goes on without end."""
+    """Checks that a whole feed is one JSON value, or, of a continuous feed, one JSON value on each line."""
     if text.startswith(b'{"results":['):
         check_json(text)
         return

@@ -4,14 +4,13 @@
     python3 bench/bench.py [--small | --growth] [--no-callgrind]
 
 builds the proved hub (./hub does it), makes its own requests, runs them through `changes_hub stdin`,
-prints a table, and writes the figures beside it, to bench/out/figures.json. Only Python's standard
-library is used; valgrind, where it is there, counts instructions for one small case. No figure is
-asserted anywhere: a figure is read. --growth takes batches, a feed of everything and GETs alone, up to
-1,000,000 documents.
+prints a table, and writes its figures to bench/out/figures.json. Only Python's standard library is used.
+Where valgrind is installed, it counts instructions for one small case. No figure is asserted anywhere:
+a figure is read. --growth takes batches, a feed of everything and GETs alone, up to 1,000,000 documents.
 
-Each case is a list of requests. A case that reads has a setup, which is run alone too, and what is
-told is the difference. Times are processor times of the hub, user and system, since they are steadier
-than the clock on a machine that does other work; the fastest of several runs counts.
+Each case is a list of requests. A case that reads has a setup, which is run alone too, and the table has
+the difference. Times are processor times of the hub, user and system: on a machine that does other work
+they are steadier than the clock. The fastest of several runs counts.
 """
 
 import argparse
@@ -29,7 +28,7 @@ TOP = os.path.dirname(os.path.dirname(os.path.abspath(__file__)))
 HUB = os.path.join(TOP, "crates", "changes_hub", "out", "changes_hub")
 FIGURES = os.path.join(TOP, "bench", "out", "figures.json")
 
-# Starts the hub from a small process, since a process begins with the peak of the one that starts it.
+# Starts the hub from a small process: a process begins with the peak memory of the process that starts it.
 RUNNER = """
 import os, sys
 hub, source, target = sys.argv[1:]
@@ -43,12 +42,13 @@ print(status, usage.ru_utime + usage.ru_stime, usage.ru_maxrss)
 """
 
 MAKE = b"PUT /d HTTP/1.1\r\n\r\n"
-# How many rows a case that reads shows, about.
+# About how many rows a case that reads shows.
 READ = 500_000
-# The same where growth is told: more, since 1,000,000 documents take longer to store than a feed to show them.
+# The same number for --growth. It is greater: 1,000,000 documents take longer to store than a feed takes to
+# show them.
 READ_FOR_GROWTH = 8_000_000
-# Documents that are much more than one batch, whose text and parsed values are there while it is stored: so
-# the peak is what is kept of them.
+# The documents are much more than one batch. A batch's text and parsed values take memory only while it is
+# stored. So the peak is the memory of the stored documents.
 SMALL_BATCHES = "batches of 100, 10 kB"
 
 
@@ -83,7 +83,7 @@ def documents(count, size):
 
 
 def batches(count, size, together=1000):
-    """The documents in batches; a body may have 8 MB at most."""
+    """The documents in batches. The body of a request may have 8 MB at most."""
     docs = list(documents(count, size))
     parts = [MAKE]
     for at in range(0, count, together):
@@ -93,7 +93,7 @@ def batches(count, size, together=1000):
 
 
 def puts(count, size):
-    """The documents one by one, the requests behind one another."""
+    """PUTs of new documents, sent one after another without a look at the answers."""
     parts = [MAKE]
     for number in range(count):
         parts.append(request("PUT /d/doc%07d" % number, compact(members(number, size))))
@@ -101,12 +101,12 @@ def puts(count, size):
 
 
 def feed(query=""):
-    """A feed with this query."""
+    """A request for a feed with this query."""
     return ("GET /d/_changes%s HTTP/1.1\r\n\r\n" % query).encode()
 
 
 def listed(count):
-    """A feed of 1,000 listed ids."""
+    """A request for a feed of 1,000 listed ids."""
     ids = ["doc%07d" % (at * count // 1000) for at in range(1000)]
     return request("POST /d/_changes?filter=_doc_ids", compact({"doc_ids": ids}))
 
@@ -116,7 +116,7 @@ def gets(count):
 
 
 def diffs(count):
-    """1,000 ids, of which half miss a revision."""
+    """A request for the missing revisions of 1,000 ids, half of which miss one."""
     asked = {}
     for at in range(1000):
         number = at * count // 1000
@@ -137,7 +137,7 @@ def line(count):
 
 
 def leaves(count):
-    """A document with this many leaves, in one batch; the hashes are digests, as a database makes them."""
+    """A document with this many leaves, in one batch. The hashes are digests, as a database makes them."""
     hashes = [hashlib.md5(str(n).encode()).hexdigest() for n in range(count + 1)]
     docs = [
         {"_id": "doc", "_revisions": {"start": 2, "ids": [hashes[n], hashes[count]]}, "v": n}
@@ -147,7 +147,7 @@ def leaves(count):
 
 
 def run(data, repeat):
-    """The fastest run: seconds of the processor, bytes written, and peak memory in bytes."""
+    """The processor seconds of the fastest run, with its written bytes and its peak memory in bytes."""
     best = None
     with tempfile.TemporaryDirectory() as folder:
         source = os.path.join(folder, "requests")
@@ -166,7 +166,7 @@ def run(data, repeat):
 
 
 def measure(name, size, count, setup, asked, repeat, requests=1):
-    """One line of the table. Memory is told above that of a hub with one empty database."""
+    """Measures a case, and prints its line. Memory counts from that of a hub with one empty database."""
     empty = run(MAKE, 1)[2]
     before = (0.0, 0, 0) if setup is None else run(setup, repeat)
     whole = (setup or b"") + asked
@@ -202,8 +202,8 @@ def measure(name, size, count, setup, asked, repeat, requests=1):
 
 
 def growth(entries):
-    """Of each case the exponent of the time of one request, or of all where they are the work, between
-    its smallest and its greatest size: 1.0 is linear."""
+    """The exponent of each case's growth from its smallest to its greatest size, where 1.0 is linear. The
+    time is of one request, or of all requests where these are one work together."""
     found = {}
     for name in sorted({entry["case"] for entry in entries}):
         row = [e for e in entries if e["case"] == name]
@@ -259,7 +259,7 @@ def speed_of_cat(size):
 
 
 def instructions():
-    """Instructions of a small case, which repeat where times do not."""
+    """The instructions of a small case. Instructions repeat where times do not."""
     if shutil.which("valgrind") is None:
         return None
     with tempfile.TemporaryDirectory() as folder:
@@ -287,7 +287,7 @@ def build():
 
 
 def measure_growth():
-    """The cases whose growth is told up to 1,000,000 documents, with the memory that these take."""
+    """Measures the cases of --growth up to 1,000,000 documents, with the memory of the documents."""
     entries = []
     for size in [1000, 10000, 100000, 1000000]:
         stored = batches(size, 100)
@@ -324,7 +324,8 @@ def main():
         stored = batches(size, 100)
 
         def reading(name, asked, each):
-            """Asks for it until about this many rows were shown, or requests answered."""
+            """Measures a request that shows `each` rows. It is sent until about READ rows were shown, but
+            READ / 50 times at most."""
             times = max(1, READ // max(each, 50))
             return measure(name, size, each * times, stored, asked * times, repeat, times)
 

@@ -3,13 +3,15 @@
 
     python3 bench/beside.py [--rounds N] [--seconds N] [--case WORD] [--keep] NAME=PROGRAM NAME=PROGRAM ..
 
-runs each program as `PROGRAM serve 127.0.0.1:0 4294967295`, which prints the address that it listens on,
-asks all of them the same by turns, and prints a table: the first one's rate against that of each other,
-each round and the median, the processor time of each for a request or a row, and the time of the 99th of 100
-requests or of a feed. No figure is asserted.
-`--keep` writes the rates of the first by those of the second to bench/out/beside.json. It takes wrk and curl. A figure is read beside the load and what the host took, which are printed too.
+runs each program as `PROGRAM serve 127.0.0.1:0 4294967295`, which prints the address that it listens on.
+It sends the same requests to all programs by turns, and prints a table: the first program's rate against
+the rate of each other program, each round and the median. The table also has each program's processor time
+for a request or a row. Its last figure is the time of the 99th of 100 requests, the slowest batch or a feed.
+No figure is asserted. `--keep` writes the rates of the first program by those of the second to
+bench/out/beside.json. The script takes wrk and curl. A figure is read beside the load and the share of the
+processors that the host took, which are printed too.
 
-`bench/hyper` is such a server, of the hub's routes and bytes over hyper and tokio:
+`bench/hyper` is such a server, of the measured routes in nearly the hub's bytes, over hyper and tokio:
 
     (cd bench/hyper && cargo build --release --offline)
     python3 bench/beside.py hub=crates/changes_hub/out/changes_hub hyper=bench/hyper/target/release/hyper_hub
@@ -30,7 +32,7 @@ import time
 KEPT = os.path.join(os.path.dirname(os.path.abspath(__file__)), "out", "beside.json")
 TICK = os.sysconf("SC_CLK_TCK")
 ROWS = 100_000
-# What wrk sends: a new document of about 100 bytes each time, and a look at one of 10,000.
+# The requests of wrk: a PUT of a new document of about 100 bytes each time, and a GET of one of 10,000.
 SCRIPTS = {
     "PUT": """
 local threads = 0
@@ -51,7 +53,7 @@ end
 
 
 class Server:
-    """A program that serves, with the documents that are asked for."""
+    """A program that serves, with the databases that the cases need."""
 
     def __init__(self, program):
         self.process = subprocess.Popen(
@@ -67,7 +69,7 @@ class Server:
         self.process.wait()
 
     def seconds(self):
-        """Its processor time."""
+        """Its processor time so far."""
         with open("/proc/%d/stat" % self.process.pid) as file:
             fields = file.read().rsplit(")", 1)[1].split()
         return (int(fields[11]) + int(fields[12])) / TICK
@@ -82,7 +84,7 @@ class Server:
             sys.exit("%s %s: %d %r" % (method, path, answer.status, told[:200]))
 
     def load(self, name, count):
-        """A database of so many documents of about 100 bytes, in batches of 1,000."""
+        """Makes a database of so many documents of about 100 bytes, in batches of 1,000."""
         self.ask("PUT", "/" + name)
         for at in range(0, count, 1000):
             docs = [{"_id": "doc%07d" % n, "number": n, "text": "x" * 72} for n in range(at, at + 1000)]
@@ -90,7 +92,7 @@ class Server:
 
 
 class Wrk:
-    """Requests of one kind by so many connections."""
+    """Requests of one kind, which wrk sends over so many connections."""
 
     runs = 0
 
@@ -151,8 +153,8 @@ class Batches:
 
 
 def read_feed(port, path):
-    """Reads the answer to a GET up to its last chunk: its bytes, and the seconds that it took. Chunks are not taken
-    apart, so that the server and the sockets are measured, and not the client."""
+    """Reads the answer to a GET up to its last chunk, and returns its bytes and its seconds. Chunks are not
+    taken apart, so that the server and the sockets are measured, and not the client."""
     room = memoryview(bytearray(1 << 20))
     since = time.monotonic()
     with socket.create_connection(("127.0.0.1", port)) as stream:
@@ -178,7 +180,7 @@ def curl_feed(port, path):
 
 
 class Rows:
-    """A normal feed of 100,000 rows, the median of seven."""
+    """A normal feed of 100,000 rows, seven times."""
 
     def __init__(self, name, query, read):
         self.name, self.path, self.read = name, "/rows/_changes" + query, read
@@ -196,7 +198,7 @@ class Rows:
 
 
 def machine():
-    """What the processors did so far, and the load."""
+    """The ticks of the processors so far, by their use, and the load."""
     with open("/proc/stat") as file:
         ticks = [int(word) for word in file.readline().split()[1:9]]
     with open("/proc/loadavg") as file:
@@ -204,18 +206,18 @@ def machine():
 
 
 def disturbance(before):
-    """The load before, and what the host took since, in 100."""
+    """The load before, and the ticks in 100 that the host took since."""
     ticks = [b - a for a, b in zip(before[0], machine()[0])]
     return "load %s, taken by the host %.1f" % (before[1], 100 * ticks[7] / max(sum(ticks), 1))
 
 
 def ratios_of(first, other, by):
-    """The rate of one program by that of another, round by round."""
+    """The rate of one program by the rate of another program, round by round."""
     return [mine[0] / its[0] for mine, its in zip(by[first], by[other])]
 
 
 def keep(names, figures):
-    """Writes the rates of the first program by those of the second."""
+    """Writes the rates of the first program by the rates of the second, for `--keep`."""
     first, other = names[:2]
     cases = [
         {"case": case, "first": first, "other": other, "ratios": ratios_of(first, other, by)}
@@ -228,7 +230,7 @@ def keep(names, figures):
 
 
 def show(names, figures):
-    """The table."""
+    """Prints the table."""
     first, others = names[0], names[1:]
     print("| Case | " + " | ".join("%s against %s, each round, median" % (first, n) for n in others), end=" | ")
     print(" | ".join("%s, a second, µs, ms" % n for n in names) + " |")
@@ -259,7 +261,7 @@ def main():
     cases = [case for case in cases if any(case.name.startswith(word) for word in asked.case or [""])]
     names, figures = list(programs), {}
     for round_ in range(asked.rounds):
-        # Each round begins with another one.
+        # Each round begins with another program.
         turns = names[round_ % len(names):] + names[: round_ % len(names)]
         servers = {name: Server(programs[name]) for name in turns}
         try:

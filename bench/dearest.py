@@ -3,11 +3,11 @@
 
     python3 bench/dearest.py [--short] [KIND..]
 
-runs requests that a hostile client would choose through `changes_hub stdin`, which ./hub builds, at three sizes,
-each four times the one before. It prints for each kind the processor time of the greatest, the time for each
-megabyte that the request brings, and the exponent of growth from the smallest to the greatest, where 1.0 is linear.
-A request that reads has a setup, whose own time is taken off. Only Python's standard library is used. No figure is
-asserted: a figure is read.
+runs requests that a hostile client would choose through `changes_hub stdin`, which ./hub builds. Each kind
+has three sizes, each four times the size before. For each kind the script prints the processor time of the
+greatest request, and its time for each megabyte that the request brings. It also prints the exponent of
+growth from the smallest to the greatest, where 1.0 is linear. A request that reads has a setup, whose own
+time is taken off. Only Python's standard library is used. No figure is asserted: a figure is read.
 """
 
 import argparse
@@ -48,7 +48,7 @@ def other(number):
 
 
 def alike(number):
-    """A digest whose first eight bytes are those of all others."""
+    """A digest whose first eight bytes are the same for each number."""
     return f"{'ab' * 8}{number:016x}"
 
 
@@ -61,14 +61,14 @@ def line(count, text):
 
 
 def joined(count):
-    """Each generation comes alone, the newest first, and then pairs join them."""
+    """Edits that bring one generation each, the newest first, and then edits that join them by pairs."""
     alone = [edit([other(it)], it + 1) for it in reversed(range(count))]
     joins = [edit([f"j{it}", other(it), other(it - 1)], it + 2) for it in range(1, count)]
     return batch(alone) + batch(joins)
 
 
 def deletions(count, text):
-    """Each leaf is deleted, the best first."""
+    """A batch that deletes each leaf of a document, the best leaf first."""
     best = sorted((text(it) for it in range(count)), reverse=True)
     return batch([edit([f"z{at}", it], 2, _deleted=True) for at, it in enumerate(best)])
 
@@ -84,7 +84,7 @@ def asked(count, text):
 
 
 def kinds():
-    """The kinds of requests by name: for a size the setup and the request."""
+    """The kinds of requests by name. For a size, a kind gives its setup and its request."""
     every = b"GET /d/a?open_revs=all&revs=true HTTP/1.1\r\n\r\n"
     found = {}
     for name, text in (("no digests", other), ("digests that begin alike", alike)):
@@ -119,7 +119,7 @@ def kinds():
 
 
 def seconds(requests):
-    """The processor time of the hub for these requests: the least of some runs."""
+    """The processor time of the hub for these requests: the least of RUNS runs."""
     with tempfile.NamedTemporaryFile() as source:
         source.write(requests)
         source.flush()
@@ -137,7 +137,7 @@ def one_run(name):
 
 
 def measure(kind, sizes):
-    """The time of the greatest request, the same a megabyte, and the exponent of growth."""
+    """The time of the greatest request, its bytes, and the exponent of growth."""
     times, length = [], 0
     for size in sizes:
         setup, asks = kind(size)

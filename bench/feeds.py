@@ -3,19 +3,21 @@
 
     python3 bench/feeds.py [--databases N] [--feeds N] [--rounds N] [--program FILE]
 
-starts the proved hub (./hub builds it; or another program of the same commands), opens 1,000 continuous
-feeds of each of 20 databases, and writes a document to each database, round for round. Each feed has to get
-each row once and in order within a minute. Then all clients close, the hub has to close their connections
-within a minute, the same feeds are opened again, and the rounds go on: a feed that was left would be one too
-many.
+starts the proved hub (./hub builds it; or another program of the same commands), and opens 1,000 continuous
+feeds of each of 20 databases. It writes a document to each database, round for round. Each feed has to get
+each row once and in order within a minute. Then all clients close, and the hub has to close their
+connections within a minute. The same feeds are opened again, and the rounds go on: if the hub had kept the
+old feeds, the new ones would be too many.
 
-It prints the times from the first write of a round until the last feed has its row, what the hub takes of
-memory and of the processors, and its threads. The status is 1 where a feed misses a row or gets another one,
-where the hub has more threads than `--threads` or more memory a feed than `--memory`, where the second time
-takes a tenth more memory than the first, or where a feed is refused.
+The script prints the times from the first write of a round until the last feed has its row. It also prints
+the memory, the processor time and the threads of the hub. The status is 1 in these cases:
 
-Only Python's standard library is used. A feed takes a descriptor of the hub and one of this script: where the
-system allows fewer, there are fewer feeds, and the table says how many.
+- a feed misses a row, gets another row, or is refused;
+- the hub has more threads than `--threads`, or more memory a feed than `--memory`;
+- the second time takes a tenth more memory than the first time.
+
+Only Python's standard library is used. A feed takes a descriptor of the hub and one of this script. Where
+the system allows fewer descriptors, there are fewer feeds, and the output says how many.
 """
 
 import argparse
@@ -31,13 +33,13 @@ import time
 TOP = os.path.dirname(os.path.dirname(os.path.abspath(__file__)))
 HUB = os.path.join(TOP, "crates", "changes_hub", "out", "changes_hub")
 TICK = os.sysconf("SC_CLK_TCK")
-# Descriptors of either process beside those of feeds.
+# The descriptors of either process that no feed takes.
 BESIDE = 64
-# So many seconds are waited for the heads of all feeds, and for a row.
+# The seconds in which all feeds have to get their heads, or a row.
 PATIENCE = 60
-# A source address has some 28,000 ports.
+# The feeds of one source address, which has some 28,000 ports.
 FEEDS_OF_ADDRESS = 15_000
-# In milliseconds. It is longer than all rounds, and keeps a feed from coming to its end.
+# In milliseconds. It is longer than all rounds. With a heartbeat a feed does not come to its end.
 HEARTBEAT = 600_000
 ROW = re.compile(rb'\{"seq":"(\d+)-(\d+)","id":"(\d+)",')
 
@@ -66,7 +68,7 @@ class Hub:
         self.process.wait()
 
     def ask(self, line, body, status):
-        """Asks for this, whose answer has to have this status."""
+        """Sends a request, whose answer has to have this status."""
         head = "%s HTTP/1.1\r\nContent-Length: %d\r\n\r\n" % (line, len(body))
         self.writer.sendall(head.encode() + body)
         told = self.reader.readline()
@@ -79,13 +81,13 @@ class Hub:
             raise Failed("%s: %r %r" % (line, told, text[:200]))
 
     def seconds(self):
-        """Its processor time."""
+        """Its processor time so far."""
         with open("/proc/%d/stat" % self.process.pid) as file:
             fields = file.read().rsplit(")", 1)[1].split()
         return (int(fields[11]) + int(fields[12])) / TICK
 
     def memory(self):
-        """Bytes of its own, without what it shares."""
+        """The bytes of its memory (Pss), in which a page that processes share counts in parts."""
         with open("/proc/%d/smaps_rollup" % self.process.pid) as file:
             return 1024 * int(re.search(r"^Pss:\s+(\d+)", file.read(), re.MULTILINE).group(1))
 
@@ -114,7 +116,7 @@ class Feed:
         self.socket.setblocking(False)
 
     def read(self):
-        """Reads what is there; how many rows came. Anything else than the next rows is refused."""
+        """Reads the bytes that came, and returns how many rows they brought. Only the next rows may come."""
         part = self.socket.recv(65_536)
         if not part:
             raise Failed("a feed of d%d was closed behind %d rows" % (self.database, self.rows))
@@ -132,7 +134,7 @@ class Feed:
         return self.rows - before
 
     def chunk(self):
-        """The next whole chunk, None where there is none yet."""
+        """The next whole chunk, None where it has not come yet."""
         size, end, rest = self.buffer.partition(b"\r\n")
         if not end or len(rest) < int(size, 16) + 2:
             return None
@@ -151,7 +153,7 @@ class Feed:
 
 
 class Crowd:
-    """Feeds of all databases behind this sequence, so many of each."""
+    """So many feeds of each database, from this sequence on."""
 
     def __init__(self, hub, databases, count, since):
         self.hub, self.databases = hub, databases
@@ -163,7 +165,7 @@ class Crowd:
         self.wait(lambda feed: feed.head, "a head")
 
     def wait(self, is_done, what):
-        """Reads until this holds of each feed."""
+        """Reads until `is_done` holds of each feed."""
         limit = time.monotonic() + PATIENCE
         left = {number for number, feed in self.feeds.items() if not is_done(feed)}
         while left:
@@ -175,7 +177,7 @@ class Crowd:
                     left.discard(number)
 
     def write(self, seq, rows):
-        """Writes to each database; how long it takes until each feed has so many rows."""
+        """Writes to each database, and returns the seconds until each feed has so many rows."""
         begin = time.monotonic()
         body = b'{"new_edits":false,"docs":[{"_id":"%d","_rev":"1-a"}]}' % seq
         for database in range(1, self.databases + 1):
@@ -184,7 +186,7 @@ class Crowd:
         return time.monotonic() - begin
 
     def rest(self, seconds):
-        """Waits so long, in which no feed may get anything; the hub's processor time a second."""
+        """Waits so long, and no feed may get a row meanwhile. Returns the hub's processor time a second."""
         before = self.hub.seconds()
         limit = time.monotonic() + seconds
         while (left := limit - time.monotonic()) > 0:
@@ -200,7 +202,7 @@ class Crowd:
 
 
 def allow(feeds):
-    """How many of so many feeds the system allows, where it is asked for the descriptors."""
+    """Asks the system for the descriptors of so many feeds, and returns how many feeds it allows."""
     soft, hard = resource.getrlimit(resource.RLIMIT_NOFILE)
     wanted = feeds + BESIDE
     for limits in ((max(wanted, soft), max(wanted, hard)), (min(wanted, hard), hard)):
@@ -213,7 +215,8 @@ def allow(feeds):
 
 
 def run(hub, options, count, since):
-    """One crowd of feeds; the sequence behind it, the memory a feed, and the most threads."""
+    """Opens one crowd of feeds, and writes its rounds. Returns the last sequence, the bytes of the hub's
+    memory, the KiB of it a feed, and the most threads."""
     empty, begin = hub.memory(), time.monotonic()
     crowd = Crowd(hub, options.databases, count, since)
     opened, threads, took = time.monotonic() - begin, hub.threads(), []
@@ -231,8 +234,8 @@ def run(hub, options, count, since):
 
 
 def let_go(hub, options, seq, most):
-    """Writes until the hub has closed the feeds of clients that closed, and has at most so many descriptors; the
-    sequence behind it. The hub sees that a client closed where it sends it a row."""
+    """Writes until the hub has closed the feeds of clients that closed, and has at most so many descriptors.
+    Returns the last sequence. The hub sees that a client closed as it sends the client a row."""
     limit = time.monotonic() + PATIENCE
     while hub.descriptors() > most:
         if time.monotonic() > limit:
@@ -246,7 +249,7 @@ def let_go(hub, options, seq, most):
 
 
 def check(hub, options, count):
-    """Two crowds, one behind the other."""
+    """Runs two crowds, one after the other."""
     for database in range(1, options.databases + 1):
         hub.ask("PUT /d%d" % database, b"", b"201")
     begun = hub.descriptors()

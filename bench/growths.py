@@ -7,29 +7,30 @@
 
 runs the proved hub (`./hub stdin < crates/changes_hub/stdin` builds it) under a shim that refuses it memory,
 and checks each answer. It takes a C compiler, `cc`, and Python's standard library. A script of requests is
-run again and again, each time with another request for memory refused: the first, the second, and so on,
-until a run meets no refusal. A thread counts as such a request. So it goes over standard input and over TCP,
-each three times: refused once, until the next answer, and for ever. Then eight clients work beside one
-another, while requests for memory are refused by chance, and while the hub's address space is limited
-(scarce.py).
+run again and again, each time with another growth refused: the first, the second, and so on, until a run
+meets no refusal. A growth is a request of the hub for memory or for a thread. Scripts run over standard
+input and over TCP, each in three ways: memory is refused once, until the next answer, and for ever. Then
+eight clients work beside one another (scarce.py). Growths are refused by chance meanwhile, or the hub's
+address space is limited.
 
 The rules:
 
-- Each answer before the refusal is the one with ample memory.
-- The call that meets it is answered 503 `out_of_memory`, or as with ample memory. A feed ends without a last
-  chunk, and its bytes are a front. A new connection may be closed unanswered. Over TCP another connection may
-  meet the refusal: then its feed is cut beside an answer as with ample memory. So may a thread that is to
-  relieve another one: no answer changes then.
-- Further requests, with ample memory, show the state as before, and the same call then has its answer.
-- Behind a 503 a write may stand. The table counts these: "behind", "unnoted" where the log of updates has no
-  note of it, "stopped" where it is a front of a batch.
+- Each answer before the refusal is the answer with ample memory.
+- The call that meets the refusal is answered 503 `out_of_memory`, or as with ample memory. A feed ends
+  without a last chunk, and its bytes are a front. A new connection may be closed unanswered. Over TCP another
+  connection may meet the refusal: then its feed is cut beside an answer as with ample memory. A thread that
+  is to relieve another thread may meet it too: no answer changes then.
+- Further requests, with ample memory, show the state before the call, and the same call then has its answer.
+- After a 503 a write may be stored. The table counts such writes: "behind", "unnoted" where the log of
+  updates has no note of it, "stopped" where it is a front of a batch.
 - A hub that cannot begin ends with status 1 ("start"). Else the status is 0, and over standard input 1 where
   the session closed. No signal ends it.
 
-`--tests` runs each test of these crates so (`rt test` builds their programs), and each run has to end with
-status 0. Some tests are left out, whose own growths are not made again. `--wrong` puts a process between that answers wrongly, in two ways, and both have to be seen. A rule
-that does not hold is printed with its script, its growth and the bytes, and the status is 1. `--only` with
-`--growth` runs that again. On four processors beside other work the whole took three minutes.
+`--tests` runs each test of these crates in the same way (`rt test` builds their programs), and each run has
+to end with status 0. Tests that do not make their own refused growths again are left out. `--wrong` puts a
+process before the hub that answers wrongly, in two ways, and the rules have to find both. A rule that does
+not hold is printed with its script, its growth and the bytes, and the status is 1. `--only` with `--growth`
+runs that script again. On four processors beside other work the whole took three minutes.
 """
 
 import argparse
@@ -52,26 +53,27 @@ HOWS = ["once", "until the answer", "for ever"]
 TEXT = b'{"error":"out_of_memory","reason":"out of memory"}\n'
 LINES = b"HTTP/1.1 503 Service Unavailable\r\nContent-Type: application/json\r\nContent-Length: 51\r\n"
 REFUSED = [LINES + b"\r\n" + TEXT, LINES + b"Connection: close\r\n\r\n" + TEXT]
-# Of a HEAD: the second is that of a request that could not be read.
+# The refusals of a HEAD. The second is for a request that could not be read.
 REFUSED_HEADS = [LINES + b"\r\n", REFUSED[1]]
 COLUMNS = ["growths", "runs", "refused", "start", "closed", "503", "cut", "same"]
 COLUMNS += ["before", "behind", "unnoted", "stopped"]
 ALL = {**SCRIPTS, **SCENES}
-# Tests that end where one of their own growths is refused, which they do not make again: how their names begin.
+# How the names of left out tests begin. Most end where a growth of their own is refused, which they do not
+# make again.
 OWN_GROWTHS = (
     "hint_tests::",
     "id_tests::",
     "random_tests::",
     "tests::long_lists_are_searched",
-    # Their threads wait for one another: where one finds no memory and ends, another waits for ever.
+    # The threads wait for one another: where a thread finds no memory and ends, another one waits for ever.
     "tests::locks::a_held_database_holds_no_other_call",
-    # Two threads and 2,000 edits: no run is like another.
+    # The test has two threads and 2,000 edits: no run is like another run.
     "tests::threads::a_follower_beside_a_writer",
 )
 
 
 class Ample:
-    """The bytes that a script is answered with ample memory, and how many growths that took."""
+    """The answers to a script with ample memory, and how many growths they took."""
 
     def __init__(self, tools, script, place):
         hub = PLACES[place](tools)
@@ -90,13 +92,13 @@ def requests_of(steps):
 
 
 def behind(script, number):
-    """The requests behind a step: what shows the state, the step again, the rest, and the state at the end."""
+    """The requests after a step: a look at the state, the step again, the later steps, and a last look."""
     return [*script.shown, *requests_of(script.steps[number:]), *script.shown]
 
 
 @functools.lru_cache(None)
 def shown_behind(tools, name, number, inserted):
-    """The answers to these with ample memory, where other requests stand in the place of the step."""
+    """The answers to the requests after a step, with ample memory, where other requests replace the step."""
     script = ALL[name]
     hub = Stdin(tools)
     try:
@@ -108,7 +110,7 @@ def shown_behind(tools, name, number, inserted):
 
 
 def fronts(data):
-    """The batches that a stopped one may be, where the request is a batch."""
+    """The batches that may have been stored of a request that is a batch: its beginnings."""
     if not data.startswith(b"POST /d/_bulk_docs ") or b"\r\n\r\n{" not in data:
         return []
     asked = json.loads(data.split(b"\r\n\r\n", 1)[1])
@@ -116,7 +118,7 @@ def fronts(data):
 
 
 def alternatives(step, kind):
-    """What may stand behind a step: its column in the table, and the requests in the place of the step."""
+    """The states that may follow a step: a column of the table, and the requests in the place of the step."""
     if step.kind != "ask" or kind in ("cut", "closed"):
         return [("before", ())]
     if kind == "same":
@@ -125,14 +127,14 @@ def alternatives(step, kind):
 
 
 def is_unnoted(requests, got, before, wanted):
-    """Whether all is as wanted, but that the log of updates has no note of it."""
+    """Whether the answers are as wanted, but that the log of updates has no note of the write."""
     looks = [at for at, data in enumerate(requests) if data.startswith(b"GET /_db_updates")]
     others = [at for at in range(len(requests)) if at not in looks]
     return got[looks[0]] == before[looks[0]] and all(got[at] == wanted[at] for at in others)
 
 
 def state_behind(tools, name, number, kind, got):
-    """What stands behind a step, by the answers to the requests behind it."""
+    """The state after a step, by the answers to the requests after it."""
     script = ALL[name]
     before, nearest = shown_behind(tools, name, number, ()), (-1, None)
     for state, inserted in alternatives(script.steps[number], kind):
@@ -149,7 +151,7 @@ def state_behind(tools, name, number, kind, got):
 
 
 def kind_of(hub, step, got, wanted):
-    """What an answer is: that of ample memory, a refusal, a front, or nothing."""
+    """The kind of an answer: as with ample memory, a refusal, a front, or no byte."""
     if got is None or step.client in getattr(hub, "lost", ()):
         return "cut"
     if got.raw == wanted:
@@ -165,7 +167,7 @@ def kind_of(hub, step, got, wanted):
 
 
 def first_refused(hub, script, ample):
-    """Runs the script to the step that meets the refusal; its number and its answer."""
+    """Runs the script to the step that meets the refusal. Returns the step's number and its answer."""
     for number, (step, wanted) in enumerate(zip(script.steps, ample.raws)):
         got = hub.make(step)
         if hub.is_refused():
@@ -176,7 +178,7 @@ def first_refused(hub, script, ample):
 
 
 def look_behind(hub, script, number):
-    """Asks what stands behind a step, makes it again, and all that follows."""
+    """Looks at the state after a step, and makes the step and all later ones again. Returns the answers."""
     got = [hub.ask("control", data).raw for data in script.shown]
     for step in script.steps[number:]:
         if step.kind == "open" and step.client in hub.feeds:
@@ -188,7 +190,7 @@ def look_behind(hub, script, number):
 
 
 def go_on(hub, script, ample, number, counted):
-    """Goes on without memory: each answer is a refusal, or as with ample memory."""
+    """Makes the later steps without memory: each answer is a refusal, or as with ample memory."""
     for step, wanted in list(zip(script.steps, ample.raws))[number + 1 :]:
         if hub.is_closed:
             return
@@ -197,7 +199,7 @@ def go_on(hub, script, ample, number, counted):
 
 
 def check_end(hub, ample, is_whole):
-    """Checks that feeds are fronts, and the status. Feeds that still wait get something first."""
+    """Checks that feeds are fronts, and then the status. Requests between give waiting feeds an item."""
     hub.tools.allow()
     for client, feed in hub.feeds.items():
         same = feed.raw == ample.feeds[client]
@@ -212,7 +214,7 @@ def check_end(hub, ample, is_whole):
 
 
 def run_refused(hub, name, ample, how, counted):
-    """Runs a script on a hub that is refused memory, and counts what came; whether a refusal was met."""
+    """Runs a script on a hub that is refused memory, and counts answers. Says whether it met a refusal."""
     script = ALL[name]
     number, got = first_refused(hub, script, ample)
     if number is None:
@@ -239,7 +241,7 @@ def run_refused(hub, name, ample, how, counted):
 
 
 def try_script(tools, name, place, how, stride, growth):
-    """Runs a script with each growth refused; what was counted, and the violations."""
+    """Runs a script with each growth refused. Returns the counts and the violations."""
     counted, violations = collections.Counter(), []
     ample = Ample(tools, ALL[name], place)
     counted["growths"] = ample.growths
@@ -262,7 +264,7 @@ def try_script(tools, name, place, how, stride, growth):
 
 
 def try_test(tools, program, test, most):
-    """Runs a test with each growth refused. Beyond so many growths not every one is tried, but ever fewer."""
+    """Runs a test with each growth refused, or with ever fewer of them beyond the first `most` growths."""
     counted, violations = collections.Counter(), []
     first, is_met = 0, True
     while is_met and not violations:
@@ -289,7 +291,7 @@ def try_test(tools, program, test, most):
 
 
 def begin(shim, program):
-    """What a process of the pool has: a folder of its own, and the words that it shares with the shim."""
+    """Makes the tools of a process of the pool: its folder, and the words that it shares with the shim."""
     global TOOLS
     TOOLS = Tools(os.path.dirname(shim), shim, program)
 
@@ -313,7 +315,7 @@ def work_all(shim, program, tasks):
 
 
 def tasks_asked(options):
-    """The tasks, those that take long first."""
+    """The tasks. Tasks that take long come first."""
     stride, seconds = (9, 5) if options.short else (1, 60)
     tasks = [("scarce", ("one in", number, seconds)) for number in (1000, 50)]
     limits = (12, 60, 200) if options.short else (12, 20, 30, 40, 50, 60, 80, 100, 120, 150, 200)
@@ -348,10 +350,10 @@ def label(task):
 
 
 def tell(results, columns, labels):
-    """Prints the table, a line for each label and one for all."""
+    """Prints the table: a line for each label, and a line for all."""
     lines, total = collections.defaultdict(collections.Counter), collections.Counter()
     for task, counted, _ in results:
-        # Each way of refusing runs the same script, whose growths are told once.
+        # Each way of refusing runs the same script, so its growths count once.
         growths = max(lines[label(task)]["growths"], counted["growths"])
         lines[label(task)].update(counted)
         if task[0] == "script":
@@ -365,7 +367,7 @@ def tell(results, columns, labels):
 
 
 def report(results, tasks, columns):
-    """Prints the tables and the violations; the status."""
+    """Prints the tables and the violations, and returns the status."""
     for is_scarce in (False, True):
         asked = [it for it in tasks if (it[0] == "scarce") == is_scarce]
         if asked:
@@ -378,12 +380,12 @@ def report(results, tasks, columns):
 
 
 SCARCE = ["answers", "503", "closed", "cut", "behind", "stored", "rows", "refused"]
-# Wrong answers, and the script in which they are looked for.
+# The kinds of wrong answers, each with the script whose run has to show it.
 FAULTS = {"leaves-out": "two documents", "claims": "two documents"}
 
 
 def try_faults(shim, program):
-    """Puts a process that answers wrongly between, and says whether each fault is seen."""
+    """Puts a process that answers wrongly before the hub. Returns 0 where each fault is seen, else 1."""
     seen = 0
     for fault, name in FAULTS.items():
         between = [sys.executable, "-B", "-I", "-S", os.path.join(BENCH, "wrong_hub.py"), fault, program]

@@ -4,18 +4,18 @@
     python3 bench/hostile.py [--seconds N] [--short] [--seed S] [--block B]
 
 runs the proved hub (`./hub stdin < crates/changes_hub/stdin` builds it) on scripts of requests (rows.py) whose
-bytes are spoiled: flipped, cut, repeated, spliced, with long fields, deep JSON, bad chunks, wrong lengths, many
-fields, bare line feeds, bytes that are no UTF-8, huge numbers and `%` escapes. A session over standard input
-has a process of its own. Over TCP many sessions, one after the other, share a server. Only Python's standard
-library is used.
+bytes are spoiled. Bytes are flipped, cut, repeated or spliced. Others are long fields, many fields, deep
+JSON, bad chunks, wrong lengths, bare line feeds, bytes that are no UTF-8, huge numbers and `%` escapes. A
+session over standard input has a process of its own. Over TCP many sessions, one after the other, share a
+server. Only Python's standard library is used.
 
-Every answer is read strictly: status line, fields, length or chunks, and the body as JSON; a refusal is one of
-the profile's. Nothing may come behind an answer that closes, and no feed is cut. A script that nobody spoiled
-has an answer to each request. The program ends with its status, never by a signal, and within a limit. A rule
-that does not hold is printed with the session's bytes, and the status is 1.
+Every answer is read strictly: status line, fields, length or chunks, and the body as JSON. A refusal is one
+of the profile's. No byte may come after an answer that closes, and no feed is cut. A script that nobody
+spoiled has an answer to each request. The program ends with its status, never by a signal, and within a
+limit. A rule that does not hold is printed with the session's bytes, and the status is 1.
 
 Sessions come in blocks. The bytes of a block follow from the seed and the block's number alone, so `--block`
-runs one again. It takes a minute, or so many seconds, and with `--short` a quarter of a minute.
+runs one again. The script takes a minute, or `--seconds`, and with `--short` a quarter of a minute.
 """
 
 import argparse
@@ -37,9 +37,9 @@ from rows import SCENES, SCRIPTS
 
 # How many sessions a block has over standard input, and over TCP.
 ALONE, TOGETHER = 30, 60
-# The seconds for which a feed that waits is read over TCP: behind its last byte, and at most.
+# The seconds for which a feed that waits is read over TCP: after its last byte, and at most.
 SILENCE, WHOLE = 0.2, 1.0
-# The longest session, in bytes: what is repeated and spliced stays below it.
+# The longest session, in bytes. Repeated and spliced bytes above it are cut.
 LONGEST = 200_000
 
 REFUSALS = """400 bad_request: not JSON, not an object, number out of profile, bad id, bad rev, bad _revisions
@@ -75,7 +75,7 @@ KNOWN = refusals()
 
 # --- the bytes ---
 
-# Bytes that mean something to some reader.
+# Bytes that have a meaning to some reader.
 PIECES = [b"\r\n", b"\n", b"\r", b"\0", b"\r\n\r\n", b" ", b"\t", b":", b"%", b"%2F", b"%00", b"%zz", b'"', b"{"]
 PIECES += [b"]", b"\xff", b"\xc3\x28", b"\xed\xa0\x80", b"\\ud800", b"\\u0000", b"?", b"&", b"=", b"+", b"HTTP/1.1"]
 PIECES += [b"-0", b"1e5", b"18446744073709551616", b"-9223372036854775809", b"9" * 400, b"[" * 200, b"_", b"null"]
@@ -102,7 +102,7 @@ METHODS = ["GET", "GET", "GET", "HEAD", "DELETE", "PUT"]
 
 
 def flip(rng, data):
-    """Some bits are others."""
+    """Flips some bits."""
     data = bytearray(data)
     for _ in range(rng.choice([1, 1, 2, 5, 20])):
         data[rng.randrange(len(data))] ^= 1 << rng.randrange(8)
@@ -110,7 +110,7 @@ def flip(rng, data):
 
 
 def cut(rng, data):
-    """A part is missing: at the end, or in between."""
+    """Cuts a part, at the end or in the middle."""
     at = rng.randrange(len(data))
     return data[:at] if rng.random() < 0.5 else data[:at] + data[at + rng.randrange(1, 40) :]
 
@@ -122,7 +122,7 @@ def repeat(rng, data):
 
 
 def splice(rng, data):
-    """The front of one script, and the rest of another."""
+    """The front of one script, and the end of another script."""
     other = rng.choice(SEEDS)
     return data[: rng.randrange(len(data))] + other[rng.randrange(len(other)) :]
 
@@ -135,7 +135,7 @@ def insert(rng, data):
 
 
 def digits(rng, data):
-    """A digit is a number, huge or none; so lengths are wrong too."""
+    """Replaces a digit by a text of NUMBERS, as a huge number or none. So lengths are wrong too."""
     places = [at for at in range(len(data)) if data[at : at + 1].isdigit()]
     if not places:
         return data
@@ -144,7 +144,7 @@ def digits(rng, data):
 
 
 def fields(rng, data):
-    """Fields are added to a head: many, long, or such as mean something."""
+    """Adds fields to a head: many fields, long ones, or ones with a meaning."""
     lines = [rng.choice(FIELDS)]
     if rng.random() < 0.3:
         lines = [b"X%d: y" % at for at in range(rng.choice([60, 64, 65, 200]))]
@@ -154,7 +154,7 @@ def fields(rng, data):
 
 
 def chunked(rng, data):
-    """A body in chunks, which may be bad ones, behind which more follows."""
+    """Adds a request whose body has chunks, also bad ones, and then the script again."""
     length = rng.choice([b"", b"Content-Length: 3\r\n"])
     head = b"POST /d/_bulk_docs HTTP/1.1\r\nTransfer-Encoding: chunked\r\n%s\r\n" % length
     return data + head + b"".join(rng.choice(CHUNKS) for _ in range(3)) + b"0\r\n\r\n" + data
@@ -170,13 +170,13 @@ def versions(rng, data):
 
 
 def many_databases(rng, data):
-    """More databases than there may be."""
+    """Makes 3 databases, or 260, which are more than a hub may have."""
     made = rng.choice([3, 260])
     return data + b"".join(b"PUT /z%d HTTP/1.1\r\n\r\n" % at for at in range(made)) + data
 
 
 def value_of(rng, depth):
-    """A JSON value as text, mostly of a kind that is not wanted where it stands."""
+    """A JSON value as text, mostly of a wrong kind for its place."""
     chance = rng.random()
     if depth > 0 and chance < 0.5:
         members = ['"%s":%s' % (rng.choice(MEMBERS), value_of(rng, depth - 1)) for _ in range(rng.randrange(5))]
@@ -190,7 +190,7 @@ def value_of(rng, depth):
 
 
 def bodies(rng, data):
-    """Whole requests whose bodies are JSON, mostly not such as is wanted, behind the script and before it."""
+    """Adds whole requests after the script and before it. Their bodies are JSON, mostly of a wrong kind."""
     parts = [data]
     for _ in range(rng.choice([1, 2, 5])):
         docs = ", ".join(value_of(rng, 2) for _ in range(rng.randrange(4)))
@@ -205,7 +205,7 @@ def bodies(rng, data):
 
 
 def queries(rng, data):
-    """Feeds and reads with parameters that are not always good."""
+    """Adds feeds and reads with parameters that are not always good."""
     parts = [data]
     for _ in range(rng.choice([1, 3, 8])):
         query = "&".join("%s=%s" % (rng.choice(NAMES), rng.choice(ASKED)) for _ in range(rng.randrange(5)))
@@ -220,12 +220,12 @@ def requests_of(script):
 WAYS = [flip, cut, repeat, splice, insert, digits, fields, chunked, bare_feeds, versions, bodies, bodies, queries]
 WAYS += [queries, many_databases]
 SEEDS = [b"".join(requests_of(it)) for it in [*SCRIPTS.values(), *SCENES.values()]]
-# How many answers a script has that nobody spoiled.
+# How many answers each script has while its bytes are not spoiled.
 WHOLE_SCRIPTS = dict(zip(SEEDS, (len(requests_of(it)) for it in [*SCRIPTS.values(), *SCENES.values()])))
 
 
 def session(rng):
-    """The bytes of a session: a script that is spoiled in a few ways."""
+    """The bytes of a session: a script that is spoiled in up to six ways."""
     data = rng.choice(SEEDS)
     for _ in range(rng.choice([0, 1, 1, 2, 3, 6])):
         data = rng.choice(WAYS)(rng, data)[:LONGEST] or b"\r\n"
@@ -251,12 +251,12 @@ class Patient(Source):
         return super().read()
 
     def is_left(self):
-        """Whether it was a feed for which no more came."""
+        """Whether the last read was of a feed that waits."""
         return self.patience == SILENCE
 
 
 def check_refusal(answer):
-    """A refusal is one of the profile's."""
+    """Checks that a refusal is one of the profile's."""
     told = json.loads(answer.body)
     found = (answer.status, told.get("error"), told.get("reason")) if isinstance(told, dict) else None
     if found not in KNOWN or set(told) != {"error", "reason"}:
@@ -264,7 +264,7 @@ def check_refusal(answer):
 
 
 def has_body(source, may_be_head):
-    """Whether a body follows the head that was read. Where a HEAD may have been asked, another answer may."""
+    """Whether a body follows the head that was read. After a HEAD the next answer may follow instead."""
     if not may_be_head:
         return True
     while len(source.held) < 5 and source.read():
@@ -289,7 +289,7 @@ def next_answer(source, may_be_head):
 
 
 def check_all(source, data, counted):
-    """Reads all answers of a session, and counts them by their statuses; how many there are."""
+    """Reads all answers of a session, and counts them by their statuses. Returns how many there are."""
     may_be_head, count = b"HEAD" in data, 0
     while True:
         answer = next_answer(source, may_be_head)
@@ -306,7 +306,7 @@ def check_all(source, data, counted):
 
 
 def run_alone(program, data, counted):
-    """A session over standard input."""
+    """Runs a session over standard input."""
     try:
         done = subprocess.run([program, "stdin"], input=data, capture_output=True, timeout=PATIENCE)
     except subprocess.TimeoutExpired:
@@ -331,7 +331,7 @@ def send(rng, client, data, counted):
 
 
 def run_together(port, rng, data, counted):
-    """A session over TCP."""
+    """Runs a session over TCP."""
     may_wait = any(it in data for it in (b"longpoll", b"continuous"))
     with socket.create_connection(("127.0.0.1", port), PATIENCE) as client:
         client.setsockopt(socket.IPPROTO_TCP, socket.TCP_NODELAY, 1)
@@ -365,7 +365,7 @@ def clear(port):
 
 
 def run_server(program, rng, counted, number):
-    """Sessions over TCP, one after the other, on a server of their own; the violations."""
+    """Runs sessions over TCP, one after the other, on a server of their own. Returns the violations."""
     words = [program, "serve", "127.0.0.1:0", str(TOGETHER + 1)]
     server = subprocess.Popen(words, stdout=subprocess.PIPE, stderr=subprocess.DEVNULL)
     data = b""
@@ -388,7 +388,7 @@ def run_server(program, rng, counted, number):
 
 
 def run_block(program, seed, number):
-    """The sessions of a block; what was counted, and the violations."""
+    """Runs the sessions of a block. Returns the counts and the violations."""
     rng = random.Random("%d %d" % (seed, number))
     counted, violations = collections.Counter(), []
     for _ in range(ALONE):
@@ -402,7 +402,7 @@ def run_block(program, seed, number):
 
 
 def work(program, seed, first, step, until):
-    """Runs blocks until the time is over."""
+    """Runs blocks until the time is over. Returns the counts and the violations."""
     counted, violations, number = collections.Counter(), [], first
     while time.monotonic() < until and len(violations) < 5:
         some, more = run_block(program, seed, number)

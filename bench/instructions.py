@@ -4,16 +4,16 @@
     python3 bench/instructions.py [--only TEXT] PROGRAM [PROGRAM ..]
     python3 bench/instructions.py --few [--keep FILE] PROGRAM
 
-runs each program over the same requests under valgrind's callgrind, and prints instructions case by case:
-those of the first program, and of each other one the ratio to the first. A program is any build of
-changes_hub, so two states of the hub can be compared. Instructions repeat where times do not. A case that
-reads has a setup, which is run alone too, and the difference is told. All programs are to answer with the
-same bytes; a case in which they do not says so.
+runs each program over the same requests under valgrind's callgrind, and prints a line for each case. The line
+has the instructions of the first program, and of each other program the ratio to these. A program is any
+build of changes_hub, so two states of the hub can be compared. Instructions repeat where times do not. A case
+that reads has a setup, which is run alone too, and the difference is printed. All programs have to answer
+with the same bytes. The line of a case in which they do not says so.
 
-With --keep the instructions of the first program are written to FILE too, a case a line: the name, a tab,
-the number. bench/instructions.txt is such a file, of the last state that was landed. Without --keep each line
-has at its end what that file tells of the case, and the ratio to it. --few takes the cases of FEW alone, in
-about a minute.
+With --keep the instructions of the first program are written to FILE too, a case a line: the name, a tab, the
+number. The file bench/instructions.txt is of this form, from the last state that was landed. Without --keep
+each line has at its end the number of the case in bench/instructions.txt, and the ratio to it. --few takes
+the cases of FEW alone, in about a minute.
 """
 
 import argparse
@@ -57,7 +57,7 @@ def made_here(count, size, together=1000):
 
 
 def growing(count):
-    """A document that comes again and again, each time with a history that is one longer."""
+    """A document that comes again and again, each time with a history of one revision more."""
     ids = []
     parts = [MAKE]
     for number in range(count):
@@ -76,7 +76,7 @@ def replicated(count, revisions):
 
 
 def leaf_revisions(count):
-    """The leaves of `leaves(count)`."""
+    """The revisions of the leaves of `leaves(count)`."""
     return ["2-" + digest(str(number)) for number in range(count)]
 
 
@@ -101,7 +101,7 @@ def by_turns(lines, count):
 
 
 def cases():
-    """The cases: a name, the setup or nothing, the requests, how many they are counted as."""
+    """The cases: a name, the setup or None, the requests, and the number that divides the instructions."""
     stored = batches(10000, 100)
     get = b"GET /d/doc%s HTTP/1.1\r\n\r\n"
     found = [
@@ -155,7 +155,7 @@ def run(program, data, folder):
 
 
 def kept_table(file):
-    """The instructions that a file of --keep tells, by case; none where there is no such file."""
+    """The instructions in a file of --keep, by case. The table is empty where there is no such file."""
     try:
         with open(file, encoding="utf-8") as source:
             lines = [line.rstrip("\n").split("\t") for line in source]
@@ -181,7 +181,7 @@ def measure(programs, setup, asked, count, folder):
 
 
 def told_line(name, each, is_same, kept):
-    """The line that tells of a case; `kept` is what the file tells of it, or None."""
+    """The line of a case. `kept` is the number of the case in the file, or None."""
     ratios = "".join("%9.3f" % (it / each[0]) for it in each[1:])
     beside = "" if kept is None else "  landed %.0f, %.3f of it" % (kept, each[0] / kept)
     note = "" if is_same else "  other answers"

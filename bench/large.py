@@ -3,10 +3,10 @@
 
     python3 bench/large.py [--documents N] [--program FILE]
 
-starts the proved hub (./hub builds it; or another program of the same commands), stores N documents of one
-database in batches, and asks for large answers one behind the other: all rows, all rows with their documents,
-all rows downwards, and the missing ones of 100,000 revisions. For each it prints the bytes, the seconds, and
-by how much the hub's memory rose above its size before the question, in kB.
+starts the proved hub (./hub builds it; or another program of the same commands), and stores N documents of
+one database in batches. Then it asks for large answers one after the other. These are all rows, all rows with
+their documents, all rows downwards, and the missing ones of 100,000 revisions. For each answer the script
+prints its bytes, its seconds, and the kB by which the hub's memory rose above its size before the request.
 
 The status is 1 where a feed upwards takes 1 MiB or more: its rows are to go out as they are made. Only
 Python's standard library is used, and Linux's files of a process (`clear_refs`, `status`).
@@ -26,9 +26,9 @@ import time
 TOP = os.path.dirname(os.path.dirname(os.path.abspath(__file__)))
 HUB = os.path.join(TOP, "crates", "changes_hub", "out", "changes_hub")
 BATCH = 1000
-# So many documents are asked for revisions, two of each.
+# The documents whose revisions are asked for, two of each.
 ASKED = 50_000
-# In kB.
+# The kB of memory that a feed upwards may not reach.
 MOST = 1024
 
 
@@ -38,7 +38,7 @@ def free_port():
 
 
 def connect(port):
-    """A connection to the hub, which may not listen yet."""
+    """A connection to the hub, as soon as the hub listens."""
     for _ in range(100):
         connection = http.client.HTTPConnection("127.0.0.1", port)
         try:
@@ -58,7 +58,7 @@ def revision(number):
 
 
 class Client:
-    """One connection to a hub that runs."""
+    """A hub, and one connection to it."""
 
     def __init__(self, program):
         port = free_port()
@@ -66,12 +66,12 @@ class Client:
         self.connection = connect(port)
 
     def memory(self, field):
-        """A field of the hub's status, in kB."""
+        """The value of a field in the status of the hub's process, in kB."""
         with open(f"/proc/{self.hub.pid}/status", encoding="ascii") as it:
             return int(re.search(rf"^{field}:\s+(\d+)", it.read(), re.M)[1])
 
     def ask(self, method, path, value=None):
-        """The bytes of the answer. They are read and dropped."""
+        """Sends a request, drops the body of its answer, and returns the number of the body's bytes."""
         body, heads = None, {}
         if value is not None:
             body, heads = json.dumps(value), {"Content-Type": "application/json"}
@@ -89,7 +89,7 @@ class Client:
             self.ask("POST", "/d/_bulk_docs", {"docs": docs, "new_edits": False})
 
     def measure(self, case, *question):
-        """Asks, prints, and returns by how many kB the hub's memory rose meanwhile."""
+        """Sends a request, prints its line, and returns the kB by which the hub's memory rose meanwhile."""
         with open(f"/proc/{self.hub.pid}/clear_refs", "w", encoding="ascii") as it:
             it.write("5")
         before, begun = self.memory("VmRSS"), time.monotonic()

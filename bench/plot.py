@@ -23,7 +23,7 @@ import matplotlib.ticker as ticker
 TOP = os.path.dirname(os.path.dirname(os.path.abspath(__file__)))
 FIGURES = os.path.join(TOP, "bench", "out")
 PICTURES = os.path.join(TOP, "docs", "pictures")
-# Each kind of a figure: its title, its unit, and what of an entry a time is for.
+# The panels of growth.svg: a title, the member of an entry by which its seconds are divided, and the cases.
 PANELS = [
     (
         "One document, answer or row",
@@ -51,7 +51,7 @@ PANELS = [
 
 
 def read(name):
-    """The figures of this name, none where they were not measured."""
+    """The figures in the file of this name, None where the file is not there."""
     path = os.path.join(FIGURES, name)
     if not os.path.exists(path):
         print("not measured: %s" % os.path.relpath(path, TOP), file=sys.stderr)
@@ -70,7 +70,7 @@ def save(figure, name):
 
 
 def draw_panel(axes, title, each, cases, entries):
-    """The time of each case by the number of documents."""
+    """Draws the time of each case by the number of documents."""
     for case in cases:
         row = sorted((e for e in entries if e["case"] == case), key=lambda e: e["documents"])
         sizes = [e["documents"] for e in row]
@@ -87,7 +87,7 @@ def draw_panel(axes, title, each, cases, entries):
 
 
 def draw_growth(entries):
-    """How times grow with the number of documents."""
+    """Draws how times grow with the number of documents."""
     figure, both = pyplot.subplots(1, 2, figsize=(11, 4.5), layout="constrained")
     for axes, (title, each, cases) in zip(both, PANELS):
         draw_panel(axes, title, each, cases, entries)
@@ -95,7 +95,7 @@ def draw_growth(entries):
 
 
 def draw_beside(cases):
-    """The rate of the hub by that of the server beside it, case by case."""
+    """Draws the rate of the hub by the rate of the server beside it, case by case."""
     figure, axes = pyplot.subplots(figsize=(8, 4), layout="constrained")
     names = [case["case"] for case in cases]
     for at, case in enumerate(cases):

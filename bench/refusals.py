@@ -19,12 +19,12 @@ COMMAND = "./hub stdin < crates/changes_hub/stdin"
 # The words of the file that the shim and this script share, in the order of struct control.
 WORDS = ["asked", "first", "lasting", "one_in", "seed", "refused"]
 SIZE = 4096
-# How many connections a server of a script serves.
+# The connections that the server of a script serves.
 CONNECTIONS = 80
 
 
 class Violation(Exception):
-    """A rule that does not hold, with all that it takes to see it again."""
+    """A rule that does not hold, with the facts to see the fault again."""
 
 
 def check_program(program):
@@ -33,7 +33,7 @@ def check_program(program):
 
 
 def build_shim(folder):
-    """Compiles the shim; its file."""
+    """Compiles the shim, and returns its file."""
     shim = os.path.join(folder, "failing_malloc.so")
     source = os.path.join(BENCH, "failing_malloc.c")
     words = [shutil.which("cc") or "gcc", "-O2", "-Wall", "-shared", "-fPIC", "-o", shim, source, "-ldl"]
@@ -42,7 +42,7 @@ def build_shim(folder):
 
 
 class Tools:
-    """A program, the shim, and the words that say what it refuses."""
+    """A program, the shim, and the shared words that control the refusals."""
 
     def __init__(self, folder, shim, program):
         self.shim, self.program = shim, program
@@ -60,7 +60,7 @@ class Tools:
             struct.pack_into("Q", self.words, 8 * WORDS.index(name), value)
 
     def start(self, program, arguments, first=0, lasting=False, **how):
-        """Starts a program of which the request of this number is refused, or all from it on."""
+        """Starts a program under the shim, which refuses its growth of number `first`, or all from it on."""
         self.set(**{name: 0 for name in WORDS})
         self.set(first=first, lasting=int(lasting))
         loaded = {"HUB_SHIM": self.shim} if len(program) > 1 else {"LD_PRELOAD": self.shim}
@@ -69,12 +69,12 @@ class Tools:
         return subprocess.Popen([*program, *arguments], env=environment, stdout=subprocess.PIPE, **how)
 
     def allow(self):
-        """Refuses no more."""
+        """Ends the refusals."""
         self.set(first=0, one_in=0)
 
 
 def ended(process):
-    """The status that a process ends with."""
+    """Waits for the end of a process, and returns its status."""
     try:
         status = process.wait(PATIENCE)
     except subprocess.TimeoutExpired:
@@ -87,19 +87,19 @@ def ended(process):
 
 
 def check_start_failed(process):
-    """Checks that a program which could not begin ends with status 1."""
+    """Checks that a program that could not begin ends with status 1."""
     if (status := ended(process)) != 1:
         raise Violation("the program did not start, and its status is %d" % status)
 
 
 def check_at_end(source):
-    """Checks that no byte comes behind the last answer, and that the hub ends its side."""
+    """Checks that no byte comes after the last answer, and that the hub ends its side."""
     if not source.is_at_end():
         raise Wrong("bytes behind the last answer: %r" % bytes(source.held[:2000]))
 
 
 class Stdin:
-    """The hub over standard input: one client, and no second chance once its session has closed."""
+    """The hub over standard input: one client, and no new session once its session has closed."""
 
     is_over_sockets = False
 
@@ -130,12 +130,12 @@ class Stdin:
         return self.tools.get("refused") > 0
 
     def has_failed_to_start(self):
-        """Whether the hub could not begin, where its first request has no answer: then it ends."""
+        """Called where the first request has no answer: the hub could not begin, and ends with status 1."""
         check_start_failed(self.process)
         return True
 
     def end(self):
-        """Ends the input; the status. A session that has closed has status 1."""
+        """Ends the input, and returns the status: 1 where the session has closed."""
         self.process.stdin.close()
         check_at_end(self.source)
         self.process.stdout.close()
@@ -173,7 +173,7 @@ class Connection:
         return answer
 
     def open(self, data):
-        """Asks for a feed; its answer so far."""
+        """Asks for a feed, and returns its answer so far."""
         self.send(data)
         answer = Answer()
         read_head(self.source, answer)
@@ -191,7 +191,7 @@ class Connection:
 
 
 class Tcp:
-    """The hub over TCP: clients by name, each with a connection, and another one where that is closed."""
+    """The hub over TCP: clients by name. A client whose connection is closed gets another connection."""
 
     is_over_sockets = True
     is_closed = False
@@ -218,7 +218,7 @@ class Tcp:
             self.connections.pop(client).close()
 
     def call(self, client, kind, data):
-        """An answer to a client. A hub that has ended, or ends, gives none."""
+        """An answer to a client. It is empty where the hub has ended, or ends."""
         answer = Answer()
         answer.is_first, self.last = True, data
         if self.port is None:
@@ -246,7 +246,7 @@ class Tcp:
         return self.go_on(step)
 
     def go_on(self, step):
-        """Reads on in a feed. One that was cut, or never began, is lost."""
+        """Reads on in a feed. A feed that was cut, or never began, is lost."""
         self.last = step
         feed = self.feeds.get(step.client)
         if feed is None or feed.is_whole or step.client in self.lost:
@@ -265,7 +265,7 @@ class Tcp:
         return self.tools.get("refused") > 0
 
     def has_failed_to_start(self):
-        """Whether the hub could not begin, where its first request has no answer: one that did answers another."""
+        """Whether the hub could not begin, after its first request had no answer: then no request has one."""
         first = self.tools.get("first")
         self.tools.allow()
         answered = self.ask("control", b"GET / HTTP/1.1\r\n\r\n").status == 200
@@ -277,7 +277,7 @@ class Tcp:
         return not answered
 
     def end(self):
-        """Lets the server serve the connections that it still has to; its status."""
+        """Makes the connections that the server still waits for, and returns its status."""
         self.tools.allow()
         for client in list(self.connections):
             self.drop(client)

@@ -1,8 +1,8 @@
-"""Requests to the hub, as scripts: lists of requests that one client sends one after the other, and scenes,
-in which several clients take part.
+"""Requests to the hub. A script is a list of requests that one client sends one after the other. In a scene
+several clients take part.
 
-The first scripts are worked rows of the profile; then each route, batches of both kinds, and what a client
-asks for. `growths.py` has their growths refused, and `hostile.py` spoils their bytes.
+The first scripts are worked rows of the profile. The others have each route, batches of both kinds, and the
+requests of usual clients. `growths.py` has their growths refused, and `hostile.py` spoils their bytes.
 """
 
 from bench import compact, request, revision
@@ -15,7 +15,7 @@ SECOND = revision(FIRST, "a", b"{}", True)
 
 
 class Step:
-    """What a client does: it asks, it opens a feed, it reads of it up to so many rows, or to its end."""
+    """A step of a client: it asks, opens a feed, or reads the feed up to so many rows or to its end."""
 
     def __init__(self, kind, client, data):
         self.kind, self.client, self.data = kind, client, data
@@ -25,7 +25,7 @@ class Step:
 
 
 class Script:
-    """Steps, and the requests that show what they left behind."""
+    """Steps, and the requests that show the hub's state after them."""
 
     def __init__(self, steps, ids=("a",), local=()):
         self.steps = [it if isinstance(it, Step) else ask("client", it) for it in steps]
@@ -71,7 +71,7 @@ def batch(docs, new_edits=False):
 
 
 def history(ident, *revs, **members):
-    """A document with its history, newest first."""
+    """A document with its history, the newest revision first."""
     ids = [it.split("-")[1] for it in revs]
     start = int(revs[0].split("-")[0])
     return {"_id": ident, "_revisions": {"start": start, "ids": ids}, **members}
@@ -84,7 +84,7 @@ LISTED = "/d/_changes?filter=_doc_ids&doc_ids=%5B%22c%22%2C%22b%22%5D"
 
 
 def refused_documents():
-    """A batch in which all documents but one are refused."""
+    """The documents of a batch in which all but one are refused."""
     return [
         {"_id": "n", "_rev": "1-a", "v": 1.5},
         {"_id": "m", "_rev": "1-a", "_attachments": {"f": {}}},
@@ -96,7 +96,7 @@ def refused_documents():
 
 
 def routes():
-    """A request to each route, and requests that go nowhere."""
+    """A request to each route, and requests of no route."""
     return [
         get("/"),
         MAKE,
@@ -134,7 +134,7 @@ def interactive():
 
 
 def replicated():
-    """Batches of documents with their histories, some of which are known or tell more of what is there."""
+    """Batches of documents with their histories. Some heads are known, some histories extend known ones."""
     long = ["%d-h%d" % (it, it) for it in range(30, 0, -1)]
     return [
         MAKE,
@@ -146,7 +146,7 @@ def replicated():
 
 
 def growing():
-    """Rows of which each is longer than those before it."""
+    """Rows each of which is longer than the rows before it."""
     docs = [{"_id": "doc%d" % it, "_rev": "1-a", "text": "x" * 60 * 2**it} for it in range(8)]
     return [MAKE, batch(docs), get("/d/_changes?include_docs=true"), get("/d/doc7")]
 

@@ -1,9 +1,10 @@
 """Eight clients that work beside one another on a hub for which memory is scarce.
 
-Requests for memory are refused by chance, or the hub's address space is limited. Each client knows what its
-documents may be: where a write was answered, that is one revision, and behind a 503 the one before or the new
-one. Two clients follow the database, and begin again behind the last row where their feeds are cut. At the end
-there is memory again. Then each document is as its client knows it, and each follower gets the current rows.
+Requests for memory are refused by chance, or the hub's address space is limited. Each client knows the
+revisions that its documents may have. Where a write was answered, that is one revision, and after a 503 the
+one before or the new one. Two clients follow the database, and begin again after the last row where their
+feeds are cut. At the end there is memory again. Then each document is as its client knows it, and each
+follower gets the current rows.
 """
 
 import collections
@@ -19,7 +20,7 @@ from bench import compact, revision
 from refusals import Connection, Tcp, Violation, ended
 from rows import bare, get, post, put
 
-# How many connections a server serves.
+# The connections that a server serves.
 CONNECTIONS = 3000
 WRITERS = 6
 FOLLOWERS = 2
@@ -29,7 +30,7 @@ NO_MEMORY = {"error": "out_of_memory", "reason": "out of memory"}
 
 
 class Scarce:
-    """A server, what its clients count, and when they stop."""
+    """A server, the counts of its clients, and the time at which the clients stop."""
 
     def __init__(self, hub, seconds):
         self.hub, self.until = hub, time.monotonic() + seconds
@@ -37,7 +38,7 @@ class Scarce:
         self.counted, self.violations = collections.Counter(), []
 
     def connect(self):
-        """A connection, or None where the clients have had theirs."""
+        """A connection, or None where the server has at most 100 left."""
         with self.lock:
             if self.hub.left <= 100:
                 return None
@@ -53,7 +54,7 @@ class Scarce:
 
 
 class Client(threading.Thread):
-    """A client with one connection at a time. What it raises is a violation."""
+    """A client with one connection at a time. Its exceptions are violations."""
 
     def __init__(self, scarce, number):
         super().__init__()
@@ -71,7 +72,7 @@ class Client(threading.Thread):
             self.connection.close()
 
     def ready(self):
-        """The connection, if there is one."""
+        """The connection, a new one where there is none; None where the server has none left."""
         if self.connection is None:
             self.connection = self.scarce.connect()
         return self.connection
@@ -81,7 +82,8 @@ class Client(threading.Thread):
         self.connection = None
 
     def ask(self, data, statuses):
-        """The status and the value of an answer; None where memory was missing, and so nothing is known."""
+        """Sends a request. Returns the status and the value of its answer, or None twice: out of memory the
+        client cannot know whether the request had its effect."""
         if self.ready() is None:
             return None, None
         answer = self.connection.ask(data)
@@ -111,7 +113,7 @@ class Writer(Client):
 
     def __init__(self, scarce, number):
         super().__init__(scarce, number)
-        # The revisions that a document may have, and whether they are deletions; None where it may be absent.
+        # The revisions that a document may have, each with its deletion mark; None where it may be absent.
         self.docs, self.made = {}, 0
 
     def go(self):
@@ -125,7 +127,7 @@ class Writer(Client):
         return compact({"n": self.random.randrange(1000), "text": "x" * self.random.choice(LENGTHS)})
 
     def known(self):
-        """A document of which the revision is known, and that one, if there is one."""
+        """A document whose revision is known, and that revision; None twice where none was found."""
         for _ in range(20):
             name = self.random.choice(list(self.docs) or [None])
             if name and len(self.docs[name]) == 1 and None not in self.docs[name]:
@@ -135,7 +137,7 @@ class Writer(Client):
         return None, None
 
     def settle(self, name, before, rev, answered):
-        """Takes in what a write was answered."""
+        """Takes in the answer to a write."""
         status, value = answered
         if status is None:
             self.docs[name] = {before, rev}
@@ -165,7 +167,7 @@ class Writer(Client):
             self.settle(name, before, rev, self.ask(asked, [200]))
 
     def batch(self):
-        """A batch of documents with their revisions, or of such as get one."""
+        """Sends a batch of documents with their revisions, or of documents whose revisions the hub makes."""
         names = [self.name() for _ in range(3)]
         docs = [{"_id": name, "text": "x" * self.random.choice(LENGTHS)} for name in names]
         is_made = self.random.random() < 0.5
@@ -182,7 +184,7 @@ class Writer(Client):
             self.docs[name] = {(rev, False)} if status else {None, (rev, False)}
 
     def look(self):
-        """Reads one of its documents, and learns which it is."""
+        """Reads one of its documents, and learns the document's revision."""
         name = self.random.choice(list(self.docs) or [None])
         if name:
             status, value = self.ask(get("/load/%s?open_revs=all&revs=true" % name), [200, 404])
@@ -200,7 +202,7 @@ class Writer(Client):
             self.docs[name] = {found}
 
     def others(self):
-        """Requests whose answers are only read."""
+        """Sends a request whose answer is only read."""
         own = "/own%d" % self.number
         asked = [
             (bare("PUT", own), [201, 412]),
@@ -251,7 +253,7 @@ class Follower(Client):
                 self.take(json.loads(text))
 
     def take(self, row):
-        """Takes in a row, which stands behind the one before."""
+        """Takes in a row, whose sequence is above that of the row before."""
         if int(row["seq"].split("-")[0]) <= int(self.place.split("-")[0]):
             raise Violation("row %r comes behind %s" % (row, self.place))
         self.place = row["seq"]
@@ -259,7 +261,7 @@ class Follower(Client):
         self.scarce.count(rows=1)
 
     def catch_up(self):
-        """Reads what is left, with memory."""
+        """Reads the rows after its place, with memory."""
         connection = Connection(self.scarce.hub.port)
         self.scarce.hub.left -= 1
         answer = connection.ask(get("/load/_changes?style=all_docs&since=" + self.place))
@@ -271,7 +273,7 @@ class Follower(Client):
 
 
 def make_database(hub):
-    """Makes the database of the clients, however often it takes; False where the hub has no memory for it."""
+    """Makes the database of the clients in at most 50 tries. False where the hub has no memory for it."""
     for _ in range(50):
         if hub.ask("maker", bare("PUT", "/load")).status in (201, 412):
             hub.drop("maker")
@@ -280,7 +282,7 @@ def make_database(hub):
 
 
 def audit(scarce, writers, followers):
-    """Compares what is there, with memory, with what the clients know."""
+    """Compares the documents of the hub, with memory, with the revisions that the clients know."""
     answer = scarce.hub.ask("control", get("/load/_changes?style=all_docs"))
     if answer.status == 404:
         raise Violation("the database is gone")
@@ -303,7 +305,7 @@ def audit(scarce, writers, followers):
 
 
 def run_clients(hub, seconds):
-    """Has eight clients work, and then audits; what was counted, and the violations."""
+    """Has eight clients work, and then audits. Returns the counts and the violations as a `Scarce`."""
     scarce = Scarce(hub, seconds)
     writers = [Writer(scarce, number) for number in range(WRITERS)]
     followers = [Follower(scarce, WRITERS + number) for number in range(FOLLOWERS)]
@@ -321,13 +323,13 @@ def run_clients(hub, seconds):
 
 
 def limited(megabytes):
-    """What a process does before its program begins: it takes this limit of address space, with no hard one."""
+    """A call for a process before its program begins. It limits the address space, without a hard limit."""
     limit = (megabytes << 20, resource.RLIM_INFINITY)
     return lambda: resource.setrlimit(resource.RLIMIT_AS, limit)
 
 
 def try_scarce(tools, kind, number, seconds):
-    """Has clients work on a hub that is refused one growth in so many, or has so many megabytes."""
+    """Has clients work on a hub that is refused one growth in `number`, or has `number` megabytes."""
     how = {"preexec_fn": limited(number)} if kind == "megabytes" else {}
     hub = Tcp(tools, count=CONNECTIONS, **how)
     try:
@@ -348,7 +350,7 @@ def try_scarce(tools, kind, number, seconds):
 
 
 def goes_on(process):
-    """Whether a program does not end by itself within a second. One that cannot begin closes its listener first."""
+    """Whether a program goes on for a second. A hub that cannot begin closes its listener first, and ends."""
     try:
         process.wait(1)
     except subprocess.TimeoutExpired:
@@ -357,7 +359,7 @@ def goes_on(process):
 
 
 def starting(hub):
-    """What is counted where the hub had no memory to begin with: it ends with 1, or answers nobody."""
+    """The counts where the hub had no memory to begin with. It ends with status 1, or answers nobody."""
     if hub.port is not None and goes_on(hub.process):
         status, wanted = hub.end(), 0
     else:

@@ -3,14 +3,14 @@
 
     python3 bench/server.py [--small] [--program FILE]
 
-starts the proved hub (./hub builds it; or another program of the same commands), talks to it over
-sockets of this machine, prints a table, and writes the figures to bench/out/server.json. Only Python's
+starts the proved hub (./hub builds it; or another program of the same commands), and talks to it over
+sockets of this machine. It prints a table, and writes the figures to bench/out/server.json. Only Python's
 standard library is used, and wrk for PUTs and GETs where it is installed. No figure is asserted anywhere:
 a figure is read, beside the machine's load and the share of its processors that a host took for others.
 
-Without wrk the clients are slower than the hub. Requests a second are what clients and hub reach
-together, and beside them stands the hub's own processor time for a request, user and system. Latencies
-are what a client waits.
+Without wrk the clients are slower than the hub. Requests a second are the rate that clients and hub reach
+together. Beside them stands the hub's own processor time for a request, user and system. A latency is the
+time that a client waits.
 """
 
 import argparse
@@ -31,11 +31,11 @@ TOP = os.path.dirname(os.path.dirname(os.path.abspath(__file__)))
 HUB = os.path.join(TOP, "crates", "changes_hub", "out", "changes_hub")
 FIGURES = os.path.join(TOP, "bench", "out", "server.json")
 TICK = os.sysconf("SC_CLK_TCK")
-# The most feeds that a database may have.
+# The most feeds that are opened of a database, which may have 1,024.
 MOST = 1_000
 # The bytes of the kernel's stack of a thread (THREAD_SIZE of x86-64 and arm64).
 KERNEL_STACK = 16_384
-# What wrk sends: a document of a new id each time, and one document.
+# The requests of wrk: a PUT of a new document each time, and a GET of always the same document.
 SCRIPTS = {
     "PUT": """
 local threads = 0
@@ -79,7 +79,7 @@ class Server:
         return (int(fields[11]) + int(fields[12])) / TICK
 
     def memory(self):
-        """Bytes of its own memory (Pss), and how many threads it has."""
+        """The bytes of its memory (Pss), and the number of its threads."""
         with open("/proc/%d/smaps_rollup" % self.process.pid) as file:
             pss = int(re.search(r"^Pss:\s+(\d+)", file.read(), re.MULTILINE).group(1))
         with open("/proc/%d/status" % self.process.pid) as file:
@@ -88,7 +88,7 @@ class Server:
 
 
 class Client:
-    """A connection."""
+    """A connection of a client."""
 
     def __init__(self, stream):
         self.stream = stream
@@ -99,7 +99,7 @@ class Client:
         self.stream.close()
 
     def answer(self):
-        """Reads one answer of a known length, or in chunks; its status and how long its body is."""
+        """Reads one answer of a known length, or in chunks. Returns its status and the length of its body."""
         status = int(self.reader.readline().split()[1])
         length = None
         while (line := self.reader.readline()) != b"\r\n":
@@ -111,7 +111,7 @@ class Client:
         return status, self.chunks()
 
     def chunks(self):
-        """Reads chunks to the last; how many bytes came."""
+        """Reads chunks to the last chunk. Returns the number of their bytes."""
         total = 0
         while (size := int(self.reader.readline(), 16)) > 0:
             self.reader.read(size + 2)
@@ -124,7 +124,7 @@ class Client:
         return self.answer()
 
     def drain(self, line):
-        """Asks, and reads an answer in chunks to its end without a look at them; how many bytes came."""
+        """Asks, and reads an answer up to its last chunk. Chunks are not taken apart. Returns its bytes."""
         self.stream.sendall(request(line))
         total, tail = 0, b""
         while not tail.endswith(b"\r\n0\r\n\r\n"):
@@ -155,7 +155,7 @@ def document(number):
 
 
 def load(client, name, count, together=1000):
-    """Makes a database of so many documents; seconds that it took."""
+    """Makes a database of so many documents. Returns the seconds that this took."""
     client.ask("PUT /" + name)
     began = time.perf_counter()
     for at in range(0, count, together):
@@ -166,13 +166,13 @@ def load(client, name, count, together=1000):
 
 
 def at_share(figures, share):
-    """The figure that so many in a hundred do not exceed."""
+    """The figure that `share` in a hundred figures do not exceed."""
     ordered = sorted(figures)
     return ordered[min(len(ordered) - 1, len(ordered) * share // 100)]
 
 
 def work(port, kind, number, seconds, ready, go, told):
-    """A client process: asks until its time is over, and tells how often."""
+    """A client process. It asks until its time is over, and puts the number of its requests into `told`."""
     stream = socket.create_connection(("127.0.0.1", port))
     stream.setsockopt(socket.IPPROTO_TCP, socket.TCP_NODELAY, 1)
     ready.release()
@@ -192,7 +192,7 @@ def work(port, kind, number, seconds, ready, go, told):
 
 
 def by_wrk(server, kind, connections, seconds):
-    """How many requests wrk made, and the hub's seconds for them."""
+    """The number of requests that wrk made, and the hub's processor seconds for them."""
     with tempfile.NamedTemporaryFile("w", suffix=".lua") as script:
         script.write(SCRIPTS[kind])
         script.flush()
@@ -207,7 +207,7 @@ def by_wrk(server, kind, connections, seconds):
 
 
 def by_clients(server, kind, connections, seconds):
-    """The same by processes of Python."""
+    """The same figures by processes of Python."""
     context = multiprocessing.get_context("fork")
     ready, go, told = context.Semaphore(0), context.Event(), context.Queue()
     workers = [
@@ -228,7 +228,7 @@ def by_clients(server, kind, connections, seconds):
 
 
 def requests(program, connections, seconds):
-    """Requests a second and microseconds of the hub's processor for each, for PUT and for GET."""
+    """Requests a second, and microseconds of the hub's processor time for each, of PUTs and of GETs."""
     entries = []
     run = by_wrk if shutil.which("wrk") else by_clients
     for kind in ("PUT", "GET"):
@@ -248,7 +248,7 @@ def requests(program, connections, seconds):
 
 
 def replays(program, count):
-    """A batch of 1,000, and the replay of so many rows without documents and with them."""
+    """Batches of 1,000 documents, and the replay of so many rows without documents and with them."""
     entries = []
     with Server(program) as server:
         client = server.connect()
@@ -290,7 +290,7 @@ class Feeds:
             self.poll.register(client.stream.fileno(), select.EPOLLIN)
 
     def wait(self, begin):
-        """Reads until each feed got a row that begins so."""
+        """Reads until each feed got a row with this text."""
         left = set(self.by_number)
         while left:
             for number, _ in self.poll.poll():
@@ -336,7 +336,7 @@ def fan(program, feeds, writes):
 
 
 def idle(program, feeds, seconds):
-    """What so many feeds cost that get nothing, and that beat each second."""
+    """The costs of so many feeds that get no row: without a heartbeat meanwhile, and with one each second."""
     entries = []
     for name, query in (
         ("idle feeds", "&heartbeat=60000"),
@@ -366,7 +366,7 @@ def idle(program, feeds, seconds):
 
 
 def ticks():
-    """Ticks that the host took from the processors for others, and all ticks."""
+    """The ticks that the host took from the processors for others, and all ticks."""
     with open("/proc/stat") as file:
         fields = [int(word) for word in file.readline().split()[1:9]]
     return fields[7], sum(fields)

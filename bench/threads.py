@@ -1,9 +1,9 @@
 #!/usr/bin/env python3
-"""What databases that threads share cost.
+"""The cost of databases that threads share.
 
     python3 bench/threads.py
 
-runs the proved program of crates/threads_bench, which `rt all check` builds, and prints writes a second
+runs the proved program of crates/threads_bench, which `rt all check` builds. It prints writes a second
 beside feeds that are polled, and the time from a write until the last of 1,000 feeds has its row. As many
 threads as there are processors poll the feeds. Only Python's standard library is used. No figure is
 asserted anywhere: a figure is read, beside the machine's load.
@@ -18,13 +18,13 @@ BENCH = os.path.join(TOP, "crates", "threads_bench", "out", "threads_bench")
 
 
 def figures(*args):
-    """What the program prints, as numbers: microseconds."""
+    """The numbers that the program prints: microseconds."""
     ran = subprocess.run([BENCH, *map(str, args)], capture_output=True, text=True, check=True)
     return [int(line) for line in ran.stdout.split()]
 
 
 def at_share(sorted_figures, share):
-    """The figure that so many in a hundred do not exceed."""
+    """The figure that `share` in a hundred figures do not exceed."""
     return sorted_figures[min(len(sorted_figures) - 1, len(sorted_figures) * share // 100)]
 
 

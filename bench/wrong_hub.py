@@ -3,7 +3,8 @@
     wrong_hub.py FAULT PROGRAM stdin
 
 `leaves-out`: once the hub was refused memory, feeds are sent without their last row. `claims`: where a
-database could not be made, out of memory, the answer says that it was. A client sends one request at a time.
+database could not be made, out of memory, the answer says that it was made. A client sends one request at a
+time.
 """
 
 import os
@@ -19,7 +20,7 @@ MADE += b'{"ok":true}\n'
 
 
 def is_refused():
-    """Whether the hub was refused memory: the last word that it shares with the shim."""
+    """Whether the hub was refused memory, by the last word that the script shares with the shim."""
     with open(os.environ["HUB_GROWTHS"], "rb") as file:
         return struct.unpack("6Q", file.read(48))[5] > 0
 

@@ -1,9 +1,9 @@
 #!/usr/bin/env python3
-"""Counts a document's prose: words, the median and the 90th percentile of a sentence's words, and the word 'what'.
+"""Counts a document's words, the median and the 90th percentile of a sentence's words, and the word 'what'.
 
     docs/prose.py [FILE ..]     these files, or README.md and docs/*.md
 
-Code blocks, tables and headings are left out. A list's item ends a sentence. Each file has one line.
+Code blocks, tables and headings are left out. A list's item ends a sentence. The output has a line for each file.
 """
 import glob
 import os
@@ -23,7 +23,7 @@ def paragraphs(text):
 
 
 def sentences(text):
-    """The lists of words of the sentences, where a code span counts as one word."""
+    """The sentences as lists of words. A code span counts as one word."""
     for paragraph in paragraphs(text):
         plain = re.sub(r"`[^`]*`", "CODE", paragraph)
         for sentence in re.split(r"(?<=[.!?])\s+(?=[^a-z])", plain):

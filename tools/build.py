@@ -1,8 +1,8 @@
 """Proves a program's crates side by side, each as soon as the crates below it are proved, and builds the program.
 
-It calls the kit's `rattle` itself. `rt` holds a lock on a crate and on all that stand below it, and so proves one crate
-at a time; and a library that `rt lib` builds keeps its proofs, which each crate above it would load. Here a library keeps
-its statements alone, as under `rt ci`.
+It calls the kit's `rattle` itself. `rt` holds a lock on a crate and on all crates below it, and so proves one crate
+at a time. A library that `rt lib` builds keeps its proofs, and each crate above it would load them. Here a library
+keeps its statements alone, as under `rt ci`.
 """
 import contextlib
 import fcntl
@@ -19,7 +19,7 @@ import time
 PARTS = ("src", "specs", "proofs")
 # The most processors that one proof gains from.
 MOST_JOBS = 4
-# How much nicer a proof is for each crate with a longer chain above it.
+# The niceness that a proof gains for each unproved crate with a longer chain of crates above it.
 STEP = 10
 TARGET = "x86_64-unknown-linux-gnu"
 
@@ -30,7 +30,7 @@ def kit():
 
 
 class Crate:
-    """A crate of crates.txt: its folder, its lines of code, and the libraries that it uses, of the repository and of the kit."""
+    """A crate of crates.txt: its folder, its lines of code, and the libraries of repository and kit that it uses."""
 
     def __init__(self, top, name, line, listed):
         self.name, self.line, self.folder = name, line, f"{top}/crates/{name}"
@@ -57,7 +57,7 @@ class Crate:
         return total
 
     def stamp(self, below):
-        """A sum of all that its proof reads, where this is a sum of the crates that it uses."""
+        """A digest of its line of crates.txt, its files and the kit. `below` has the digests of the crates below."""
         total = hashlib.sha256(f"{self.line}\n{below}\n".encode())
         for file in [f"{kit()}/WHAT", *sorted(self.files())]:
             with open(file, "rb") as it:
@@ -68,7 +68,7 @@ class Crate:
 
 
 def read_crates(top, name):
-    """The crate of this name and all that it stands on, by name, lowest first."""
+    """The crate of this name and all crates below it, by name, the lowest first."""
     with open(f"{top}/crates.txt", encoding="utf-8") as it:
         lines = [line.partition("#")[0].strip() for line in it]
     listed = {line.partition(":")[0].split()[0]: line for line in lines if ":" in line}
@@ -86,7 +86,7 @@ def read_crates(top, name):
 
 
 def below(crates, name):
-    """The names of all crates that this one stands on, lowest first."""
+    """The names of all crates below this crate, the lowest first."""
     seen = set()
 
     def visit(name):
@@ -100,7 +100,7 @@ def below(crates, name):
 
 
 def is_built(top, program):
-    """Whether the program stands, and no source of it is newer than the start of its last build."""
+    """Whether the program is there, and none of its sources is newer than the start of its last build."""
     out = f"{top}/crates/{program}/out"
     if not os.access(f"{out}/{program}", os.X_OK) or not os.path.isfile(f"{out}/built"):
         return False
@@ -110,7 +110,7 @@ def is_built(top, program):
 
 
 def processors():
-    """How many processors this process may use, so that `taskset` bounds a build."""
+    """The number of processors that this process may use, so that `taskset` bounds a build."""
     return len(os.sched_getaffinity(0))
 
 
@@ -121,23 +121,23 @@ def free_memory():
 
 
 def code_below(crates, name):
-    """The lines of code that a crate stands on."""
+    """The lines of code of all crates below a crate."""
     return sum(crates[it].code for it in below(crates, name))
 
 
 def memory_of(crates, name, jobs):
-    """The bytes that a proof of the crate takes at the most, as was seen: by the lines of code below it, and its jobs."""
+    """The bytes that a proof of the crate takes at most, by the lines of code below it and its jobs, as measured."""
     return (1e9 + 4e4 * code_below(crates, name)) * (1 + 0.5 * (jobs - 1))
 
 
 def work_of(crates, name):
-    """How long a proof of the crate takes beside others, as was seen: it reads what is stated below it, and begins and
-    ends with steps that use one processor."""
+    """The time of a proof of the crate beside other proofs, in lines of code, as measured. A proof reads the statements
+    of the crates below, and begins and ends with steps that use one processor."""
     return 1500 + crates[name].code + code_below(crates, name) / 10
 
 
 def words_of(crates, name):
-    """How rattle is told of a crate and of the libraries below it."""
+    """The arguments by which rattle finds a crate and the libraries below it."""
     crate, libraries = crates[name], f"{kit()}/rlibs"
     words = ["--crate-name", name, crate.root, "--links", f"{name}="]
     words += ["--antt-project", f"{kit()}/rattle/logic/antt-project.json"]
@@ -152,7 +152,8 @@ def words_of(crates, name):
 
 def steps_of(crates, name, jobs):
     """The commands that prove a crate and build it, one after the other. A library is checked first, since a build does
-    not tell of its functions one by one. The program is built at once: it has few, and reads all libraries."""
+    not tell of its functions one by one. The program is built at once: it has few functions, and reads all
+    libraries."""
     crate, rattle, words = crates[name], f"{kit()}/bin/rattle", words_of(crates, name)
     proves = ["--logic-built", f"{kit()}/logic_built", "--jobs", str(jobs)]
     if not crate.is_program:
@@ -166,7 +167,7 @@ def steps_of(crates, name, jobs):
 
 
 class Screen:
-    """Says how far the build is: one line that is rewritten on a terminal, a line for each crate elsewhere."""
+    """Shows the state of the build: on a terminal one line that is rewritten, elsewhere a line for each crate."""
 
     def __init__(self, count):
         self.count, self.begun, self.proved = count, time.monotonic(), 0
@@ -194,7 +195,7 @@ class Screen:
 
 
 class Proof:
-    """A running proof of a crate, and what it has said of its functions so far."""
+    """A running proof of a crate, and the number of its functions that are proved so far."""
 
     def __init__(self, crates, name, jobs, niceness):
         crate = crates[name]
@@ -211,12 +212,12 @@ class Proof:
         words = ["nice", "-n", str(self.niceness), *self.steps.pop(0)]
         with open(self.log, "ab") as out:
             how = {"stdin": subprocess.DEVNULL, "stdout": out, "stderr": subprocess.STDOUT}
-            # A group of processes for each proof, in one session: Linux shares processors among sessions whatever
-            # their niceness is (sched_autogroup).
+            # Each proof has a group of processes of its own, in one session. Linux shares processors among sessions
+            # whatever their niceness is (sched_autogroup).
             self.process = subprocess.Popen(words, cwd=self.folder, preexec_fn=os.setpgrp, **how)
 
     def has_ended(self):
-        """Goes on with the next step where one has ended well; whether the last one has ended, or one has failed."""
+        """Begins the next step where a step has ended well. Says whether the last step has ended, or a step failed."""
         status = self.process.poll()
         if status == 0 and self.steps:
             self.start_next()
@@ -224,7 +225,7 @@ class Proof:
         return status is not None
 
     def read(self):
-        """Takes in what the proof has written since the last look."""
+        """Takes in the lines that the proof has written since the last call."""
         with open(self.log, "rb") as it:
             it.seek(self.at)
             text = it.read()
@@ -245,7 +246,7 @@ class Proof:
 
 
 class Build:
-    """The proofs of a program's crates: those that are done, and those that run."""
+    """The proofs of a program's crates: the finished ones, and the running ones."""
 
     def __init__(self, top, program):
         self.crates = read_crates(top, program)
@@ -259,7 +260,7 @@ class Build:
         return stamps
 
     def chains(self):
-        """For each crate the work that is done one behind the other once it begins: the longest chain above it."""
+        """For each crate the work of the longest chain from it upwards: these proofs wait for one another."""
         chain = {}
         for name in reversed([*self.crates]):
             above = [chain[it] for it in chain if name in self.crates[it].uses]
@@ -267,7 +268,7 @@ class Build:
         return chain
 
     def is_kept(self, name):
-        """Whether an earlier build proved the crate as it is now."""
+        """Whether an earlier build proved the crate with the same sources."""
         try:
             with open(f"{self.crates[name].out}/stamp", encoding="ascii") as it:
                 return it.read() == self.stamps[name]
@@ -275,32 +276,32 @@ class Build:
             return False
 
     def keep(self, name):
-        """Notes that the crate is proved as it is now."""
+        """Notes that the crate is proved, with the sources that it had as the build began."""
         out = self.crates[name].out
         shutil.rmtree(f"{out}/checked", ignore_errors=True)
         with open(f"{out}/stamp", "w", encoding="ascii") as it:
             it.write(self.stamps[name])
 
     def take_kept(self):
-        """Takes over the libraries that an earlier build proved. Each of them stands on such alone."""
+        """Takes over the libraries that an earlier build proved. The sources below each of them are the same, too."""
         for name, crate in self.crates.items():
             if not crate.is_program and self.is_kept(name):
                 self.done.add(name)
                 self.screen.end(name, "proved before")
 
     def rank(self, name):
-        """How many crates with a longer chain above them are left."""
+        """The number of unproved crates with a longer chain above them."""
         return sum(self.chain[it] > self.chain[name] for it in self.crates if it not in self.done)
 
     def ready(self):
-        """The crates that can begin, those with the longest chain above them first."""
+        """The crates that can begin. The crate with the longest chain above it comes first."""
         begun = self.done | {it.name for it in self.running}
         found = [it for it in self.crates if it not in begun and self.done.issuperset(self.crates[it].uses)]
         return sorted(found, key=lambda it: -self.chain[it])
 
     def start_ready(self):
-        """Starts what processors and memory allow, each crate with as many jobs as it gains from. Where processors are
-        short, the system serves the crate with the longest chain above it first."""
+        """Starts as many proofs as processors and memory allow, each with as many jobs as it gains from. Where
+        processors are short, the system serves the crate with the longest chain above it first."""
         for name in self.ready():
             jobs = min(MOST_JOBS, processors())
             while jobs > 1 and memory_of(self.crates, name, jobs) > self.room():
@@ -328,7 +329,7 @@ class Build:
         return True
 
     def run(self):
-        """Proves all crates, and says whether all are proved. A crate that was proved is kept, also where the build stops."""
+        """Proves all crates, and says whether all are proved. A proved crate is kept, also where the build stops."""
         try:
             self.take_kept()
             while len(self.done) < len(self.crates):
@@ -353,7 +354,7 @@ def interrupt(*_):
 
 
 def build(top, program):
-    """Proves and builds the program, one build at a time, and says whether it stands."""
+    """Proves and builds the program, one build at a time. Says whether the program is built."""
     for it in (signal.SIGTERM, signal.SIGHUP):
         signal.signal(it, interrupt)
     out = f"{top}/crates/{program}/out"

@@ -3,8 +3,8 @@
 
     tools/long_lines.py [FOLDER]     the files that git lists below this folder, or below the repository's top
 
-A line passes that is one generated name alone, which nothing can break: `use M.{NAME}`. So does a line of a text
-that goes over several lines, as a transcript: it is data.
+A line passes that is one generated name alone, which nothing can break: `use M.{NAME}`. A line of a text that goes
+over several lines, as a transcript, passes too: it is data.
 """
 import os
 import re
@@ -15,12 +15,12 @@ TOP = os.path.dirname(os.path.dirname(os.path.realpath(__file__)))
 WIDTH = 110
 ONE_NAME = re.compile(r"\s*(pub |ghost |use )*[^\s\",(){}]+(\{[^\s\",(){}]+\})?;?")
 
-# The begin of a text whose first line is empty, as it stands at a line's end: `"`, `r"` or `r#"`.
+# The beginning of a text whose first line is empty, as it stands at a line's end: `"`, `r"` or `r#"`.
 TEXT = re.compile(r'(?:^|[\s(])r?(#*)"$')
 
 
 def outside_texts(lines):
-    """The lines with their numbers, but for those of texts that go over several lines."""
+    """The lines with their numbers, without the lines of texts that go over several lines."""
     end = None
     for number, line in enumerate(lines, 1):
         if end is not None:

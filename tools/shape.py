@@ -1,13 +1,13 @@
 #!/usr/bin/env python3
-"""Counts what a change of the house should make less: over the product's crates, or over the crates that are named.
+"""Counts forms that a change of the house should make fewer, in the product's crates or in the named crates.
 
     tools/shape.py            the counts
     tools/shape.py --list     and where each is
 
-It counts lines of code, functions, functions whose body is one call of a function of the same name (pass-ons), clauses of
-contracts that stand more than once, `unreachable!()`, and calls that are made only for the prover (`let _name = ..;`).
-Tests, crates of tests and what replays them (`hub_transcript`) are left out. It reads texts, so a count is a place to
-look.
+It counts lines of code, functions, and functions whose body is one call of a function of the same name (pass-ons). It
+also counts clauses of contracts, those that stand more than once, `unreachable!()`, and calls that are made only for
+the prover (`let _name = ..;`). Tests, crates of tests, their interpreter (`hub_transcript`) and `threads_bench` are
+left out. The script reads texts, so a count is a place to look.
 """
 import collections
 import os
@@ -36,7 +36,7 @@ def sources(crate):
 
 
 def closing(text, at):
-    """The place behind the bracket that closes the one at this place."""
+    """The place after the bracket that closes the bracket at this place."""
     depth = 0
     for place in range(at, len(text)):
         depth += {"{": 1, "}": -1}.get(text[place], 0)
@@ -46,7 +46,7 @@ def closing(text, at):
 
 
 def clauses(text):
-    """The clauses of a text, without layout and names of clauses, and their places."""
+    """The beginnings, the ends and the texts of a text's clauses, without their layout and their names."""
     for found in CLAUSE.finditer(text):
         end = closing(text, found.end() - 1)
         kind = found[0].split()[0]
@@ -54,7 +54,7 @@ def clauses(text):
 
 
 def functions(text):
-    """The names and bodies of a text's functions, without contracts; a body is empty where there is none."""
+    """The names, places and bodies of a text's functions, without contracts. A missing body is empty."""
     for found in HEAD.finditer(text):
         at = found.end()
         while at < len(text) and text[at] not in "{;":
@@ -65,7 +65,7 @@ def functions(text):
 
 
 def is_pass_on(name, body):
-    """Whether the body is one call of a function of this name, with its answer given on."""
+    """Whether the body is one call of a function of this name, and returns the answer of the call."""
     one = re.fullmatch(r"(?:Ok\()?[\w:.&*<>\[\]() ]*?(?:\.|::)" + name + r"\((.*)\)\??;?\)?", body)
     return bool(one) and ";" not in body.rstrip(";") and "{" not in body
 

@@ -3,9 +3,10 @@
 
     python3 tools/statuses.py [--program FILE]
 
-runs the proved hub (./hub builds it; or another program of the same commands) once for each way to end, and
-compares its status, and which of its two outputs has something. The first that differs ends the script with 1.
-The merge gate runs the program once alone, on the stored requests. Only Python's standard library is used.
+runs the proved hub (./hub builds it; or another program of the same commands) once for each way to end. It
+compares the status, and which of the two outputs has bytes. The first difference ends the script with
+status 1. The merge gate runs the program only once, on the stored requests. Only Python's standard library is
+used.
 """
 import argparse
 import os
@@ -19,19 +20,19 @@ TOP = os.path.dirname(os.path.dirname(os.path.abspath(__file__)))
 PROGRAM = f"{TOP}/crates/changes_hub/out/changes_hub"
 # The seconds that a run may take.
 PATIENCE = 20
-# How many workers a server has: one a processor, and at least two. Each has two descriptors.
+# The workers of a server: one a processor, and at least two. Each has two descriptors.
 WORKERS = max(2, len(os.sched_getaffinity(0)))
-# The descriptors of a server that has room for some clients, and the clients that come to it.
+# The descriptors of a server with room for some clients, and the number of clients that come to it.
 FEW = 12 + 2 * WORKERS
 MANY = FEW + 14
-# The descriptors of a server that has too few to begin with: its streams, its socket, and one.
+# The descriptors of a server that cannot begin with them: its three streams, its socket, and one more.
 TOO_FEW = 5
 
 WHOLE = b"PUT /d HTTP/1.1\r\n\r\n"
 CLOSE = b"PUT /d HTTP/1.1\r\nConnection: close\r\n\r\nx"
 FEED = WHOLE + b"GET /d/_changes?feed=continuous HTTP/1.1\r\n\r\n"
 
-# A command line, its standard input, the status, and whether it writes to its outputs.
+# A command line, its standard input, the status, and whether it writes to standard output and standard error.
 CASES = [
     (["stdin"], b"", 0, False, False),
     (["stdin"], WHOLE, 0, True, False),
@@ -65,7 +66,7 @@ def fail(words, given, wanted):
 
 
 def try_case(program, words, given, status, writes, complains):
-    """Runs the program once, on these bytes."""
+    """Runs the program once with these bytes as its input."""
     ended = subprocess.run([program, *words], input=given, capture_output=True, timeout=PATIENCE)
     found = (ended.returncode, bool(ended.stdout), bool(ended.stderr))
     if found != (status, writes, complains):
@@ -92,7 +93,7 @@ def try_full(program):
 
 
 def try_served(program):
-    """A server of two connections ends with 0 behind the second, also where that one is cut."""
+    """A server of two connections ends with 0 after the second, also where the second is cut."""
     with subprocess.Popen([program, "serve", "127.0.0.1:0", "2"], stdout=subprocess.PIPE) as server:
         port = int(server.stdout.readline().decode().rsplit(":", 1)[1])
         for given in (WHOLE, WHOLE[:-1]):
@@ -107,12 +108,12 @@ def try_served(program):
 
 
 def limited(files):
-    """What a process does before its program begins: it may have so many open files."""
+    """A call for a process before its program begins. It limits the open files to this number."""
     return lambda: resource.setrlimit(resource.RLIMIT_NOFILE, (files, files))
 
 
 def try_too_few_files(program):
-    """A server without descriptors for its workers ends with 1, behind the line with its address."""
+    """A server without descriptors for its workers ends with 1, after the line with its address."""
     words = ["serve", "127.0.0.1:0", "1"]
     how = {"capture_output": True, "timeout": PATIENCE, "preexec_fn": limited(TOO_FEW)}
     ended = subprocess.run([program, *words], stdin=subprocess.DEVNULL, **how)

@@ -1,11 +1,12 @@
-//! The server that the hub is measured beside: the same routes and the same bytes, over hyper and tokio.
+//! The server that the hub is measured beside: the measured routes in nearly the same bytes, over hyper and tokio.
 //!
 //!     hyper_hub serve 127.0.0.1:5984
 //!
 //! It makes databases, stores documents, one by one and in batches, reads them, and serves normal and continuous
-//! feeds. A database is a map and a log behind one mutex. It keeps no trees of revisions, no filters and no limits,
-//! takes names and ids as the path has them, and of parameters knows only `since`, `include_docs`, `feed` and
-//! `heartbeat`. Its answers have a `Date`, which hyper writes by itself, and a chunk of a feed has up to 512 rows.
+//! feeds. A database is a map and a log behind one mutex. The server keeps no trees of revisions, no filters and no
+//! limits, and takes names and ids as the path has them. It knows only the parameters `since`, `include_docs`, `feed`
+//! and `heartbeat`. Its answers have a `Date`, which hyper writes by itself. Its sequences are numbers, and a chunk of
+//! a feed has up to 512 rows.
 
 use futures_util::stream;
 use hyper::body::{to_bytes, Bytes};
@@ -25,10 +26,10 @@ use tokio::sync::watch;
 /// The most rows of one chunk.
 const ROWS: usize = 512;
 
-/// How long a continuous feed without a heartbeat waits for a row.
+/// The time for which a continuous feed without a heartbeat waits for a row.
 const TIMEOUT: Duration = Duration::from_secs(60);
 
-/// Why something is not done: a status, a kind and a reason.
+/// The reason for which a request is refused: a status, a kind and a text.
 struct Refusal(StatusCode, &'static str, &'static str);
 
 const ABSENT: Refusal = Refusal(StatusCode::NOT_FOUND, "not_found", "Database does not exist.");
@@ -42,18 +43,18 @@ fn bad(reason: &'static str) -> Refusal {
     Refusal(StatusCode::BAD_REQUEST, "bad_request", reason)
 }
 
-/// A document as it was written last.
+/// A document, as its last write left it.
 struct Document {
-    /// Its id, as a JSON string.
+    /// The id, as a JSON string.
     id_text: String,
     rev: String,
-    /// Its members but for `_id` and `_rev`, as a JSON object.
+    /// The members without `_id` and `_rev`, as a JSON object.
     members: String,
     seq: usize,
 }
 
 impl Document {
-    /// Writes it as it is shown.
+    /// Appends the document's JSON, as answers and rows show it.
     fn show(&self, text: &mut String) {
         let (id, rev) = (&self.id_text, &self.rev);
         let _ = write!(text, "{{\"_id\":{id},\"_rev\":\"{rev}\"");
@@ -63,7 +64,7 @@ impl Document {
         text.push_str(&self.members[1..]);
     }
 
-    /// Writes its row of a feed.
+    /// Appends the document's row of a feed.
     fn row(&self, text: &mut String, with_docs: bool) {
         let (seq, id, rev) = (self.seq, &self.id_text, &self.rev);
         let _ = write!(text, "{{\"seq\":{seq},\"id\":{id},\"changes\":[{{\"rev\":\"{rev}\"}}]");
@@ -75,11 +76,11 @@ impl Document {
     }
 }
 
-/// What a writer asks for.
+/// An edit that a writer asks for.
 struct Edit {
     id: String,
     id_text: String,
-    /// The revision that it extends. Of a replicated edit it is not looked at.
+    /// The revision that the edit extends. A replicated edit does not use it.
     parent: Option<String>,
     rev: String,
     members: String,
@@ -87,7 +88,8 @@ struct Edit {
 }
 
 impl Edit {
-    /// The edit that a document asks for. Its revision is the MD5 of `[false,parent,id,members]`.
+    /// The edit that a document asks for. A new edit's hash is the MD5 of `[false,parent,id,members]`, and a
+    /// replicated edit brings its revision as `_rev`.
     fn read(id: String, mut members: Map<String, Value>, is_new: bool) -> Result<Edit, Refusal> {
         members.remove("_id");
         let parent = match members.remove("_rev") {
@@ -119,16 +121,16 @@ fn made(generation: u32, parent: &str, id_text: &str, members: &str) -> String {
     format!("{generation}-{:x}", hasher.finalize())
 }
 
-/// What stands behind the mutex of a database.
+/// The state behind the mutex of a database.
 #[derive(Default)]
 struct State {
     documents: HashMap<String, Arc<Document>>,
-    /// At each sequence, from 1 on, the document that was written there, unless it was written again.
+    /// The document that was written at each sequence, from 1 on; `None` where it was written again later.
     log: Vec<Option<Arc<Document>>>,
 }
 
 impl State {
-    /// Stores an edit, and answers its revision.
+    /// Stores an edit, and returns the document with its new revision.
     fn store(&mut self, edit: Edit) -> Result<Arc<Document>, Refusal> {
         let old = self.documents.get(&edit.id);
         let extended = old.map(|old| old.rev.as_str());
@@ -146,7 +148,7 @@ impl State {
         Ok(document)
     }
 
-    /// The next rows above a sequence, and up to where the log was looked at for them.
+    /// The documents of at most `ROWS` rows above a sequence, and the sequence up to which the log was read.
     fn rows_above(&self, since: usize) -> (Vec<Arc<Document>>, usize) {
         let mut rows = Vec::new();
         let mut at = since.min(self.log.len());
@@ -161,14 +163,14 @@ impl State {
     }
 }
 
-/// A database. Its feeds are told the sequence of each write.
+/// A database. Each write tells its sequence to the feeds.
 struct Database {
     state: Mutex<State>,
     news: watch::Sender<usize>,
 }
 
 impl Database {
-    /// Stores edits, all before another's.
+    /// Stores edits, with no other write between them.
     fn store_all(&self, edits: Vec<Result<Edit, Refusal>>) -> Vec<Result<Arc<Document>, Refusal>> {
         let (stored, seq) = {
             let mut state = self.state.lock().unwrap();
@@ -195,19 +197,19 @@ struct Feed {
     with_docs: bool,
     is_continuous: bool,
     heartbeat: Option<Duration>,
-    /// What stands before the next row of a normal feed.
+    /// The text before the next row of a normal feed.
     before: &'static str,
     is_over: bool,
 }
 
 impl Feed {
-    /// Its next chunk. A continuous feed waits for it.
+    /// The feed's next chunk. A continuous feed waits for a row, and else sends a heartbeat or its end.
     async fn chunk(mut self) -> Option<(Result<Bytes, Infallible>, Feed)> {
         if self.is_over {
             return None;
         }
         loop {
-            // What is written from here on is news.
+            // Each write from here on is news.
             self.news.borrow_and_update();
             let (rows, at) = self.database.state.lock().unwrap().rows_above(self.at);
             self.at = at;
@@ -227,7 +229,7 @@ impl Feed {
         }
     }
 
-    /// The text of rows. A normal feed without a further row is over.
+    /// The text of these rows. Without a row a normal feed gets its end, and is over.
     fn text(&mut self, rows: &[Arc<Document>]) -> String {
         let room = |row: &Arc<Document>| 96 + row.id_text.len() + row.members.len();
         let mut text = String::with_capacity(64 + rows.iter().map(room).sum::<usize>());
@@ -252,7 +254,7 @@ impl Feed {
     }
 }
 
-/// The object of a document.
+/// The members of a JSON object; else a refusal.
 fn object(value: Value) -> Result<Map<String, Value>, Refusal> {
     match value {
         Value::Object(members) => Ok(members),
@@ -260,7 +262,7 @@ fn object(value: Value) -> Result<Map<String, Value>, Refusal> {
     }
 }
 
-/// The object that a request's body spells.
+/// The members of the JSON object in a request's body.
 async fn body_of(request: Request<Body>) -> Result<Map<String, Value>, Refusal> {
     let bytes = to_bytes(request.into_body()).await.map_err(|_| bad("broken body"))?;
     object(serde_json::from_slice(&bytes).map_err(|_| bad("not JSON"))?)
