@@ -1,6 +1,7 @@
 //! How one thread sends many feeds: each feed is asked for its next item, and no feed is waited for.
 
-ghost use Rattle.std.specs.Prelude.{◌≡◌};
+ghost use Rattle.std.specs.Prelude.{◌≡◌, None};
+ghost use Rattle.std.specs.Bool.{OnFalse};
 ghost use Rattle.hub_shared.specs.Feeds.{Takes};
 
 use crate::block::Block;
@@ -64,6 +65,23 @@ impl<S: FeedHost, C: Count> HostFeed<S, C> {
         }
     }
 
+    // Takes an item that is left of the lane's blocks. True says that a poll ends with that: an item came, or
+    // the feed is over.
+    #[inline(always)]
+    fn take_left<R>(&mut self, rt: &R, next: &mut Option<Item<S::Row>>) -> bool
+    where
+        R: Asks<FeedLabel<S>, Block<S::Row>>,
+        ensures taken { Takes S.right self.old next.new self.new }
+        ensures none { OnFalse result (next.new ≡ None) }
+    {
+        self.end.take_into(rt, next);
+        if next.is_some() {
+            self.idle_since = None;
+            return true;
+        }
+        self.is_over()
+    }
+
     /// Puts the next item into `next`, for a thread that sends many feeds and waits for none. Where no item
     /// is left of the lane's blocks, one holding of the lock hands a block of as many items as it may. Where
     /// no item is due either, a heartbeat or the end of the feed's time comes as the clock says. `None` says
@@ -78,22 +96,12 @@ impl<S: FeedHost, C: Count> HostFeed<S, C> {
         K: Clock,
         ensures { Takes S.right self.old next.new self.new }
     {
-        self.end.take_into(rt, next);
-        if next.is_some() {
-            self.idle_since = None;
-            return;
-        }
-        if self.is_over() {
+        if self.take_left(rt, next) {
             return;
         }
         if self.is_behind {
             self.is_behind = self.hold_own(rt, Turn::Hand, gate);
-            self.end.take_into(rt, next);
-            if next.is_some() {
-                self.idle_since = None;
-                return;
-            }
-            if self.is_over() {
+            if self.take_left(rt, next) {
                 return;
             }
         }
