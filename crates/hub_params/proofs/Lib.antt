@@ -1,4 +1,3 @@
-pub mod FeedLemmas
 pub mod QueryLemmas
 pub mod RoomLemmas
 pub mod ParsedLemmas

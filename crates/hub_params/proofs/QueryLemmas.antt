@@ -1,5 +1,5 @@
 -- The last values of names, as the pairs of a query are read one after another.
-use Rattle.std.proofs.Common.{◌≡◌, ℕ, List, ◌∷◌, All, Option, Some, None, refl, if◌then◌else◌, subst, sym}
+use Rattle.std.proofs.Common.{◌≡◌, ℕ, List, ◌∷◌, All, Bool, Option, Some, None, refl, if◌then◌else◌, subst, sym}
 use Rattle.std.proofs.lemmas.List.Elements.{All-head, All-rest}
 use Rattle.std.specs.Option.{option_or}
 use Rattle.std.specs.Str.{bytes_eq}
@@ -32,14 +32,14 @@ read_none wanted query left e = rw e (or_none (written_of wanted query))
     or_none None = refl
     or_none (Some x) = refl
 
--- one more pair is read: the value that was kept, and the value that is kept now
-pub read_one : (wanted name value text : List ℕ) (left rest : List (List ℕ × List ℕ))
-    (kept next whole : Option (List ℕ))
-    → left ≡ (name, value) ∷ rest
-    → text ≡ decoded_text name → next ≡ option_or (if bytes_eq text wanted then Some value else None) kept
-    → last_with wanted left kept ≡ whole → last_with wanted rest next ≡ whole
-read_one wanted name value text left rest kept next whole e t n h =
-    rw (n, t, last_with_step wanted name value rest kept) (rw e at h)
+-- one more pair is read, which has the name or has not
+pub read_one : (wanted name value : List ℕ) (left rest : List (List ℕ × List ℕ)) (kept whole : Option (List ℕ))
+    (named : Bool)
+    → left ≡ (name, value) ∷ rest → named ≡ bytes_eq (decoded_text name) wanted
+    → last_with wanted left kept ≡ whole
+    → last_with wanted rest (option_or (if named then Some value else None) kept) ≡ whole
+read_one wanted name value left rest kept whole named e n h =
+    rw (n, last_with_step wanted name value rest kept) (rw e at h)
 
 -- ---- names that are written as they read
 

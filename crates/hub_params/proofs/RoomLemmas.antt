@@ -1,8 +1,6 @@
 -- The bytes that are written where room is needed.
-use Rattle.std.proofs.Common.{◌≡◌, ◌<◌, ◌⊎◌, inl, inr, ℕ, List, [], ◌∷◌, length, Option, Some}
+use Rattle.std.proofs.Common.{◌≡◌, ◌<◌, ◌⊎◌, inl, inr, ℕ, List, [], ◌∷◌, length, Option, Some, option_map}
 use Rattle.std.proofs.Common.{None, Result, Ok, Err, IfErr, arith, refl, subst, sym, ◌∙◌}
-use Rattle.std.specs.Borrow.{Bor}
-use Rattle.std.specs.Option.{option_copied}
 use Rattle.std.specs.Str.{is_utf8, chars}
 use Rattle.std.specs.Str.Lossy.{utf8_lossy}
 use Rattle.json.specs.Json.{value}
@@ -10,7 +8,7 @@ use Rattle.json.specs.Lex.{punctuate, lex}
 use Rattle.form_urlencoded.specs.Percent.{percent_decode}
 use Rattle.serde_json.specs.Data.{Data}
 use Rattle.hub_document.specs.Read.{json_of}
-use Rattle.hub_params.specs.Encoded.{decoded_text, text_in}
+use Rattle.hub_params.specs.Encoded.{decoded_text}
 use Rattle.hub_params.specs.Room.{HasBytes}
 
 -- a fact of each error, at any error
@@ -28,14 +26,13 @@ bytes_of_text [] h = rw decoded_nil at h
 bytes_of_text (x ∷ xs) h = omega arith
 
 -- a decoded text that is not empty has written bytes
-pub text_has_bytes : (value : Option (Bor (List ℕ))) → HasBytes (text_in value)
-    → HasBytes (option_copied value)
+text_has_bytes : (written : Option (List ℕ)) → HasBytes (option_map decoded_text written) → HasBytes written
 text_has_bytes None h = h
-text_has_bytes (Some written) h = bytes_of_text written.now h
+text_has_bytes (Some bytes) h = bytes_of_text bytes h
 
-pub kept_has_bytes : (value : Option (Bor (List ℕ))) (text : List ℕ) → Some text ≡ text_in value
-    → 0 < length text → HasBytes (option_copied value)
-kept_has_bytes value text e h = text_has_bytes value (subst HasBytes e h)
+pub kept_has_bytes : (written : Option (List ℕ)) (text : List ℕ) → Some text ≡ option_map decoded_text written
+    → 0 < length text → HasBytes written
+kept_has_bytes written text e h = text_has_bytes written (subst HasBytes e h)
 
 -- the empty text is no JSON
 no_json : json_of [] ≡ None
@@ -48,8 +45,8 @@ json_has_bytes [] content h = absurd (let e : None ≡ Some content = sym no_jso
 json_has_bytes (x ∷ xs) content h = omega arith
 
 -- the query gives ids, or there is a body
-pub given_or_body : (value : Option (Bor (List ℕ))) (body : List ℕ) (text : Option (List ℕ))
-    → text ≡ text_in value → HasBytes text ⊎ (0 < length body)
-    → HasBytes (option_copied value) ⊎ (0 < length body)
-given_or_body value body text e (inl h) = inl (text_has_bytes value (subst HasBytes e h))
-given_or_body value body text e (inr h) = inr h
+pub given_or_body : (written : Option (List ℕ)) (body : List ℕ) (text : Option (List ℕ))
+    → text ≡ option_map decoded_text written → HasBytes text ⊎ (0 < length body)
+    → HasBytes written ⊎ (0 < length body)
+given_or_body written body text e (inl h) = inl (text_has_bytes written (subst HasBytes e h))
+given_or_body written body text e (inr h) = inr h

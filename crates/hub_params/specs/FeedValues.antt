@@ -13,8 +13,6 @@ use Rattle.hub_model.specs.declared.feeds.Style.{Style}
 use Rattle.hub_model.specs.declared.feeds.Style.TheVariants.{MainOnly, AllDocs}
 use Rattle.hub_model.specs.declared.feeds.Since.{Since}
 use Rattle.hub_model.specs.declared.feeds.Since.TheVariants.{Now, Plain, Tagged}
-use Rattle.hub_params.specs.declared.feed_values.Shown.{Shown}
-use Rattle.hub_params.specs.declared.feed_values.Shown.TheVariants.{All, Listed, Designs}
 
 -- whether the byte is a digit, 0 to 9
 abbrev pub is_digit : ℕ → Bool
@@ -85,13 +83,6 @@ mode_in (Some text) =
     if bytes_eq text (codes "normal") then Some Normal
     else (if bytes_eq text (codes "longpoll") then Some Longpoll
     else (if bytes_eq text (codes "continuous") then Some Continuous else None))
-
--- which documents are shown
-abbrev pub shown_in : Option (List ℕ) → Option Shown
-shown_in None = Some All
-shown_in (Some text) =
-    if bytes_eq text (codes "_doc_ids") then Some Listed
-    else (if bytes_eq text (codes "_design") then Some Designs else None)
 
 -- a number of milliseconds that is not 0
 abbrev pub positive : ℕ → Option (Option ℕ)

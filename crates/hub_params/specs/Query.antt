@@ -1,5 +1,6 @@
 -- Names and values in a query (URL Standard, section 5, application/x-www-form-urlencoded).
 use Rattle.std.specs.Prelude.{◌≡◌, ℕ, List, [], ◌∷◌, map, Option, Some, None, option_map, if◌then◌else◌}
+use Rattle.std.specs.Borrow.{Bor}
 use Rattle.std.specs.Option.{option_or}
 use Rattle.std.specs.Str.{bytes_eq}
 use Rattle.std.specs.Str.Lossy.{utf8_lossy}
@@ -13,11 +14,6 @@ last_of name [] = None
 last_of name (p ∷ pairs) =
     option_or (last_of name pairs) (if bytes_eq (decoded_text p.0) name then Some p.1 else None)
 
--- the value of a name after one more pair: the pair's value where the pair has that name, else the value
--- before
-abbrev pub kept_of : List ℕ → List ℕ → List ℕ → Option (List ℕ) → Option (List ℕ)
-kept_of wanted name value before = option_or (if bytes_eq name wanted then Some value else None) before
-
 -- the value that a query gives a name, as the value is written: of a repeated name the last. a=1&b=2&a=%33
 -- gives the name a the value %33, and the name c none.
 abbrev pub written_of : List ℕ → List ℕ → Option (List ℕ)
@@ -26,6 +22,10 @@ written_of name query = last_of name (raw_pairs query)
 -- the value that a query gives a name, decoded. a=1&b=2&a=%33 gives the name a the value 3.
 abbrev pub value_of : List ℕ → List ℕ → Option (List ℕ)
 value_of name query = option_map decoded_text (written_of name query)
+
+-- a function reads this text so, where `post` tells what the function gives at which text
+abbrev pub IsReadAs : {R : Type 0} → (Option (Bor (List ℕ)) → R → Type 0) → Option (List ℕ) → R → Type 0
+IsReadAs post text result = (lent : Option (Bor (List ℕ))) × (option_map (λ s. s.now) lent ≡ text) × post lent result
 
 -- the names and values that the standard's parser gives, each as a text
 abbrev pub pairs_of : List ℕ → List (List ℕ × List ℕ)

@@ -1,20 +1,27 @@
 //! The parameters of a changes feed.
 
 ghost use Rattle.std.specs.Prelude.{◌≡◌, ◌⊎◌, IfOk, IfErr, OnErr, Ok, Err};
-ghost use Rattle.hub_filter.specs.Shown.{HasIds};
-ghost use Rattle.hub_params.specs.FeedParams.{feed_asked};
+ghost use Rattle.std.specs.Prelude.{codes};
+ghost use Rattle.hub_filter.specs.Shown.{HasIds, filter_of};
+ghost use Rattle.hub_params.specs.FeedParams.{feed_asked, filter_in};
 ghost use Rattle.hub_params.specs.FeedShown.{params_asked};
-ghost use Rattle.hub_params.specs.Room.{FeedNeedsRoom};
+ghost use Rattle.hub_params.specs.Query.{value_of as value_in};
+ghost use Rattle.hub_params.specs.Room.{FeedNeedsRoom, FilterNeedsRoom};
 
-use crate::feed_fault::ParamFault;
-use crate::feed_stages::{filter_of_kind, flags_of, kind_of, rows_of, waits_of};
-use crate::feed_texts::FeedTexts;
-use hub_filter::Filter;
+use crate::feed_fault::ParamFault::{
+    self, BadFeed, BadFlag, BadHeartbeat, BadLimit, BadSince, BadStyle,
+};
+use crate::feed_values::{
+    flag_of, heartbeat_of, limit_of, mode_of, since_of, style_of, timeout_of,
+};
+use crate::listed_ids::ids_of;
+use crate::query::{lent, parsed, value_of};
+use hub_filter::{DocIds, Filter};
 use hub_model::{Mode, Since, Style};
 use std::alloc::{AllocError, Global};
 
 /// The parameters in the query and the body of a changes feed (CouchDB API reference, `_changes`).
-#[derive(Debug)]
+#[derive(Debug, Drop)]
 pub struct FeedParams {
     /// How long the feed lasts (`feed`).
     pub mode: Mode,
@@ -36,9 +43,31 @@ pub struct FeedParams {
     pub timeout: u64,
 }
 
-impl Drop for FeedParams {
-    fn drop(self) {
-        let Self {
+impl FeedParams {
+    /// The parameters of a query and a body, or the first fault in them. Names and values are compared
+    /// decoded, of a repeated name the last value counts, and unknown names are ignored. The body is read
+    /// only with `filter=_doc_ids`. The cost is ten times the query's length, the body's length, and the
+    /// sorting of listed ids. Memory is taken for escaped names and values, and for listed ids. A fault is
+    /// answered before the value of any later parameter is looked at.
+    pub fn read(alloc: Global, query: &[u8], body: &[u8]) -> Result<FeedParams, ParamFault>
+        ensures ok { IfOk result (λ p. feed_asked query.now body.now ≡ Ok (params_asked p)) }
+        ensures err { IfErr result (λ e. (e ≡ ParamFault.NoMemory)
+            ⊎ (feed_asked query.now body.now ≡ Err e)) }
+        ensures memory { IfErr result (λ e. e ≡ ParamFault.NoMemory → FeedNeedsRoom query.now body.now) }
+    {
+        let since = parsed(alloc, query, "since", BadSince, since_of)?;
+        let limit = parsed(alloc, query, "limit", BadLimit, limit_of)?;
+        let style = parsed(alloc, query, "style", BadStyle, style_of)?;
+        let mode = parsed(alloc, query, "feed", BadFeed, mode_of)?;
+        let filter = read_filter(alloc, query, body)?;
+        let heartbeat = parsed(alloc, query, "heartbeat", BadHeartbeat, heartbeat_of)?;
+        let timeout = parsed(alloc, query, "timeout", BadHeartbeat, timeout_of)?;
+        let descending = parsed(alloc, query, "descending", BadFlag, flag_of)?;
+        if descending && mode.waits() {
+            return Err(ParamFault::DescendingMode);
+        }
+        let include_docs = parsed(alloc, query, "include_docs", BadFlag, flag_of)?;
+        Ok(FeedParams {
             mode,
             since,
             limit,
@@ -48,38 +77,6 @@ impl Drop for FeedParams {
             filter,
             heartbeat,
             timeout,
-        } = self;
-    }
-}
-
-impl FeedParams {
-    /// The parameters of a query and a body, or the first fault in them. Names and values are compared
-    /// decoded, of a repeated name the last value counts, and unknown names are ignored. The body is read
-    /// only with `filter=_doc_ids`. The cost is the length of both, and the sorting of listed ids. Memory is
-    /// taken for escaped names and values, and for listed ids. A fault is answered before the value of any
-    /// later parameter is looked at.
-    pub fn read(alloc: Global, query: &[u8], body: &[u8]) -> Result<FeedParams, ParamFault>
-        ensures ok { IfOk result (λ p. feed_asked query.now body.now ≡ Ok (params_asked p)) }
-        ensures err { IfErr result (λ e. (e ≡ ParamFault.NoMemory)
-            ⊎ (feed_asked query.now body.now ≡ Err e)) }
-        ensures memory { IfErr result (λ e. e ≡ ParamFault.NoMemory → FeedNeedsRoom query.now body.now) }
-    {
-        let texts = FeedTexts::read(alloc, query)?;
-        let rows = rows_of(alloc, texts.since, texts.limit, texts.style)?;
-        let kind = kind_of(alloc, texts.feed, texts.filter)?;
-        let filter = filter_of_kind(alloc, texts.doc_ids, body, kind.shown)?;
-        let waits = waits_of(alloc, texts.heartbeat, texts.timeout)?;
-        let flags = flags_of(alloc, kind.mode, texts.descending, texts.include_docs)?;
-        Ok(FeedParams {
-            mode: kind.mode,
-            since: rows.since,
-            limit: rows.limit,
-            descending: flags.descending,
-            style: rows.style,
-            include_docs: flags.include_docs,
-            filter,
-            heartbeat: waits.heartbeat,
-            timeout: waits.timeout,
         })
     }
 
@@ -100,5 +97,27 @@ impl FeedParams {
             heartbeat: self.heartbeat,
             timeout: self.timeout,
         })
+    }
+}
+
+// Which documents are shown. `doc_ids` and the body are read only where listed documents are shown.
+fn read_filter(alloc: Global, query: &[u8], body: &[u8]) -> Result<Filter, ParamFault>
+    ensures ok { IfOk result (λ f. filter_in (value_in (codes "filter") query.now)
+        (value_in (codes "doc_ids") query.now) body.now ≡ Ok (filter_of f)) }
+    ensures err { IfErr result (λ e. (e ≡ ParamFault.NoMemory)
+        ⊎ (filter_in (value_in (codes "filter") query.now)
+        (value_in (codes "doc_ids") query.now) body.now ≡ Err e)) }
+    ensures memory { IfErr result (λ e. e ≡ ParamFault.NoMemory → FilterNeedsRoom query.now body.now) }
+{
+    let kind = value_of(alloc, query, "filter")?;
+    match lent(&kind) {
+        None => Ok(Filter::All),
+        Some(text) if text == "_doc_ids" => {
+            let ids = value_of(alloc, query, "doc_ids")?;
+            let listed = ids_of(alloc, lent(&ids), body)?;
+            Ok(Filter::DocIds(DocIds::new(listed)))
+        }
+        Some(text) if text == "_design" => Ok(Filter::Design),
+        Some(_) => Err(ParamFault::BadFilter),
     }
 }

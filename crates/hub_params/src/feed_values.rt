@@ -4,23 +4,12 @@ ghost use Rattle.std.specs.Prelude.{◌≡◌, option_map, unwrap_or};
 ghost use Rattle.std.specs.List.{list_all};
 ghost use Rattle.hub_params.specs.FeedValues.{is_digit as is_digit_byte, is_numeral as is_numeral_text};
 ghost use Rattle.hub_params.specs.FeedValues.{number_in, since_in, tagged_in, within_quotes, limit_in};
-ghost use Rattle.hub_params.specs.FeedValues.{style_in, mode_in, shown_in, heartbeat_in, timeout_in, flag_in};
+ghost use Rattle.hub_params.specs.FeedValues.{style_in, mode_in, heartbeat_in, timeout_in, flag_in};
 
 use hub_model::{Mode, Since, Style};
 
 // The milliseconds between heartbeats of `heartbeat=true`, and the longest wait of a feed.
 const MINUTE: u64 = 60_000;
-
-/// Which documents a feed shows.
-#[derive(Clone, Copy)]
-pub(crate) enum Shown {
-    /// Every document.
-    All,
-    /// The listed documents.
-    Listed,
-    /// Design documents.
-    Designs,
-}
 
 fn are_digits(bytes: &[u8]) -> bool
     ensures { result ≡ list_all is_digit_byte bytes.now }
@@ -101,11 +90,10 @@ pub(crate) fn limit_of(value: Option<&str>) -> Option<Option<u64>>
 pub(crate) fn style_of(value: Option<&str>) -> Option<Style>
     ensures { result ≡ style_in (option_map (λ s. s.now) value.entry) }
 {
-    match value {
-        None => Some(Style::MainOnly),
-        Some(text) if text == "main_only" => Some(Style::MainOnly),
-        Some(text) if text == "all_docs" => Some(Style::AllDocs),
-        Some(_) => None,
+    match value.unwrap_or("main_only") {
+        text if text == "main_only" => Some(Style::MainOnly),
+        text if text == "all_docs" => Some(Style::AllDocs),
+        _ => None,
     }
 }
 
@@ -113,24 +101,11 @@ pub(crate) fn style_of(value: Option<&str>) -> Option<Style>
 pub(crate) fn mode_of(value: Option<&str>) -> Option<Mode>
     ensures { result ≡ mode_in (option_map (λ s. s.now) value.entry) }
 {
-    match value {
-        None => Some(Mode::Normal),
-        Some(text) if text == "normal" => Some(Mode::Normal),
-        Some(text) if text == "longpoll" => Some(Mode::Longpoll),
-        Some(text) if text == "continuous" => Some(Mode::Continuous),
-        Some(_) => None,
-    }
-}
-
-/// Which documents a feed shows (`filter`).
-pub(crate) fn shown_of(value: Option<&str>) -> Option<Shown>
-    ensures { result ≡ shown_in (option_map (λ s. s.now) value.entry) }
-{
-    match value {
-        None => Some(Shown::All),
-        Some(text) if text == "_doc_ids" => Some(Shown::Listed),
-        Some(text) if text == "_design" => Some(Shown::Designs),
-        Some(_) => None,
+    match value.unwrap_or("normal") {
+        text if text == "normal" => Some(Mode::Normal),
+        text if text == "longpoll" => Some(Mode::Longpoll),
+        text if text == "continuous" => Some(Mode::Continuous),
+        _ => None,
     }
 }
 
@@ -163,10 +138,9 @@ pub(crate) fn timeout_of(value: Option<&str>) -> Option<u64>
 pub(crate) fn flag_of(value: Option<&str>) -> Option<bool>
     ensures { result ≡ flag_in (option_map (λ s. s.now) value.entry) }
 {
-    match value {
-        None => Some(false),
-        Some(text) if text == "true" => Some(true),
-        Some(text) if text == "false" => Some(false),
-        Some(_) => None,
+    match value.unwrap_or("false") {
+        text if text == "true" => Some(true),
+        text if text == "false" => Some(false),
+        _ => None,
     }
 }

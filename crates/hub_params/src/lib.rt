@@ -4,8 +4,6 @@
 mod doc_params;
 mod feed_fault;
 mod feed_params;
-mod feed_stages;
-mod feed_texts;
 mod feed_values;
 mod listed_ids;
 mod query;
