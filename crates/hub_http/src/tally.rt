@@ -1,6 +1,6 @@
 //! Any reader or writer of std, with its counts.
-ghost use Rattle.std.specs.Prelude.{◌≡◌};
-ghost use Rattle.hub_http.specs.Counts.{one_more};
+ghost use Rattle.std.specs.Prelude.{◌≡◌, ◌||◌, is_err};
+ghost use Rattle.hub_http.specs.Counts.{one_more, one_more_if, call_failed};
 
 use crate::input::Input;
 use crate::output::{Output, is_interrupted};
@@ -40,6 +40,28 @@ impl<T> Tally<T> {
     {
         self.inner
     }
+
+    // Counts a call, and answers its outcome. A call that is refused failed, as one that answered an error
+    // other than an interruption.
+    fn counted<N>(&mut self, outcome: io::Result<N>, refused: bool) -> io::Result<N>
+        ensures same { result ≡ outcome }
+        ensures counts { self.new ≡ record self.old {
+          faults = one_more_if (is_err outcome || refused) self.old.faults;
+          failures = one_more_if (call_failed outcome || refused) self.old.failures;
+        } }
+    {
+        if outcome.is_err() || refused {
+            self.faults = bump(self.faults);
+        }
+        let failed = match &outcome {
+            Ok(_) => refused,
+            Err(e) => refused || !is_interrupted(e),
+        };
+        if failed {
+            self.failures = bump(self.failures);
+        }
+        outcome
+    }
 }
 
 /// The next count, at most 2^64 - 1.
@@ -61,13 +83,7 @@ impl<T: Read> Input for Tally<T> {
     fn read(&mut self, buf: &mut [u8]) -> io::Result<usize> {
         self.reads = bump(self.reads);
         let outcome = self.inner.read(buf);
-        if let Err(e) = &outcome {
-            self.faults = bump(self.faults);
-            if !is_interrupted(e) {
-                self.failures = bump(self.failures);
-            }
-        }
-        outcome
+        self.counted(outcome, false)
     }
 
     fn faults(&self) -> u64 {
@@ -88,31 +104,13 @@ impl<T: Write> Output for Tally<T> {
 
     fn write(&mut self, buf: &[u8]) -> io::Result<usize> {
         let outcome = self.inner.write(buf);
-        let (faulted, failed) = match &outcome {
-            Ok(n) => {
-                let refused = *n == 0 && !buf.is_empty();
-                (refused, refused)
-            }
-            Err(e) => (true, !is_interrupted(e)),
-        };
-        if faulted {
-            self.faults = bump(self.faults);
-        }
-        if failed {
-            self.failures = bump(self.failures);
-        }
-        outcome
+        let refused = matches!(outcome, Ok(0)) && !buf.is_empty();
+        self.counted(outcome, refused)
     }
 
     fn flush(&mut self) -> io::Result<()> {
         let outcome = self.inner.flush();
-        if let Err(e) = &outcome {
-            self.faults = bump(self.faults);
-            if !is_interrupted(e) {
-                self.failures = bump(self.failures);
-            }
-        }
-        outcome
+        self.counted(outcome, false)
     }
 
     fn faults(&self) -> u64 {

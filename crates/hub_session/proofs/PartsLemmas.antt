@@ -127,33 +127,25 @@ pub whole_reply : (reply : Reply) (head_only : Bool) (close : Bool)
 whole_reply (Done status body) head_only close = refl
 whole_reply (Refused refusal) head_only close = refl
 
--- the text of an answer whose body is so long, by its head and its body
-module _ (reply : Reply) (head_only close : Bool) (a b : Option (List ℕ)) (status len : ℕ)
-    (s : status ≡ status_in reply) (l : len ≡ length (body_in reply)) where
-  same_head : head_text status (length_line len) close
-      ≡ head_text (status_in reply) (length_line (length (body_in reply))) close
-  same_head =
-      ap (λ n. head_text n (length_line len) close) s
-      ∙ ap (λ n. head_text (status_in reply) (length_line n) close) l
-
-  pub broken_head : AppendsFront a b (head_text status (length_line len) close)
+-- the text of an answer, by its head and its body
+module _ (reply : Reply) (head_only close : Bool) (a b : Option (List ℕ)) where
+  pub broken_head :
+      AppendsFront a b (head_text (status_in reply) (length_line (length (body_in reply))) close)
       → AppendsFront a b (reply_text reply head_only close)
   broken_head front = subst (AppendsFront a b) (whole_reply reply head_only close)
-      (front_of_more a b _ (if head_only then [] else body_in reply)
-      (subst (AppendsFront a b) same_head front))
+      (front_of_more a b _ (if head_only then [] else body_in reply) front)
 
   -- the head was written
-  module _ (h : Appends a b (head_text status (length_line len) close)) (c : Option (List ℕ)) where
+  module _ (h : Appends a b (head_text (status_in reply) (length_line (length (body_in reply))) close))
+      (c : Option (List ℕ)) where
     pub sent_alone : (broken : Bool) → head_only ≡ true → Sends broken b c []
         → Sends broken a c (reply_text reply head_only close)
     sent_alone broken alone sent = subst (Sends broken a c) (whole_reply reply head_only close)
-        (sends_after broken a b c _
-        (if head_only then [] else body_in reply) (subst (Appends a b) same_head h)
+        (sends_after broken a b c _ (if head_only then [] else body_in reply) h
         (subst (λ t. Sends broken b c (if t then [] else body_in reply)) (sym alone) sent))
 
     pub sent_whole : (broken : Bool) → head_only ≡ false → Sends broken b c (body_in reply)
         → Sends broken a c (reply_text reply head_only close)
     sent_whole broken whole sent = subst (Sends broken a c) (whole_reply reply head_only close)
-        (sends_after broken a b c _
-        (if head_only then [] else body_in reply) (subst (Appends a b) same_head h)
+        (sends_after broken a b c _ (if head_only then [] else body_in reply) h
         (subst (λ t. Sends broken b c (if t then [] else body_in reply)) (sym whole) sent))

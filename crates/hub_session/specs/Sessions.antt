@@ -209,13 +209,15 @@ pub record HasAnswer {S : Type 0} (rules : Rules S) (asked : PlainRequest) (next
   pub written : Sends (is_write_failure next) before.written after.written (exchange_text exchange)
 
 -- The answer to this request was begun. Either the answer is over, and the session closes for the reason
--- `next`, or goes on. Or it is a stream in this mode, of the life of this number, and its text before the
--- items was written.
+-- `next`, or goes on. Or it is a stream of which no row was sent yet, and its text before the items was
+-- written.
 abbrev pub HasBegun : {S : Type 0} → Rules S → PlainRequest → Begun → Moment S → Moment S → Type 0
 HasBegun rules asked (Answered next) before after = HasAnswer rules asked next before after
-HasBegun rules asked (Streaming mode life) before after =
-    rules.answers before.service asked (Stream mode life) after.service × (is_head asked ≡ false)
-    × Appends before.written after.written (stream_head asked.close mode)
+HasBegun rules asked (Streaming sending) before after =
+    rules.answers before.service asked (Stream sending.mode sending.life) after.service
+    × (is_head asked ≡ false)
+    × Appends before.written after.written (stream_head asked.close sending.mode)
+    × (sending.rows ≡ 0)
 
 -- the bytes begin with a request, which was answered, and the bytes behind it are left
 pub record IsAnswered {S : Type 0} (rules : Rules S) (bytes : List ℕ) (next : Option Closing)

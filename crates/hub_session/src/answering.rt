@@ -2,17 +2,17 @@
 ghost use Rattle.std.specs.Prelude.{◌≡◌, Some, is_err};
 ghost use Rattle.hub_http.specs.Counts.{CallCounts, SendsTo};
 ghost use Rattle.hub_http.specs.Stream.{asked_by};
+ghost use Rattle.hub_session.specs.Replies.{refusal_of};
 ghost use Rattle.hub_session.specs.Rules.{moment};
 ghost use Rattle.hub_session.specs.Sessions.{HasBegun, HasToldFault, after_answer};
 ghost use Rattle.hub_session.specs.Sessions.{after_stream, after_whole, is_head, stream_head};
 
 use crate::closing::{Closing, StreamEnd};
-use crate::feed::begin_items;
-use crate::parts::send_in_parts;
-use crate::reply::fault_text;
+use crate::feed::{Sending, begin_items};
+use crate::parts::send_reply;
 use crate::service::{Answer, Service};
 use hub_http::{
-    HttpFault, IoFault, Output, Request, reply_bytes, send, send_vec, stream_head_text, write_all,
+    HttpFault, IoFault, Output, Refusal, Reply, Request, send, stream_head_text, write_all,
 };
 use hub_model::Mode;
 use std::alloc::Global;
@@ -22,8 +22,8 @@ use std::alloc::Global;
 pub(crate) enum Begun {
     /// The answer is over, written whole or broken. The session closes for this reason, or goes on.
     Answered(Option<Closing>),
-    /// A stream in this mode, of the life of this number. Its text before its items was written.
-    Streaming(Mode, u64),
+    /// A stream of which no row was sent yet. Its text before its items was written.
+    Streaming(Sending),
 }
 
 fn after_answer(close: bool) -> Option<Closing>
@@ -89,12 +89,7 @@ pub(crate) fn begin_answer<W: Output, S: Service>(
     let close = request.close;
     match service.answer(request) {
         Answer::Whole(reply) => {
-            // Out of memory for the whole, the answer goes in parts: a request that did its work is
-            // answered.
-            let sent = match reply_bytes(alloc, &reply, head_only, close) {
-                Ok(bytes) => send_vec(writer, bytes),
-                Err(_) => send_in_parts(writer, reply, head_only, close),
-            };
+            let sent = send_reply(alloc, writer, reply, head_only, close);
             Begun::Answered(after_whole(sent, close))
         }
         Answer::Stream(mode, life) => {
@@ -104,7 +99,7 @@ pub(crate) fn begin_answer<W: Output, S: Service>(
                 return Begun::Answered(after_whole(sent, close));
             }
             match write_head(writer, service, mode, close) {
-                Ok(()) => Begun::Streaming(mode, life),
+                Ok(()) => Begun::Streaming(Sending::new(mode, life)),
                 Err(_) => {
                     service.drop_stream();
                     Begun::Answered(Some(Closing::Broken))
@@ -114,11 +109,30 @@ pub(crate) fn begin_answer<W: Output, S: Service>(
     }
 }
 
+/// The refusal that answers a fault of reading a request, if one does.
+fn refusal_of(fault: HttpFault) -> Option<Refusal>
+    ensures { result ≡ refusal_of fault }
+{
+    match fault {
+        HttpFault::NoMemory => Some(Refusal::NoMemory),
+        HttpFault::BadHead => Some(Refusal::BadHead),
+        HttpFault::HeadTooLong => Some(Refusal::HeadTooLong),
+        HttpFault::BodyTooLong => Some(Refusal::BodyTooLong),
+        HttpFault::Version => Some(Refusal::Version),
+        HttpFault::Coding => Some(Refusal::Coding),
+        HttpFault::Ended | HttpFault::IoFault => None,
+    }
+}
+
 /// Answers a fault of reading a request where it has a reply, and says why the session closes.
-pub(crate) fn answer_fault<W: Output>(writer: &mut W, fault: HttpFault) -> Closing
+pub(crate) fn answer_fault<W: Output>(alloc: Global, writer: &mut W, fault: HttpFault) -> Closing
     ensures { HasToldFault W.written W.fault_count W.failure_count fault result writer.old writer.new }
 {
-    match send(writer, fault_text(fault).as_bytes()) {
+    let sent = match refusal_of(fault) {
+        Some(refusal) => send_reply(alloc, writer, Reply::Refused(refusal), false, true),
+        None => send(writer, b""),
+    };
+    match sent {
         Ok(()) => Closing::Fault(fault),
         Err(_) => Closing::Broken,
     }

@@ -83,6 +83,19 @@ pub(crate) struct Sending {
     pub(crate) rows: u64,
 }
 
+impl Sending {
+    /// A stream of which no row was sent yet.
+    pub(crate) fn new(mode: Mode, life: u64) -> Sending
+        ensures { result ≡ record { mode = mode; life = life; rows = 0 } }
+    {
+        Sending {
+            mode,
+            life,
+            rows: 0,
+        }
+    }
+}
+
 /// Sends the item that the service gave of its stream. It answers how many rows are sent then, or how the
 /// stream ended. A stream that ends before it handed its End is dropped. Where it stopped or found no
 /// memory, the writer is flushed too. A fault of that flush is not told: the stream is cut all the same.
@@ -130,18 +143,18 @@ pub(crate) fn send_items<W: Output, S: Service>(
     alloc: Global,
     writer: &mut W,
     service: &mut S,
-    mode: Mode,
-    life: u64,
+    sending: Sending,
 ) -> StreamEnd
-    ensures { IsFedTo S.rules W.written W.fault_count W.failure_count (items_text mode life 0) result
-        service.old service.new writer.old writer.new }
+    requires { sending.rows ≡ 0 }
+    ensures { IsFedTo S.rules W.written W.fault_count W.failure_count
+        (items_text sending.mode sending.life 0) result service.old service.new writer.old writer.new }
 {
     let mut chunks = ChunkWriter::new(alloc);
-    let mut rows = 0;
+    let mut rows = sending.rows;
     let mut next = NextItem::none();
     for _ in 0..u64::MAX {
         service.item(&mut next);
-        let sending = Sending { mode, life, rows };
+        let sending = Sending { rows, ..sending };
         match send_given(&mut chunks, writer, service, sending, &next) {
             Ok(sent) => rows = sent,
             Err(end) => return end,
@@ -188,7 +201,7 @@ pub fn stream_feed<W: Output, S: Service>(
         W.failure_count writer.old writer.new }
 {
     match begin_items(writer, service, mode) {
-        Ok(()) => send_items(alloc, writer, service, mode, life),
+        Ok(()) => send_items(alloc, writer, service, Sending::new(mode, life)),
         Err(_) => {
             service.drop_stream();
             StreamEnd::Broken

@@ -7,7 +7,6 @@ mod feed;
 mod item;
 mod machine;
 mod parts;
-mod reply;
 mod service;
 mod serving;
 

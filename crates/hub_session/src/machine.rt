@@ -103,12 +103,7 @@ impl<S: Service> Session<S> {
             Ok(Next::Whole(request)) => {
                 match begin_answer(self.alloc, &mut self.outbox, &mut self.service, &request) {
                     Begun::Answered(next) => self.go_behind(next),
-                    Begun::Streaming(mode, life) => {
-                        let sending = Sending {
-                            mode,
-                            life,
-                            rows: 0,
-                        };
+                    Begun::Streaming(sending) => {
                         self.place = Place::Within(sending, request.close);
                         Step::Served
                     }
@@ -118,7 +113,7 @@ impl<S: Service> Session<S> {
             Ok(Next::End) => self.go_behind(Some(Closing::Finished)),
             Err(HttpFault::Ended) => self.go_behind(Some(Closing::Fault(HttpFault::Ended))),
             Err(fault) => {
-                let closing = answer_fault(&mut self.outbox, fault);
+                let closing = answer_fault(self.alloc, &mut self.outbox, fault);
                 self.go_behind(Some(closing))
             }
         }
@@ -212,7 +207,7 @@ impl<S: Service> Session<S> {
         }
         match self.place {
             Place::Between => {
-                let closing = answer_fault(&mut self.outbox, HttpFault::NoMemory);
+                let closing = answer_fault(self.alloc, &mut self.outbox, HttpFault::NoMemory);
                 self.go_behind(Some(closing));
             }
             Place::Within(..) | Place::Closed(_) => self.give_up(),

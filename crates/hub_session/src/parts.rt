@@ -1,12 +1,15 @@
-//! Whole answers to a writer in parts, which take no memory.
+//! Whole answers to a writer.
 ghost use Rattle.std.specs.Prelude.{◌≡◌, length};
 ghost use Rattle.hub_http.specs.Counts.{SendsTo};
 ghost use Rattle.hub_http.specs.Texts.{head_text, length_line};
 ghost use Rattle.hub_http.specs.Texts.{refusal_body, reply_text};
 ghost use Rattle.hub_session.specs.Replies.{body_in, parts_text, status_in};
 
-use hub_http::{IoFault, Output, Refusal, Reply, StatusCode, head_end, send, send_vec, write_all};
+use hub_http::{
+    IoFault, Output, Refusal, Reply, StatusCode, head_end, reply_bytes, send, send_vec, write_all,
+};
 use itoa::Buffer;
+use std::alloc::Global;
 
 /// Writes parts, one behind the other, each mostly by one write, and does not flush.
 fn write_parts<W: Output>(writer: &mut W, parts: &[&[u8]]) -> Result<(), IoFault>
@@ -19,16 +22,12 @@ fn write_parts<W: Output>(writer: &mut W, parts: &[&[u8]]) -> Result<(), IoFault
     Ok(())
 }
 
-/// Writes the head of an answer with a body of so many bytes.
-fn write_head<W: Output>(
-    writer: &mut W,
-    status: StatusCode,
-    len: usize,
-    close: bool,
-) -> Result<(), IoFault>
+/// Writes the head of an answer.
+fn write_head<W: Output>(writer: &mut W, reply: &Reply, close: bool) -> Result<(), IoFault>
     ensures { SendsTo W.written W.fault_count W.failure_count result writer.old writer.new
-        (head_text status (length_line len) close) }
+        (head_text (status_in reply.now) (length_line (length (body_in reply.now))) close) }
 {
+    let (status, len) = framing(reply);
     let mut number = Buffer::new();
     let mut length = Buffer::new();
     write_parts(
@@ -92,9 +91,11 @@ fn send_body<W: Output>(writer: &mut W, reply: Reply) -> Result<(), IoFault>
     }
 }
 
-/// Writes a whole answer in parts, and flushes it. It takes no memory. The head is seven parts, the body of
-/// a refusal five, and another body one: each mostly costs one write.
-pub(crate) fn send_in_parts<W: Output>(
+/// Sends a whole answer, mostly by one write. Out of memory for the whole, the answer goes in parts, which
+/// take no memory: a request that did its work is answered. The head is seven parts, the body of a refusal
+/// five, and another body one, each mostly one write.
+pub(crate) fn send_reply<W: Output>(
+    alloc: Global,
     writer: &mut W,
     reply: Reply,
     head_only: bool,
@@ -103,8 +104,10 @@ pub(crate) fn send_in_parts<W: Output>(
     ensures { SendsTo W.written W.fault_count W.failure_count result writer.old writer.new
         (reply_text reply head_only close) }
 {
-    let (status, len) = framing(&reply);
-    write_head(writer, status, len, close)?;
+    if let Ok(bytes) = reply_bytes(alloc, &reply, head_only, close) {
+        return send_vec(writer, bytes);
+    }
+    write_head(writer, &reply, close)?;
     if head_only {
         return send(writer, b"");
     }

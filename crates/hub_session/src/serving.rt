@@ -36,14 +36,14 @@ pub fn serve_one<R: Input, W: Output, S: Service>(
     match requests.next() {
         Ok(Some(request)) => match begin_answer(alloc, writer, service, &request) {
             Begun::Answered(next) => next,
-            Begun::Streaming(mode, life) => {
-                let end = send_items(alloc, writer, service, mode, life);
+            Begun::Streaming(sending) => {
+                let end = send_items(alloc, writer, service, sending);
                 after_stream(request.close, end)
             }
         },
         Ok(None) => Some(Closing::Finished),
         Err(HttpFault::Ended) => Some(Closing::Fault(HttpFault::Ended)),
-        Err(fault) => Some(answer_fault(writer, fault)),
+        Err(fault) => Some(answer_fault(alloc, writer, fault)),
     }
 }
 

@@ -7,7 +7,7 @@ use Rattle.hub_session.proofs.FeedLemmas.{went_none, went_more, went_ends}
 use Rattle.hub_session.proofs.feed.send_items.Goals as goal
 
 pub loop-init : goal.loop-init
-loop-init g c = (went_none _ _ _ _, omega arith, omega arith, omega arith)
+loop-init g c = (rw c.requires (went_none _ _ _ _), omega arith, omega (arith, c.requires), omega arith)
 
 pub returns-in-Err : goal.returns-in-Err
 returns-in-Err g c = record {

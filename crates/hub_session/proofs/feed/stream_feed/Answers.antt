@@ -4,7 +4,8 @@ use Rattle.hub_session.proofs.feed.stream_feed.Goals as goal
 
 pub returns-in-Ok-clause-fed : goal.returns-in-Ok-clause-fed
 returns-in-Ok-clause-fed g c =
-    fed_behind g.S.Service.rules c.args.mode c.args.life _ _ _ _ c.in-Ok.ensures.sent c.send_items.ensures.fed
+    fed_behind g.S.Service.rules c.args.mode c.args.life _ _ _ _ c.in-Ok.ensures.sent
+    (rw c.new.ensures at c.send_items.ensures.fed)
 
 pub returns-in-Err-clause-fed : goal.returns-in-Err-clause-fed
 returns-in-Err-clause-fed g c =

@@ -16,8 +16,9 @@ returns-in-Ok-Some-clause-told g c = λ is_open.
     let begun = c.in-Streaming.ensures.told in
     let after = moment c.send_items-end.new.service (g.W.Output.written c.send_items-end.new.writer) in
     one_answered g.S.Service.rules _ after _ _ c.in-Ok-Some.request _ told
-    (stream_fed g.S.Service.rules (asked_by c.in-Ok-Some.request) _ _ c.in-Streaming.mode c.in-Streaming.life
-    _ _ _ _ begun.0 begun.1 c.after_stream.ensures begun.2 c.send_items-end.ensures.fed)
+    (stream_fed g.S.Service.rules (asked_by c.in-Ok-Some.request) _ _ c.in-Streaming.sending.mode
+    c.in-Streaming.sending.life _ _ _ _ begun.0 begun.1 c.after_stream.ensures begun.2
+    c.send_items-end.ensures.fed)
 
 pub returns-in-Ok-None-clause-told : goal.returns-in-Ok-None-clause-told
 returns-in-Ok-None-clause-told g c = λ is_open.

@@ -32,9 +32,8 @@ pub returns-in-Ok-Whole : goal.returns-in-Ok-Whole
 returns-in-Ok-Whole g c = λ place.
     let spelt = rw c.in-Ok-Whole.field-0-is at c.in-Ok-Whole.ensures.told in
     let told = c.in-Streaming.ensures.told in (
-      Steps.begins (asked_by c.in-Ok-Whole.request)
-          (record { mode = c.in-Streaming.mode; life = c.in-Streaming.life; rows = 0 })
-          place refl refl c.next.ensures.over refl spelt told.0 told.1 told.2,
+      Steps.begins (asked_by c.in-Ok-Whole.request) c.in-Streaming.sending
+          place refl refl c.next.ensures.over told.3 spelt told.0 told.1 told.2,
       λ broken. let other = broken in absurd (cc),
     )
 
