@@ -1,28 +1,22 @@
-//! Copies of the questions and documents that a follower lends to its peers.
+//! Copies of lists.
 
-ghost use Rattle.std.specs.Prelude.{◌≡◌, IfOk};
+ghost use Rattle.std.specs.Prelude.{◌≡◌, IfOk, Ok};
 
-use hub_document::{Asked, Doc};
 use std::alloc::{AllocError, Global};
 
-/// A copy of the questions. The cost is their lengths.
-pub(crate) fn copy_asked(alloc: Global, asked: &[Asked]) -> Result<Vec<Asked>, AllocError>
-    ensures { IfOk result (λ copies. copies.items ≡ asked.now) }
+/// Copies of these items, each made by `copy`, which takes the allocator. The cost is that of its calls.
+pub(crate) fn copies_of<T: Drop, F: Fn(&T, Global) -> Result<T, AllocError>>(
+    alloc: Global,
+    items: &[T],
+    copy: F,
+) -> Result<Vec<T>, AllocError>
+    requires callable { F.IsAlwaysCallable copy }
+    requires same { (item : _) (made : T) → F.post copy item alloc (Ok made) → made ≡ item.now }
+    ensures { IfOk result (λ copies. copies.items ≡ items.now) }
 {
     let mut copies = Vec::new(alloc);
-    for one in asked {
-        copies.push(one.copy(alloc)?)?;
-    }
-    Ok(copies)
-}
-
-/// A copy of the documents. The cost is their lengths.
-pub(crate) fn copy_docs(alloc: Global, docs: &[Doc]) -> Result<Vec<Doc>, AllocError>
-    ensures { IfOk result (λ copies. copies.items ≡ docs.now) }
-{
-    let mut copies = Vec::new(alloc);
-    for doc in docs {
-        copies.push(doc.copy(alloc)?)?;
+    for item in items {
+        copies.push(copy(item, alloc)?)?;
     }
     Ok(copies)
 }

@@ -7,7 +7,7 @@ ghost use Rattle.hub_follower.specs.Peers.{CallCounts};
 ghost use Rattle.hub_follower.specs.Shared.{IsShared};
 ghost use Rattle.hub_follower.specs.Views.{found_edit};
 
-use crate::copies::{copy_asked, copy_docs};
+use crate::copies::copies_of;
 use crate::fetched::FetchedRevs;
 use crate::log::Log;
 use crate::peer::{CallFault, Changes, Peer};
@@ -115,7 +115,7 @@ fn diffs_of<R: Wait>(
     ensures { IfOk result (λ diffs.
         IsShared (follow.RevsDiff asked.now) (follow.RevsDiffAnswer diffs.items)) }
 {
-    let asked = copy_asked(alloc, asked)?;
+    let asked = copies_of(alloc, asked, Asked::copy)?;
     Ok(handle.look(rt, move |state| state.revs_diff(asked))?)
 }
 
@@ -145,7 +145,7 @@ fn store_all<R: Wait>(
     ensures { IfOk result (λ replies.
         IsShared (follow.Merge (map edit_of docs.now)) (follow.MergeAnswer replies)) }
 {
-    let copies = copy_docs(alloc, docs)?;
+    let copies = copies_of(alloc, docs, Doc::copy)?;
     match handle.store(rt, copies, false) {
         Ok(batch) if !batch.stopped => Ok(batch.replies),
         _ => Err(CallFault::NoMemory),

@@ -1,8 +1,9 @@
 //! Peers that fail, for tests of a follower after a failure.
 
-ghost use Rattle.std.specs.Prelude.{◌≡◌, ◌≢◌, ◌⊎◌, ◌≤◌, min, ◌+◌, ◌-◌, ◌^◌, IfSome, IfNone};
-ghost use Rattle.hub_follow_model.specs.Follower as follow;
+ghost use Rattle.std.specs.Prelude.{◌≡◌, ◌≢◌, min, ◌+◌, ◌-◌, ◌^◌, IfSome, IfNone, Result, Err};
+ghost use Rattle.std.specs.Fn.{FnOnceReturnsAtMut};
 ghost use Rattle.hub_follower.specs.Faults.{IsCountedDown};
+ghost use Rattle.hub_follower.specs.declared.fault_peer.Loss.TheVariants.{Before, After};
 
 use crate::fetched::FetchedRevs;
 use crate::log::Log;
@@ -31,19 +32,6 @@ pub struct FaultPeer<P> {
     again: u64,
     loss: Loss,
     faults: u64,
-}
-
-// Asks a peer for a log, and loses the answer.
-fn lose_log<P: Peer>(peer: &mut P, log_id: &str)
-    ensures lost { (side : follow.Side)
-        → ((answer : follow.Answer) × P.gives peer.old (follow.LocalGet side) answer peer.new)
-        ⊎ P.loses peer.old (follow.LocalGet side) peer.new }
-    ensures counts { P.fault_count peer.old ≤ P.fault_count peer.new }
-{
-    match peer.local_get(log_id) {
-        Ok(log) => return drop(log),
-        Err(_) => return,
-    }
 }
 
 impl<P: Peer> FaultPeer<P> {
@@ -76,17 +64,20 @@ impl<P: Peer> FaultPeer<P> {
         self.peer
     }
 
-    // Counts a call, and says which part of it is lost; None: no part.
+    // Counts a call, and a fault where a part of it is lost, and says which part; None: no part.
     fn next_loss(&mut self) -> Option<Loss>
-        ensures rest { self.new ≡ record self.old { left = self.new.left } }
+        ensures peer { self.new.peer ≡ self.old.peer }
+        ensures same { (self.new.again ≡ self.old.again) × (self.new.loss ≡ self.old.loss) }
         ensures left { IsCountedDown self.old.again self.old.left self.new.left }
-        ensures none { IfNone result (self.old.left ≢ 1) }
-        ensures some { IfSome result (λ loss. (self.old.left ≡ 1) × (self.old.loss ≡ loss)) }
+        ensures none { IfNone result ((self.old.left ≢ 1) × (self.new.faults ≡ self.old.faults)) }
+        ensures some { IfSome result (λ loss. (self.old.left ≡ 1) × (self.old.loss ≡ loss)
+            × (self.new.faults ≡ min (self.old.faults + 1) (2 ^ 64 - 1))) }
     {
         match self.left {
             0 => None,
             1 => {
                 self.left = self.again;
+                self.faults = self.faults.saturating_add(1);
                 Some(self.loss)
             }
             left => {
@@ -96,14 +87,31 @@ impl<P: Peer> FaultPeer<P> {
         }
     }
 
-    // Counts a fault.
-    fn fault(&mut self) -> CallFault
-        ensures faults { self.new
-            ≡ record self.old { faults = min (self.old.faults + 1) (2 ^ 64 - 1) } }
-        ensures value { result ≡ CallFault.Peer }
+    // Makes a call on the other peer, except for the part of it that is lost.
+    fn pass<A: Drop, F: FnOnce(&mut P) -> Result<A, CallFault>>(
+        &mut self,
+        call: F,
+    ) -> Result<A, CallFault>
+        requires { F.IsAlwaysCallable call }
+        ensures same { (self.new.again ≡ self.old.again) × (self.new.loss ≡ self.old.loss) }
+        ensures left { IsCountedDown self.old.again self.old.left self.new.left }
+        ensures whole { self.old.left ≢ 1
+            → FnOnceReturnsAtMut F.FnOnce call self.old.peer result self.new.peer }
+        ensures none { self.old.left ≢ 1 → self.new.faults ≡ self.old.faults }
+        ensures lost { self.old.left ≡ 1 → (result ≡ Err CallFault.Peer)
+            × (self.new.faults ≡ min (self.old.faults + 1) (2 ^ 64 - 1)) }
+        ensures before { self.old.left ≡ 1 → self.old.loss ≡ Before → self.new.peer ≡ self.old.peer }
+        ensures after { self.old.left ≡ 1 → self.old.loss ≡ After → (answer : Result A CallFault)
+            × FnOnceReturnsAtMut F.FnOnce call self.old.peer answer self.new.peer }
     {
-        self.faults = self.faults.saturating_add(1);
-        CallFault::Peer
+        match self.next_loss() {
+            None => call(&mut self.peer),
+            Some(Loss::Before) => Err(CallFault::Peer),
+            Some(Loss::After) => {
+                drop(call(&mut self.peer));
+                Err(CallFault::Peer)
+            }
+        }
     }
 }
 
@@ -126,69 +134,27 @@ impl<P: Peer> Peer for FaultPeer<P> {
     ghost fault_count = { λ s. min (s.faults + P.fault_count s.peer) (2 ^ 64 - 1) };
 
     fn changes(&mut self, since: Seq) -> Result<Changes, CallFault> {
-        match self.next_loss() {
-            None => self.peer.changes(since),
-            Some(Loss::Before) => Err(self.fault()),
-            Some(Loss::After) => {
-                drop(self.peer.changes(since));
-                Err(self.fault())
-            }
-        }
+        self.pass(|peer| peer.changes(since))
     }
 
     fn revs_diff(&mut self, asked: &[Asked]) -> Result<Vec<Diff>, CallFault> {
-        match self.next_loss() {
-            None => self.peer.revs_diff(asked),
-            Some(Loss::Before) => Err(self.fault()),
-            Some(Loss::After) => {
-                drop(self.peer.revs_diff(asked));
-                Err(self.fault())
-            }
-        }
+        self.pass(|peer| peer.revs_diff(asked))
     }
 
     fn open_revs(&mut self, asked: &Asked) -> Result<FetchedRevs, CallFault> {
-        match self.next_loss() {
-            None => self.peer.open_revs(asked),
-            Some(Loss::Before) => Err(self.fault()),
-            Some(Loss::After) => {
-                drop(self.peer.open_revs(asked));
-                Err(self.fault())
-            }
-        }
+        self.pass(|peer| peer.open_revs(asked))
     }
 
     fn merge(&mut self, docs: &[Doc]) -> Result<Replies, CallFault> {
-        match self.next_loss() {
-            None => self.peer.merge(docs),
-            Some(Loss::Before) => Err(self.fault()),
-            Some(Loss::After) => {
-                drop(self.peer.merge(docs));
-                Err(self.fault())
-            }
-        }
+        self.pass(|peer| peer.merge(docs))
     }
 
     fn local_get(&mut self, log_id: &str) -> Result<Option<Log>, CallFault> {
-        match self.next_loss() {
-            None => self.peer.local_get(log_id),
-            Some(Loss::Before) => Err(self.fault()),
-            Some(Loss::After) => {
-                lose_log(&mut self.peer, log_id);
-                Err(self.fault())
-            }
-        }
+        self.pass(|peer| peer.local_get(log_id))
     }
 
     fn local_put(&mut self, log_id: &str, log: &Log) -> Result<(), CallFault> {
-        match self.next_loss() {
-            None => self.peer.local_put(log_id, log),
-            Some(Loss::Before) => Err(self.fault()),
-            Some(Loss::After) => {
-                drop(self.peer.local_put(log_id, log));
-                Err(self.fault())
-            }
-        }
+        self.pass(|peer| peer.local_put(log_id, log))
     }
 
     fn faults(&self) -> u64 {

@@ -3,6 +3,7 @@
 ghost use Rattle.std.specs.Prelude.{◌≡◌, option_copied, string_bytes, IfOk};
 ghost use Rattle.hub_follow_model.specs.ReplicationLog as model;
 
+use crate::copies::copies_of;
 use hub_follow_model::Seq;
 use std::alloc::{AllocError, Global};
 use std::marker::Model;
@@ -79,10 +80,7 @@ impl Log {
         ensures { IfOk result (λ log. log ≡ self.now) }
     {
         let session_id = String::from_str(alloc, self.session_id.as_str())?;
-        let mut history = Vec::new(alloc);
-        for entry in &self.history {
-            history.push(entry.copy(alloc)?)?;
-        }
+        let history = copies_of(alloc, &self.history, HistoryEntry::copy)?;
         Ok(Log {
             session_id,
             source_last_seq: self.source_last_seq,

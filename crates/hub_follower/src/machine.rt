@@ -1,6 +1,6 @@
 //! A follower as a machine that makes no call itself.
 
-ghost use Rattle.std.specs.Prelude.{◌≡◌, true, option_map, string_bytes, Ok, OnOk, IfOk, IfErr};
+ghost use Rattle.std.specs.Prelude.{◌≡◌, ◌≢◌, true, option_map, string_bytes, Ok, OnOk, IfOk, IfErr};
 ghost use Rattle.hub_follow_model.specs.Follower as follow;
 ghost use Rattle.hub_follow_model.specs.World as world;
 ghost use Rattle.hub_follower.specs.Peers.{calls_left, IsOwnFault};
@@ -197,26 +197,31 @@ impl FollowCore {
         self.put(State::SourceStart(session_id));
     }
 
+    // Begins a phase, where there is a session and no call is owed. Else nothing changes.
+    fn begin(&mut self, phase: Phase)
+        ensures ready { (s : follow.Session) → self.old ≡ follow.Ready s
+            → self.new ≡ follow.Busy s (phase_of phase) }
+        ensures others { ((s : follow.Session) → self.old ≢ follow.Ready s) → self.new ≡ self.old }
+    {
+        let state = match mem::replace(&mut self.state, State::Down) {
+            State::Ready(session) => State::Busy(session, phase),
+            state => state,
+        };
+        self.put(state);
+    }
+
     /// Begins a round, where there is a session and no call is owed. Else nothing changes.
     pub fn begin_round(&mut self)
         ensures { self.new ≡ world.round_start self.old }
     {
-        let state = match mem::replace(&mut self.state, State::Down) {
-            State::Ready(session) => State::Busy(session, Phase::Listing),
-            state => state,
-        };
-        self.put(state);
+        self.begin(Phase::Listing);
     }
 
     /// Begins a checkpoint, where there is a session and no call is owed. Else nothing changes.
     pub fn begin_checkpoint(&mut self)
         ensures { self.new ≡ world.checkpoint_start self.old }
     {
-        let state = match mem::replace(&mut self.state, State::Down) {
-            State::Ready(session) => State::Busy(session, Phase::SourceCheckpoint),
-            state => state,
-        };
-        self.put(state);
+        self.begin(Phase::SourceCheckpoint);
     }
 
     /// The call that the follower owes, to be made on the peer that the call names.

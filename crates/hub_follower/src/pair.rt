@@ -12,14 +12,14 @@ ghost use Rattle.hub_follower.specs.Views.{call_of};
 ghost use Rattle.hub_follower.specs.Worlds.{Answers, IsWithin, IsAnswerOf};
 
 use crate::call::{Answer, Call};
-use crate::copies::copy_asked;
+use crate::copies::copies_of;
 use crate::fetched::FetchedRevs;
 use crate::handed::changes_in;
 use crate::log::Log;
 use crate::rebuilt::rows_above;
 use crate::serving;
 use hub_database::DbState;
-use hub_document::{ChangeRow, Doc, Limits, OpenRevs};
+use hub_document::{Asked, ChangeRow, Doc, Limits, OpenRevs};
 use hub_feed::FeedHost;
 use hub_follow_model::Seq;
 use hub_model::Item;
@@ -128,10 +128,13 @@ impl Pair {
                 let (edits, life) = (self.source.update_seq(), self.source.life());
                 Ok(Answer::Changes(serving::first_rows(rows, edits, life)))
             }
-            Call::RevsDiff(asked) => match self.target.revs_diff(copy_asked(self.alloc, asked)?) {
-                Ok(missed) => Ok(Answer::RevsDiff(missed)),
-                Err(_) => Err(AllocError),
-            },
+            Call::RevsDiff(asked) => {
+                let asked = copies_of(self.alloc, asked, Asked::copy)?;
+                match self.target.revs_diff(asked) {
+                    Ok(missed) => Ok(Answer::RevsDiff(missed)),
+                    Err(_) => Err(AllocError),
+                }
+            }
             Call::OpenRevs(asked) => {
                 let which = OpenRevs::Listed(asked.revs.copy(self.alloc)?);
                 match self.source.open_revs(asked.id.as_str(), &which, true) {

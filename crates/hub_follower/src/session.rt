@@ -1,13 +1,17 @@
 //! A follower's session.
 
-ghost use Rattle.std.specs.Prelude.{◌≡◌, ◌++◌, take, string_bytes, IfOk};
+ghost use Rattle.std.specs.Prelude.{◌≡◌, string_bytes, IfOk};
 ghost use Rattle.hub_follow_model.specs.Follower as follow;
 ghost use Rattle.hub_follow_model.specs.ReplicationLog as logs;
 
+use crate::copies::copies_of;
 use crate::log::{HistoryEntry, Log, common_sequence};
 use hub_follow_model::Seq;
 use std::alloc::{AllocError, Global};
 use std::marker::Model;
+
+// The greatest number of older entries in the history of a log that a checkpoint writes.
+const OLDER: usize = 49;
 
 /// A replication session.
 #[derive(Debug, Drop)]
@@ -48,21 +52,6 @@ fn history_of(alloc: Global, log: Option<Log>) -> Vec<HistoryEntry>
     }
 }
 
-/// Copies the first of these older entries to the end of the vector, at most `most` of them.
-pub(crate) fn copy_history(
-    history: &mut Vec<HistoryEntry>,
-    alloc: Global,
-    older: &[HistoryEntry],
-    most: usize,
-) -> Result<(), AllocError>
-    ensures { IfOk result (λ _. history.new.items ≡ history.old.items ++ take most older.now) }
-{
-    for entry in &older[..most.min(older.len())] {
-        history.push(entry.copy(alloc)?)?;
-    }
-    Ok(())
-}
-
 impl Session {
     /// The session that begins after the sequence up to which the two logs agree. It takes no memory.
     pub(crate) fn begin(
@@ -98,17 +87,19 @@ impl Session {
     }
 
     // The log that records the place in front of these older entries: 50 entries at most.
+    #[tactic(auto, using(std::proofs::lemmas::List::take_min))]
     fn checkpoint_log(&self, alloc: Global, older: &[HistoryEntry]) -> Result<Log, AllocError>
         ensures { IfOk result (λ log. log ≡ follow.checkpoint_log self.now older.now) }
     {
-        let mut history = Vec::new(alloc);
-        history.push(HistoryEntry {
+        let older = &older[..OLDER.min(older.len())];
+        let mut history = copies_of(alloc, older, HistoryEntry::copy)?;
+        let newest = HistoryEntry {
             session_id: String::from_str(alloc, self.session_id.as_str())?,
             start_last_seq: self.start,
             end_last_seq: self.place,
             recorded_seq: self.place,
-        })?;
-        copy_history(&mut history, alloc, older, 49)?;
+        };
+        history.insert(0, newest)?;
         Ok(Log {
             session_id: String::from_str(alloc, self.session_id.as_str())?,
             source_last_seq: self.place,
