@@ -1,5 +1,6 @@
 -- The last values of names, as the pairs of a query are read one after another.
-use Rattle.std.proofs.Common.{◌≡◌, ℕ, List, ◌∷◌, All, Bool, Option, Some, None, refl, if◌then◌else◌, subst, sym}
+use Rattle.std.proofs.Common.{◌≡◌, ℕ, List, ◌∷◌, All, Bool, Option, Some, None, refl, if◌then◌else◌}
+use Rattle.std.proofs.Common.{subst, sym}
 use Rattle.std.proofs.lemmas.List.Elements.{All-head, All-rest}
 use Rattle.std.specs.Option.{option_or}
 use Rattle.std.specs.Str.{bytes_eq}
@@ -33,8 +34,8 @@ read_none wanted query left e = rw e (or_none (written_of wanted query))
     or_none (Some x) = refl
 
 -- one more pair is read, which has the name or has not
-pub read_one : (wanted name value : List ℕ) (left rest : List (List ℕ × List ℕ)) (kept whole : Option (List ℕ))
-    (named : Bool)
+pub read_one : (wanted name value : List ℕ) (left rest : List (List ℕ × List ℕ))
+    (kept whole : Option (List ℕ)) (named : Bool)
     → left ≡ (name, value) ∷ rest → named ≡ bytes_eq (decoded_text name) wanted
     → last_with wanted left kept ≡ whole
     → last_with wanted rest (option_or (if named then Some value else None) kept) ≡ whole

@@ -1,6 +1,7 @@
 -- The parameters of a changes feed, or the first fault in them (CouchDB API reference, _changes; the order of
 -- the faults is own).
-use Rattle.std.specs.Prelude.{ℕ, List, codes, Bool, ◌&&◌, not, if◌then◌else◌, Option, Some, None, Result, Ok, Err}
+use Rattle.std.specs.Prelude.{ℕ, List, codes, Bool, ◌&&◌, not, if◌then◌else◌}
+use Rattle.std.specs.Prelude.{Option, Some, None, Result, Ok, Err}
 use Rattle.std.specs.Str.{bytes_eq}
 use Rattle.hub_filter.specs.Listed.{in_order}
 use Rattle.hub_model.specs.Feed.{is_waiting_mode}
@@ -47,7 +48,8 @@ or_stop (Ok a) next = next a
 abbrev pub filter_in : Option (List ℕ) → Option (List ℕ) → List ℕ → Result Filter ParamFault
 filter_in None ids body = Ok Everything
 filter_in (Some text) ids body =
-    if bytes_eq text (codes "_doc_ids") then or_fault (ids_in ids body) BadDocIds (λ ids. Ok (DocIds (in_order ids)))
+    if bytes_eq text (codes "_doc_ids")
+    then or_fault (ids_in ids body) BadDocIds (λ ids. Ok (DocIds (in_order ids)))
     else (if bytes_eq text (codes "_design") then Ok Design else Err BadFilter)
 
 -- the parameters that a query and a body give a feed, or the first fault. Only a feed that ends at once, and

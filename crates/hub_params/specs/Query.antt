@@ -25,7 +25,8 @@ value_of name query = option_map decoded_text (written_of name query)
 
 -- a function reads this text so, where `post` tells what the function gives at which text
 abbrev pub IsReadAs : {R : Type 0} → (Option (Bor (List ℕ)) → R → Type 0) → Option (List ℕ) → R → Type 0
-IsReadAs post text result = (lent : Option (Bor (List ℕ))) × (option_map (λ s. s.now) lent ≡ text) × post lent result
+IsReadAs post text result =
+    (lent : Option (Bor (List ℕ))) × (option_map (λ s. s.now) lent ≡ text) × post lent result
 
 -- the names and values that the standard's parser gives, each as a text
 abbrev pub pairs_of : List ℕ → List (List ℕ × List ℕ)

@@ -53,8 +53,8 @@ FilterNeedsRoom query body =
 
 -- The parameters of a feed need room. The query since=1&limit=2 needs none. The query
 -- filter=_doc_ids&doc_ids=["a"] does, for the list of ids. With since=1&style=%61 they need room. With
--- since=x&style=%61 they do not, since nothing is read after the fault x. In a continuous feed descending=true
--- is a fault, and include_docs=%31 after it is not read.
+-- since=x&style=%61 they do not, because nothing is read after the fault x. In a continuous feed
+-- descending=true is a fault, and include_docs=%31 after it is not read.
 abbrev pub FeedNeedsRoom : List ℕ → List ℕ → Type 0
 FeedNeedsRoom query body =
     or_behind (codes "since") since_in query (λ _.

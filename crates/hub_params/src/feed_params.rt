@@ -1,7 +1,6 @@
 //! The parameters of a changes feed.
 
-ghost use Rattle.std.specs.Prelude.{◌≡◌, ◌⊎◌, IfOk, IfErr, OnErr, Ok, Err};
-ghost use Rattle.std.specs.Prelude.{codes};
+ghost use Rattle.std.specs.Prelude.{◌≡◌, ◌⊎◌, IfOk, IfErr, OnErr, Ok, Err, codes};
 ghost use Rattle.hub_filter.specs.Shown.{HasIds, filter_of};
 ghost use Rattle.hub_params.specs.FeedParams.{feed_asked, filter_in};
 ghost use Rattle.hub_params.specs.FeedShown.{params_asked};

@@ -6,7 +6,8 @@ ghost use Rattle.std.specs.Option.{option_copied};
 ghost use Rattle.std.specs.Str.{bytes_eq};
 ghost use Rattle.form_urlencoded.specs.Form.{IsPlainText};
 ghost use Rattle.hub_params.specs.Encoded.{decoded_text};
-ghost use Rattle.hub_params.specs.Query.{value_of as value_in, written_of as written_in, IsReadAs, ValuesAreParsed};
+ghost use Rattle.hub_params.specs.Query.{value_of as value_in, written_of as written_in};
+ghost use Rattle.hub_params.specs.Query.{IsReadAs, ValuesAreParsed};
 ghost use Rattle.hub_params.specs.Room.{HasEscapedName, ValueNeedsRoom};
 
 use crate::feed_fault::ParamFault;
