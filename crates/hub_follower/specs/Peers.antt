@@ -26,11 +26,6 @@ pub record CallCounts {A : Type 0} (result : Result A CallFault) (old new : ℕ)
   pub rises : old ≤ new
   pub fault : IfErr result (λ e. IsCountedFault e old new)
 
--- the follower's fault for the fault of a call
-abbrev pub IsCallFault : CallFault → FollowFault → Type 0
-IsCallFault call_fault.Peer fault = fault ≡ told.Peer
-IsCallFault call_fault.NoMemory fault = fault ≡ told.NoMemory
-
 -- the call's fault for the fault of a database: a refusal of a whole call is the peer's fault
 abbrev pub IsDbFault : DbFault → CallFault → Type 0
 IsDbFault db_fault.NoMemory fault = fault ≡ call_fault.NoMemory
@@ -135,15 +130,18 @@ IsFaultOfCall told.NoMemory = Unit {0}
 IsFaultOfCall fault = ⊥
 
 -- The outcome of a call on the peer that the call names, where `shown` views an answer. The call is answered,
--- and the answer fits it, or the call fails. The counts of faults are as `BothCount` says.
+-- and the answer fits it, or the call fails. Neither count of faults falls, and the outcome is a fault of a
+-- peer only where one of the counts has grown.
 pub record IsMade {S T A : Type 0} (gives_s : Gives S) (gives_t : Gives T) (loses_s : Fails S)
     (loses_t : Fails T) (count_s : S → ℕ) (count_t : T → ℕ) (call : follow.Call) (shown : A → follow.Answer)
-    (result : Result A FollowFault) (s : S) (t : T) (s' : S) (t' : T) : Type 0 where
+    (result : Result A CallFault) (s : S) (t : T) (s' : S) (t' : T) : Type 0 where
   pub ok : IfOk result (λ answer. Serves gives_s gives_t call (shown answer) s t s' t')
   pub fits : IfOk result (λ answer. follow.IsAnswerTo call (shown answer))
   pub err : IfErr result (λ _. Loses loses_s loses_t call s t s' t')
-  pub call_fault : IfErr result IsFaultOfCall
-  pub counts : BothCount count_s count_t result s t s' t'
+  pub source : count_s s ≤ count_s s'
+  pub target : count_t t ≤ count_t t'
+  pub fault :
+      IfErr result (λ e. IsCountedFault e (count_s s) (count_s s') ⊎ IsCountedFault e (count_t t) (count_t t'))
 
 -- the call is answered, and its answer dropped for this fault: the answer's own, or that memory ran out
 abbrev pub Drops : {S T : Type 0} → Gives S → Gives T → follow.Call → FollowFault

@@ -9,7 +9,7 @@ ghost use Rattle.hub_follower.specs.Views.{answer_of, call_of};
 use crate::call::{Answer, Call};
 use crate::fault::FollowFault;
 use crate::machine::FollowCore;
-use crate::peer::Peer;
+use crate::peer::{CallFault, Peer};
 use std::alloc::Global;
 
 // Makes a call on the peer that the call names.
@@ -19,7 +19,7 @@ fn made<S: Peer, T: Peer>(
     source: &mut S,
     target: &mut T,
     log_id: &str,
-) -> Result<Answer, FollowFault>
+) -> Result<Answer, CallFault>
     ensures { IsMade S.gives T.gives S.loses T.loses S.fault_count T.fault_count (call_of call.entry)
         answer_of result source.old target.old source.new target.new }
 {
@@ -64,7 +64,10 @@ pub(crate) fn step<S: Peer, T: Peer>(
         },
         Err(fault) => {
             core.fail();
-            Err(fault)
+            Err(match fault {
+                CallFault::Peer => FollowFault::Peer,
+                CallFault::NoMemory => FollowFault::NoMemory,
+            })
         }
     }
 }

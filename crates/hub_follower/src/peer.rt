@@ -6,7 +6,6 @@ ghost use Rattle.hub_database.specs.Edits.{edit_of};
 ghost use Rattle.hub_follower.specs.Peers.{IsCalled, IsLogCalled};
 ghost use Rattle.hub_follower.specs.Views.{found_edit};
 
-use crate::fault::FollowFault;
 use crate::fetched::FetchedRevs;
 use crate::log::Log;
 use hub_database::{DbFault, Diff, Replies};
@@ -24,19 +23,6 @@ pub enum CallFault {
     /// Memory ran out.
     #[error("out of memory")]
     NoMemory,
-}
-
-impl From<CallFault> for FollowFault {
-    ghost use Rattle.hub_follower.specs.Peers.{IsCallFault};
-
-    ghost from_gives = { IsCallFault };
-
-    fn from(fault: CallFault) -> FollowFault {
-        match fault {
-            CallFault::Peer => FollowFault::Peer,
-            CallFault::NoMemory => FollowFault::NoMemory,
-        }
-    }
 }
 
 impl From<DbFault> for CallFault {
