@@ -8,14 +8,14 @@ use Rattle.std.specs.Str.{IsUtf8}
 use Rattle.std.proofs.lemmas.Grind.{common_steps}
 use Rattle.std.proofs.lemmas.Bool.Decides.{nat_tests}
 use Rattle.hub_http.specs.Stream.{PlainRequest}
+use Rattle.hub_http.specs.declared.refusal.Refusal.{Refusal}
+use Rattle.hub_http.specs.declared.refusal.Refusal.TheVariants.{NoMemory, BadId, BadName}
 use Rattle.hub_routes.specs.Paths.{path_of, name_part, id_part, HasPercent, NeedsRoomForKind}
 use Rattle.hub_routes.specs.Methods.{has_document}
 use Rattle.hub_routes.specs.Routes.{database_of, document_of, IsServed, IsBadId}
 use Rattle.hub_routes.specs.Routes.{kind, name, document, GoesTo}
 use Rattle.hub_routes.specs.declared.kind.Kind.{Kind}
 use Rattle.hub_routes.specs.declared.route.Route.{Route}
-use Rattle.hub_routes.specs.declared.route.RouteFault.{RouteFault}
-use Rattle.hub_routes.specs.declared.route.RouteFault.TheVariants.{NoMemory, BadId, BadName}
 
 some_of : (b : Bool) (n i : ℕ) → cond b (Some n) None ≡ Some i → n ≡ i
 some_of true n i e = cc
@@ -57,20 +57,20 @@ at_any_error (Ok x) P p = tt
 at_any_error (Err e) P p = p
 
 -- out of memory for the kind of a path
-pub path_has_no_room : (asked : PlainRequest) (r : Result Route RouteFault) → r ≡ Err NoMemory
+pub path_has_no_room : (asked : PlainRequest) (r : Result Route Refusal) → r ≡ Err NoMemory
     → NeedsRoomForKind (path_of asked.target) → GoesTo asked r
 path_has_no_room asked r none room = rw none (kind room)
 
 -- a name that is out of memory, or is no text
-pub name_refuses : (a : PlainRequest) (k : Kind) (fault : RouteFault) → IsServed a k
-    → ((fault ≡ NoMemory) × HasPercent (name_part (path_of a.target)))
-    ⊎ ((fault ≡ BadName) × (¬ IsUtf8 (database_of a))) → GoesTo a (Err fault)
-name_refuses a k fault asked (inl (none, room)) = rw none (name k asked room)
-name_refuses a k fault asked (inr (bad, other)) = rw bad (k, asked, other)
+pub name_refuses : (a : PlainRequest) (k : Kind) (refusal : Refusal) → IsServed a k
+    → ((refusal ≡ NoMemory) × HasPercent (name_part (path_of a.target)))
+    ⊎ ((refusal ≡ BadName) × (¬ IsUtf8 (database_of a))) → GoesTo a (Err refusal)
+name_refuses a k refusal asked (inl (none, room)) = rw none (name k asked room)
+name_refuses a k refusal asked (inr (bad, other)) = rw bad (k, asked, other)
 
 -- an id that is out of memory, or is refused
-pub id_refuses : (a : PlainRequest) (k : Kind) (fault : RouteFault) → IsServed a k → IsUtf8 (database_of a)
-    → ((fault ≡ NoMemory) × (has_document k ≡ true) × HasPercent (id_part (path_of a.target)))
-    ⊎ ((fault ≡ BadId) × IsBadId k (document_of a)) → GoesTo a (Err fault)
-id_refuses a k fault asked d (inl (none, one, room)) = rw none (document k asked one d room)
-id_refuses a k fault asked d (inr (m, bad)) = rw m (k, asked, d, bad)
+pub id_refuses : (a : PlainRequest) (k : Kind) (refusal : Refusal) → IsServed a k → IsUtf8 (database_of a)
+    → ((refusal ≡ NoMemory) × (has_document k ≡ true) × HasPercent (id_part (path_of a.target)))
+    ⊎ ((refusal ≡ BadId) × IsBadId k (document_of a)) → GoesTo a (Err refusal)
+id_refuses a k refusal asked d (inl (none, one, room)) = rw none (document k asked one d room)
+id_refuses a k refusal asked d (inr (m, bad)) = rw m (k, asked, d, bad)

@@ -2,5 +2,4 @@ pub mod Table
 pub mod Paths
 pub mod Methods
 pub mod Routes
-pub mod RouteRefusals
 pub mod WorkedPaths

@@ -5,14 +5,14 @@ use Rattle.std.specs.Prelude.{if◌then◌else◌}
 use Rattle.std.specs.Cow.{cow_str_bytes}
 use Rattle.std.specs.Str.{IsUtf8}
 use Rattle.hub_http.specs.Stream.{PlainRequest}
+use Rattle.hub_http.specs.declared.refusal.Refusal.{Refusal}
+use Rattle.hub_http.specs.declared.refusal.Refusal.TheVariants.{NoMemory, Missing, MethodNotAllowed, BadName}
+use Rattle.hub_http.specs.declared.refusal.Refusal.TheVariants.{BadId, LengthMissing}
 use Rattle.hub_routes.specs.Paths.{path_of, query_of, name_part, id_part, name_of, id_of, kind_of, HasPercent}
 use Rattle.hub_routes.specs.Paths.{NeedsRoomForKind}
 use Rattle.hub_routes.specs.Methods.{method_of, asked_of, has_document, takes_id, takes_body}
 use Rattle.hub_routes.specs.declared.kind.Kind.{Kind}
 use Rattle.hub_routes.specs.declared.route.Route.{Route}
-use Rattle.hub_routes.specs.declared.route.RouteFault.{RouteFault}
-use Rattle.hub_routes.specs.declared.route.RouteFault.TheVariants.{NoMemory, Missing, MethodNotAllowed}
-use Rattle.hub_routes.specs.declared.route.RouteFault.TheVariants.{BadName, BadId, LengthMissing}
 
 -- the name of the database that a request asks for
 abbrev pub database_of : PlainRequest → List ℕ
@@ -54,8 +54,8 @@ pub record IsRoute (a : PlainRequest) (route : Route) : Type 0 where
   pub good : IsGoodId kind (document_of a)
   pub query : route.query.now ≡ query_of a.target
 
--- the route of a request, or the fault that refuses it
-abbrev pub GoesTo : PlainRequest → Result Route RouteFault → Type 0
+-- the route of a request, or its refusal, which is one of six
+abbrev pub GoesTo : PlainRequest → Result Route Refusal → Type 0
 GoesTo asked (Ok route) = IsRoute asked route
 GoesTo asked (Err NoMemory) = NeedsRoom asked
 GoesTo asked (Err Missing) = kind_of (path_of asked.target) ≡ None
@@ -68,3 +68,4 @@ GoesTo asked (Err BadId) =
 GoesTo asked (Err LengthMissing) =
     (kind : Kind) × IsServed asked kind × IsUtf8 (database_of asked) × (takes_body kind ≡ true)
     × (asked.has_length ≡ false)
+GoesTo asked (Err other) = ⊥

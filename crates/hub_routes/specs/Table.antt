@@ -1,5 +1,6 @@
 -- The table of routes (CouchDB API reference, the paths of the server, databases and documents).
-use Rattle.std.specs.Prelude.{ℕ, List, [], Option, Some, None, Result, Ok, Err, codes}
+use Rattle.std.specs.Prelude.{ℕ, List, [], ◌∷◌, Option, Some, None, Result, Ok, Err, codes}
+use Rattle.std.specs.List.{fold}
 use Rattle.matchit.specs.declared.error.InsertError.{InsertError}
 use Rattle.matchit.specs.Rows.{RowsOf}
 use Rattle.matchit.specs.Order.{placed}
@@ -23,21 +24,26 @@ with_scan (Err e) kind rows = rows
 unfoldable pub with_route : List ℕ → Kind → Routes → Routes
 with_route text kind rows = with_scan (parse_route text) kind rows
 
--- the table, with its routes in the router's order: they are added from the last line to the first
+-- the routes that the hub serves, each with its kind, in the order in which they are added
+abbrev pub served_routes : List (List ℕ × Kind)
+served_routes =
+    (codes "/", Welcome)
+    ∷ (codes "/_all_dbs", AllDbs)
+    ∷ (codes "/_db_updates", DbUpdates)
+    ∷ (codes "/{db}", Database)
+    ∷ (codes "/{db}/", Database)
+    ∷ (codes "/{db}/_bulk_docs", BulkDocs)
+    ∷ (codes "/{db}/_changes", Changes)
+    ∷ (codes "/{db}/_revs_diff", RevsDiff)
+    ∷ (codes "/{db}/_ensure_full_commit", FullCommit)
+    ∷ (codes "/{db}/{id}", Document)
+    ∷ (codes "/{db}/_design/{name}", Document)
+    ∷ (codes "/{db}/_local/{name}", Local)
+    ∷ []
+
+-- the table: each route is added in its turn
 unfoldable pub table : Routes
-table =
-    with_route (codes "/{db}/_local/{name}") Local
-    (with_route (codes "/{db}/_design/{name}") Document
-    (with_route (codes "/{db}/{id}") Document
-    (with_route (codes "/{db}/_ensure_full_commit") FullCommit
-    (with_route (codes "/{db}/_revs_diff") RevsDiff
-    (with_route (codes "/{db}/_changes") Changes
-    (with_route (codes "/{db}/_bulk_docs") BulkDocs
-    (with_route (codes "/{db}/") Database
-    (with_route (codes "/{db}") Database
-    (with_route (codes "/_db_updates") DbUpdates
-    (with_route (codes "/_all_dbs") AllDbs
-    (with_route (codes "/") Welcome [])))))))))))
+table = fold (λ rows route. with_route route.0 route.1 rows) [] served_routes
 
 -- the kind of a route
 abbrev pub kind_of : Option (RouteOf Kind) → Option Kind

@@ -1,6 +1,6 @@
 //! The kinds of paths (CouchDB API reference, the paths of the server, databases and documents).
 
-ghost use Rattle.std.specs.Prelude.{◌≡◌, IfOk, OnOk, codes};
+ghost use Rattle.std.specs.Prelude.{◌≡◌, IfOk, OnOk};
 ghost use Rattle.hub_routes.specs.Table.{with_route, table};
 ghost use Rattle.hub_routes.specs.Paths.{kind_by_id};
 
@@ -33,6 +33,22 @@ pub enum Kind {
     Local,
 }
 
+// The routes that the hub serves, in the order in which they are added.
+const ROUTES: [(&str, Kind); 12] = [
+    ("/", Kind::Welcome),
+    ("/_all_dbs", Kind::AllDbs),
+    ("/_db_updates", Kind::DbUpdates),
+    ("/{db}", Kind::Database),
+    ("/{db}/", Kind::Database),
+    ("/{db}/_bulk_docs", Kind::BulkDocs),
+    ("/{db}/_changes", Kind::Changes),
+    ("/{db}/_revs_diff", Kind::RevsDiff),
+    ("/{db}/_ensure_full_commit", Kind::FullCommit),
+    ("/{db}/{id}", Kind::Document),
+    ("/{db}/_design/{name}", Kind::Document),
+    ("/{db}/_local/{name}", Kind::Local),
+];
+
 // Adds a route. Each route reads well and no two of them conflict, so the only error is out of memory.
 fn add(router: &mut Router<Kind>, route: &str, kind: Kind) -> Result<(), AllocError>
     ensures { OnOk result (router.new ≡ with_route route.now kind router.old) }
@@ -43,52 +59,15 @@ fn add(router: &mut Router<Kind>, route: &str, kind: Kind) -> Result<(), AllocEr
     }
 }
 
-// Adds the paths of the hub and of databases.
-fn add_names(router: &mut Router<Kind>) -> Result<(), AllocError>
-    ensures { OnOk result (router.new
-        ≡ with_route (codes "/{db}/") Kind.Database
-        (with_route (codes "/{db}") Kind.Database
-        (with_route (codes "/_db_updates") Kind.DbUpdates
-        (with_route (codes "/_all_dbs") Kind.AllDbs
-        (with_route (codes "/") Kind.Welcome router.old))))) }
-{
-    add(router, "/", Kind::Welcome)?;
-    add(router, "/_all_dbs", Kind::AllDbs)?;
-    add(router, "/_db_updates", Kind::DbUpdates)?;
-    add(router, "/{db}", Kind::Database)?;
-    add(router, "/{db}/", Kind::Database)?;
-    Ok(())
-}
-
-// Adds the paths of a database's parts.
-fn add_parts(router: &mut Router<Kind>) -> Result<(), AllocError>
-    ensures { OnOk result (router.new
-        ≡ with_route (codes "/{db}/_local/{name}") Kind.Local
-        (with_route (codes "/{db}/_design/{name}") Kind.Document
-        (with_route (codes "/{db}/{id}") Kind.Document
-        (with_route (codes "/{db}/_ensure_full_commit") Kind.FullCommit
-        (with_route (codes "/{db}/_revs_diff") Kind.RevsDiff
-        (with_route (codes "/{db}/_changes") Kind.Changes
-        (with_route (codes "/{db}/_bulk_docs") Kind.BulkDocs router.old))))))) }
-{
-    add(router, "/{db}/_bulk_docs", Kind::BulkDocs)?;
-    add(router, "/{db}/_changes", Kind::Changes)?;
-    add(router, "/{db}/_revs_diff", Kind::RevsDiff)?;
-    add(router, "/{db}/_ensure_full_commit", Kind::FullCommit)?;
-    add(router, "/{db}/{id}", Kind::Document)?;
-    add(router, "/{db}/_design/{name}", Kind::Document)?;
-    add(router, "/{db}/_local/{name}", Kind::Local)?;
-    Ok(())
-}
-
 // Builds the table. The paths of the hub stand beside those of databases, so that none of them is taken for
 // the name of a database.
 pub fn table(alloc: Global) -> Result<Router<Kind>, AllocError>
     ensures { IfOk result (λ r. r ≡ table) }
 {
     let mut router = Router::new(alloc);
-    add_names(&mut router)?;
-    add_parts(&mut router)?;
+    for (route, kind) in ROUTES {
+        add(&mut router, route, kind)?;
+    }
     Ok(router)
 }
 

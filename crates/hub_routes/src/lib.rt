@@ -8,6 +8,6 @@ mod route;
 mod routes;
 mod samples;
 
-pub use route::{Call, Route, RouteFault};
+pub use route::{Call, Route};
 pub use routes::Routes;
 pub use samples::{prefixes_stay, sample_ids, sample_paths};

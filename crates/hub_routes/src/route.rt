@@ -1,9 +1,5 @@
-//! Routes, and the faults of requests without one.
+//! The routes of requests, as values.
 
-ghost use Rattle.std.specs.Prelude.{◌≡◌};
-
-use hub_http::Refusal;
-use std::alloc::AllocError;
 use std::borrow::CowStr;
 
 /// The call that a request asks for.
@@ -55,50 +51,4 @@ pub struct Route<'r> {
     pub id: CowStr<'r>,
     /// The bytes behind the first `?` of the target, as they were sent; empty where there is no `?`.
     pub query: &'r [u8],
-}
-
-/// Why a request has no route.
-#[derive(Clone, Copy, Debug, PartialEq, Eq)]
-pub enum RouteFault {
-    /// No memory was found.
-    NoMemory,
-    /// No route of the table has this path.
-    Missing,
-    /// The path does not take this method.
-    MethodNotAllowed,
-    /// The name of the database is not UTF-8 once its escapes are read.
-    BadName,
-    /// The document's id is not UTF-8 once its escapes are read, or no document may have it.
-    BadId,
-    /// A request with a body has no `Content-Length`.
-    LengthMissing,
-}
-
-impl From<AllocError> for RouteFault {
-    ghost use Rattle.std.specs.Prelude.{◌≡◌};
-    ghost use Rattle.hub_routes.specs.declared.route.RouteFault.TheVariants.{NoMemory};
-
-    ghost from_gives = { λ _ e. e ≡ NoMemory };
-
-    fn from(_refused: AllocError) -> RouteFault {
-        RouteFault::NoMemory
-    }
-}
-
-impl From<RouteFault> for Refusal {
-    ghost use Rattle.std.specs.Prelude.{◌≡◌};
-    ghost use Rattle.hub_routes.specs.RouteRefusals.{of_route_fault};
-
-    ghost from_gives = { λ f r. r ≡ of_route_fault f };
-
-    fn from(fault: RouteFault) -> Refusal {
-        match fault {
-            RouteFault::NoMemory => Refusal::NoMemory,
-            RouteFault::Missing => Refusal::Missing,
-            RouteFault::MethodNotAllowed => Refusal::MethodNotAllowed,
-            RouteFault::BadName => Refusal::BadName,
-            RouteFault::BadId => Refusal::BadId,
-            RouteFault::LengthMissing => Refusal::LengthMissing,
-        }
-    }
 }

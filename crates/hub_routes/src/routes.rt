@@ -16,8 +16,8 @@ ghost use Rattle.hub_routes.specs.Routes.{IsGoodId, IsBadId, GoesTo};
 use crate::kind::{Kind, refined, table};
 use crate::method::{asked_of, has_document, method_of, takes_body, takes_id};
 use crate::path::{cut, decoded, parts, text_of};
-use crate::route::{Route, RouteFault};
-use hub_http::Request;
+use crate::route::Route;
+use hub_http::{Refusal, Request};
 use matchit::Router;
 use percent_encoding::{AsciiSet, percent_encode};
 use std::alloc::{AllocError, Global};
@@ -45,14 +45,14 @@ fn document_id<'p>(
     kind: Kind,
     part: &'p [u8],
     read: Option<CowSlice<'p, u8>>,
-) -> Result<CowStr<'p>, RouteFault>
+) -> Result<CowStr<'p>, Refusal>
     requires { ForSome read (λ id. cow_slice_items id ≡ percent_decode part.now) }
     ensures value { IfOk result
         (λ s. cow_str_bytes s ≡ (if has_document kind then percent_decode part.now else [])) }
     ensures good { OnOk result (IsGoodId kind (percent_decode part.now)) }
     ensures none { IfErr result (λ e.
-        ((e ≡ RouteFault.NoMemory) × (has_document kind ≡ true) × HasPercent part.now)
-        ⊎ ((e ≡ RouteFault.BadId) × IsBadId kind (percent_decode part.now))) }
+        ((e ≡ Refusal.NoMemory) × (has_document kind ≡ true) × HasPercent part.now)
+        ⊎ ((e ≡ Refusal.BadId) × IsBadId kind (percent_decode part.now))) }
 {
     if !has_document(kind) {
         return Ok(CowStr::Borrowed(""));
@@ -63,19 +63,19 @@ fn document_id<'p>(
     };
     match text_of(bytes) {
         Some(id) if takes_id(kind, id.as_str().as_bytes()) => Ok(id),
-        _ => Err(RouteFault::BadId),
+        _ => Err(Refusal::BadId),
     }
 }
 
 // The name of the database that this part of a path names.
-fn database_name<'p>(alloc: Global, name: &'p [u8]) -> Result<CowStr<'p>, RouteFault>
+fn database_name<'p>(alloc: Global, name: &'p [u8]) -> Result<CowStr<'p>, Refusal>
     ensures value { IfOk result (λ s. cow_str_bytes s ≡ percent_decode name.now) }
     ensures text { OnOk result (IsUtf8 (percent_decode name.now)) }
-    ensures none { IfErr result (λ e. ((e ≡ RouteFault.NoMemory) × HasPercent name.now)
-        ⊎ ((e ≡ RouteFault.BadName) × (¬ IsUtf8 (percent_decode name.now)))) }
+    ensures none { IfErr result (λ e. ((e ≡ Refusal.NoMemory) × HasPercent name.now)
+        ⊎ ((e ≡ Refusal.BadName) × (¬ IsUtf8 (percent_decode name.now)))) }
 {
     let Some(db) = text_of(decoded(alloc, name)?) else {
-        return Err(RouteFault::BadName);
+        return Err(Refusal::BadName);
     };
     Ok(db)
 }
@@ -137,24 +137,24 @@ impl Routes {
         }
     }
 
-    /// The route of a request. The first of these faults refuses the request: no such path; a method that the
+    /// The route of a request. The first of these refuses the request: no such path; a method that the
     /// path does not take; a name that is no text; a missing length; an id that is no text or that no
     /// document may have. The cost is the target's length, and nothing is copied. Memory is taken once for a
     /// name with an escape, once for an id with an escape, and for a path with bytes outside ASCII.
-    pub fn route<'r>(&self, alloc: Global, request: &'r Request) -> Result<Route<'r>, RouteFault>
+    pub fn route<'r>(&self, alloc: Global, request: &'r Request) -> Result<Route<'r>, Refusal>
         ensures { GoesTo (asked_by request.now) result }
     {
         let (path, query) = target_of(request);
         let (name, part) = parts(path);
         let Some(Named { kind, id: read }) = self.named(alloc, path, part)? else {
-            return Err(RouteFault::Missing);
+            return Err(Refusal::Missing);
         };
         let Some(call) = asked_of(kind, method_of(request.method.as_slice())) else {
-            return Err(RouteFault::MethodNotAllowed);
+            return Err(Refusal::MethodNotAllowed);
         };
         let db = database_name(alloc, name)?;
         if takes_body(kind) && !request.has_length {
-            return Err(RouteFault::LengthMissing);
+            return Err(Refusal::LengthMissing);
         }
         let id = document_id(alloc, kind, part, read)?;
         Ok(Route {

@@ -2,8 +2,8 @@
 //!
 //! A request shows its route by its answer. Where no answer shows it, the table of routes itself is asked.
 
-use hub_http::{MethodName, Request};
-use hub_routes::{Route, RouteFault, Routes};
+use hub_http::{MethodName, Refusal, Request};
+use hub_routes::{Route, Routes};
 use hub_transcript::{Answer, Subject, Words, replay};
 use std::alloc::{AllocError, Global};
 use std::borrow::CowStr;
@@ -425,8 +425,8 @@ impl<R> Subject<R> for Table {
         let request = request_of(self.alloc, command)?;
         match self.routes.route(self.alloc, &request) {
             Ok(route) => put(&route, answer),
-            Err(RouteFault::NoMemory) => Err(AllocError),
-            Err(fault) => answer.line(format_args!("{fault:?}")),
+            Err(Refusal::NoMemory) => Err(AllocError),
+            Err(refusal) => answer.line(format_args!("{refusal:?}")),
         }
     }
 }

@@ -1,7 +1,7 @@
 use Rattle.std.proofs.Common.{◌≡◌, Err, rules}
 use Rattle.hub_http.specs.Stream.{asked_by}
+use Rattle.hub_http.specs.declared.refusal.Refusal.TheVariants.{NoMemory}
 use Rattle.hub_routes.specs.Routes.{IsServed}
-use Rattle.hub_routes.specs.declared.route.RouteFault.TheVariants.{NoMemory}
 use Rattle.hub_routes.proofs.RouteLemmas.{path_has_no_room, name_refuses, id_refuses}
 use Rattle.hub_routes.proofs.routes.Routes.route.Goals as goal
 
