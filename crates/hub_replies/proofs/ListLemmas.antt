@@ -1,13 +1,13 @@
 -- Lists whose members have commas (44) between them.
 use Rattle.std.proofs.Common.{◌≡◌, ℕ, ◌<◌, ◌≤◌, length, drop, Option, arith, List, [], ◌∷◌, ◌++◌}
-use Rattle.std.proofs.Common.{Bool, true, false, codes, ap, refl, sym, ◌∙◌, append-nil, append_assoc}
+use Rattle.std.proofs.Common.{Bool, true, false, codes, ap, refl, sym, ◌∙◌, append-nil}
 use Rattle.std.proofs.lemmas.List.{at_drop_all}
 use Rattle.std.specs.List.{join_with_byte}
 use Rattle.serde_json.specs.Written.{comma_if}
 use Rattle.serde_json.specs.Data.{Items, no_items, item}
 use Rattle.hub_model.specs.Revision.{Revision}
 use Rattle.hub_replies.specs.declared.batch.BatchReply.{BatchReply}
-use Rattle.hub_replies.specs.Bodies.{list_text, revisions_text, ancestors_text}
+use Rattle.hub_replies.specs.Bodies.{revisions_text, ancestors_text}
 use Rattle.hub_replies.specs.Bulk.{reply_texts}
 
 -- the rest of a list, where `later` says that a member stands before it
@@ -25,26 +25,15 @@ listed_all (x ∷ xs) = listed_joined x xs
 
 -- the text that was written once no member is left
 pub list_written : {A : Type 0} (left : List A → List (List ℕ)) (texts : List (List ℕ)) (xs : List A)
-    (i : ℕ) (later : Bool) (front held new end : List ℕ)
-    → left [] ≡ []
-    → front ++ listed false texts ≡ held ++ listed later (left (drop i xs)) → length xs ≤ i
-    → new ≡ held ++ end → new ≡ front ++ (join_with_byte 44 texts ++ end)
-list_written left texts xs i later front held new end none so_far over last =
-    let rest =
-    at_drop_all (λ ys. held ++ listed later (left ys)) xs i over
+    (i : ℕ) (later : Bool) (front held : List ℕ)
+    → left [] ≡ [] → front ++ listed false texts ≡ held ++ listed later (left (drop i xs)) → length xs ≤ i
+    → held ≡ front ++ join_with_byte 44 texts
+list_written left texts xs i later front held none so_far over =
+    sym (so_far
+    ∙ at_drop_all (λ ys. held ++ listed later (left ys)) xs i over
     ∙ ap (λ l. held ++ listed later l) none
-    ∙ append-nil held in
-    last
-    ∙ ap (λ l. l ++ end) (sym (so_far ∙ rest))
-    ∙ ap (λ l. (front ++ l) ++ end) (listed_all texts)
-    ∙ append_assoc front (join_with_byte 44 texts) end
-
--- a list and the line feed behind it
-pub list_line : (texts : List (List ℕ))
-    → codes "[" ++ (join_with_byte 44 texts ++ codes "]\n") ≡ list_text texts ++ codes "\n"
-unfolding list_text
-list_line texts =
-    ap (λ l. codes "[" ++ l) (sym (append_assoc (join_with_byte 44 texts) (codes "]") (codes "\n")))
+    ∙ append-nil held)
+    ∙ ap (λ l. front ++ l) (listed_all texts)
 
 -- the member of the possible ancestors, where there are some
 pub some_ancestors : (revs : List Revision) → 0 < length revs

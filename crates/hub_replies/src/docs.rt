@@ -1,9 +1,9 @@
 //! Documents and revisions that were asked for.
 
-ghost use Rattle.std.specs.Prelude.{◌≡◌, ◌++◌, [], IfOk, OnOk};
+ghost use Rattle.std.specs.Prelude.{◌≡◌, [], IfOk};
 ghost use Rattle.hub_replies.specs.Bodies.{doc_body, local_doc_body, open_rev_text, open_revs_body};
 
-use crate::texts::put_comma;
+use crate::texts::{Member, list_body};
 use hub_database::{Local, OpenRev};
 use hub_document::{Doc, write_local};
 use std::alloc::{AllocError, Global};
@@ -43,36 +43,30 @@ pub fn local_doc_body(alloc: Global, id: &str, local: &Local) -> Result<Vec<u8>,
     Ok(text)
 }
 
-// Appends the object of a revision that was asked for.
-#[tactic(auto, unfolding(crate::specs::Bodies::open_rev_text))]
-fn put_open_rev(out: &mut Vec<u8>, rev: &OpenRev) -> Result<(), AllocError>
-    ensures { OnOk result (out.new.items ≡ out.old.items ++ open_rev_text rev.now) }
-{
-    match rev {
-        OpenRev::Found(doc) => {
-            out.extend_from_slice(b"{\"ok\":")?;
-            doc.write(out)?;
+impl Member for OpenRev {
+    ghost text = { open_rev_text };
+
+    #[tactic(auto, unfolding(crate::specs::Bodies::open_rev_text))]
+    fn put(&self, out: &mut Vec<u8>) -> Result<(), AllocError> {
+        match self {
+            OpenRev::Found(doc) => {
+                out.extend_from_slice(b"{\"ok\":")?;
+                doc.write(out)?;
+            }
+            OpenRev::Missing(rev) => {
+                out.extend_from_slice(b"{\"missing\":")?;
+                rev.print_quoted(out)?;
+            }
         }
-        OpenRev::Missing(rev) => {
-            out.extend_from_slice(b"{\"missing\":")?;
-            rev.print_quoted(out)?;
-        }
+        Ok(out.push(b'}')?)
     }
-    Ok(out.push(b'}')?)
 }
 
 /// The revisions of a document that were asked for, in order (CouchDB API reference,
 /// `GET /{db}/{docid}?open_revs=..`). Each is written straight into the body. It costs the text's length.
+#[tactic(auto, unfolding(crate::specs::Bodies::open_revs_body))]
 pub fn open_revs_body(alloc: Global, revs: &[OpenRev]) -> Result<Vec<u8>, AllocError>
     ensures { IfOk result (λ t. t.items ≡ open_revs_body revs.now) }
 {
-    let mut text = Vec::from_slice(alloc, b"[")?;
-    let mut later = false;
-    for rev in revs {
-        put_comma(&mut text, later)?;
-        put_open_rev(&mut text, rev)?;
-        later = true;
-    }
-    text.extend_from_slice(b"]\n")?;
-    Ok(text)
+    list_body(alloc, revs)
 }

@@ -16,9 +16,7 @@ use Rattle.hub_http.specs.declared.reply.Reply.TheVariants.{Done, Refused}
 use Rattle.hub_params.specs.DocParams.{doc_asked}
 use Rattle.hub_replies.specs.Bodies.{welcome_body, ok_body, names_body}
 use Rattle.hub_routes.specs.Routes.{GoesTo}
-use Rattle.hub_routes.specs.RouteRefusals.{of_route_fault}
 use Rattle.hub_routes.specs.declared.route.Route.{Route}
-use Rattle.hub_routes.specs.declared.route.RouteFault.{RouteFault}
 use Rattle.hub_routes.specs.declared.route.Call.{Call}
 use Rattle.hub_routes.specs.declared.route.Call.TheVariants.{Welcome, AllDbs, DbUpdates}
 use Rattle.hub_routes.specs.declared.route.Call.TheVariants.{Info, PutDatabase, DeleteDatabase, BulkDocs}
@@ -94,8 +92,8 @@ AnswersCall PutLocal name id query body r =
     AtDatabase name (IsRead (λ db. puts_local db (local_in id body))) r
 
 -- the answer to a request with this body, by its route
-abbrev pub Responds : List ℕ → Result Route RouteFault → Result Response Refusal → Type 0
-Responds body (Err fault) r = r ≡ Err (of_route_fault fault)
+abbrev pub Responds : List ℕ → Result Route Refusal → Result Response Refusal → Type 0
+Responds body (Err refusal) r = r ≡ Err refusal
 Responds body (Ok route) r =
     AnswersCall route.call (cow_str_bytes route.db) (cow_str_bytes route.id) route.query.now body r
 
@@ -111,7 +109,7 @@ IsSent (Err e) a maybe_sent t = (a ≡ answer.Whole (Refused e)) × (t ≡ maybe
 -- a connection that sends `maybe_sent` may answer the request with this answer, and then it sends `t`
 pub record Answers (maybe_sent : Option Sent) (asked : PlainRequest) (answer : Answer)
     (t : Option Sent) : Type 0 where
-  pub route : Result Route RouteFault
+  pub route : Result Route Refusal
   pub response : Result Response Refusal
   pub goes : GoesTo asked route
   pub responds : Responds asked.body route response

@@ -3,22 +3,21 @@
 ghost use Rattle.std.specs.Prelude.{◌≡◌, IfErr, IfOk, None, Ok, Result, Some, true};
 ghost use Rattle.hub_databases.specs.Names.{is_name as is_database_name};
 ghost use Rattle.hub_http.specs.Stream.{asked_by};
+ghost use Rattle.hub_http.specs.declared.refusal.Refusal.{Refusal};
 ghost use Rattle.hub_routes.specs.Routes.{GoesTo};
 ghost use Rattle.hub_routes.specs.declared.route.Route.{Route};
-ghost use Rattle.hub_routes.specs.declared.route.RouteFault.{RouteFault};
 ghost use Rattle.hub_service.specs.Laws.{connection_rules};
 ghost use Rattle.hub_service.specs.Requests.{AnswersCall, AtName, IsNoDatabase, IsListed, IsMade};
 ghost use Rattle.hub_service.specs.Requests.{IsRemoved, IsSent, Responds};
 
-use crate::context::Context;
-use crate::info::info;
+use crate::context::{Context, DbContext};
+use crate::feeds::begin_updates;
 use crate::pumping::Pumping;
-use crate::refusal::unnamed;
+use crate::refusal::with_hub_refusal;
 use crate::response::{Response, answer};
 use crate::rooms::JsonRooms;
 use crate::sent::Sent;
-use crate::{bulk, diff, documents, feeds, locals};
-use hub_databases::{Hub, HubDb, is_name};
+use hub_databases::{Hub, is_name};
 use hub_http::{Refusal, Reply, Request, StatusCode};
 use hub_replies::{commit_body, names_body, ok_body, welcome_body};
 use hub_routes::{Call, Route, Routes};
@@ -75,32 +74,33 @@ impl<'h, N: Wait, P: Pumping> Connection<'h, N, P> {
         }
     }
 
-    // Makes a database. The answer is made first, so that each database that is made is answered.
+    // The answer to a call by name that asks for no data, with this status, where the name is good. It is
+    // made before the call, so that each call that is done is answered.
+    fn ok_answer(&self, status: StatusCode, name: &str) -> Result<Response, Refusal>
+        ensures { AtName name.now (IsSaid (Body status ok_body)) result }
+    {
+        if !is_name(name) {
+            return Err(Refusal::BadName);
+        }
+        answer(status, Vec::from_slice(self.context.alloc, ok_body()))
+    }
+
+    // Makes a database.
     fn create(&self, name: &str) -> Result<Response, Refusal>
         ensures { AtName name.now IsMade result }
     {
-        if !is_name(name) {
-            return Err(Refusal::BadName);
-        }
-        let body = Vec::from_slice(self.context.alloc, ok_body())?;
-        match self.context.hub.create(self.context.rt, name) {
-            Ok(()) => Ok(Response::Body(StatusCode::CREATED, body)),
-            Err(fault) => Err(unnamed(fault)),
-        }
+        let made = self.ok_answer(StatusCode::CREATED, name)?;
+        with_hub_refusal(self.context.hub.create(self.context.rt, name))?;
+        Ok(made)
     }
 
-    // Removes a database. The answer is made first.
+    // Removes a database.
     fn remove(&self, name: &str) -> Result<Response, Refusal>
         ensures { AtName name.now IsRemoved result }
     {
-        if !is_name(name) {
-            return Err(Refusal::BadName);
-        }
-        let body = Vec::from_slice(self.context.alloc, ok_body())?;
-        match self.context.hub.remove(self.context.rt, name) {
-            Ok(()) => Ok(Response::Body(StatusCode::OK, body)),
-            Err(fault) => Err(unnamed(fault)),
-        }
+        let removed = self.ok_answer(StatusCode::OK, name)?;
+        with_hub_refusal(self.context.hub.remove(self.context.rt, name))?;
+        Ok(removed)
     }
 
     // Lists the names of the databases.
@@ -115,14 +115,13 @@ impl<'h, N: Wait, P: Pumping> Connection<'h, N, P> {
     }
 
     // The database of a name.
-    fn database(&self, name: &str) -> Result<HubDb, Refusal>
-        ensures own { IfOk result (λ db. (db ≡ name.now) × (is_database_name name.now ≡ true)) }
+    fn database(&self, name: &str) -> Result<DbContext<'_, N>, Refusal>
+        ensures own { IfOk result (λ it. (it.db ≡ name.now) × (is_database_name name.now ≡ true)) }
         ensures err { IfErr result (λ e. IsNoDatabase name.now e) }
     {
-        match self.context.hub.find(self.context.rt, name) {
-            Ok(db) => Ok(db),
-            Err(fault) => Err(unnamed(fault)),
-        }
+        let context = &self.context;
+        let db = with_hub_refusal(context.hub.find(context.rt, name))?;
+        Ok(DbContext { context, db })
     }
 
     // The answer to a call, with the parts of its request. A commit has nothing to do: every edit that was
@@ -137,51 +136,42 @@ impl<'h, N: Wait, P: Pumping> Connection<'h, N, P> {
     ) -> Result<Response, Refusal>
         ensures { AnswersCall call name.now id.now query.now body.now result }
     {
-        let context = &self.context;
+        let alloc = self.context.alloc;
         match call {
-            Call::Welcome => answer(
-                StatusCode::OK,
-                Vec::from_slice(context.alloc, welcome_body()),
-            ),
+            Call::Welcome => answer(StatusCode::OK, Vec::from_slice(alloc, welcome_body())),
             Call::AllDbs => self.list(),
-            Call::DbUpdates => feeds::begin_updates(context, query, body),
+            Call::DbUpdates => begin_updates(&self.context, query, body),
             Call::PutDatabase => self.create(name),
             Call::DeleteDatabase => self.remove(name),
-            Call::Info => info(context, &self.database(name)?),
-            Call::BulkDocs => bulk::store(context, &self.database(name)?, body),
-            Call::Changes => feeds::begin(context, &self.database(name)?, query, body),
-            Call::RevsDiff => diff::revs_diff(context, &self.database(name)?, body),
+            Call::Info => self.database(name)?.info(),
+            Call::BulkDocs => self.database(name)?.store_batch(body),
+            Call::Changes => self.database(name)?.begin_feed(query, body),
+            Call::RevsDiff => self.database(name)?.revs_diff(body),
             Call::FullCommit => {
                 self.database(name)?;
-                answer(
-                    StatusCode::CREATED,
-                    Vec::from_slice(context.alloc, commit_body()),
-                )
+                answer(StatusCode::CREATED, Vec::from_slice(alloc, commit_body()))
             }
-            Call::GetDocument => documents::get(context, &self.database(name)?, id, query),
-            Call::PutDocument => documents::put(context, &self.database(name)?, id, query, body),
-            Call::DeleteDocument => documents::delete(context, &self.database(name)?, id, query),
-            Call::GetLocal => locals::get(context, &self.database(name)?, id),
-            Call::PutLocal => locals::put(context, &self.database(name)?, id, body),
+            Call::GetDocument => self.database(name)?.get(id, query),
+            Call::PutDocument => self.database(name)?.put(id, query, body),
+            Call::DeleteDocument => self.database(name)?.delete(id, query),
+            Call::GetLocal => self.database(name)?.get_local(id),
+            Call::PutLocal => self.database(name)?.put_local(id, body),
         }
     }
 
     // The answer to a request.
     fn respond(&self, request: &Request) -> Result<Response, Refusal>
-        ensures { (route : Result Route RouteFault) × GoesTo (asked_by request.now) route
+        ensures { (route : Result Route Refusal) × GoesTo (asked_by request.now) route
             × Responds (asked_by request.now).body route result }
     {
-        let body = request.body.as_slice();
-        match self.routes.route(self.context.alloc, request) {
-            Ok(route) => self.call(
-                route.call,
-                route.db.as_str(),
-                route.id.as_str(),
-                route.query,
-                body,
-            ),
-            Err(fault) => Err(Refusal::from(fault)),
-        }
+        let route = self.routes.route(self.context.alloc, request)?;
+        self.call(
+            route.call,
+            route.db.as_str(),
+            route.id.as_str(),
+            route.query,
+            request.body.as_slice(),
+        )
     }
 
     // Whether a feed that gave no item may give one later.

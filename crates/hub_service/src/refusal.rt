@@ -1,6 +1,6 @@
 //! The refusals of calls.
 
-ghost use Rattle.std.specs.Prelude.{◌≡◌};
+ghost use Rattle.std.specs.Prelude.{◌≡◌, Ok, Err, IfOk, IfErr};
 ghost use Rattle.hub_service.specs.Moments.{with_refusal};
 ghost use Rattle.hub_service.specs.Refusals.{of_hub_fault, of_note_fault};
 ghost use Rattle.hub_service.specs.Refusals.{of_open_fault, of_param_fault};
@@ -23,6 +23,22 @@ pub(crate) fn with_refusal<T>(given: Result<T, DbFault>) -> Result<T, Refusal>
     }
 }
 
+/// The result of a call on the names of a hub, with its fault as a refusal.
+pub(crate) fn with_hub_refusal<T>(given: Result<T, HubFault>) -> Result<T, Refusal>
+    ensures ok { IfOk given (λ found. result ≡ Ok found) }
+    ensures err { IfErr given (λ fault. result ≡ Err (of_hub_fault fault)) }
+{
+    match given {
+        Ok(found) => Ok(found),
+        Err(HubFault::NoMemory) => Err(Refusal::NoMemory),
+        Err(HubFault::BadName) => Err(Refusal::BadName),
+        Err(HubFault::Exists) => Err(Refusal::Exists),
+        Err(HubFault::Absent) => Err(Refusal::Absent),
+        Err(HubFault::TooMany) => Err(Refusal::TooMany),
+        Err(HubFault::SequenceFull) => Err(Refusal::SequenceFull),
+    }
+}
+
 /// The refusal of a write whose notice lapsed.
 pub(crate) fn unnoted(fault: NoteFault) -> Refusal
     ensures { result ≡ of_note_fault fault }
@@ -30,20 +46,6 @@ pub(crate) fn unnoted(fault: NoteFault) -> Refusal
     match fault {
         NoteFault::NoMemory => Refusal::NoMemory,
         NoteFault::SequenceFull => Refusal::SequenceFull,
-    }
-}
-
-/// The refusal of a call on the names of a hub.
-pub(crate) fn unnamed(fault: HubFault) -> Refusal
-    ensures { result ≡ of_hub_fault fault }
-{
-    match fault {
-        HubFault::NoMemory => Refusal::NoMemory,
-        HubFault::BadName => Refusal::BadName,
-        HubFault::Exists => Refusal::Exists,
-        HubFault::Absent => Refusal::Absent,
-        HubFault::TooMany => Refusal::TooMany,
-        HubFault::SequenceFull => Refusal::SequenceFull,
     }
 }
 

@@ -1,14 +1,12 @@
-use Rattle.std.proofs.Common.{◌++◌, map, string_bytes, codes, ap, ◌∙◌}
-use Rattle.std.specs.List.{join_with_byte}
+use Rattle.std.proofs.Common.{◌≡◌, ◌++◌, codes, string_bytes, sym, subst}
+use Rattle.std.proofs.lemmas.Simd.{map-map}
+use Rattle.std.specs.Prelude.{IfOk}
 use Rattle.json.specs.Print.{quoted}
-use Rattle.hub_replies.specs.Bodies.{names_body}
-use Rattle.hub_replies.proofs.ListLemmas.{list_line}
+use Rattle.hub_replies.specs.Bodies.{list_text, names_body}
 use Rattle.hub_replies.proofs.names.names_body.Goals as goal
 
 pub returns : goal.returns
 unfolding names_body
 returns c =
-    let texts = map quoted (map string_bytes c.args.names.now) in
-    c.in_ok-put_names.ensures
-    ∙ ap (λ l. l ++ (join_with_byte 44 texts ++ codes "]\n")) c.in_ok-text.ensures.items
-    ∙ list_line texts
+    subst (λ texts. IfOk c.list_body.result (λ t. t.items ≡ list_text texts ++ codes "\n"))
+    (sym (map-map quoted string_bytes c.args.names.now)) c.list_body.ensures
