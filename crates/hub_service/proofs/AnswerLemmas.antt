@@ -20,7 +20,7 @@ use Rattle.hub_params.specs.DocParams.{doc_asked}
 use Rattle.hub_replies.specs.Bodies.{doc_body, edit_body}
 use Rattle.hub_service.specs.AnswerLaws.{GotIsThere, PutIsStored}
 use Rattle.hub_service.specs.Calls.{gets_by, puts_doc, says_edit, says_found}
-use Rattle.hub_service.specs.Moments.{HasDatabase, IsRead, IsWritten}
+use Rattle.hub_service.specs.Moments.{IsRead, IsWritten}
 use Rattle.hub_service.specs.Requests.{AtDatabase}
 use Rattle.hub_service.specs.Said.{Body, CallAnswer, Refusing, Says}
 use Rattle.hub_service.specs.declared.response.Response.{Response}

@@ -8,7 +8,6 @@ use Rattle.hub_model.specs.declared.feeds.Mode.{Mode}
 use Rattle.hub_model.specs.declared.feeds.Mode.TheVariants.{Normal}
 use Rattle.hub_model.specs.declared.feeds.Item.{Item}
 use Rattle.hub_model.specs.declared.feeds.Item.TheVariants.{Row, End}
-use Rattle.hub_database.specs.Database.{Database}
 use Rattle.hub_database.specs.Handing as changes
 use Rattle.hub_database.specs.Hosting.{hosted_of}
 use Rattle.hub_updates.specs.Asked.{updates_asked}

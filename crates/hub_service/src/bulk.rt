@@ -10,10 +10,10 @@ ghost use Rattle.hub_service.specs.Calls.{says_batch, says_noted, batch_reply};
 ghost use Rattle.hub_service.specs.Moments.{IsWritten};
 ghost use Rattle.hub_service.specs.Said.{IsSaid};
 
-use crate::context::DbContext;
+use crate::context::Context;
 use crate::refusal::{unnoted, with_refusal};
 use crate::response::{Response, answer};
-use hub_databases::Written;
+use hub_databases::{HubDb, Written};
 use hub_document::{Doc, DocFault, RevId, read_doc};
 use hub_http::{Refusal, StatusCode};
 use hub_model::Outcome;
@@ -141,26 +141,29 @@ fn say_batch(
     )
 }
 
-impl<N: Wait> DbContext<'_, N> {
+impl<N: Wait> Context<'_, N> {
     // Stores the batch of these elements.
-    fn store_elements(&self, elements: &[Value], new_edits: bool) -> Result<Response, Refusal>
+    fn store_elements(
+        &self,
+        db: &HubDb,
+        elements: &[Value],
+        new_edits: bool,
+    ) -> Result<Response, Refusal>
         ensures { IsWritten (λ db. batch_reply db
             (Ok (record { docs = items_view elements.now; new_edits = new_edits }))) result }
     {
-        let context = self.context;
-        let Readings { docs, faults } = read_elements(context.alloc, elements, new_edits)?;
-        let written = with_refusal(context.hub.write(context.rt, &self.db, docs, new_edits))?;
-        let faults = faults.as_slice();
-        say_batch(context.alloc, elements, new_edits, faults, &written)
+        let Readings { docs, faults } = read_elements(self.alloc, elements, new_edits)?;
+        let written = with_refusal(self.hub.write(self.rt, db, docs, new_edits))?;
+        say_batch(self.alloc, elements, new_edits, faults.as_slice(), &written)
     }
 
     /// Stores the batch of documents in a body. The cost is the body's length, and the cost of `Hub::write`.
     /// Out of memory, the first documents of the batch may stay stored.
-    pub(crate) fn store_batch(&self, body: &[u8]) -> Result<Response, Refusal>
+    pub(crate) fn store_batch(&self, db: &HubDb, body: &[u8]) -> Result<Response, Refusal>
         ensures { IsWritten (λ db. batch_reply db (batch_in body.now)) result }
     {
-        let request = self.context.rooms.read(self.context.rt, body)?;
+        let request = self.rooms.read(self.rt, body)?;
         let (docs, new_edits) = batch_of(&request)?;
-        self.store_elements(docs.as_slice(), new_edits)
+        self.store_elements(db, docs.as_slice(), new_edits)
     }
 }

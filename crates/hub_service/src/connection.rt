@@ -4,20 +4,22 @@ ghost use Rattle.std.specs.Prelude.{◌≡◌, IfErr, IfOk, None, Ok, Result, So
 ghost use Rattle.hub_databases.specs.Names.{is_name as is_database_name};
 ghost use Rattle.hub_http.specs.Stream.{asked_by};
 ghost use Rattle.hub_http.specs.declared.refusal.Refusal.{Refusal};
+ghost use Rattle.hub_replies.specs.Bodies.{ok_body};
 ghost use Rattle.hub_routes.specs.Routes.{GoesTo};
 ghost use Rattle.hub_routes.specs.declared.route.Route.{Route};
 ghost use Rattle.hub_service.specs.Laws.{connection_rules};
 ghost use Rattle.hub_service.specs.Requests.{AnswersCall, AtName, IsNoDatabase, IsListed, IsMade};
 ghost use Rattle.hub_service.specs.Requests.{IsRemoved, IsSent, Responds};
+ghost use Rattle.hub_service.specs.Said.{Body, IsSaid};
 
-use crate::context::{Context, DbContext};
+use crate::context::Context;
 use crate::feeds::begin_updates;
 use crate::pumping::Pumping;
 use crate::refusal::with_hub_refusal;
 use crate::response::{Response, answer};
 use crate::rooms::JsonRooms;
 use crate::sent::Sent;
-use hub_databases::{Hub, is_name};
+use hub_databases::{Hub, HubDb, is_name};
 use hub_http::{Refusal, Reply, Request, StatusCode};
 use hub_replies::{commit_body, names_body, ok_body, welcome_body};
 use hub_routes::{Call, Route, Routes};
@@ -115,13 +117,11 @@ impl<'h, N: Wait, P: Pumping> Connection<'h, N, P> {
     }
 
     // The database of a name.
-    fn database(&self, name: &str) -> Result<DbContext<'_, N>, Refusal>
-        ensures own { IfOk result (λ it. (it.db ≡ name.now) × (is_database_name name.now ≡ true)) }
+    fn database(&self, name: &str) -> Result<HubDb, Refusal>
+        ensures own { IfOk result (λ db. (db ≡ name.now) × (is_database_name name.now ≡ true)) }
         ensures err { IfErr result (λ e. IsNoDatabase name.now e) }
     {
-        let context = &self.context;
-        let db = with_hub_refusal(context.hub.find(context.rt, name))?;
-        Ok(DbContext { context, db })
+        with_hub_refusal(self.context.hub.find(self.context.rt, name))
     }
 
     // The answer to a call, with the parts of its request. A commit has nothing to do: every edit that was
@@ -136,26 +136,27 @@ impl<'h, N: Wait, P: Pumping> Connection<'h, N, P> {
     ) -> Result<Response, Refusal>
         ensures { AnswersCall call name.now id.now query.now body.now result }
     {
-        let alloc = self.context.alloc;
+        let context = &self.context;
+        let alloc = context.alloc;
         match call {
             Call::Welcome => answer(StatusCode::OK, Vec::from_slice(alloc, welcome_body())),
             Call::AllDbs => self.list(),
-            Call::DbUpdates => begin_updates(&self.context, query, body),
+            Call::DbUpdates => begin_updates(context, query, body),
             Call::PutDatabase => self.create(name),
             Call::DeleteDatabase => self.remove(name),
-            Call::Info => self.database(name)?.info(),
-            Call::BulkDocs => self.database(name)?.store_batch(body),
-            Call::Changes => self.database(name)?.begin_feed(query, body),
-            Call::RevsDiff => self.database(name)?.revs_diff(body),
+            Call::Info => context.info(&self.database(name)?),
+            Call::BulkDocs => context.store_batch(&self.database(name)?, body),
+            Call::Changes => context.begin_feed(&self.database(name)?, query, body),
+            Call::RevsDiff => context.revs_diff(&self.database(name)?, body),
             Call::FullCommit => {
                 self.database(name)?;
                 answer(StatusCode::CREATED, Vec::from_slice(alloc, commit_body()))
             }
-            Call::GetDocument => self.database(name)?.get(id, query),
-            Call::PutDocument => self.database(name)?.put(id, query, body),
-            Call::DeleteDocument => self.database(name)?.delete(id, query),
-            Call::GetLocal => self.database(name)?.get_local(id),
-            Call::PutLocal => self.database(name)?.put_local(id, body),
+            Call::GetDocument => context.get(&self.database(name)?, id, query),
+            Call::PutDocument => context.put(&self.database(name)?, id, query, body),
+            Call::DeleteDocument => context.delete(&self.database(name)?, id, query),
+            Call::GetLocal => context.get_local(&self.database(name)?, id),
+            Call::PutLocal => context.put_local(&self.database(name)?, id, body),
         }
     }
 

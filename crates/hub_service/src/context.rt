@@ -34,53 +34,47 @@ pub(crate) struct Context<'h, N: Wait> {
     pub(crate) rooms: &'h JsonRooms,
 }
 
-/// A database, and the context of the answers about it.
-#[derive(Drop)]
-pub(crate) struct DbContext<'a, N: Wait> {
-    pub(crate) context: &'a Context<'a, N>,
-    pub(crate) db: HubDb,
-}
-
-impl<N: Wait> DbContext<'_, N> {
+impl<'h, N: Wait> Context<'h, N> {
     /// The result of one look at the database: of `ask`, called once under the lock.
     pub(crate) fn look<T, F: FnOnce(&DbState) -> Result<T, DbFault>>(
         &self,
+        db: &HubDb,
         ask: F,
     ) -> Result<T, Refusal>
         requires { F.IsAlwaysCallable ask }
         ensures { IsLooked (λ db r. FnOnceReturnsAt F.FnOnce ask db r) result }
     {
-        let mut handle = self.db.handle()?;
-        with_refusal(handle.look(self.context.rt, ask))
+        let mut handle = db.handle()?;
+        with_refusal(handle.look(self.rt, ask))
     }
 
     /// The winner of a document, if there is one.
-    pub(crate) fn winner(&self, id: &str) -> Result<Option<Winner>, Refusal>
+    pub(crate) fn winner(&self, db: &HubDb, id: &str) -> Result<Option<Winner>, Refusal>
         ensures { IsFound (λ db found. found ≡ winner_in db id.now) result }
     {
-        self.look(|state| {
+        self.look(db, |state| {
             state.standing()?;
             Ok(state.winner(id))
         })
     }
 
     /// Stores a local document in place of the stored one of its id, and says how often it was written.
-    pub(crate) fn local_put(&self, doc: LocalDoc) -> Result<u64, Refusal>
+    pub(crate) fn local_put(&self, db: &HubDb, doc: LocalDoc) -> Result<u64, Refusal>
         ensures { IsKept doc result }
     {
-        let handle = self.db.handle()?;
-        with_refusal(handle.local_put(self.context.rt, doc))
+        let handle = db.handle()?;
+        with_refusal(handle.local_put(self.rt, doc))
     }
 
     /// Opens a feed.
-    pub(crate) fn open_feed(&self, params: FeedParams) -> Result<Feed<Plain>, OpenFault>
+    pub(crate) fn open_feed(&self, db: &HubDb, params: FeedParams) -> Result<Feed<Plain>, OpenFault>
         ensures new { IfOk result (IsNew (params_asked params) 0) }
         ensures err { IfErr result (λ e. (e ≡ OpenFault.NoMemory)
             ⊎ HasDatabase (λ db. e ≡ opening_fault (hosted_of db))) }
     {
-        let Ok(mut handle) = self.db.handle() else {
+        let Ok(mut handle) = db.handle() else {
             return Err(OpenFault::NoMemory);
         };
-        handle.open_feed(self.context.rt, params)
+        handle.open_feed(self.rt, params)
     }
 }

@@ -12,11 +12,11 @@ ghost use Rattle.hub_service.specs.Deletions.{DeletesLeaf, IsDeletion, refuses_u
 ghost use Rattle.hub_service.specs.Moments.{IsRead, IsWritten};
 ghost use Rattle.hub_service.specs.Said.{IsSaid, Refusing};
 
-use crate::context::DbContext;
+use crate::context::Context;
 use crate::refusal::{unnoted, with_refusal};
 use crate::response::{Response, answer};
 use hub_database::{Lookup, OpenRev};
-use hub_databases::Edited;
+use hub_databases::{Edited, HubDb};
 use hub_document::{Body, Doc, DocFault, DocId, OpenRevs, RevId, put_doc};
 use hub_http::{Refusal, StatusCode};
 use hub_params::DocParams;
@@ -68,21 +68,27 @@ fn refuse_unnamed(winner: Option<Winner>) -> Refusal
     }
 }
 
-impl<N: Wait> DbContext<'_, N> {
+impl<N: Wait> Context<'_, N> {
     // The revisions of a document that a value of `open_revs` asks for.
-    fn get_revs(&self, id: &str, revs: bool, asked: Option<OpenRevs>) -> Result<Response, Refusal>
+    fn get_revs(
+        &self,
+        db: &HubDb,
+        id: &str,
+        revs: bool,
+        asked: Option<OpenRevs>,
+    ) -> Result<Response, Refusal>
         ensures { IsRead (λ db. gets_revs db.journal id.now revs asked) result }
     {
         let Some(which) = asked else {
             return Err(Refusal::BadRev);
         };
-        let found = self.look(|state| state.open_revs(id, &which, revs))?;
-        say_revs(self.context.alloc, &which, found.as_slice())
+        let found = self.look(db, |state| state.open_revs(id, &which, revs))?;
+        say_revs(self.alloc, &which, found.as_slice())
     }
 
     /// Answers a document, or those of its revisions that `open_revs` asks for. The cost is the wait for the
     /// database, the cost of `DbState::get` or `DbState::open_revs`, and the length of the answer.
-    pub(crate) fn get(&self, id: &str, query: &[u8]) -> Result<Response, Refusal>
+    pub(crate) fn get(&self, db: &HubDb, id: &str, query: &[u8]) -> Result<Response, Refusal>
         ensures { IsRead (λ db. gets_doc db.journal id.now (doc_asked query.now)) result }
     {
         let DocParams {
@@ -90,26 +96,25 @@ impl<N: Wait> DbContext<'_, N> {
             open_revs,
             revs,
             ..
-        } = DocParams::read(self.context.alloc, query)?;
+        } = DocParams::read(self.alloc, query)?;
         if let Some(text) = open_revs {
-            let asked = OpenRevs::read(self.context.alloc, text.as_str())?;
-            return self.get_revs(id, revs, asked);
+            let asked = OpenRevs::read(self.alloc, text.as_str())?;
+            return self.get_revs(db, id, revs, asked);
         }
         if rev.is_some() {
             return Err(Refusal::BadRev);
         }
-        let found = self.look(|state| state.get(id, revs))?;
-        say_found(self.context.alloc, &found)
+        let found = self.look(db, |state| state.get(id, revs))?;
+        say_found(self.alloc, &found)
     }
 
     // Stores an edit whose revision is made here, and says so with this status. The answer is begun first,
     // with room for its rest, so that no stored edit lacks memory for its answer.
-    fn edit(&self, status: StatusCode, doc: Doc) -> Result<Response, Refusal>
+    fn edit(&self, db: &HubDb, status: StatusCode, doc: Doc) -> Result<Response, Refusal>
         ensures { IsWritten (λ db. edits status db doc) result }
     {
-        let context = self.context;
-        let front = edit_front(context.alloc, doc.id.as_str())?;
-        let edited = with_refusal(context.hub.write_one(context.rt, &self.db, doc))?;
+        let front = edit_front(self.alloc, doc.id.as_str())?;
+        let edited = with_refusal(self.hub.write_one(self.rt, db, doc))?;
         say_edited(status, front, &edited)
     }
 
@@ -120,43 +125,49 @@ impl<N: Wait> DbContext<'_, N> {
         ensures err { IfErr result (λ e. (e ≡ DocFault.NoMemory)
             ⊎ (put_in id.now (doc_asked query.now).rev (doc_asked query.now).new_edits body.now ≡ Err e)) }
     {
-        let params = DocParams::read(self.context.alloc, query)?;
+        let params = DocParams::read(self.alloc, query)?;
         let rev = params.rev.as_deref();
-        let value = self.context.rooms.read(self.context.rt, body)?;
-        put_doc(self.context.alloc, id, rev, params.new_edits, &value)
+        let value = self.rooms.read(self.rt, body)?;
+        put_doc(self.alloc, id, rev, params.new_edits, &value)
     }
 
     /// Puts a document: an edit of the leaf that the query or the body names. The cost is the body's length,
     /// and the cost of `Hub::write_one`. The document takes memory as it is read, and in the database and the
     /// log. Only the answer and the notice take more, one allocation each. Out of memory, no edit stays stored
     /// but one that could not be noted.
-    pub(crate) fn put(&self, id: &str, query: &[u8], body: &[u8]) -> Result<Response, Refusal>
+    pub(crate) fn put(
+        &self,
+        db: &HubDb,
+        id: &str,
+        query: &[u8],
+        body: &[u8],
+    ) -> Result<Response, Refusal>
         ensures { IsWritten (λ db. puts_doc db
             (put_in id.now (doc_asked query.now).rev (doc_asked query.now).new_edits body.now)) result }
     {
         let doc = self.read_put(id, query, body)?;
-        self.edit(StatusCode::CREATED, doc)
+        self.edit(db, StatusCode::CREATED, doc)
     }
 
     // Refuses to delete a document where the request names no leaf.
-    fn delete_unnamed(&self, id: &str) -> Result<Response, Refusal>
+    fn delete_unnamed(&self, db: &HubDb, id: &str) -> Result<Response, Refusal>
         ensures { IsRead (λ db. Refusing (refuses_unnamed (winner_in db id.now))) result }
     {
-        let winner = self.winner(id)?;
+        let winner = self.winner(db, id)?;
         Err(refuse_unnamed(winner))
     }
 
     // Deletes the leaf of this revision.
-    fn delete_leaf(&self, id: &str, rev: RevId) -> Result<Response, Refusal>
+    fn delete_leaf(&self, db: &HubDb, id: &str, rev: RevId) -> Result<Response, Refusal>
         ensures { DeletesLeaf id.now (short_id id.now) rev result }
     {
-        let Some(known) = DocId::read(self.context.alloc, id)? else {
+        let Some(known) = DocId::read(self.alloc, id)? else {
             return Err(Refusal::Missing);
         };
-        let Some(_) = self.winner(id)? else {
+        let Some(_) = self.winner(db, id)? else {
             return Err(Refusal::Missing);
         };
-        let body = Body::empty(self.context.alloc)?;
+        let body = Body::empty(self.alloc)?;
         let doc = Doc {
             id: known,
             rev: Some(rev),
@@ -164,20 +175,20 @@ impl<N: Wait> DbContext<'_, N> {
             deleted: true,
             body,
         };
-        self.edit(StatusCode::OK, doc)
+        self.edit(db, StatusCode::OK, doc)
     }
 
     /// Deletes a document: an edit of the leaf that the query names. The cost is a look for the document, and
     /// the cost of `Hub::write_one`. Out of memory, no edit stays stored but one that could not be noted.
-    pub(crate) fn delete(&self, id: &str, query: &[u8]) -> Result<Response, Refusal>
+    pub(crate) fn delete(&self, db: &HubDb, id: &str, query: &[u8]) -> Result<Response, Refusal>
         ensures { IsDeletion id.now query.now result }
     {
-        let DocParams { rev, .. } = DocParams::read(self.context.alloc, query)?;
+        let DocParams { rev, .. } = DocParams::read(self.alloc, query)?;
         let Some(text) = rev else {
-            return self.delete_unnamed(id);
+            return self.delete_unnamed(db, id);
         };
         match RevId::read(text.as_str()) {
-            Some(rev) => self.delete_leaf(id, rev),
+            Some(rev) => self.delete_leaf(db, id, rev),
             None => Err(Refusal::BadRev),
         }
     }

@@ -8,9 +8,10 @@ ghost use Rattle.hub_service.specs.Calls.{local_reply, puts_local, says_local};
 ghost use Rattle.hub_service.specs.Moments.{IsRead};
 ghost use Rattle.hub_service.specs.Said.{IsSaid};
 
-use crate::context::DbContext;
+use crate::context::Context;
 use crate::response::{Response, answer};
 use hub_database::Local;
+use hub_databases::HubDb;
 use hub_document::LocalDoc;
 use hub_http::{Refusal, StatusCode};
 use hub_replies::{edit_front, local_doc_body, local_edit_body};
@@ -27,31 +28,31 @@ fn say_local(alloc: Global, id: &str, found: &Option<Local>) -> Result<Response,
     }
 }
 
-impl<N: Wait> DbContext<'_, N> {
+impl<N: Wait> Context<'_, N> {
     /// Answers a local document. The cost is the wait for the database, a look in the map of local documents,
     /// and the length of the answer.
-    pub(crate) fn get_local(&self, id: &str) -> Result<Response, Refusal>
+    pub(crate) fn get_local(&self, db: &HubDb, id: &str) -> Result<Response, Refusal>
         ensures { IsRead (λ db. says_local (local_of db.locals id.now)) result }
     {
-        let found = self.look(|state| state.local_copy(id))?;
-        say_local(self.context.alloc, id, &found)
+        let found = self.look(db, |state| state.local_copy(id))?;
+        say_local(self.alloc, id, &found)
     }
 
     // Keeps a local document. The answer is begun first, so that no kept document lacks memory for its answer.
-    fn keep(&self, doc: LocalDoc) -> Result<Response, Refusal>
+    fn keep(&self, db: &HubDb, doc: LocalDoc) -> Result<Response, Refusal>
         ensures { IsRead (λ db. local_reply (local_after_write db.locals doc)) result }
     {
-        let front = edit_front(self.context.alloc, doc.id.as_str())?;
-        let count = self.local_put(doc)?;
+        let front = edit_front(self.alloc, doc.id.as_str())?;
+        let count = self.local_put(db, doc)?;
         answer(StatusCode::CREATED, local_edit_body(front, count))
     }
 
     /// Keeps a local document in place of the stored one of its id. The cost is the body's length, the wait
     /// for the database, and two looks in the map of local documents. Out of memory, nothing is kept.
-    pub(crate) fn put_local(&self, id: &str, body: &[u8]) -> Result<Response, Refusal>
+    pub(crate) fn put_local(&self, db: &HubDb, id: &str, body: &[u8]) -> Result<Response, Refusal>
         ensures { IsRead (λ db. puts_local db (local_in id.now body.now)) result }
     {
-        let doc = LocalDoc::read(self.context.alloc, id, body)?;
-        self.keep(doc)
+        let doc = LocalDoc::read(self.alloc, id, body)?;
+        self.keep(db, doc)
     }
 }

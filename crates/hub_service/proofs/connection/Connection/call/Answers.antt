@@ -1,5 +1,4 @@
 use Rattle.std.proofs.Common.{List, ℕ, inl, inr, subst, sym}
-use Rattle.hub_routes.specs.declared.route.Call.{Call}
 use Rattle.hub_service.specs.Calls.{says_info}
 use Rattle.hub_service.specs.Moments.{IsRead}
 use Rattle.hub_service.specs.Requests.{AnswersCall}
