@@ -1,7 +1,6 @@
 //! How the server hands feeds their items.
 
 use hub_feed::FeedHost;
-use hub_model::Item;
 use hub_service::Pumping;
 use hub_shared::{Clock, Gate, HostFeed, Point};
 use std::sync::Wait;
@@ -36,8 +35,8 @@ impl<'h, R: Wait, G: Gate, K: Clock> Pumping for ByWorkers<'h, R, G, K> {
         self.gate.pass(Point::Request(self.number));
     }
 
-    fn next_item<S: FeedHost>(&self, feed: &mut HostFeed<S>, next: &mut Option<Item<S::Row>>) {
-        feed.poll(self.rt, self.gate, self.clock, next);
+    fn hand<S: FeedHost>(&self, feed: &mut HostFeed<S>) {
+        feed.poll(self.rt, self.gate, self.clock);
     }
 
     fn waits<S: FeedHost>(&self, feed: &HostFeed<S>) -> bool {

@@ -20,10 +20,10 @@ use crate::response::{Response, answer};
 use crate::rooms::JsonRooms;
 use crate::sent::Sent;
 use hub_databases::{Hub, HubDb, is_name};
-use hub_http::{Refusal, Reply, Request, StatusCode};
+use hub_http::{ChunkWriter, Output, Refusal, Reply, Request, StatusCode};
 use hub_replies::{commit_body, names_body, ok_body, welcome_body};
 use hub_routes::{Call, Route, Routes};
-use hub_session::{Answer, NextItem, Service};
+use hub_session::{Answer, Sending, SentItem, Service};
 use hub_shared::{Watch, Watchable};
 use std::alloc::Global;
 use std::marker::Model;
@@ -175,15 +175,6 @@ impl<'h, N: Wait, P: Pumping> Connection<'h, N, P> {
         )
     }
 
-    // Whether a feed that gave no item may give one later.
-    fn waits(&self) -> bool {
-        match &self.sent {
-            Some(Sent::Changes(feed)) => self.pumping.waits(feed),
-            Some(Sent::Updates(feed)) => self.pumping.waits(feed),
-            Some(Sent::Listed(_)) | None => false,
-        }
-    }
-
     // The answer that sends a response. A feed is kept until its end was handed.
     fn send(&mut self, response: Response) -> Answer
         ensures { IsSent (Ok response) result self.old self.new }
@@ -236,19 +227,26 @@ impl<'h, N: Wait, P: Pumping> Service for Connection<'h, N, P> {
         true
     }
 
-    fn item(&mut self, next: &mut NextItem) {
-        match &mut self.sent {
-            Some(sent) => sent.next(&self.pumping, next),
-            None => *next = NextItem::none(),
-        }
-        if matches!(next.lent(), Some(item) if item.is_end()) {
+    fn send_next<W: Output>(
+        &mut self,
+        sending: Sending,
+        chunks: &mut ChunkWriter,
+        writer: &mut W,
+    ) -> Option<SentItem> {
+        let sent = self.sent.as_mut()?;
+        let item = sent.send_next(&self.pumping, sending, chunks, writer)?;
+        if item.is_end {
             self.drop_stream();
         }
+        Some(item)
     }
 
-    fn poll_item(&mut self, next: &mut NextItem) -> bool {
-        self.item(next);
-        next.lent().is_some() || !self.waits()
+    fn waits(&self) -> bool {
+        match &self.sent {
+            Some(Sent::Changes(feed)) => self.pumping.waits(feed),
+            Some(Sent::Updates(feed)) => self.pumping.waits(feed),
+            Some(Sent::Listed(_)) | None => false,
+        }
     }
 
     fn drop_stream(&mut self) {

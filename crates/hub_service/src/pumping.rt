@@ -1,12 +1,8 @@
 //! How the items of feeds come to the connection that sends them.
 
-ghost use Rattle.std.specs.Prelude.{◌≡◌, IfNone, IfSome};
-ghost use Rattle.hub_lane.specs.Ends.{IsAllowedBeginning};
-ghost use Rattle.hub_params.specs.FeedModel.{params_in};
-ghost use Rattle.hub_shared.specs.Feeds.{behind_item, receiver_of};
+ghost use Rattle.std.specs.Prelude.{◌≡◌};
 
 use hub_feed::FeedHost;
-use hub_model::Item;
 use hub_shared::{Gate, HostFeed, Point, Turn};
 use std::sync::Wait;
 
@@ -15,13 +11,10 @@ pub trait Pumping: Drop {
     /// Called before each answer to a request: a test may hold the connection there.
     fn pass_request(&self);
 
-    /// Puts the next item of a feed into `next`. There is none where the feed waits, and where it is handed
-    /// no further, as out of memory.
-    fn next_item<S: FeedHost>(&self, feed: &mut HostFeed<S>, next: &mut Option<Item<S::Row>>)
-        ensures taken { IfSome next.new (λ item. feed.new ≡ behind_item feed.old item) }
-        ensures same { IfNone next.new (feed.new ≡ feed.old) }
-        ensures allowed { IsAllowedBeginning
-            (λ l items. S.right (params_in l.asked) l.since items) (receiver_of feed.new) };
+    /// Hands a feed its next item, unless an item is left to take. There is none where the feed waits, and where
+    /// it is handed no further, as out of memory.
+    fn hand<S: FeedHost>(&self, feed: &mut HostFeed<S>)
+        ensures { feed.new ≡ feed.old };
 
     /// Whether a feed without a next item waits, and may have one later.
     fn waits<S: FeedHost>(&self, feed: &HostFeed<S>) -> bool;
@@ -52,17 +45,15 @@ impl<'h, N: Wait> ByTurns<'h, N> {
 impl<'h, N: Wait> Pumping for ByTurns<'h, N> {
     fn pass_request(&self) {}
 
-    fn next_item<S: FeedHost>(&self, feed: &mut HostFeed<S>, next: &mut Option<Item<S::Row>>) {
-        feed.take_into(self.rt, next);
-        if next.is_some() || feed.hold(self.rt, Turn::Hand, &OpenGate).is_err() {
+    fn hand<S: FeedHost>(&self, feed: &mut HostFeed<S>) {
+        if feed.fetch(self.rt) || feed.hold(self.rt, Turn::Hand, &OpenGate).is_err() {
             return;
         }
-        feed.take_into(self.rt, next);
-        if next.is_none()
+        if !feed.fetch(self.rt)
             && feed.hold(self.rt, Turn::Expire, &OpenGate).is_ok()
             && feed.hold(self.rt, Turn::Hand, &OpenGate).is_ok()
         {
-            feed.take_into(self.rt, next);
+            feed.fetch(self.rt);
         }
     }
 

@@ -1,13 +1,15 @@
 //! The feeds and lists that a connection sends.
 
 ghost use Rattle.std.specs.Prelude.{◌≡◌};
+ghost use Rattle.hub_session.specs.Feeds.{SendsNext};
 ghost use Rattle.hub_service.specs.Feeds.{GoesOn, behind_listed, life_of, next_listed};
 
 use crate::pumping::Pumping;
 use hub_database::Descending;
 use hub_document::ChangeRow;
+use hub_http::{ChunkWriter, Output};
 use hub_model::Item;
-use hub_session::NextItem;
+use hub_session::{LentItem, Sending, SentItem};
 use hub_shared::{Feed, Plain, UpdatesFeed};
 use std::marker::Model;
 use std::sync::Wait;
@@ -95,23 +97,35 @@ impl Sent {
         }
     }
 
-    /// Puts its next item into `next`, and becomes its own rest. `next` is none where a feed is handed no
-    /// further. The cost is that of `Pumping::next_item`; a row of a list is moved out of the list. For a
-    /// list and a feed of changes, the place of an update is written only where it has an item.
-    pub(crate) fn next<P: Pumping>(&mut self, pumping: &P, next: &mut NextItem)
-        ensures { GoesOn self.old next.new self.new }
+    /// Sends its next item, and becomes its own rest. There is no next item where a feed is handed no further.
+    /// The cost is that of `Pumping::hand`, and the item's text; a row of a list is moved out of the list.
+    pub(crate) fn send_next<P: Pumping, W: Output>(
+        &mut self,
+        pumping: &P,
+        sending: Sending,
+        chunks: &mut ChunkWriter,
+        writer: &mut W,
+    ) -> Option<SentItem>
+        ensures { SendsNext GoesOn W.written W.fault_count W.failure_count sending result
+            self.old self.new writer.old writer.new }
     {
         match self {
-            Sent::Listed(listed) => next.change = Some(listed.next()),
-            Sent::Changes(feed) => pumping.next_item(feed, &mut next.change),
-            Sent::Updates(feed) => {
-                next.change = None;
-                pumping.next_item(feed, &mut next.update);
-                return;
+            Sent::Listed(listed) => {
+                let item = listed.next();
+                Some(sending.send(chunks, writer, LentItem::Change(&item)))
             }
-        }
-        if next.update.is_some() {
-            next.update = None;
+            Sent::Changes(feed) => {
+                pumping.hand(feed);
+                feed.show(chunks, writer, |item, chunks, writer| {
+                    sending.send(chunks, writer, LentItem::Change(item))
+                })
+            }
+            Sent::Updates(feed) => {
+                pumping.hand(feed);
+                feed.show(chunks, writer, |item, chunks, writer| {
+                    sending.send(chunks, writer, LentItem::Update(item))
+                })
+            }
         }
     }
 

@@ -23,7 +23,7 @@ use Rattle.hub_session.specs.declared.closing.Closing.TheVariants.{Finished, Req
 use Rattle.hub_session.specs.declared.closing.Closing.TheVariants.{Cut, Broken, Exhausted}
 use Rattle.hub_session.specs.declared.closing.StreamEnd.{StreamEnd}
 use Rattle.hub_session.specs.declared.closing.StreamEnd.TheVariants as stream
-use Rattle.hub_session.specs.declared.feed.Sending.{Sending}
+use Rattle.hub_session.specs.declared.item.Sending.{Sending}
 use Rattle.hub_session.specs.declared.machine.Place.{Place}
 use Rattle.hub_session.specs.declared.machine.Place.TheVariants.{Between, Within, Closed}
 use Rattle.hub_session.specs.declared.machine.Step.{Step}

@@ -15,7 +15,7 @@ use Rattle.hub_session.specs.declared.closing.Closing.{Closing}
 use Rattle.hub_session.specs.declared.closing.Closing.TheVariants.{Finished, Fault, Broken}
 use Rattle.hub_session.specs.declared.closing.StreamEnd.{StreamEnd}
 use Rattle.hub_session.specs.declared.closing.StreamEnd.TheVariants as stream
-use Rattle.hub_session.specs.declared.feed.Sending.{Sending}
+use Rattle.hub_session.specs.declared.item.Sending.{Sending}
 use Rattle.hub_session.specs.declared.machine.Place.TheVariants.{Between, Within, Closed}
 use Rattle.hub_session.specs.declared.machine.Step.{Step}
 use Rattle.hub_session.specs.declared.machine.Step.TheVariants as step

@@ -4,13 +4,15 @@ use Rattle.std.specs.Prelude.{MatchBool, Result, Ok, Err, if◌then◌else◌, c
 use Rattle.std.specs.Io.KnownBytes.{Appends}
 use Rattle.hub_model.specs.declared.feeds.Mode.{Mode}
 use Rattle.hub_http.specs.Counts.{CallCounts, last_count, Sends}
-use Rattle.hub_http.specs.Chunks.{text_chunks}
+use Rattle.hub_http.specs.Chunks.{WritesTo, text_chunks}
 use Rattle.hub_http.specs.Items.{feed_head}
 use Rattle.hub_session.specs.StreamItem.{StreamItem}
 use Rattle.hub_session.specs.declared.closing.StreamEnd.{StreamEnd}
+use Rattle.hub_session.specs.declared.item.Sending.{Sending}
+use Rattle.hub_session.specs.declared.item.SentItem.{SentItem}
 use Rattle.hub_session.specs.declared.closing.StreamEnd.TheVariants.{Complete, Stopped, NoMemory, Broken}
 use Rattle.hub_session.specs.declared.closing.StreamEnd.TheVariants.{Exhausted}
-use Rattle.hub_session.specs.Items.{is_end, rows_after, stream_item_text}
+use Rattle.hub_session.specs.Items.{is_end, is_row, rows_after, stream_item_text}
 use Rattle.hub_session.specs.Rules.{Rules, Moment, moment}
 
 -- the last chunk of a stream
@@ -42,6 +44,27 @@ rows_behind rows (item ∷ items) = rows_behind (rows_after rows item) items
 -- the text of a stream of these items, of the life of this number, behind the head of its answer
 abbrev pub feed_text : Mode → (life : ℕ) → List StreamItem → List ℕ
 feed_text mode life items = text_chunks (feed_head mode) ++ items_text mode life 0 items
+
+-- The contract of a call that writes the text of the next item of such a stream, as one chunk. The answer says
+-- whether the item is a row or an End, and whether all of the chunk was written. For a row that a writer
+-- refuses after three bytes, the answer says that it is a row and that an IoFault came, and three bytes of the
+-- chunk were written.
+pub record IsSent {W : Type 0} (written_of : W → Option (List ℕ)) (faults_of failures_of : W → ℕ)
+    (sending : Sending) (item : StreamItem) (sent : SentItem) (old new : W) : Type 0 where
+  pub row : sent.is_row ≡ is_row item
+  pub end : sent.is_end ≡ is_end item
+  pub text : WritesTo written_of faults_of failures_of sent.written old new
+      (text_chunks (stream_item_text sending.mode sending.life sending.rows item))
+
+-- The contract of a call by which a service sends the next item of its stream. The service goes on by the item
+-- whose chunk was written. Or it has no next item, and all stays as it was.
+abbrev pub SendsNext : {S W : Type 0} → (gives : S → Option StreamItem → S → Type 0) → (W → Option (List ℕ))
+    → (faults_of failures_of : W → ℕ) → Sending → Option SentItem → (s t : S) → (old new : W) → Type 0
+SendsNext gives written_of faults_of failures_of sending (Some sent) s t old new =
+    (item : StreamItem) × gives s (Some item) t
+    × IsSent written_of faults_of failures_of sending item sent old new
+SendsNext gives written_of faults_of failures_of sending None s t old new =
+    gives s None t × (t ≡ s) × (new ≡ old)
 
 -- A stream is not sent on after its service, now at s, gave this item. After a row or a beat the service
 -- drops the stream. After an End the stream holds nothing, and the service stays as it is. So the stream is

@@ -1,5 +1,5 @@
 -- own: the rules of a service, and the moments of a connection.
-use Rattle.std.specs.Prelude.{◌≡◌, ℕ, Bool, false, true, List, None, Option}
+use Rattle.std.specs.Prelude.{ℕ, List, Option}
 use Rattle.hub_http.specs.Stream.{PlainRequest}
 use Rattle.hub_session.specs.StreamItem.{StreamItem}
 use Rattle.hub_session.specs.declared.service.Answer.{Answer}
@@ -12,13 +12,6 @@ pub record Rules (S : Type 0) : Type 1 where
   pub gives : S → Option StreamItem → S → Type 0
   -- drop its stream, and give back all that the stream holds
   pub drops : S → S → Type 0
-
--- A service that is asked for an item without a wait answers true, and goes on with this item, or with none
--- where the stream stops. Or it answers false, has no item yet, and stays as it is. A feed that sent every
--- row has no item yet, while nothing is written to its database.
-abbrev pub GivesOrWaits : {S : Type 0} → Rules S → S → Bool → Option StreamItem → S → Type 0
-GivesOrWaits rules s true given t = rules.gives s given t
-GivesOrWaits rules s false given t = (given ≡ None) × (t ≡ s)
 
 -- a moment of a connection: the state of its service, and the bytes that were written, where they are told
 pub record Moment (S : Type 0) : Type 0 where

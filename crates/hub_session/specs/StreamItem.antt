@@ -1,5 +1,4 @@
 -- The items that streams hand to their subscribers (CouchDB API reference, _changes and _db_updates).
-use Rattle.std.specs.Prelude.{Option, Some, None}
 use Rattle.hub_model.specs.Row.{ChangeRow}
 use Rattle.hub_model.specs.Updates.{UpdateRow}
 use Rattle.hub_model.specs.declared.feeds.Item.{Item}
@@ -10,9 +9,3 @@ pub data StreamItem : Type 0 where
   Change : Item ChangeRow → StreamItem
   -- an item of a feed of the log of updates
   Update : Item UpdateRow → StreamItem
-
--- the item in one of two places; the change where both places have an item
-abbrev pub next_of : Option (Item ChangeRow) → Option (Item UpdateRow) → Option StreamItem
-next_of (Some item) update = Some (StreamItem.Change item)
-next_of None (Some item) = Some (StreamItem.Update item)
-next_of None None = None

@@ -1,16 +1,15 @@
 //! Streams to a writer.
-ghost use Rattle.std.specs.Prelude.{◌≡◌, ◌<◌, ◌≤◌, ◌+◌, ◌^◌, ℕ, IfOk, IsErrOf};
+ghost use Rattle.std.specs.Prelude.{◌≡◌, ◌<◌, ◌≤◌, ◌+◌, ◌^◌, ◌++◌, [], ℕ, List, IfOk, IsErrOf};
+ghost use Rattle.std.specs.Prelude.{MatchBool, if◌then◌else◌};
 ghost use Rattle.hub_http.specs.Counts.{CallCounts, SendsTo};
 ghost use Rattle.hub_http.specs.Items.{feed_head};
 ghost use Rattle.hub_http.specs.Chunks.{WritesTo, text_chunks};
-ghost use Rattle.hub_session.specs.Items.{rows_after};
-ghost use Rattle.hub_session.specs.Feeds.{feed_text, items_text, sent_text, behind_item};
-ghost use Rattle.hub_session.specs.Feeds.{GivesBack, IsFed, IsFedTo, IsStreamed};
-ghost use Rattle.hub_session.specs.Lent.{lent_in};
+ghost use Rattle.hub_session.specs.Feeds.{feed_text, items_text, last_chunk};
+ghost use Rattle.hub_session.specs.Feeds.{IsFed, IsFedTo, IsStreamed, SendsNext};
 ghost use Rattle.hub_session.specs.Rules.{moment};
 
 use crate::closing::StreamEnd;
-use crate::item::{ItemText, LentItem, NextItem};
+use crate::item::{Sending, SentItem};
 use crate::service::Service;
 use hub_http::{ChunkFault, ChunkWriter, IoFault, Output, send, write_all};
 use hub_model::Mode;
@@ -27,115 +26,89 @@ fn head_chunk(mode: Mode) -> &'static str
     }
 }
 
-/// The text behind the chunk of an item: the last chunk (RFC 9112, section 7.1) behind an End, else none.
-fn behind_item(item: LentItem<'_>) -> &'static str
-    ensures { result.now ≡ behind_item (lent_in item.entry) }
-{
-    if item.is_end() { "0\r\n\r\n" } else { "" }
-}
-
 /// The number of rows before the next item, where `rows` came before this one.
-fn rows_after(rows: u64, item: LentItem<'_>) -> u64
+fn rows_after(rows: u64, is_row: bool) -> u64
     requires { rows + 1 < 2 ^ 64 }
-    ensures rows { result ≡ rows_after rows (lent_in item.entry) }
+    ensures rows { result ≡ if is_row then rows + 1 else rows }
     ensures bound { result ≤ rows + 1 }
 {
-    if item.is_row() { rows + 1 } else { rows }
+    if is_row { rows + 1 } else { rows }
 }
 
-/// Sends an item of the service's stream, and behind an End the last chunk. The writer is flushed, unless
-/// the next item is ready.
-fn send_item<W: Output, S: Service>(
-    chunks: &mut ChunkWriter,
+/// Drops the stream of an item that was not sent. After its End a stream holds nothing, and is not dropped.
+fn give_back<S: Service>(service: &mut S, is_end: bool)
+    ensures { MatchBool is_end (service.new ≡ service.old) (S.rules.drops service.old service.new) }
+{
+    if !is_end {
+        service.drop_stream();
+    }
+}
+
+/// Ends the sending of an item behind its chunk. Behind an End the last chunk is sent (RFC 9112, section 7.1).
+/// Behind another item the writer is flushed, unless the next item is ready.
+fn finish_item<W: Output, S: Service>(
     writer: &mut W,
     service: &S,
-    text: &ItemText<'_>,
+    item: SentItem,
 ) -> Result<(), ChunkFault>
-    ensures { WritesTo W.written W.fault_count W.failure_count result writer.old writer.new
-        (sent_text text.now.sending.mode text.now.sending.life text.now.sending.rows (lent_in text.now.item)) }
+    ensures { (start : W) (text : List ℕ)
+        → WritesTo W.written W.fault_count W.failure_count item.written start writer.old text
+        → WritesTo W.written W.fault_count W.failure_count result start writer.new
+        (text ++ if item.is_end then last_chunk else []) }
 {
-    chunks.write(writer, text)?;
-    if !text.item.is_end() && service.is_ready() {
+    item.written?;
+    if !item.is_end && service.is_ready() {
         return Ok(());
     }
-    match send(writer, behind_item(text.item).as_bytes()) {
+    let bytes = if item.is_end { "0\r\n\r\n" } else { "" };
+    match send(writer, bytes.as_bytes()) {
         Ok(()) => Ok(()),
         Err(_) => Err(ChunkFault::IoFault),
     }
 }
 
-/// Drops the stream of an item that was not sent. After its End a stream holds nothing, and is not dropped.
-fn give_back<S: Service>(service: &mut S, item: LentItem<'_>)
-    ensures { GivesBack S.rules (lent_in item.entry) service.old service.new }
-{
-    if !item.is_end() {
-        service.drop_stream();
-    }
-}
-
-/// A stream that is being sent.
-#[derive(Clone, Copy)]
-pub(crate) struct Sending {
-    pub(crate) mode: Mode,
-    /// The number of the life of its sequences.
-    pub(crate) life: u64,
-    /// How many rows were sent.
-    pub(crate) rows: u64,
-}
-
-impl Sending {
-    /// A stream of which no row was sent yet.
-    pub(crate) fn new(mode: Mode, life: u64) -> Sending
-        ensures { result ≡ record { mode = mode; life = life; rows = 0 } }
-    {
-        Sending {
-            mode,
-            life,
-            rows: 0,
-        }
-    }
-}
-
-/// Sends the item that the service gave of its stream. It answers how many rows are sent then, or how the
-/// stream ended. A stream that ends before it handed its End is dropped. Where it stopped or found no
-/// memory, the writer is flushed too. A fault of that flush is not told: the stream is cut all the same.
-pub(crate) fn send_given<W: Output, S: Service>(
-    chunks: &mut ChunkWriter,
+/// Goes on after the service sent an item of its stream, or had none. It answers how many rows are sent then,
+/// or how the stream ended. A stream that ends before it handed its End is dropped. Where it stopped or found
+/// no memory, the writer is flushed too. A fault of that flush is not told: the stream is cut all the same.
+pub(crate) fn after_item<W: Output, S: Service>(
     writer: &mut W,
     service: &mut S,
     sending: Sending,
-    given: &NextItem,
+    sent: Option<SentItem>,
 ) -> Result<u64, StreamEnd>
     requires { sending.rows + 1 < 2 ^ 64 }
-    ensures sent { (from : S) (count : ℕ) → S.rules.gives from given.now service.old
+    ensures sent { (from : S) (start : W) (count : ℕ)
+        → SendsNext S.rules.gives W.written W.fault_count W.failure_count sending sent
+        from service.old start writer.old
         → IsStreamed S.rules sending.mode sending.life count sending.rows result
-        (moment from (W.written writer.old)) (moment service.new (W.written writer.new)) }
+        (moment from (W.written start)) (moment service.new (W.written writer.new)) }
     ensures bound { IfOk result (λ rows. rows ≤ sending.rows + 1) }
-    ensures counts { CallCounts (IsErrOf result StreamEnd.Broken) W.fault_count
-        W.failure_count writer.old writer.new }
+    ensures counts { (from : S) (start : W)
+        → SendsNext S.rules.gives W.written W.fault_count W.failure_count sending sent
+        from service.old start writer.old
+        → CallCounts (IsErrOf result StreamEnd.Broken) W.fault_count W.failure_count start writer.new }
 {
-    let Some(item) = given.lent() else {
+    let Some(item) = sent else {
         let _ = send(writer, b"");
         service.drop_stream();
         return Err(StreamEnd::Stopped);
     };
-    let text = ItemText { item, sending };
-    match send_item(chunks, writer, service, &text) {
+    match finish_item(writer, service, item) {
         Ok(()) => {}
         Err(ChunkFault::NoMemory) => {
             let _ = send(writer, b"");
-            give_back(service, item);
+            give_back(service, item.is_end);
             return Err(StreamEnd::NoMemory);
         }
         Err(ChunkFault::IoFault) => {
-            give_back(service, item);
+            give_back(service, item.is_end);
             return Err(StreamEnd::Broken);
         }
     }
-    if item.is_end() {
+    if item.is_end {
         return Err(StreamEnd::Complete);
     }
-    Ok(rows_after(sending.rows, item))
+    Ok(rows_after(sending.rows, item.is_row))
 }
 
 /// Sends the items of the stream that the service answered last.
@@ -151,11 +124,10 @@ pub(crate) fn send_items<W: Output, S: Service>(
 {
     let mut chunks = ChunkWriter::new(alloc);
     let mut rows = sending.rows;
-    let mut next = NextItem::none();
     for _ in 0..u64::MAX {
-        service.item(&mut next);
         let sending = Sending { rows, ..sending };
-        match send_given(&mut chunks, writer, service, sending, &next) {
+        let sent = service.send_next(sending, &mut chunks, writer);
+        match after_item(writer, service, sending, sent) {
             Ok(sent) => rows = sent,
             Err(end) => return end,
         }

@@ -1,14 +1,13 @@
 //! The items of streams.
-ghost use Rattle.std.specs.Prelude.{◌≡◌, None, option_map};
+ghost use Rattle.std.specs.Prelude.{◌≡◌};
+ghost use Rattle.hub_session.specs.Feeds.{IsSent};
 ghost use Rattle.hub_session.specs.Items.{is_end, is_row, stream_item_text};
 ghost use Rattle.hub_session.specs.Lent.{lent_in};
 
-use crate::feed::Sending;
 use hub_document::{ChangeRow, UpdateRow};
-use hub_http::{Text, item_text};
-use hub_model::Item;
+use hub_http::{ChunkFault, ChunkWriter, Output, Text, item_text};
+use hub_model::{Item, Mode};
 use std::alloc::AllocError;
-use std::marker::Model;
 
 /// An item that a stream hands to its subscriber, lent. The service chooses the kind of its stream's items.
 #[derive(Clone, Copy)]
@@ -20,8 +19,8 @@ pub enum LentItem<'a> {
 }
 
 impl LentItem<'_> {
-    /// Whether the item is the end of its stream. Constant time.
-    pub fn is_end(self) -> bool
+    /// Whether the item is the end of its stream.
+    fn is_end(self) -> bool
         ensures { result ≡ is_end (lent_in self.entry) }
     {
         match self {
@@ -31,7 +30,7 @@ impl LentItem<'_> {
     }
 
     /// Whether the item is a row, and no heartbeat or end.
-    pub(crate) fn is_row(self) -> bool
+    fn is_row(self) -> bool
         ensures { result ≡ is_row (lent_in self.entry) }
     {
         match self {
@@ -41,52 +40,11 @@ impl LentItem<'_> {
     }
 }
 
-/// The next item of a service's stream, or none. Each kind of item has its own place, so that an item is put
-/// where its sender reads it. Contracts see one item: the change, where both places have an item.
-#[derive(Debug, Drop)]
-pub struct NextItem {
-    /// An item of a feed of changes.
-    pub change: Option<Item<ChangeRow>>,
-    /// An item of a feed of the log of updates.
-    pub update: Option<Item<UpdateRow>>,
-}
-
-impl Model for NextItem {
-    ghost use Rattle.std.specs.Prelude.{Option};
-    ghost use Rattle.hub_session.specs.StreamItem.{StreamItem, next_of};
-
-    ghost Value = { Option StreamItem };
-
-    ghost view = { λ a. next_of a.change a.update };
-}
-
-impl NextItem {
-    /// No item. It takes no memory.
-    pub fn none() -> NextItem
-        ensures { result ≡ None }
-    {
-        NextItem {
-            change: None,
-            update: None,
-        }
-    }
-
-    /// The item, lent. Constant time.
-    pub fn lent(&self) -> Option<LentItem<'_>>
-        ensures { option_map lent_in result ≡ self.now }
-    {
-        match &self.change {
-            Some(item) => Some(LentItem::Change(item)),
-            None => self.update.as_ref().map(LentItem::Update),
-        }
-    }
-}
-
 /// An item, with the stream that sends it: both make the item's text.
 #[derive(Clone, Copy)]
-pub(crate) struct ItemText<'a> {
-    pub(crate) item: LentItem<'a>,
-    pub(crate) sending: Sending,
+struct ItemText<'a> {
+    item: LentItem<'a>,
+    sending: Sending,
 }
 
 impl Text for ItemText<'_> {
@@ -97,6 +55,62 @@ impl Text for ItemText<'_> {
         match self.item {
             LentItem::Change(item) => item_text(buffer, mode, rows, life, item),
             LentItem::Update(item) => item_text(buffer, mode, rows, life, item),
+        }
+    }
+}
+
+/// A stream that is being sent.
+#[derive(Clone, Copy)]
+pub struct Sending {
+    pub(crate) mode: Mode,
+    /// The number of the life of its sequences.
+    pub(crate) life: u64,
+    /// How many rows were sent.
+    pub(crate) rows: u64,
+}
+
+/// An item whose text was written.
+#[derive(Clone, Copy, Debug)]
+pub struct SentItem {
+    /// Whether the item is a row, and no heartbeat or end.
+    pub is_row: bool,
+    /// Whether the item is the end of its stream.
+    pub is_end: bool,
+    /// Whether its whole text was written, or which fault came.
+    pub written: Result<(), ChunkFault>,
+}
+
+impl Sending {
+    /// A stream of which no row was sent yet. Its sequences have the life of this number.
+    pub fn new(mode: Mode, life: u64) -> Sending
+        ensures { result ≡ record { mode = mode; life = life; rows = 0 } }
+    {
+        Sending {
+            mode,
+            life,
+            rows: 0,
+        }
+    }
+
+    /// Writes the text of the stream's next item to a writer, as one chunk. Nothing is flushed. The cost is the
+    /// text's length and one write. It takes memory only where the text is longer than each text before it.
+    pub fn send<W: Output>(
+        self,
+        chunks: &mut ChunkWriter,
+        writer: &mut W,
+        item: LentItem<'_>,
+    ) -> SentItem
+        ensures { IsSent W.written W.fault_count W.failure_count self (lent_in item.entry) result
+            writer.old writer.new }
+    {
+        let text = ItemText {
+            item,
+            sending: self,
+        };
+        SentItem {
+            is_row: item.is_row(),
+            is_end: item.is_end(),
+            written: chunks.write(writer, &text),
         }
     }
 }

@@ -12,7 +12,7 @@ mod serving;
 
 pub use closing::{Closing, StreamEnd};
 pub use feed::stream_feed;
-pub use item::{LentItem, NextItem};
+pub use item::{LentItem, Sending, SentItem};
 pub use machine::{Session, Step};
 pub use service::{Answer, Service};
 pub use serving::{serve, serve_one};

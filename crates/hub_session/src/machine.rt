@@ -8,8 +8,8 @@ ghost use Rattle.hub_session.specs.Runs.{place_behind, run_offered, session_view
 
 use crate::answering::{Begun, after_stream, answer_fault, begin_answer};
 use crate::closing::{Closing, StreamEnd};
-use crate::feed::{Sending, send_given};
-use crate::item::NextItem;
+use crate::feed::after_item;
+use crate::item::Sending;
 use crate::service::Service;
 use hub_http::{ChunkWriter, HttpFault, Inbox, Next, Outbox, Transfer};
 use std::alloc::{AllocError, Global};
@@ -130,18 +130,14 @@ impl<S: Service> Session<S> {
             self.service.drop_stream();
             return self.go_behind(after_stream(close, StreamEnd::Exhausted));
         }
-        let mut next = NextItem::none();
-        if !self.service.poll_item(&mut next) {
+        let sent = self
+            .service
+            .send_next(sending, &mut self.chunks, &mut self.outbox);
+        if sent.is_none() && self.service.waits() {
             self.chunks = ChunkWriter::new(self.alloc);
             return Step::WantsNews;
         }
-        match send_given(
-            &mut self.chunks,
-            &mut self.outbox,
-            &mut self.service,
-            sending,
-            &next,
-        ) {
+        match after_item(&mut self.outbox, &mut self.service, sending, sent) {
             Ok(rows) => {
                 self.place = Place::Within(Sending { rows, ..sending }, close);
                 Step::Served

@@ -1,6 +1,7 @@
 pub mod Label
 pub mod Blocks
 pub mod Feeds
+pub mod Shown
 pub mod Holdings
 pub mod Locked
 pub mod Opening

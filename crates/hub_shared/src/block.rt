@@ -1,9 +1,11 @@
 //! The elements of a feed's lane. An element is a block: the items that one holding puts into the lane.
 
-ghost use Rattle.std.specs.Prelude.{◌≡◌, ◌<◌, [], length, IfSome, IfNone};
+ghost use Rattle.std.specs.Prelude.{◌≡◌, ◌<◌, [], drop, length, option_map, slice_get, IfSome, IfNone};
 
 use hub_model::Item;
+use std::alloc::Global;
 use std::marker::Model;
+use std::mem;
 
 /// Items that go through a lane together, at least one. Contracts see the list of them.
 #[derive(Drop)]
@@ -41,5 +43,67 @@ impl<R: Drop> Block<R> {
     {
         let Self { items } = self;
         items
+    }
+}
+
+/// The items of a block that were not taken yet. Contracts see the list of them.
+#[derive(Drop)]
+pub(crate) struct Rest<R> {
+    /// The items of the whole block. A heartbeat stands where an item was moved out.
+    items: Vec<Item<R>>,
+    /// How many of the items were taken.
+    taken: usize,
+}
+
+impl<R> Model for Rest<R> {
+    ghost use Rattle.std.specs.Prelude.{◌≤◌, List, drop, length};
+    ghost use Rattle.hub_model.specs.declared.feeds.Item.{Item as HandedItem};
+
+    ghost Value = { List (HandedItem R) };
+
+    ghost view = { λ a. drop a.taken a.items.items };
+
+    ghost invariant = { λ a. a.taken ≤ length a.items.items };
+}
+
+impl<R: Drop> Rest<R> {
+    /// No item. It takes no memory.
+    pub(crate) fn none(alloc: Global) -> Rest<R>
+        ensures { result ≡ [] }
+    {
+        Rest::of(Vec::new(alloc))
+    }
+
+    /// All of these items. Constant time, and no memory.
+    pub(crate) fn of(items: Vec<Item<R>>) -> Rest<R>
+        ensures { result ≡ items.items }
+    {
+        Rest { items, taken: 0 }
+    }
+
+    /// The first item. Constant time.
+    pub(crate) fn first(&self) -> Option<&Item<R>>
+        ensures { option_map (λ item. item.now) result ≡ slice_get self.now 0 }
+    {
+        self.items.get(self.taken)
+    }
+
+    /// Passes the first item, which lies in memory until the rest is dropped. Constant time.
+    pub(crate) fn pass(&mut self)
+        ensures { self.new ≡ drop 1 self.old }
+    {
+        if self.taken < self.items.len() {
+            self.taken += 1;
+        }
+    }
+
+    /// Moves the first item out. Constant time.
+    pub(crate) fn take(&mut self) -> Option<Item<R>>
+        ensures item { result ≡ slice_get self.old 0 }
+        ensures rest { self.new ≡ drop 1 self.old }
+    {
+        let item = self.items.get_mut(self.taken)?;
+        self.taken += 1;
+        Some(mem::replace(item, Item::Beat))
     }
 }

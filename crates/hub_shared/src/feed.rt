@@ -1,8 +1,11 @@
 //! Feeds of hosts that threads share.
 
-ghost use Rattle.std.specs.Prelude.{◌≡◌, IfNone};
+ghost use Rattle.std.specs.Prelude.{◌≡◌, IfNone, Option};
+ghost use Rattle.std.specs.Bool.{OnFalse};
+ghost use Rattle.hub_model.specs.declared.feeds.Item.{Item as HandedItem};
 ghost use Rattle.hub_shared.specs.Blocks.{IsDrained};
 ghost use Rattle.hub_shared.specs.Feeds.{Takes, feed_of, receiver_of};
+ghost use Rattle.hub_shared.specs.Shown.{IsShown};
 
 use crate::block::Block;
 use crate::count::{Count, Plain};
@@ -42,7 +45,8 @@ pub struct HostFeed<S: HostView, C: Count = Plain> {
     pub(crate) signals: Arc<Signals, Global>,
     /// Whether its host may have items for it. `poll` alone uses this.
     pub(crate) is_behind: bool,
-    /// The clock's reading at the first poll without an item after the last item, or at the last heartbeat.
+    /// The clock's reading at the first poll without an item after the last item was taken, or at the last
+    /// heartbeat.
     pub(crate) idle_since: Option<u64>,
     /// The clock's reading at which a feed that waits is to be polled.
     pub(crate) due: u64,
@@ -86,6 +90,21 @@ impl<S: FeedHost, C: Count> HostFeed<S, C> {
         &self.end
     }
 
+    /// Whether an item is left to take: where none is left of the lane's blocks, the lane's next block is taken
+    /// first. `false` says that the lane was empty at a moment of the call. A pump that waits for room is woken
+    /// then. No item is taken. It waits for nobody, and takes no memory.
+    #[inline(always)]
+    pub fn fetch<R: Asks<FeedLabel<S>, Block<S::Row>>>(&mut self, rt: &R) -> bool
+        ensures same { self.new ≡ self.old }
+        ensures none { OnFalse result (IsDrained (R.lacks rt.now) (receiver_of self.old)) }
+    {
+        if self.end.fetch(rt) {
+            return true;
+        }
+        self.signals.ring_room();
+        false
+    }
+
     /// Takes the first item that the lane got and that was not taken yet. All items taken so far are the
     /// beginning of a list that is rightly handed, with the parameters and the since of the label. `None`
     /// comes only where the lane was empty at a moment of the call, and no item was left of its blocks. A
@@ -94,22 +113,30 @@ impl<S: FeedHost, C: Count> HostFeed<S, C> {
         ensures taken { Takes S.right self.old result self.new }
         ensures none { IfNone result (IsDrained (R.lacks rt.now) (receiver_of self.old)) }
     {
-        let mut next = None;
-        self.take_into(rt, &mut next);
+        let next = self.end.take(rt);
+        if next.is_none() {
+            self.signals.ring_room();
+        } else {
+            self.idle_since = None;
+        }
         next
     }
 
-    /// As `take`, but puts the item into `next`, which saves a move of the item.
-    pub fn take_into<R>(&mut self, rt: &R, next: &mut Option<Item<S::Row>>)
+    /// Takes the first item that is left of the lane's blocks (`fetch`, `poll`), and shows it to `see`, which
+    /// may change two values. The answer is that of `see`, or `None` where no item is left. The items taken so
+    /// far are right as those of `take`. The item is not moved, which saves its copy. The cost is that of
+    /// `see`.
+    #[inline(always)]
+    pub fn show<T, A, B, F>(&mut self, first: &mut A, second: &mut B, see: F) -> Option<T>
     where
-        R: Asks<FeedLabel<S>, Block<S::Row>>,
-        ensures taken { Takes S.right self.old next.new self.new }
-        ensures none { IfNone next.new (IsDrained (R.lacks rt.now) (receiver_of self.old)) }
+        F: FnOnce(&Item<S::Row>, &mut A, &mut B) -> T,
+        requires { F.IsAlwaysCallable see }
+        ensures { (found : Option (HandedItem S.Row)) × Takes S.right self.old found self.new
+            × IsShown F.FnOnce see found first.old second.old result first.new second.new }
     {
-        self.end.take_into(rt, next);
-        if next.is_none() {
-            self.signals.ring_room();
-        }
+        let seen = self.end.show(first, second, see)?;
+        self.idle_since = None;
+        Some(seen)
     }
 
     /// Sleeps until the feed's pump handed items or ended, for a connection that found no item to take. It

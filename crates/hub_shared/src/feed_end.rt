@@ -1,19 +1,21 @@
 //! The end of a feed's lane from which its connection takes.
 
-ghost use Rattle.std.specs.Prelude.{◌≡◌, [], IfNone};
+ghost use Rattle.std.specs.Prelude.{◌≡◌, [], IfNone, Option};
+ghost use Rattle.std.specs.Bool.{OnFalse};
 ghost use Rattle.hub_lane.specs.Ends.{new_receiver};
+ghost use Rattle.hub_model.specs.declared.feeds.Item.{Item as HandedItem};
 ghost use Rattle.hub_params.specs.FeedModel.{params_in};
 ghost use Rattle.hub_shared.specs.Blocks.{IsDrained};
 ghost use Rattle.hub_shared.specs.Feeds.{EndTakes};
+ghost use Rattle.hub_shared.specs.Shown.{IsShown};
 
-use crate::block::Block;
+use crate::block::{Block, Rest};
 use crate::label::FeedLabel;
 use hub_feed::HostView;
 use hub_lane::{Asks, Receiver};
 use hub_model::Item;
 use std::alloc::Global;
 use std::marker::Model;
-use std::vec::IntoIter;
 
 /// The taking end of a feed's lane. Blocks come out of the lane, and items out of the block that was taken
 /// last. Contracts see the lane, its label, and all items that were taken.
@@ -21,13 +23,12 @@ use std::vec::IntoIter;
 pub struct FeedEnd<S: HostView> {
     receiver: Receiver<FeedLabel<S>, Block<S::Row>>,
     /// The rest of the last block that the lane gave.
-    block: IntoIter<Item<S::Row>>,
+    rest: Rest<S::Row>,
     alloc: Global,
 }
 
 impl<S: HostView> Model for FeedEnd<S> {
     ghost use Rattle.std.specs.Prelude.{◌≡◌, ◌++◌};
-    ghost use Rattle.std.specs.Vec.Iter.{into_iter_items};
     ghost use Rattle.hub_model.specs.declared.feeds.Item.{Item as HandedItem};
     ghost use Rattle.hub_lane.specs.Ends.{IsAllowedBeginning, ReceiverState};
     ghost use Rattle.hub_params.specs.FeedModel.{params_in};
@@ -36,10 +37,10 @@ impl<S: HostView> Model for FeedEnd<S> {
 
     ghost Value = { ReceiverState Label (HandedItem S.Row) };
 
-    ghost view = { λ a. end_of a.receiver (into_iter_items a.block) };
+    ghost view = { λ a. end_of a.receiver a.rest };
 
     ghost invariant = { λ a. (items_in a.receiver.taken
-        ≡ front_of (items_in a.receiver.taken) (into_iter_items a.block) ++ into_iter_items a.block)
+        ≡ front_of (items_in a.receiver.taken) a.rest ++ a.rest)
         × IsAllowedBeginning (λ l blocks. S.right (params_in l.asked) l.since (items_in blocks)) a.receiver };
 }
 
@@ -52,7 +53,7 @@ impl<S: HostView> FeedEnd<S> {
     {
         FeedEnd {
             receiver,
-            block: Vec::new(alloc).into_iter(),
+            rest: Rest::none(alloc),
             alloc,
         }
     }
@@ -64,6 +65,27 @@ impl<S: HostView> FeedEnd<S> {
         self.receiver.label()
     }
 
+    /// Whether an item is left of the lane's blocks. Where none is left, the lane's next block is taken first.
+    /// `false` says that the lane was empty at a moment of the call, and the end keeps no memory of blocks
+    /// then. No item is taken. It waits for nobody, and takes no memory.
+    #[inline(always)]
+    pub(crate) fn fetch<R>(&mut self, rt: &R) -> bool
+    where
+        R: Asks<FeedLabel<S>, Block<S::Row>>,
+        ensures same { self.new ≡ self.old }
+        ensures none { OnFalse result (IsDrained (R.lacks rt.now) self.old) }
+    {
+        if self.rest.first().is_some() {
+            return true;
+        }
+        let Some(block) = self.receiver.take(rt) else {
+            self.rest = Rest::none(self.alloc);
+            return false;
+        };
+        self.rest = Rest::of(block.into_items());
+        true
+    }
+
     /// Takes the first item that the lane got and that was not taken yet. All items taken so far are the
     /// beginning of a list that is rightly handed, with the parameters and the since of the label. `None`
     /// comes only where the lane was empty at a moment of the call, and no item was left of its blocks. The
@@ -72,32 +94,26 @@ impl<S: HostView> FeedEnd<S> {
         ensures taken { EndTakes S.right self.old result self.new }
         ensures none { IfNone result (IsDrained (R.lacks rt.now) self.old) }
     {
-        let mut next = None;
-        self.take_into(rt, &mut next);
-        next
+        if !self.fetch(rt) {
+            return None;
+        }
+        self.rest.take()
     }
 
-    /// As `take`, but puts the item into `next`, which saves a move of the item.
+    /// Takes the first item that is left of the lane's blocks, and shows it to `see`, which may change two
+    /// values. The answer is that of `see`, or `None` where no item is left. The item is not moved, and lies in
+    /// memory until the lane's next block is taken. The cost is that of `see`.
     #[inline(always)]
-    pub fn take_into<R>(&mut self, rt: &R, next: &mut Option<Item<S::Row>>)
+    pub(crate) fn show<T, A, B, F>(&mut self, first: &mut A, second: &mut B, see: F) -> Option<T>
     where
-        R: Asks<FeedLabel<S>, Block<S::Row>>,
-        ensures taken { EndTakes S.right self.old next.new self.new }
-        ensures none { IfNone next.new (IsDrained (R.lacks rt.now) self.old) }
+        F: FnOnce(&Item<S::Row>, &mut A, &mut B) -> T,
+        requires { F.IsAlwaysCallable see }
+        ensures { (found : Option (HandedItem S.Row)) × EndTakes S.right self.old found self.new
+            × IsShown F.FnOnce see found first.old second.old result first.new second.new }
     {
-        let front = self.block.next();
-        if let Some(_) = &front {
-            *next = front;
-            return;
-        }
-        let Some(block) = self.receiver.take(rt) else {
-            self.block = Vec::new(self.alloc).into_iter();
-            *next = None;
-            return;
-        };
-        let mut items = block.into_items().into_iter();
-        let item = items.next();
-        self.block = items;
-        *next = item;
+        let item = self.rest.first()?;
+        let seen = see(item, first, second);
+        self.rest.pass();
+        Some(seen)
     }
 }

@@ -1,8 +1,6 @@
 //! How one thread sends many feeds: each feed is asked for its next item, and no feed is waited for.
 
-ghost use Rattle.std.specs.Prelude.{◌≡◌, None};
-ghost use Rattle.std.specs.Bool.{OnFalse};
-ghost use Rattle.hub_shared.specs.Feeds.{Takes};
+ghost use Rattle.std.specs.Prelude.{◌≡◌};
 
 use crate::block::Block;
 use crate::count::Count;
@@ -14,7 +12,7 @@ use crate::times::ClockDue;
 use crate::watch::Watch;
 use hub_feed::{FeedHost, Handed};
 use hub_lane::Asks;
-use hub_model::{Item, place_of};
+use hub_model::place_of;
 use std::alloc::Global;
 use std::sync::{Arc, Wait};
 
@@ -65,48 +63,37 @@ impl<S: FeedHost, C: Count> HostFeed<S, C> {
         }
     }
 
-    // Takes an item that is left of the lane's blocks. True says that a poll ends with that: an item came, or
-    // the feed is over.
-    #[inline(always)]
-    fn take_left<R>(&mut self, rt: &R, next: &mut Option<Item<S::Row>>) -> bool
-    where
-        R: Asks<FeedLabel<S>, Block<S::Row>>,
-        ensures taken { Takes S.right self.old next.new self.new }
-        ensures none { OnFalse result (next.new ≡ None) }
-    {
-        self.end.take_into(rt, next);
-        if next.is_some() {
-            self.idle_since = None;
-            return true;
-        }
-        self.is_over()
-    }
-
-    /// Puts the next item into `next`, for a thread that sends many feeds and waits for none. Where no item
-    /// is left of the lane's blocks, one holding of the lock hands a block of as many items as it may. Where
-    /// no item is due either, a heartbeat or the end of the feed's time comes as the clock says. `None` says
+    /// Whether an item is left to take, for a thread that sends many feeds and waits for none. Where no item is
+    /// left of the lane's blocks, one holding of the lock hands a block of as many items as it may. Where no
+    /// item is due either, a heartbeat or the end of the feed's time comes as the clock says. `false` says
     /// that the feed waits, or that it is over (`is_over`): an item found no memory, or the End was handed. A
     /// feed that waits is to be asked again when its host has news (`watch`), and at the clock's `due` at the
     /// latest. A poll without an item left costs a holding, unless the last one found nothing more. A
     /// heartbeat costs one holding more, the end of the time two.
-    pub fn poll<R, G, K>(&mut self, rt: &R, gate: &G, clock: &K, next: &mut Option<Item<S::Row>>)
+    pub fn poll<R, G, K>(&mut self, rt: &R, gate: &G, clock: &K) -> bool
     where
         R: Asks<FeedLabel<S>, Block<S::Row>>,
         G: Gate,
         K: Clock,
-        ensures { Takes S.right self.old next.new self.new }
+        ensures { self.new ≡ self.old }
     {
-        if self.take_left(rt, next) {
-            return;
+        if self.end.fetch(rt) {
+            return true;
+        }
+        if self.is_over() {
+            return false;
         }
         if self.is_behind {
             self.is_behind = self.hold_own(rt, Turn::Hand, gate);
-            if self.take_left(rt, next) {
-                return;
+            if self.end.fetch(rt) {
+                return true;
+            }
+            if self.is_over() {
+                return false;
             }
         }
         self.pass_time(rt, gate, clock);
-        self.end.take_into(rt, next);
+        self.end.fetch(rt)
     }
 
     /// The reading of the clock at which a feed that `poll` left waiting gets a heartbeat, or its end.
