@@ -1,6 +1,6 @@
 -- The items of a stream, sent one after the other, and how the stream ends after them.
 use Rattle.std.proofs.Common.{◌≡◌, ◌≤◌, ◌⊎◌, ℕ, zero, suc, ◌+◌, List, [], ◌∷◌, ◌++◌, Bool, true}
-use Rattle.std.proofs.Common.{false, MatchBool, Option, Some, Ok, Err, refl, sym, ap}
+use Rattle.std.proofs.Common.{false, MatchBool, Option, Some, Result, Ok, Err, IsErr, refl, sym, ap}
 use Rattle.std.proofs.Common.{subst, ◌∙◌, inl, inr, append_assoc, append-nil, arith}
 use Rattle.std.proofs.lemmas.Bool.{cases_Bool}
 use Rattle.std.specs.Prelude.{if◌then◌else◌}
@@ -10,15 +10,17 @@ use Rattle.hub_http.specs.Counts.{Sends}
 use Rattle.hub_http.proofs.SendLemmas.{front_of_more, sends_after}
 use Rattle.hub_http.specs.declared.chunk.ChunkFault.{ChunkFault}
 use Rattle.hub_http.specs.declared.chunk.ChunkFault.TheVariants as chunk
-use Rattle.hub_http.specs.Chunks.{text_chunks, Writes}
+use Rattle.hub_http.specs.Chunks.{text_chunks, Writes, WritesTo}
 use Rattle.hub_model.specs.declared.feeds.Mode.{Mode}
 use Rattle.hub_http.specs.Items.{feed_head}
 use Rattle.hub_session.specs.StreamItem.{StreamItem}
 use Rattle.hub_session.specs.declared.closing.StreamEnd.{StreamEnd}
 use Rattle.hub_session.specs.declared.closing.StreamEnd.TheVariants.{Broken}
-use Rattle.hub_session.specs.Feeds.{GivesBack, HasStreamed, Streams, IsFed, IsStreamed}
-use Rattle.hub_session.specs.Feeds.{sent_text, items_text, feed_text, is_broken, rows_behind}
-use Rattle.hub_session.specs.Items.{is_end, is_row, rows_after}
+use Rattle.hub_session.specs.declared.item.Sending.{Sending}
+use Rattle.hub_session.specs.declared.item.SentItem.{SentItem}
+use Rattle.hub_session.specs.Feeds.{GivesBack, HasStreamed, Streams, IsFed, IsSent, IsStreamed}
+use Rattle.hub_session.specs.Feeds.{behind_chunk, sent_text, items_text, feed_text, is_broken, rows_behind}
+use Rattle.hub_session.specs.Items.{is_end, is_row, rows_after, stream_item_text}
 use Rattle.hub_session.specs.Rules.{Rules, Moment, moment}
 
 -- a text of no bytes that was sent, or that broke, changed nothing
@@ -168,10 +170,37 @@ stream_fails rules sent s mid t item given back = from (cases_Bool (is_end item)
         (Streams.breaks (subst (λ b. MatchBool b (t ≡ mid) (rules.drops mid t)) e back))
 
 -- a fault at the writing of a front is a fault at the writing of the whole text
-pub front_written : (fault : ChunkFault) (x y : List ℕ) (a b : Option (List ℕ)) → Writes x (Err fault) a b
-    → Writes (x ++ y) (Err fault) a b
-front_written chunk.NoMemory x y a b p = p
-front_written chunk.IoFault x y a b p = front_of_more a b x y p
+pub fault_behind : {W : Type 0} (written_of : W → Option (List ℕ)) (faults_of failures_of : W → ℕ)
+    (result : Result (Unit {0}) ChunkFault) (old new : W) (x y : List ℕ) → IsErr result
+    → WritesTo written_of faults_of failures_of result old new x
+    → WritesTo written_of faults_of failures_of result old new (x ++ y)
+fault_behind written_of faults_of failures_of (Ok u) old new x y fault told = absurd (cc)
+fault_behind written_of faults_of failures_of (Err chunk.NoMemory) old new x y fault told =
+    record { bytes_written = told.bytes_written; counts = told.counts }
+fault_behind written_of faults_of failures_of (Err chunk.IoFault) old new x y fault told =
+    record {
+      bytes_written = front_of_more (written_of old) (written_of new) x y told.bytes_written;
+      counts = told.counts;
+    }
+
+-- a stream is dropped, or not, by whether its item is told to be an End
+pub back_as_told : {S : Type 0} (rules : Rules S) (item : StreamItem) (is_last : Bool) (s t : S)
+    → is_last ≡ is_end item → MatchBool is_last (t ≡ s) (rules.drops s t) → GivesBack rules item s t
+back_as_told rules item is_last s t told back =
+    subst (λ b. MatchBool b (t ≡ s) (rules.drops s t)) told back
+
+-- an item whose chunk was written, and then the text behind its chunk, was written whole
+pub item_finished : {W : Type 0} (written_of : W → Option (List ℕ)) (faults_of failures_of : W → ℕ)
+    (sending : Sending) (item : StreamItem) (sent : SentItem) (result : Result (Unit {0}) ChunkFault)
+    (start mid new : W)
+    → IsSent written_of faults_of failures_of sending item sent start mid
+    → ((s : W) (text : List ℕ) → WritesTo written_of faults_of failures_of sent.written s mid text
+    → WritesTo written_of faults_of failures_of result s new (text ++ behind_chunk sent.is_end))
+    → Writes (sent_text sending.mode sending.life sending.rows item) result (written_of start) (written_of new)
+item_finished written_of faults_of failures_of sending item sent result start mid new told finishes =
+    let chunk = text_chunks (stream_item_text sending.mode sending.life sending.rows item) in
+    subst (λ b. Writes (chunk ++ behind_chunk b) result (written_of start) (written_of new)) told.end
+    (finishes start chunk told.text).bytes_written
 
 -- the head of a stream was written, and then its items
 pub fed_behind : {S : Type 0} (rules : Rules S) (mode : Mode) (life : ℕ) (end : StreamEnd)

@@ -19,15 +19,16 @@ use Rattle.hub_session.specs.Rules.{Rules, Moment, moment}
 abbrev pub last_chunk : List ℕ
 last_chunk = codes "0\r\n\r\n"
 
--- the text behind the chunk of an item: the last chunk behind an End, else none
-abbrev pub behind_item : StreamItem → List ℕ
-behind_item item = if is_end item then last_chunk else []
+-- the text behind the chunk of an item, which is the End or not: the last chunk, or none
+abbrev pub behind_chunk : Bool → List ℕ
+behind_chunk is_last = if is_last then last_chunk else []
 
 -- The text of an item, before which so many rows came. In a normal feed a second row is one chunk with a
 -- comma, a line feed and the row's text. A beat is one chunk with a line feed. An End is its chunk, and then
 -- the last chunk.
 abbrev pub sent_text : Mode → (life rows : ℕ) → StreamItem → List ℕ
-sent_text mode life rows item = text_chunks (stream_item_text mode life rows item) ++ behind_item item
+sent_text mode life rows item =
+    text_chunks (stream_item_text mode life rows item) ++ behind_chunk (is_end item)
 
 -- The text of these items, before which so many rows came. Of two rows of a normal feed, the comma stands in
 -- the chunk of the second row, also where a beat stands between them.

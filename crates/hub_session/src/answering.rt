@@ -8,7 +8,8 @@ ghost use Rattle.hub_session.specs.Sessions.{HasBegun, HasToldFault, after_answe
 ghost use Rattle.hub_session.specs.Sessions.{after_stream, after_whole, is_head, stream_head};
 
 use crate::closing::{Closing, StreamEnd};
-use crate::feed::{Sending, begin_items};
+use crate::feed::begin_items;
+use crate::item::Sending;
 use crate::parts::send_reply;
 use crate::service::{Answer, Service};
 use hub_http::{

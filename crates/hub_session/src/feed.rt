@@ -4,7 +4,7 @@ ghost use Rattle.std.specs.Prelude.{MatchBool, if◌then◌else◌};
 ghost use Rattle.hub_http.specs.Counts.{CallCounts, SendsTo};
 ghost use Rattle.hub_http.specs.Items.{feed_head};
 ghost use Rattle.hub_http.specs.Chunks.{WritesTo, text_chunks};
-ghost use Rattle.hub_session.specs.Feeds.{feed_text, items_text, last_chunk};
+ghost use Rattle.hub_session.specs.Feeds.{behind_chunk, feed_text, items_text};
 ghost use Rattle.hub_session.specs.Feeds.{IsFed, IsFedTo, IsStreamed, SendsNext};
 ghost use Rattle.hub_session.specs.Rules.{moment};
 
@@ -44,8 +44,16 @@ fn give_back<S: Service>(service: &mut S, is_end: bool)
     }
 }
 
-/// Ends the sending of an item behind its chunk. Behind an End the last chunk is sent (RFC 9112, section 7.1).
-/// Behind another item the writer is flushed, unless the next item is ready.
+/// The text behind the chunk of an item, which is the End or not: the last chunk (RFC 9112, section 7.1), or
+/// none.
+fn behind_chunk(is_end: bool) -> &'static str
+    ensures { result.now ≡ behind_chunk is_end }
+{
+    if is_end { "0\r\n\r\n" } else { "" }
+}
+
+/// Ends the sending of an item behind its chunk. Behind an End the last chunk is sent. Behind another
+/// item the writer is flushed, unless the next item is ready.
 fn finish_item<W: Output, S: Service>(
     writer: &mut W,
     service: &S,
@@ -54,14 +62,13 @@ fn finish_item<W: Output, S: Service>(
     ensures { (start : W) (text : List ℕ)
         → WritesTo W.written W.fault_count W.failure_count item.written start writer.old text
         → WritesTo W.written W.fault_count W.failure_count result start writer.new
-        (text ++ if item.is_end then last_chunk else []) }
+        (text ++ behind_chunk item.is_end) }
 {
     item.written?;
     if !item.is_end && service.is_ready() {
         return Ok(());
     }
-    let bytes = if item.is_end { "0\r\n\r\n" } else { "" };
-    match send(writer, bytes.as_bytes()) {
+    match send(writer, behind_chunk(item.is_end).as_bytes()) {
         Ok(()) => Ok(()),
         Err(_) => Err(ChunkFault::IoFault),
     }

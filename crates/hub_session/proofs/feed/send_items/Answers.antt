@@ -10,11 +10,14 @@ pub loop-init : goal.loop-init
 loop-init g c = (rw c.requires (went_none _ _ _ _), omega arith, omega (arith, c.requires), omega arith)
 
 pub returns-in-Err : goal.returns-in-Err
-returns-in-Err g c = record {
-  fed = went_ends g.S.Service.rules _ _ _ c.loop.counter c.loop.rows _ _ c.in-Err.end c.loop.invariant.0
-      (c.in-Err.ensures.sent c.loop.service c.loop.counter c.item.ensures);
-  counts = counts_since c.loop.invariant.1 c.loop.invariant.3 (counts_for (ap Err) c.in-Err.ensures.counts);
-}
+returns-in-Err g c =
+    let sent = c.send_next-sent.ensures in
+    record {
+      fed = went_ends g.S.Service.rules _ _ _ c.loop.counter c.loop.rows _ _ c.in-Err.end c.loop.invariant.0
+          (c.in-Err.ensures.sent c.loop.service c.loop.writer c.loop.counter sent);
+      counts = counts_since c.loop.invariant.1 c.loop.invariant.3
+          (counts_for (ap Err) (c.in-Err.ensures.counts c.loop.service c.loop.writer sent));
+    }
 
 pub returns : goal.returns
 returns g c = record {
@@ -24,13 +27,15 @@ returns g c = record {
 }
 
 pub loop-preserved : goal.loop-preserved
-loop-preserved g c = (
-  went_more g.S.Service.rules _ _ _ c.loop.counter c.loop.rows _ _ _ c.loop.invariant.0
-      (c.in-Ok.ensures.sent c.loop.service c.loop.counter c.item.ensures),
-  omega (arith, c.loop.invariant.1, c.send_given.ensures.counts.faults),
-  omega (arith, c.loop.invariant.2, c.in-Ok.ensures.bound),
-  omega (arith, c.loop.invariant.3, c.send_given.ensures.counts.failures),
-)
+loop-preserved g c =
+    let sent = c.send_next-sent.ensures in
+    let counts = c.after_item.ensures.counts c.loop.service c.loop.writer sent in (
+      went_more g.S.Service.rules _ _ _ c.loop.counter c.loop.rows _ _ _ c.loop.invariant.0
+          (c.in-Ok.ensures.sent c.loop.service c.loop.writer c.loop.counter sent),
+      omega (arith, c.loop.invariant.1, counts.faults),
+      omega (arith, c.loop.invariant.2, c.in-Ok.ensures.bound),
+      omega (arith, c.loop.invariant.3, counts.failures),
+    )
 
-pub send_given-requires : goal.send_given-requires
-send_given-requires g c = omega (arith, c.loop.invariant.2, c.loop-test.true)
+pub after_item-requires : goal.after_item-requires
+after_item-requires g c = omega (arith, c.loop.invariant.2, c.loop-test.true)

@@ -22,30 +22,31 @@ returns-then-sending-eq18446744073709551615 g c = λ place.
     )
 
 pub returns-in-Ok : goal.returns-in-Ok
-returns-in-Ok g c = λ place.
-    let given = rw c.if-not-poll_item.false at c.poll_item.ensures in (
-      Steps.sends c.args.sending c.in-Ok.rows c.args.close place refl refl refl refl
-          (c.in-Ok.ensures.sent c.args.self.now.service 0 given),
-      λ broken. let other = broken in absurd (cc),
-    )
+returns-in-Ok g c = λ place. (
+  Steps.sends c.args.sending c.in-Ok.rows c.args.close place refl refl refl refl
+      (c.in-Ok.ensures.sent c.args.self.now.service c.args.self.now.outbox 0 c.send_next-sent.ensures),
+  λ broken. let other = broken in absurd (cc),
+)
 
-pub returns : goal.returns
-returns g c = λ place.
-    let given = rw c.if-not-poll_item.false at c.poll_item.ensures in
+pub returns-in-Err : goal.returns-in-Err
+returns-in-Err g c = λ place.
+    let sent = c.send_next-sent.ensures in
     let before = c.args.self.now in
     let mid =
     session_view (record before {
-      outbox = c.send_given.new.writer;
-      chunks = c.send_given.new.chunks;
-      service = c.send_given.new.service;
+      outbox = c.after_item.new.writer;
+      chunks = c.send_next-sent.new.chunks;
+      service = c.after_item.new.service;
     }) in
     let step = c.go_behind-in-Err.ensures.step in (
       stepped_ends g.S.Service.rules c.args.sending c.args.close c.in-Err.end c.after_stream-in-Err.result
           (session_view before) mid (session_view c.go_behind-in-Err.new.self) c.go_behind-in-Err.result place
           c.after_stream-in-Err.ensures refl refl
-          (λ sent low. c.in-Err.ensures.sent before.service sent given) c.go_behind-in-Err.ensures.shown step,
+          (λ count low. c.in-Err.ensures.sent before.service before.outbox count sent)
+          c.go_behind-in-Err.ensures.shown step,
       λ broken.
           let next = step_broken c.after_stream-in-Err.result (sym step ∙ broken) in
           let end = broken_stream c.args.close c.in-Err.end (sym c.after_stream-in-Err.ensures ∙ next) in
-          rw c.go_behind-in-Err.ensures.outbox (c.send_given.ensures.counts.fault (cc)),
+          rw c.go_behind-in-Err.ensures.outbox
+          ((c.after_item.ensures.counts before.service before.outbox sent).fault (cc)),
     )
