@@ -1,9 +1,9 @@
 //! Calls on a hub beside the sessions of its clients.
 
 use hub_databases::Hub;
-use hub_http::{Request, Requests, Tally};
-use hub_model::Item;
-use hub_session::{NextItem, Service};
+use hub_http::{ChunkWriter, Request, Requests, Tally};
+use hub_model::Mode;
+use hub_session::{Sending, Service};
 use hub_transcript::Answer;
 use std::alloc::{AllocError, Global};
 use std::sync::Wait;
@@ -28,28 +28,31 @@ pub(crate) fn open<S: Service>(
     Ok(())
 }
 
-/// Shows the sequence of a feed's next item. Where no item came, as out of memory, it asks once more.
+/// Shows the chunk of a feed's next item, as of a continuous feed. `|` stands for the end of a line of the
+/// chunk, and `\n` for a line feed. Where no item came, as out of memory, the service is asked once more.
 pub(crate) fn show_item<S: Service>(
+    alloc: Global,
     service: &mut S,
     answer: &mut Answer,
 ) -> Result<(), AllocError> {
-    let mut next = NextItem::none();
-    service.item(&mut next);
-    if next.change.is_none() {
-        service.item(&mut next);
+    let mut chunks = ChunkWriter::new(alloc);
+    let mut writer = Tally::new(Vec::new(alloc));
+    let sending = Sending::new(Mode::Continuous, 0);
+    let mut sent = service.send_next(sending, &mut chunks, &mut writer);
+    if sent.is_none() {
+        sent = service.send_next(sending, &mut chunks, &mut writer);
     }
-    let NextItem { change, .. } = next;
-    match change {
-        Some(Item::Row(row)) => {
-            answer.text("row ")?;
-            answer.line(row.seq)
-        }
-        Some(Item::End { last_seq, .. }) => {
-            answer.text("end ")?;
-            answer.line(last_seq)
-        }
-        _ => answer.line("no row"),
+    let Some(item) = sent else {
+        return answer.line("no item");
+    };
+    let Ok(text) = String::from_utf8(writer.into_inner()) else {
+        return answer.line("no text");
+    };
+    if item.written.is_err() {
+        return Err(AllocError);
     }
+    let shown = text.replace(alloc, "\r\n", "|")?;
+    answer.line(shown.replace(alloc, "\n", r"\n")?)
 }
 
 /// Deletes a database under its lock, and leaves its name.

@@ -144,8 +144,8 @@ impl Client {
         }
     }
 
-    /// A service opens a feed and hands an item. Then a connection removes the database, and the service
-    /// hands its next item.
+    /// A service opens a feed and sends an item. Then a connection removes the database, and the service
+    /// sends its next item.
     fn remove_during<N: Wait, S: Service>(
         &self,
         rt: &N,
@@ -154,9 +154,9 @@ impl Client {
         answer: &mut Answer,
     ) -> Result<(), AllocError> {
         open(self.alloc, service, feed)?;
-        show_item(service, answer)?;
+        show_item(self.alloc, service, answer)?;
         self.look(rt, REMOVAL, "", answer)?;
-        show_item(service, answer)
+        show_item(self.alloc, service, answer)
     }
 
     /// The same with a connection as the service.

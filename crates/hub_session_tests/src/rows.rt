@@ -1,9 +1,9 @@
 //! A service of a feed of two rows and of a feed of updates.
 
 use hub_document::{ChangeRow, Changes, Doc, RevId, Revisions, UpdateRow};
-use hub_http::{Refusal, Reply, Request, StatusCode};
+use hub_http::{ChunkWriter, Output, Refusal, Reply, Request, StatusCode};
 use hub_model::{Item, Mode, UpdateKind};
-use hub_session::{Answer, NextItem, Service};
+use hub_session::{Answer, LentItem, Sending, SentItem, Service};
 use std::alloc::Global;
 use std::cell::Cell;
 
@@ -63,7 +63,7 @@ pub(crate) struct Rows<'a> {
     pub(crate) stops: bool,
     /// How many streams were given back.
     pub(crate) dropped: u64,
-    /// How many items have news, where a stream is polled.
+    /// How many items have news: where there is no news the stream waits.
     pub(crate) news: &'a Cell<u64>,
 }
 
@@ -157,26 +157,31 @@ impl Service for Rows<'_> {
         self.late >> self.next.min(63) & 1 == 0
     }
 
-    fn item(&mut self, next: &mut NextItem) {
-        let number = self.next;
-        self.next = number.saturating_add(1);
-        *next = NextItem::none();
-        if self.has_updates {
-            next.update = self.update(self.next);
-        } else {
-            next.change = self.change(number);
-        }
-    }
-
-    fn poll_item(&mut self, next: &mut NextItem) -> bool {
+    fn send_next<W: Output>(
+        &mut self,
+        sending: Sending,
+        chunks: &mut ChunkWriter,
+        writer: &mut W,
+    ) -> Option<SentItem> {
         let news = self.news.get();
         if news == 0 {
-            *next = NextItem::none();
-            return false;
+            return None;
         }
+        let next = self.next.saturating_add(1);
+        let sent = if self.has_updates {
+            let item = self.update(next)?;
+            sending.send(chunks, writer, LentItem::Update(&item))
+        } else {
+            let item = self.change(self.next)?;
+            sending.send(chunks, writer, LentItem::Change(&item))
+        };
+        self.next = next;
         self.news.set(news - 1);
-        self.item(next);
-        true
+        Some(sent)
+    }
+
+    fn waits(&self) -> bool {
+        self.news.get() == 0
     }
 
     fn drop_stream(&mut self) {
