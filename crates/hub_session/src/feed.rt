@@ -1,5 +1,5 @@
 //! Streams to a writer.
-ghost use Rattle.std.specs.Prelude.{◌≡◌, ◌<◌, ◌≤◌, ◌+◌, ◌^◌, ◌++◌, [], ℕ, List, IfOk, IsErrOf};
+ghost use Rattle.std.specs.Prelude.{◌≡◌, ◌<◌, ◌≤◌, ◌+◌, ◌^◌, ◌++◌, ℕ, List, IfOk, IsErrOf};
 ghost use Rattle.std.specs.Prelude.{MatchBool, if◌then◌else◌};
 ghost use Rattle.hub_http.specs.Counts.{CallCounts, SendsTo};
 ghost use Rattle.hub_http.specs.Items.{feed_head};
