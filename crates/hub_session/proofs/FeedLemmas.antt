@@ -18,7 +18,7 @@ use Rattle.hub_session.specs.declared.closing.StreamEnd.{StreamEnd}
 use Rattle.hub_session.specs.declared.closing.StreamEnd.TheVariants.{Broken}
 use Rattle.hub_session.specs.declared.item.Sending.{Sending}
 use Rattle.hub_session.specs.declared.item.SentItem.{SentItem}
-use Rattle.hub_session.specs.Feeds.{GivesBack, HasStreamed, Streams, IsFed, IsSent, IsStreamed}
+use Rattle.hub_session.specs.Feeds.{GivesBack, HasStreamed, Streams, IsFed, SendsItem, IsStreamed}
 use Rattle.hub_session.specs.Feeds.{behind_chunk, sent_text, items_text, feed_text, is_broken, rows_behind}
 use Rattle.hub_session.specs.Items.{is_end, is_row, rows_after, stream_item_text}
 use Rattle.hub_session.specs.Rules.{Rules, Moment, moment}
@@ -193,7 +193,7 @@ back_as_told rules item is_last s t told back =
 pub item_finished : {W : Type 0} (written_of : W → Option (List ℕ)) (faults_of failures_of : W → ℕ)
     (sending : Sending) (item : StreamItem) (sent : SentItem) (result : Result (Unit {0}) ChunkFault)
     (start mid new : W)
-    → IsSent written_of faults_of failures_of sending item sent start mid
+    → SendsItem written_of faults_of failures_of sending item sent start mid
     → ((s : W) (text : List ℕ) → WritesTo written_of faults_of failures_of sent.written s mid text
     → WritesTo written_of faults_of failures_of result s new (text ++ behind_chunk sent.is_end))
     → Writes (sent_text sending.mode sending.life sending.rows item) result (written_of start) (written_of new)

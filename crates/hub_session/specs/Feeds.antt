@@ -50,7 +50,7 @@ feed_text mode life items = text_chunks (feed_head mode) ++ items_text mode life
 -- whether the item is a row or an End, and whether all of the chunk was written. For a row that a writer
 -- refuses after three bytes, the answer says that it is a row and that an IoFault came, and three bytes of the
 -- chunk were written.
-pub record IsSent {W : Type 0} (written_of : W → Option (List ℕ)) (faults_of failures_of : W → ℕ)
+pub record SendsItem {W : Type 0} (written_of : W → Option (List ℕ)) (faults_of failures_of : W → ℕ)
     (sending : Sending) (item : StreamItem) (sent : SentItem) (old new : W) : Type 0 where
   pub row : sent.is_row ≡ is_row item
   pub end : sent.is_end ≡ is_end item
@@ -63,7 +63,7 @@ abbrev pub SendsNext : {S W : Type 0} → (gives : S → Option StreamItem → S
     → (faults_of failures_of : W → ℕ) → Sending → Option SentItem → (s t : S) → (old new : W) → Type 0
 SendsNext gives written_of faults_of failures_of sending (Some sent) s t old new =
     (item : StreamItem) × gives s (Some item) t
-    × IsSent written_of faults_of failures_of sending item sent old new
+    × SendsItem written_of faults_of failures_of sending item sent old new
 SendsNext gives written_of faults_of failures_of sending None s t old new =
     gives s None t × (t ≡ s) × (new ≡ old)
 

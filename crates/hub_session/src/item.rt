@@ -1,6 +1,6 @@
 //! The items of streams.
 ghost use Rattle.std.specs.Prelude.{◌≡◌};
-ghost use Rattle.hub_session.specs.Feeds.{IsSent};
+ghost use Rattle.hub_session.specs.Feeds.{SendsItem};
 ghost use Rattle.hub_session.specs.Items.{is_end, is_row, stream_item_text};
 ghost use Rattle.hub_session.specs.Lent.{lent_in};
 
@@ -100,7 +100,7 @@ impl Sending {
         writer: &mut W,
         item: LentItem<'_>,
     ) -> SentItem
-        ensures { IsSent W.written W.fault_count W.failure_count self (lent_in item.entry) result
+        ensures { SendsItem W.written W.fault_count W.failure_count self (lent_in item.entry) result
             writer.old writer.new }
     {
         let text = ItemText {
