@@ -22,6 +22,20 @@ use hub_filter::{DocIds, Filter};
 use hub_model::{Mode, Since, Style};
 use std::alloc::{AllocError, Global};
 
+// The names of the parameters of a feed.
+const NAMES: [&str; 10] = [
+    "since",
+    "limit",
+    "style",
+    "feed",
+    "filter",
+    "doc_ids",
+    "heartbeat",
+    "timeout",
+    "descending",
+    "include_docs",
+];
+
 /// The parameters in the query and the body of a changes feed (CouchDB API reference, `_changes`).
 #[derive(Debug, Drop)]
 pub struct FeedParams {
@@ -58,23 +72,7 @@ impl FeedParams {
         ensures memory { IfErr result (λ e. e ≡ ParamFault.NoMemory → FeedNeedsRoom query.now body.now) }
     {
         let mut written = [None; 10];
-        read_written(
-            alloc,
-            query,
-            &[
-                "since",
-                "limit",
-                "style",
-                "feed",
-                "filter",
-                "doc_ids",
-                "heartbeat",
-                "timeout",
-                "descending",
-                "include_docs",
-            ],
-            &mut written,
-        )?;
+        read_written(alloc, query, &NAMES, &mut written)?;
         let [
             since,
             limit,
