@@ -1,12 +1,13 @@
 -- The last values of names, as the pairs of a query are read one after another.
-use Rattle.std.proofs.Common.{◌≡◌, ℕ, List, ◌∷◌, All, Bool, Option, Some, None, refl, if◌then◌else◌}
-use Rattle.std.proofs.Common.{subst, sym}
+use Rattle.std.proofs.Common.{◌≡◌, ℕ, suc, ◌+◌, ◌<◌, List, [], ◌∷◌, length, slice_index_or, All, Option, Some, None}
+use Rattle.std.proofs.Common.{if◌then◌else◌, add-zero, zero-add, arith, refl, subst, sym}
 use Rattle.std.proofs.lemmas.List.Elements.{All-head, All-rest}
-use Rattle.std.specs.Option.{option_or}
+use Rattle.std.specs.Borrow.{Bor}
+use Rattle.std.specs.Option.{option_copied, option_or}
 use Rattle.std.specs.Str.{bytes_eq}
 use Rattle.form_urlencoded.specs.Form.{raw_pairs, IsPlainText}
 use Rattle.hub_params.specs.Encoded.{decoded_text}
-use Rattle.hub_params.specs.Query.{last_of, written_of}
+use Rattle.hub_params.specs.Query.{last_of, written_of, HasValues}
 use Rattle.hub_params.specs.Room.{HasEscapedName}
 
 -- the value of a name, where some pairs are left, and `kept` is its value in the pairs before
@@ -34,13 +35,40 @@ read_none wanted query left e = rw e (or_none (written_of wanted query))
     or_none (Some x) = refl
 
 -- one more pair is read, which has the name or has not
-pub read_one : (wanted name value : List ℕ) (left rest : List (List ℕ × List ℕ))
-    (kept whole : Option (List ℕ)) (named : Bool)
-    → left ≡ (name, value) ∷ rest → named ≡ bytes_eq (decoded_text name) wanted
-    → last_with wanted left kept ≡ whole
-    → last_with wanted rest (option_or (if named then Some value else None) kept) ≡ whole
-read_one wanted name value left rest kept whole named e n h =
-    rw (n, last_with_step wanted name value rest kept) (rw e at h)
+pub read_one : (wanted name value : List ℕ) (left rest : List (List ℕ × List ℕ)) (kept whole : Option (List ℕ))
+    → left ≡ (name, value) ∷ rest → last_with wanted left kept ≡ whole
+    → last_with wanted rest (option_or (if bytes_eq (decoded_text name) wanted then Some value else None) kept)
+    ≡ whole
+read_one wanted name value left rest kept whole e h = rw (last_with_step wanted name value rest kept) (rw e at h)
+
+-- ---- the values of several names
+
+-- at each place the value of its name is kept, where some pairs are left
+abbrev pub HasRead : List (Option (Bor (List ℕ))) → List (Bor (List ℕ)) → List ℕ → List (List ℕ × List ℕ) → Type 0
+HasRead kept names query left =
+    (place : ℕ) (any : Bor (List ℕ)) → place < length names
+    → last_with (slice_index_or names place any).now left (option_copied (slice_index_or kept place None))
+    ≡ written_of (slice_index_or names place any).now query
+
+next_place : (place k : ℕ) → place + 1 + k ≡ place + suc k
+next_place place k = omega arith
+
+values_from : (kept : List (Option (Bor (List ℕ)))) (names : List (Bor (List ℕ))) (query : List ℕ) (place : ℕ)
+    → ((k : ℕ) (any : Bor (List ℕ)) → k < length names
+    → option_copied (slice_index_or kept (place + k) None) ≡ written_of (slice_index_or names k any).now query)
+    → HasValues kept names query place
+values_from kept [] query place all = tt
+values_from kept (name ∷ names) query place all = (
+  (let first = all 0 name (omega arith) in rw add-zero at first),
+  values_from kept names query (place + 1)
+      (λ k any below. rw (next_place place k) (all (suc k) any (omega arith))),
+)
+
+-- no pairs are left
+pub all_read : (kept : List (Option (Bor (List ℕ)))) (names : List (Bor (List ℕ))) (query : List ℕ)
+    (left : List (List ℕ × List ℕ)) → left ≡ [] → HasRead kept names query left → HasValues kept names query 0
+all_read kept names query left e read =
+    values_from kept names query 0 (λ k any below. rw (zero-add k) (rw e at (read k any below)))
 
 -- ---- names that are written as they read
 

@@ -1,7 +1,8 @@
 -- Names and values in a query (URL Standard, section 5, application/x-www-form-urlencoded).
-use Rattle.std.specs.Prelude.{◌≡◌, ℕ, List, [], ◌∷◌, map, Option, Some, None, option_map, if◌then◌else◌}
+use Rattle.std.specs.Prelude.{◌≡◌, ℕ, ◌+◌, List, [], ◌∷◌, map, Option, Some, None, option_map, if◌then◌else◌}
+use Rattle.std.specs.Prelude.{slice_index_or, ⊤}
 use Rattle.std.specs.Borrow.{Bor}
-use Rattle.std.specs.Option.{option_or}
+use Rattle.std.specs.Option.{option_copied, option_or}
 use Rattle.std.specs.Str.{bytes_eq}
 use Rattle.std.specs.Str.Lossy.{utf8_lossy}
 use Rattle.form_urlencoded.specs.Form.{parse, raw_pairs}
@@ -22,6 +23,14 @@ written_of name query = last_of name (raw_pairs query)
 -- the value that a query gives a name, decoded. a=1&b=2&a=%33 gives the name a the value 3.
 abbrev pub value_of : List ℕ → List ℕ → Option (List ℕ)
 value_of name query = option_map decoded_text (written_of name query)
+
+-- from this place on the values that the query gives these names are kept, as they are written. Of the query
+-- a=1&b=2&a=%33 the values %33, None are kept at the places 0 and 1 for the names a, c.
+abbrev pub HasValues : List (Option (Bor (List ℕ))) → List (Bor (List ℕ)) → List ℕ → ℕ → Type 0
+HasValues kept [] query place = ⊤
+HasValues kept (name ∷ names) query place =
+    (option_copied (slice_index_or kept place None) ≡ written_of name.now query)
+    × HasValues kept names query (place + 1)
 
 -- a function reads this text so, where `post` tells what the function gives at which text
 abbrev pub IsReadAs : {R : Type 0} → (Option (Bor (List ℕ)) → R → Type 0) → Option (List ℕ) → R → Type 0

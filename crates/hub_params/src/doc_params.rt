@@ -1,12 +1,13 @@
 //! The parameters of a document's routes.
 
-ghost use Rattle.std.specs.Prelude.{◌≡◌, ◌⊎◌, IfOk, OnErr, option_map, string_bytes};
+ghost use Rattle.std.specs.Prelude.{◌≡◌, IfOk, OnErr, option_map, string_bytes};
 ghost use Rattle.std.specs.Cow.{cow_str_bytes};
+ghost use Rattle.std.specs.Option.{option_copied};
 ghost use Rattle.hub_params.specs.DocParams.{doc_asked, is_value};
-ghost use Rattle.hub_params.specs.Query.{value_of as value_in, written_of};
-ghost use Rattle.hub_params.specs.Room.{DocNeedsRoom, HasBytes, HasEscapedName, ValueNeedsRoom};
+ghost use Rattle.hub_params.specs.Encoded.{decoded_text};
+ghost use Rattle.hub_params.specs.Room.{DocNeedsRoom, HasBytes, IsEscaped};
 
-use crate::query::value_of;
+use crate::query::{read_written, value_of};
 use std::alloc::{AllocError, Global};
 use std::borrow::CowStr;
 use std::marker::Model;
@@ -40,16 +41,24 @@ impl Model for DocParams {
 
 impl DocParams {
     /// The parameters of a query. Names and values are compared decoded, and of a repeated name the last
-    /// value counts. The cost is four times the query's length. Memory is taken for escaped names and
-    /// values, and for `rev` and `open_revs`.
+    /// value counts. The cost is the query's length, and for each of its pairs a comparison with each of the
+    /// four names. Memory is taken for escaped names and values, and for `rev` and `open_revs`.
     pub fn read(alloc: Global, query: &[u8]) -> Result<DocParams, AllocError>
         ensures asked { IfOk result (λ p. p ≡ doc_asked query.now) }
         ensures memory { OnErr result (DocNeedsRoom query.now) }
     {
-        let revs = is_written(alloc, query, "revs", "true")?;
-        let keeps_revs = is_written(alloc, query, "new_edits", "false")?;
-        let rev = text(alloc, query, "rev")?;
-        let open_revs = text(alloc, query, "open_revs")?;
+        let mut written = [None; 4];
+        read_written(
+            alloc,
+            query,
+            &["revs", "new_edits", "rev", "open_revs"],
+            &mut written,
+        )?;
+        let [revs, new_edits, rev, open_revs] = written;
+        let revs = is_written(alloc, revs, "true")?;
+        let keeps_revs = is_written(alloc, new_edits, "false")?;
+        let rev = text(alloc, rev)?;
+        let open_revs = text(alloc, open_revs)?;
         Ok(DocParams {
             rev,
             open_revs,
@@ -59,12 +68,13 @@ impl DocParams {
     }
 }
 
-// The value of a name, decoded, as a text of its own. An empty value takes no memory.
-fn text(alloc: Global, query: &[u8], name: &str) -> Result<Option<String>, AllocError>
-    ensures text { IfOk result (λ t. option_map string_bytes t ≡ value_in name.now query.now) }
-    ensures memory { OnErr result (HasEscapedName query.now ⊎ HasBytes (written_of name.now query.now)) }
+// A written value, decoded, as a text of its own. An empty value takes no memory.
+fn text(alloc: Global, written: Option<&[u8]>) -> Result<Option<String>, AllocError>
+    ensures text { IfOk result
+        (λ t. option_map string_bytes t ≡ option_map decoded_text (option_copied written.entry)) }
+    ensures memory { OnErr result (HasBytes (option_copied written.entry)) }
 {
-    match value_of(alloc, query, name)? {
+    match value_of(alloc, written)? {
         None => Ok(None),
         Some(CowStr::Owned(own)) => Ok(Some(own)),
         Some(CowStr::Borrowed(borrowed)) => {
@@ -75,12 +85,13 @@ fn text(alloc: Global, query: &[u8], name: &str) -> Result<Option<String>, Alloc
     }
 }
 
-// Whether a name has a value, and its decoded text is `wanted`.
-fn is_written(alloc: Global, query: &[u8], name: &str, wanted: &str) -> Result<bool, AllocError>
-    ensures value { IfOk result (λ b. b ≡ is_value wanted.now (value_in name.now query.now)) }
-    ensures memory { OnErr result (ValueNeedsRoom name.now query.now) }
+// Whether there is a written value, and its decoded text is `wanted`.
+fn is_written(alloc: Global, written: Option<&[u8]>, wanted: &str) -> Result<bool, AllocError>
+    ensures value { IfOk result
+        (λ b. b ≡ is_value wanted.now (option_map decoded_text (option_copied written.entry))) }
+    ensures memory { OnErr result (IsEscaped (option_copied written.entry)) }
 {
-    let found = value_of(alloc, query, name)?;
+    let found = value_of(alloc, written)?;
     Ok(is_text(&found, wanted))
 }
 
