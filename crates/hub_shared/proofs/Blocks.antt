@@ -1,5 +1,5 @@
 -- Conclusions from an answer by its cases, and the items of blocks.
-use Rattle.std.proofs.Common.{◌≡◌, ◌∙◌, ap, sym, subst, arith, ℕ, ◌+◌, ◌-◌, List, [], ◌∷◌, ◌++◌, length, take}
+use Rattle.std.proofs.Common.{◌≡◌, ◌∙◌, ap, sym, subst, arith, ℕ, ◌+◌, ◌-◌, ◌<◌, List, [], ◌∷◌, ◌++◌, length, take, drop}
 use Rattle.std.proofs.Common.{append_assoc, append-nil, length-append, Option, Some, None}
 use Rattle.std.proofs.lemmas.Grind.{flat_map-append}
 use Rattle.std.proofs.Math.Seq.{take-append_seam}
@@ -10,7 +10,7 @@ use Rattle.hub_params.specs.FeedModel.{params_in}
 use Rattle.hub_shared.specs.Blocks.{end_of, front_of, items_in}
 use Rattle.hub_shared.specs.Feeds.{IsRightSoFar}
 use Rattle.hub_shared.specs.Label.{Label}
-use Rattle.std.specs.Prelude.{IfSome, IfNone, OnOk, OnErr, Result, Ok, Err, option_to_list}
+use Rattle.std.specs.Prelude.{IfSome, IfNone, OnOk, OnErr, Result, Ok, Err, option_to_list, slice_get}
 
 pub some_then : {A : Type 0} {P Q : A → Type 0} (o : Option A) → ((x : A) → P x → Q x)
     → IfSome o P → IfSome o Q
@@ -31,6 +31,21 @@ by_option None some none f h = h none
 by_option (Some x) some none f h = f some
 
 module _ {I : Type 0} where
+  -- a list is its first item, if it has one, and then the rest
+  pub first_and_rest : (list rest : List I) (o : Option I) → o ≡ slice_get list 0 → rest ≡ drop 1 list
+      → list ≡ option_to_list o ++ rest
+  first_and_rest [] rest None is drops = sym drops
+  first_and_rest [] rest (Some item) is drops = absurd (cc)
+  first_and_rest (first ∷ more) rest None is drops = absurd (cc)
+  first_and_rest (first ∷ more) rest (Some item) is drops = cc
+
+  -- the rest of a list that has no first item is this list
+  pub rest_of_none : (list rest : List I) (o : Option I) → o ≡ slice_get list 0 → rest ≡ drop 1 list
+      → IfNone o (rest ≡ list)
+  rest_of_none [] rest None is drops = drops
+  rest_of_none (first ∷ more) rest None is drops = absurd (cc)
+  rest_of_none list rest (Some item) is drops = tt
+
   -- the front of `before ++ end`, before `end`, is `before`
   front_seam : (before end : List I) → front_of (before ++ end) end ≡ before
   front_seam before end =
@@ -91,20 +106,33 @@ end_goes_on receiver left rest (Some item) is more =
     ap (λ taken. record { lane_id = receiver.lane_id; label = receiver.label; taken = taken })
     (front_is (items_in receiver.taken) (before ++ item ∷ []) rest whole)
 
--- an end without an item left that took one more block, and the first item of this block
-module _ {R : Type 0} (old new : ReceiverState Label (List (Item R))) (left rest block : List (Item R))
-    (empty : left ≡ []) (more : new ≡ behind_take old block) where
-  pub end_takes : (o : Option (Item R)) → block ≡ option_to_list o ++ rest
-      → IfSome o (λ item. end_of new rest ≡ behind_take (end_of old left) item)
-  end_takes None is = tt
-  end_takes (Some item) is =
+-- an end without an item left, after a look for the lane's next block, whose items are left then
+module _ {R : Type 0} (old new : ReceiverState Label (List (Item R))) (rest : List (Item R)) where
+  -- the items of the blocks that the lane gave are the earlier ones, and then these
+  pub fetched_items : (o : Option (List (Item R)))
+      → IfSome o (λ block. new ≡ behind_take old block) → IfNone o (new ≡ old)
+      → IfSome o (λ block. (rest ≡ block) × (0 < length block)) → IfNone o (rest ≡ [])
+      → items_in new.taken ≡ items_in old.taken ++ rest
+  fetched_items None taken same some none =
+      ap (λ r. items_in r.taken) same
+      ∙ (sym (append-nil (items_in old.taken)) ∙ ap (λ list. items_in old.taken ++ list) (sym none))
+  fetched_items (Some block) taken same some none =
+      ap (λ r. items_in r.taken) taken
+      ∙ (items_more old.taken block ∙ ap (λ list. items_in old.taken ++ list) (sym some.0))
+
+  -- no item was taken
+  pub end_fetches : (left : List (Item R)) (o : Option (List (Item R))) → left ≡ []
+      → IfSome o (λ block. new ≡ behind_take old block) → IfNone o (new ≡ old)
+      → IfSome o (λ block. (rest ≡ block) × (0 < length block)) → IfNone o (rest ≡ [])
+      → end_of new rest ≡ end_of old left
+  end_fetches left None empty taken same some none =
+      ap (λ r. end_of r rest) same ∙ ap (end_of old) (none ∙ sym empty)
+  end_fetches left (Some block) empty taken same some none =
       let before = items_in old.taken in
-      let whole : items_in (old.taken ++ block ∷ []) ≡ (before ++ item ∷ []) ++ rest =
-      items_more old.taken block
-      ∙ (ap (λ list. before ++ list) is ∙ sym (append_assoc before (item ∷ []) rest)) in
-      let none : front_of before left ≡ before =
+      let nothing : front_of before left ≡ before =
       ap (front_of before) empty ∙ front_is before before [] (sym (append-nil before)) in
-      ap (λ r. end_of r rest) more
-      ∙ ap (λ taken. record { lane_id = old.lane_id; label = old.label; taken = taken })
-      (front_is (items_in (old.taken ++ block ∷ [])) (before ++ item ∷ []) rest whole
-      ∙ ap (λ list. list ++ item ∷ []) (sym none))
+      let whole : items_in (old.taken ++ block ∷ []) ≡ before ++ rest =
+      items_more old.taken block ∙ ap (λ list. before ++ list) (sym some.0) in
+      ap (λ r. end_of r rest) taken
+      ∙ ap (λ items. record { lane_id = old.lane_id; label = old.label; taken = items })
+      (front_is (items_in (old.taken ++ block ∷ [])) before rest whole ∙ sym nothing)

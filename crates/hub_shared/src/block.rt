@@ -1,6 +1,7 @@
 //! The elements of a feed's lane. An element is a block: the items that one holding puts into the lane.
 
 ghost use Rattle.std.specs.Prelude.{◌≡◌, ◌<◌, [], drop, length, option_map, slice_get, IfSome, IfNone};
+ghost use Rattle.std.specs.Bool.{OnFalse, OnTrue};
 
 use hub_model::Item;
 use std::alloc::Global;
@@ -67,18 +68,24 @@ impl<R> Model for Rest<R> {
 }
 
 impl<R: Drop> Rest<R> {
-    /// No item. It takes no memory.
-    pub(crate) fn none(alloc: Global) -> Rest<R>
-        ensures { result ≡ [] }
+    /// All items of a block, and without a block no item. Constant time, and no memory.
+    pub(crate) fn of(alloc: Global, block: Option<Block<R>>) -> Rest<R>
+        ensures some { IfSome block (λ items. (result ≡ items) × (0 < length items)) }
+        ensures none { IfNone block (result ≡ []) }
     {
-        Rest::of(Vec::new(alloc))
+        let items = match block {
+            Some(block) => block.into_items(),
+            None => Vec::new(alloc),
+        };
+        Rest { items, taken: 0 }
     }
 
-    /// All of these items. Constant time, and no memory.
-    pub(crate) fn of(items: Vec<Item<R>>) -> Rest<R>
-        ensures { result ≡ items.items }
+    /// Whether no item is left. Constant time.
+    pub(crate) fn is_empty(&self) -> bool
+        ensures none { OnTrue result (self.now ≡ []) }
+        ensures some { OnFalse result (0 < length self.now) }
     {
-        Rest { items, taken: 0 }
+        self.taken >= self.items.len()
     }
 
     /// The first item. Constant time.
@@ -90,11 +97,10 @@ impl<R: Drop> Rest<R> {
 
     /// Passes the first item, which lies in memory until the rest is dropped. Constant time.
     pub(crate) fn pass(&mut self)
+        requires { 0 < length self.old }
         ensures { self.new ≡ drop 1 self.old }
     {
-        if self.taken < self.items.len() {
-            self.taken += 1;
-        }
+        self.taken += 1;
     }
 
     /// Moves the first item out. Constant time.

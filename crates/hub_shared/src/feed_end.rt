@@ -53,7 +53,7 @@ impl<S: HostView> FeedEnd<S> {
     {
         FeedEnd {
             receiver,
-            rest: Rest::none(alloc),
+            rest: Rest::of(alloc, None),
             alloc,
         }
     }
@@ -75,15 +75,13 @@ impl<S: HostView> FeedEnd<S> {
         ensures same { self.new ≡ self.old }
         ensures none { OnFalse result (IsDrained (R.lacks rt.now) self.old) }
     {
-        if self.rest.first().is_some() {
+        if !self.rest.is_empty() {
             return true;
         }
-        let Some(block) = self.receiver.take(rt) else {
-            self.rest = Rest::none(self.alloc);
-            return false;
-        };
-        self.rest = Rest::of(block.into_items());
-        true
+        let block = self.receiver.take(rt);
+        let found = block.is_some();
+        self.rest = Rest::of(self.alloc, block);
+        found
     }
 
     /// Takes the first item that the lane got and that was not taken yet. All items taken so far are the
@@ -94,9 +92,10 @@ impl<S: HostView> FeedEnd<S> {
         ensures taken { EndTakes S.right self.old result self.new }
         ensures none { IfNone result (IsDrained (R.lacks rt.now) self.old) }
     {
-        if !self.fetch(rt) {
-            return None;
+        if !self.rest.is_empty() {
+            return self.rest.take();
         }
+        self.rest = Rest::of(self.alloc, self.receiver.take(rt));
         self.rest.take()
     }
 

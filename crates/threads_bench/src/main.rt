@@ -134,16 +134,17 @@ impl Scene {
     }
 }
 
-// Takes the items that a feed has now.
+// Takes the items that a feed has now, as they lie.
 fn take_all<R: Wait>(rt: &R, scene: &Scene, feed: &mut Feed<Plain>) {
-    let mut next = None;
     for _ in rt.forever() {
-        feed.poll(rt, &Free, &Free, &mut next);
-        match &next {
-            Some(Item::Row(_)) => scene.count_row(),
-            Some(_) => {}
-            None => break,
+        if !feed.poll(rt, &Free, &Free) {
+            break;
         }
+        feed.show(&mut (), &mut (), |item, _, _| {
+            if let Item::Row(_) = item {
+                scene.count_row();
+            }
+        });
     }
 }
 

@@ -145,8 +145,11 @@ impl Followed {
         let Some(feed) = &mut self.feed else {
             return answer.line("finished");
         };
-        let mut next = None;
-        feed.poll(rt, &self.pace, &self.pace, &mut next);
+        let next = if feed.poll(rt, &self.pace, &self.pace) {
+            feed.take(rt)
+        } else {
+            None
+        };
         self.has_ended |= matches!(&next, Some(Item::End { .. }));
         if next.is_none() && feed.is_over() && !self.has_ended {
             return Err(AllocError);

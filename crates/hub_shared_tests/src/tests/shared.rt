@@ -7,7 +7,7 @@ use hub_document::{Asked, Doc, DocId, Limits, LocalDoc, OpenRevs, RevId, Revisio
 use hub_feed::OpenFault;
 use hub_model::Item;
 use hub_params::FeedParams;
-use hub_shared::{Accepted, Bell, Db, Feed, Handle, Plain, Watch};
+use hub_shared::{Accepted, Bell, ChangeItem, Db, Feed, Handle, Plain, Watch};
 use hub_transcript::{Answer, Subject, Words};
 use std::alloc::{AllocError, Global};
 use std::sync::{Arc, Wait};
@@ -176,6 +176,21 @@ fn question(alloc: Global, rest: &str) -> Result<Question, AllocError> {
     }
 }
 
+// Writes the row of an item, and keeps its sequence in `last`. Answers whether the item is a row.
+fn put_next(
+    alloc: Global,
+    item: &ChangeItem,
+    last: &mut u64,
+    answer: &mut Answer,
+) -> Result<bool, AllocError> {
+    let Item::Row(row) = item else {
+        return Ok(false);
+    };
+    *last = row.seq;
+    put_row(alloc, row, answer)?;
+    Ok(true)
+}
+
 // Polls a feed until it gives no row, nine times at most, and writes the rows. Answers whether the feed then
 // waits. The sequence of the last row is kept in `last`.
 fn put_rows<R: Wait>(
@@ -185,16 +200,21 @@ fn put_rows<R: Wait>(
     last: &mut u64,
     answer: &mut Answer,
 ) -> Result<bool, AllocError> {
-    let (mut next, pace) = (None, Pace::new(0));
+    let pace = Pace::new(0);
     for _ in 0..9 {
-        feed.poll(rt, &pace, &pace, &mut next);
-        let Some(Item::Row(row)) = &next else {
-            break;
-        };
-        *last = row.seq;
-        put_row(alloc, row, answer)?;
+        if !feed.poll(rt, &pace, &pace) {
+            return Ok(!feed.is_over());
+        }
+        let put = feed.show(last, answer, |item, last, answer| {
+            put_next(alloc, item, last, answer)
+        });
+        match put {
+            Some(Ok(true)) => {}
+            Some(Err(AllocError)) => return Err(AllocError),
+            _ => break,
+        }
     }
-    Ok(next.is_none() && !feed.is_over())
+    Ok(false)
 }
 
 #[derive(Drop)]

@@ -24,16 +24,15 @@ impl Shown {
     /// Polls the feed until it waits. Answers whether each item was the next row.
     fn catch_up<R: Wait>(&mut self, rt: &R) -> bool {
         let pace = Pace::new(0);
-        let mut next = None;
         for _ in 0..=WRITES {
-            self.feed.poll(rt, &pace, &pace, &mut next);
-            match &next {
-                None => return self.counts.beats == 0 && self.counts.ends == 0,
-                Some(item) => {
-                    if !self.counts.count(item) {
-                        return false;
-                    }
-                }
+            if !self.feed.poll(rt, &pace, &pace) {
+                return self.counts.beats == 0 && self.counts.ends == 0;
+            }
+            let Some(item) = self.feed.take(rt) else {
+                return false;
+            };
+            if !self.counts.count(&item) {
+                return false;
             }
         }
         false
