@@ -49,11 +49,8 @@ impl<'h, N: Wait> Pumping for ByTurns<'h, N> {
         if feed.fetch(self.rt) || feed.hold(self.rt, Turn::Hand, &OpenGate).is_err() {
             return;
         }
-        if !feed.fetch(self.rt)
-            && feed.hold(self.rt, Turn::Expire, &OpenGate).is_ok()
-            && feed.hold(self.rt, Turn::Hand, &OpenGate).is_ok()
-        {
-            feed.fetch(self.rt);
+        if !feed.fetch(self.rt) && feed.hold(self.rt, Turn::Expire, &OpenGate).is_ok() {
+            let _ = feed.hold(self.rt, Turn::Hand, &OpenGate);
         }
     }
 

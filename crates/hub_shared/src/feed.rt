@@ -45,8 +45,7 @@ pub struct HostFeed<S: HostView, C: Count = Plain> {
     pub(crate) signals: Arc<Signals, Global>,
     /// Whether its host may have items for it. `poll` alone uses this.
     pub(crate) is_behind: bool,
-    /// The clock's reading at the first poll without an item after the last item was taken, or at the last
-    /// heartbeat.
+    /// The clock's reading at the first poll without an item after the last item, or at the last heartbeat.
     pub(crate) idle_since: Option<u64>,
     /// The clock's reading at which a feed that waits is to be polled.
     pub(crate) due: u64,
@@ -116,27 +115,29 @@ impl<S: FeedHost, C: Count> HostFeed<S, C> {
         let next = self.end.take(rt);
         if next.is_none() {
             self.signals.ring_room();
-        } else {
-            self.idle_since = None;
         }
         next
     }
 
-    /// Takes the first item that is left of the lane's blocks (`fetch`, `poll`), and shows it to `see`, which
-    /// may change two values. The answer is that of `see`, or `None` where no item is left. The items taken so
-    /// far are right as those of `take`. The item is not moved, which saves its copy. The cost is that of
-    /// `see`.
+    /// As `take`, but the item is not given out: it is shown to `see` where it lies, which saves a copy. `see`
+    /// may change two values, and the answer is that of `see`. The cost is that of `see`.
     #[inline(always)]
-    pub fn show<T, A, B, F>(&mut self, first: &mut A, second: &mut B, see: F) -> Option<T>
+    pub fn show<R, T, A, B, F>(
+        &mut self,
+        rt: &R,
+        first: &mut A,
+        second: &mut B,
+        see: F,
+    ) -> Option<T>
     where
+        R: Asks<FeedLabel<S>, Block<S::Row>>,
         F: FnOnce(&Item<S::Row>, &mut A, &mut B) -> T,
         requires { F.IsAlwaysCallable see }
         ensures { (found : Option (HandedItem S.Row)) × Takes S.right self.old found self.new
             × IsShown F.FnOnce see found first.old second.old result first.new second.new }
     {
-        let seen = self.end.show(first, second, see)?;
-        self.idle_since = None;
-        Some(seen)
+        self.fetch(rt);
+        self.end.show(first, second, see)
     }
 
     /// Sleeps until the feed's pump handed items or ended, for a connection that found no item to take. It

@@ -63,6 +63,18 @@ impl<S: FeedHost, C: Count> HostFeed<S, C> {
         }
     }
 
+    // Whether an item is left to take. From then on the feed is not idle.
+    #[inline(always)]
+    fn has_item<R: Asks<FeedLabel<S>, Block<S::Row>>>(&mut self, rt: &R) -> bool
+        ensures { self.new ≡ self.old }
+    {
+        let found = self.end.fetch(rt);
+        if found {
+            self.idle_since = None;
+        }
+        found
+    }
+
     /// Whether an item is left to take, for a thread that sends many feeds and waits for none. Where no item is
     /// left of the lane's blocks, one holding of the lock hands a block of as many items as it may. Where no
     /// item is due either, a heartbeat or the end of the feed's time comes as the clock says. `false` says
@@ -77,7 +89,7 @@ impl<S: FeedHost, C: Count> HostFeed<S, C> {
         K: Clock,
         ensures { self.new ≡ self.old }
     {
-        if self.end.fetch(rt) {
+        if self.has_item(rt) {
             return true;
         }
         if self.is_over() {
@@ -85,7 +97,7 @@ impl<S: FeedHost, C: Count> HostFeed<S, C> {
         }
         if self.is_behind {
             self.is_behind = self.hold_own(rt, Turn::Hand, gate);
-            if self.end.fetch(rt) {
+            if self.has_item(rt) {
                 return true;
             }
             if self.is_over() {
