@@ -58,11 +58,11 @@ rev_of_text (Some r) text is =
     let same : quoted (text_of r) ≡ text = cc in
     rev_is r ∙ ap (λ l. codes ",\"_rev\":" ++ l) same
 
--- the brace, an id that needs no escape, and the bytes after it
-pub plain_head : (held id more : List ℕ) → escape id ≡ id
-    → ((held ++ codes "{\"_id\":\"") ++ id) ++ (codes "\"," ++ more) ≡ held
-    ++ (head_text id ++ (44 ∷ more))
-plain_head held id more plain = rw (head_is id) (simp (append_assoc, plain))
+-- a text, the brace, an id that needs no escape, and the bytes after it
+pub plain_head : (held before id more : List ℕ) → escape id ≡ id
+    → ((held ++ (before ++ codes "{\"_id\":\"")) ++ id) ++ (codes "\"," ++ more) ≡ held
+    ++ (before ++ (head_text id ++ (44 ∷ more)))
+plain_head held before id more plain = rw (head_is id) (simp (append_assoc, plain))
 
 pub deleted_is : after_commas (deleted_member true) ≡ codes ",\"_deleted\":true"
 deleted_is =

@@ -1,6 +1,6 @@
 //! Rows of changes.
 
-ghost use Rattle.std.specs.Prelude.{◌≡◌, ◌++◌, codes, slice_get, IfOk};
+ghost use Rattle.std.specs.Prelude.{◌≡◌, ◌++◌, ℕ, List, codes, slice_get, IfOk};
 ghost use Rattle.json.specs.Print.{escape};
 ghost use Rattle.hub_document.specs.Appends.{Appends};
 ghost use Rattle.hub_document.specs.DocText.{IsFirstText, doc_text, rev_member, row_doc};
@@ -66,13 +66,20 @@ fn rev_part(rev: &[u8; 36]) -> [u8; 45]
     part
 }
 
-// Appends the brace, an id that needs no escape, and `_rev` with this JSON string of a revision.
-fn put_plain_head(out: &mut Vec<u8>, id: &str, rev: &[u8; 36]) -> Result<(), AllocError>
+// Appends the front, which ends with `{"_id":"`, an id that needs no escape, and `_rev` with this JSON string of
+// a revision.
+fn put_plain_head(
+    out: &mut Vec<u8>,
+    front: &[u8],
+    id: &str,
+    rev: &[u8; 36],
+) -> Result<(), AllocError>
     requires { escape id.now ≡ id.now }
-    ensures { Appends (head_text id.now ++ (codes ",\"_rev\":" ++ rev.now)) result
+    ensures { (before : List ℕ) → front.now ≡ before ++ codes "{\"_id\":\""
+        → Appends (before ++ (head_text id.now ++ (codes ",\"_rev\":" ++ rev.now))) result
         out.old.items out.new.items }
 {
-    out.extend_from_slice(b"{\"_id\":\"")?;
+    out.extend_from_slice(front)?;
     out.extend_from_slice(id.as_bytes())?;
     out.extend_from_slice(rev_part(rev).as_slice())?;
     Ok(())
@@ -111,19 +118,23 @@ impl ChangeRow {
         Ok(())
     }
 
-    /// As `write_doc`, for an id that needs no escape, and with the JSON string of the row's first revision.
-    /// The text is appended in fewer parts, and the digest's digits are not written again.
+    /// As `write_doc`, for an id that needs no escape, with the JSON string of the row's first revision, and
+    /// behind a text of the caller's: `front` is the caller's text, which may be empty, and then `{"_id":"`, the
+    /// document's first bytes. The text is appended in fewer parts, and the digest's digits are not written
+    /// again.
     pub fn write_plain_doc(
         &self,
         out: &mut Vec<u8>,
+        front: &[u8],
         body: &Body,
         rev: &[u8; 36],
     ) -> Result<(), AllocError>
         requires plain { escape self.now.id ≡ self.now.id }
         requires rev { IsFirstText self.now rev.now }
-        ensures { Appends (doc_text (row_doc self.now body.now)) result out.old.items out.new.items }
+        ensures { (before : List ℕ) → front.now ≡ before ++ codes "{\"_id\":\""
+            → Appends (before ++ doc_text (row_doc self.now body.now)) result out.old.items out.new.items }
     {
-        put_plain_head(out, self.id.as_str(), rev)?;
+        put_plain_head(out, front, self.id.as_str(), rev)?;
         put_deleted(out, self.deleted)?;
         body.put_rest(out)?;
         Ok(())
