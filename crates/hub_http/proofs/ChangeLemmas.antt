@@ -1,6 +1,9 @@
 -- The texts of rows of changes.
 use Rattle.std.proofs.Common.{◌≡◌, ℕ, ◌≤◌, List, [], ◌∷◌, ◌++◌, length, map, take, take_all}
-use Rattle.std.proofs.Common.{sym, ap, ◌∙◌, arith, append_assoc, append-nil, codes, decimal, Some}
+use Rattle.std.proofs.Common.{sym, ap, ◌∙◌, arith, append_assoc, append-nil, codes, decimal, Some, None, false}
+use Rattle.std.proofs.Common.{Result, Ok, Err}
+use Rattle.hub_document.specs.Appends.{Appends}
+use Rattle.hub_document.proofs.AppendLemmas.{appended, front_by}
 use Rattle.std.specs.List.{flat_map, join_with_byte}
 use Rattle.hub_model.specs.Revision.{Revision, text_of}
 use Rattle.json.specs.Print.{escape, quoted}
@@ -48,7 +51,7 @@ revisions_written held mid new revision revisions all i e first later end =
 
 -- the parts of the front of a row whose id needs no escape
 pub plain_parts : (held : List ℕ) (life seq : ℕ) (id : List ℕ)
-    → ((held ++ codes "{\"seq\":\"") ++ (decimal seq ++ 45 ∷ (decimal life ++ codes "\",\"id\":\""))) ++ id
+    → (held ++ (codes "{\"seq\":\"" ++ (decimal seq ++ 45 ∷ (decimal life ++ codes "\",\"id\":\"")))) ++ id
     ≡ held ++ plain_front life seq id
 unfolding plain_front
 plain_parts held life seq id = simp append_assoc
@@ -62,6 +65,17 @@ pub plain_row : (held : List ℕ) (life : ℕ) (row : ChangeRow) (revision : Rev
 unfolding plain_front row_head id_member sequence_text revision_text revisions_text
 plain_row held life row revision plain only = simp (append_assoc, plain, only)
 
+-- the same row, where the rest behind its id is one part
+pub short_row : (held : List ℕ) (life : ℕ) (row : ChangeRow) (revision : Revision) → escape row.id ≡ row.id
+    → row.changes ≡ revision ∷ []
+    → (held ++ plain_front life row.seq row.id)
+    ++ (codes "\",\"changes\":[{\"rev\":" ++ (quoted (text_of revision) ++ 125 ∷ row_end row))
+    ≡ held ++ (row_head life row.seq row.id ++ (revisions_text row.changes ++ row_end row))
+short_row held life row revision plain only =
+    sym (append_assoc (held ++ plain_front life row.seq row.id)
+    (codes "\",\"changes\":[{\"rev\":" ++ quoted (text_of revision)) (125 ∷ row_end row))
+    ∙ plain_row held life row revision plain only
+
 -- the end of a row that brings a document, behind its only revision
 pub doc_ended : (held : List ℕ) (row : ChangeRow) (body : List ℕ) → row.doc ≡ Some body
     → ((held ++ 125 ∷ (row_mark row.deleted ++ codes ",\"doc\":")) ++ doc_text (row_doc row body))
@@ -69,3 +83,36 @@ pub doc_ended : (held : List ℕ) (row : ChangeRow) (body : List ℕ) → row.do
     ≡ held ++ 125 ∷ row_end row
 unfolding row_end doc_member
 doc_ended held row body brought = simp (append_assoc, brought)
+
+-- the rest of a row that is not deleted and brings no document, with the JSON string of its only revision
+pub short_ended : (row : ChangeRow) (text string : List ℕ) → row.deleted ≡ false → row.doc ≡ None
+    → text ≡ string
+    → codes "\",\"changes\":[{\"rev\":" ++ (text ++ codes "}]}")
+    ≡ codes "\",\"changes\":[{\"rev\":" ++ (string ++ 125 ∷ row_end row)
+unfolding row_end doc_member row_mark
+short_ended row text string live none same = simp (live, none, same)
+
+-- the text between the id of a row that is not deleted and its document
+abbrev pub before_doc : List ℕ → List ℕ
+before_doc text = codes "\",\"changes\":[{\"rev\":" ++ (text ++ codes "}],\"doc\":")
+
+-- the text between the id of such a row and the id in its document
+pub front_parts : (front text : List ℕ)
+    → front ≡ codes "\",\"changes\":[{\"rev\":" ++ (text ++ codes "}],\"doc\":{\"_id\":\"")
+    → front ≡ before_doc text ++ codes "{\"_id\":\""
+front_parts front text is = is ∙ simp append_assoc
+
+-- the rest of a row that is not deleted and brings a document, with the JSON string of its only revision
+pub short_doc : (held : List ℕ) (row : ChangeRow) (text string body : List ℕ) → row.deleted ≡ false
+    → row.doc ≡ Some body → text ≡ string
+    → (held ++ (before_doc text ++ doc_text (row_doc row body))) ++ codes "}"
+    ≡ held ++ (codes "\",\"changes\":[{\"rev\":" ++ (string ++ 125 ∷ row_end row))
+unfolding row_end doc_member row_mark
+short_doc held row text string body live brought same = simp (append_assoc, live, brought, same)
+
+-- a last part that is appended, or is out of memory, behind parts that are there
+pub ended_by : {E : Type 0} (r : Result (Unit {0}) E) (text last old mid new : List ℕ)
+    → take (length old) mid ≡ old → mid ++ last ≡ old ++ text → Appends last r mid new → Appends text r old new
+ended_by (Ok u) text last old mid new kept whole done = appended text old new (done.ok ∙ whole)
+ended_by (Err e) text last old mid new kept whole done =
+    record { ok = tt; front = front_by old mid new kept done.front }

@@ -1,9 +1,9 @@
 //! The texts of rows of changes.
 
-ghost use Rattle.std.specs.Prelude.{◌≡◌, ◌<◌, ◌≤◌, [], ◌∷◌, ◌++◌, codes, decimal, drop, length};
+ghost use Rattle.std.specs.Prelude.{◌≡◌, ◌+◌, ◌<◌, ◌≤◌, [], ◌∷◌, ◌++◌, codes, decimal, drop, length};
+ghost use Rattle.std.specs.Prelude.{false};
 ghost use Rattle.std.specs.Option.{ForSome};
 ghost use Rattle.hub_document.specs.Appends.{Appends};
-ghost use Rattle.hub_document.specs.DocText.{doc_text, row_doc};
 ghost use Rattle.json.specs.Print.{escape, quoted};
 ghost use Rattle.hub_model.specs.Revision.{text_of};
 ghost use Rattle.hub_http.specs.ChangeTexts.{revision_text, revisions_text, row_mark, doc_member, row_end};
@@ -12,7 +12,7 @@ ghost use Rattle.hub_http.specs.ChangeTexts.{plain_front};
 
 use crate::row_text::RowText;
 use hub_document::{
-    Body, ChangeRow, Changes, DigestRev, LentChanges, RevId, is_plain, put_quoted, put_sequence,
+    ChangeRow, Changes, DigestRev, LentChanges, RevId, is_plain, put_quoted, put_sequence,
 };
 use itoa::{Buffer, write_digits};
 use std::alloc::AllocError;
@@ -96,15 +96,26 @@ fn put_row_end(out: &mut Vec<u8>, row: &ChangeRow) -> Result<(), AllocError>
     Ok(())
 }
 
-// Room for the 20 digits of a sequence, and behind it the text between a row's sequence and its id: `-`, the
-// digit of the life and `","id":"`.
-fn sequence_room(life: u64) -> [u8; 30]
+// Room for the text before a sequence and for its 20 digits, and behind them the text between a row's sequence
+// and its id: `-`, the digit of the life and `","id":"`.
+fn sequence_room(life: u64) -> [u8; 38]
     requires { life < 10 }
-    ensures { drop 20 result ≡ 45 ∷ (decimal life ++ codes "\",\"id\":\"") }
+    ensures { drop 28 result ≡ 45 ∷ (decimal life ++ codes "\",\"id\":\"") }
 {
-    let mut room = *b"00000000000000000000-0\",\"id\":\"";
-    room[21] = b'0' + life as u8;
+    let mut room = *b"0000000000000000000000000000-0\",\"id\":\"";
+    room[29] = b'0' + life as u8;
     room
+}
+
+// Writes the text before a sequence directly in front of its digits, and returns the place of the first byte.
+fn put_name(room: &mut [u8], digits: usize) -> usize
+    requires { (8 ≤ digits) × (digits ≤ length room.old) }
+    ensures start { result + 8 ≡ digits }
+    ensures written { drop result room.new ≡ codes "{\"seq\":\"" ++ drop digits room.old }
+{
+    let at = digits - 8;
+    room[at..digits].copy_from_slice(b"{\"seq\":\"");
+    at
 }
 
 // Appends the bytes of a text from a place on.
@@ -139,6 +150,27 @@ fn doc_front(deleted: bool) -> &'static str
     }
 }
 
+// The rest of a row that is not deleted and brings no document, behind the row's id, with the JSON string of
+// its only revision.
+fn short_end(rev: &[u8; 36]) -> [u8; 59]
+    ensures { result ≡ codes "\",\"changes\":[{\"rev\":" ++ (rev.now ++ codes "}]}") }
+{
+    let mut end = *b"\",\"changes\":[{\"rev\":....................................}]}";
+    end[20..56].copy_from_slice(rev.as_slice());
+    end
+}
+
+// The text between the id of a row that is not deleted and the id in its document, with the JSON string of the
+// row's only revision.
+fn short_front(rev: &[u8; 36]) -> [u8; 73]
+    ensures { result ≡ codes "\",\"changes\":[{\"rev\":" ++ (rev.now ++ codes "}],\"doc\":{\"_id\":\"") }
+{
+    let mut front =
+        *b"\",\"changes\":[{\"rev\":....................................}],\"doc\":{\"_id\":\"";
+    front[20..56].copy_from_slice(rev.as_slice());
+    front
+}
+
 // A row of one revision whose id needs no escape, in a life whose number has one digit. Its text is written
 // in few parts.
 #[derive(Drop)]
@@ -162,8 +194,8 @@ impl PlainRow<'_, '_> {
     {
         let row = self.row;
         let mut text = sequence_room(self.life);
-        let at = write_digits(row.seq, &mut text, 20);
-        out.extend_from_slice(b"{\"seq\":\"")?;
+        let digits = write_digits(row.seq, &mut text, 28);
+        let at = put_name(&mut text, digits);
         put_from(out, text.as_slice(), at)?;
         out.extend_from_slice(row.id.as_str().as_bytes())?;
         Ok(())
@@ -181,14 +213,22 @@ impl PlainRow<'_, '_> {
         }
     }
 
-    // Appends the row's document.
-    fn put_doc(&self, out: &mut Vec<u8>, body: &Body) -> Result<(), AllocError>
-        ensures { Appends (doc_text (row_doc self.now.row.now body.now)) result out.old.items out.new.items }
+    // Appends the rest of a row that is not deleted, behind its id. `rev` is the JSON string of its revision.
+    fn put_short(&self, out: &mut Vec<u8>, rev: &[u8; 36]) -> Result<(), AllocError>
+        requires live { self.now.row.now.deleted ≡ false }
+        requires text { rev.now ≡ quoted (text_of self.now.rev.now) }
+        ensures { Appends
+            (codes "\",\"changes\":[{\"rev\":"
+            ++ (quoted (text_of self.now.rev.now) ++ 125 ∷ row_end self.now.row.now))
+            result out.old.items out.new.items }
     {
-        match self.short {
-            Some(rev) => self.row.write_plain_doc(out, body, rev),
-            None => self.row.write_doc(out, body),
-        }
+        let row = self.row;
+        let Some(body) = &row.doc else {
+            return out.extend_from_slice(short_end(rev).as_slice());
+        };
+        row.write_plain_doc(out, short_front(rev).as_slice(), body, rev)?;
+        out.extend_from_slice(b"}")?;
+        Ok(())
     }
 
     // Appends the row's end, behind the revision.
@@ -200,7 +240,7 @@ impl PlainRow<'_, '_> {
             return put_short_end(out, row.deleted);
         };
         out.extend_from_slice(doc_front(row.deleted).as_bytes())?;
-        self.put_doc(out, body)?;
+        row.write_doc(out, body)?;
         out.extend_from_slice(b"}")?;
         Ok(())
     }
@@ -211,9 +251,14 @@ impl PlainRow<'_, '_> {
             out.old.items out.new.items }
     {
         self.put_front(out)?;
-        self.put_revision(out)?;
-        self.put_end(out)?;
-        Ok(())
+        let row = self.row;
+        match self.short {
+            Some(rev) if !row.deleted => self.put_short(out, rev),
+            _ => {
+                self.put_revision(out)?;
+                self.put_end(out)
+            }
+        }
     }
 }
 

@@ -12,7 +12,7 @@ returns c =
     appended _ _ _
     (rw (
       c.in_ok-extend_from_slice-2.ensures.items,
-      c.in_ok-put_doc.ensures.ok,
+      c.in_ok-write_doc.ensures.ok,
       c.in_ok-extend_from_slice.ensures.items,
       c.as_bytes.ensures.value,
       c.doc_front.ensures,
