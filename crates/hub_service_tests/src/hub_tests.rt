@@ -18,8 +18,8 @@ HTTP/1.1 201 Created, JSON of 12:
 HTTP/1.1 201 Created, JSON of 64:
 {"ok":true,"id":"a","rev":"1-dfddbf319adb018d1e5ac3465b83542c"}\n
 > remove GET /d/_changes?feed=continuous
-4e|{"seq":"1-0","id":"a","changes":[{"rev":"1-dfddbf319adb018d1e5ac3465b83542c"}]}\n|
+50|{"seq":"1-0","id":"a","changes":[{"rev":"1-dfddbf319adb018d1e5ac3465b83542c"}]}\n|
 HTTP/1.1 200 OK, JSON of 12:
 {"ok":true}\n
-1d|{"last_seq":"1-0","pending":0}\n|
+1f|{"last_seq":"1-0","pending":0}\n|
 "#;
