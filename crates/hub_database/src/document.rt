@@ -205,21 +205,32 @@ impl Document {
         }
     }
 
-    // The members of the winner's document, where documents are asked for.
-    fn row_doc(&self, alloc: Global, include_docs: bool) -> Result<Option<Body>, AllocError>
+    // The members of the winner's document, where documents are asked for. They may be made in the memory of
+    // a spare body.
+    fn row_doc(
+        &self,
+        alloc: Global,
+        include_docs: bool,
+        spare: Option<Body>,
+    ) -> Result<Option<Body>, AllocError>
         ensures { IfOk result (λ body. body ≡ doc_of include_docs (leaves_of self.now.tree.edits [])) }
     {
         if !include_docs {
             return Ok(None);
         }
-        match self.tree.winner_body() {
-            Some(body) => Ok(Some(body.copy(alloc)?)),
-            None => Ok(None),
-        }
+        let Some(body) = self.tree.winner_body() else {
+            return Ok(None);
+        };
+        let copy = match spare {
+            Some(spare) => body.copy_over(spare)?,
+            None => body.copy(alloc)?,
+        };
+        Ok(Some(copy))
     }
 
     /// The row of the document at this sequence, made while there are `seen` edits. The cost is constant;
-    /// with every leaf it is that of `RevTree::leaves`, and with the document a copy of its members.
+    /// with every leaf it is that of `RevTree::leaves`, and with the document a copy of its members, which
+    /// may be made in the memory of a spare body.
     pub(crate) fn row(
         &self,
         alloc: Global,
@@ -227,6 +238,7 @@ impl Document {
         seen: u64,
         style: Style,
         include_docs: bool,
+        spare: Option<Body>,
     ) -> Result<ChangeRow, AllocError>
         ensures row { let leaves = leaves_of self.now.tree.edits [] in
             IfOk result (λ row. row ≡ record {
@@ -248,7 +260,7 @@ impl Document {
             id: self.id.copy()?,
             changes,
             deleted: self.tree.is_deleted(),
-            doc: self.row_doc(alloc, include_docs)?,
+            doc: self.row_doc(alloc, include_docs, spare)?,
             seen,
         })
     }

@@ -4,6 +4,8 @@ ghost use Rattle.std.specs.Prelude.{◌≡◌, Some, position, IfSome, IfOk, OnE
 ghost use Rattle.hub_model.specs.Current.{current};
 ghost use Rattle.hub_model.specs.Entries.{entry_in, is_of};
 ghost use Rattle.hub_feed.specs.Host.{next_of_number, hosted_after_next, due_of_number, hosted_after_hand, item_of_number};
+ghost use Rattle.hub_feed.specs.Hand.{MayTake};
+ghost use Rattle.hub_feed.specs.Hands.{HandsOne};
 ghost use Rattle.hub_feed.specs.Next.{IsRowDue};
 ghost use Rattle.hub_feed.specs.Reach.{IsFirst};
 ghost use Rattle.hub_database.specs.Hosting.{hosted_of, with_hosted};
@@ -114,9 +116,28 @@ impl FeedHost for DbState {
         let Some(at) = self.feeds.place(feed) else {
             return Ok(Handed::Gone);
         };
-        let first = self.first_at(feed, at);
-        self.feeds
-            .hand_at(&self.contents, feed, at, first, handle, sink)
+        self.hand_at(feed, at, handle, sink)
+    }
+
+    /// The feed is searched for once. Then the cost is that of the hands.
+    fn hand_items<K: Sink<Item<ChangeRow>>, H: Pushes<K, Item<ChangeRow>>>(
+        &mut self,
+        feed: FeedId,
+        handle: &H,
+        sink: &mut K,
+        most: u64,
+    ) -> Result<(Handed, u64), AllocError> {
+        let Some(at) = self.feeds.place(feed) else {
+            return Ok((Handed::Gone, 0));
+        };
+        for sent in 0..most {
+            match self.hand_at(feed, at, handle, sink)? {
+                Handed::Row => {}
+                Handed::End => return Ok((Handed::End, sent + 1)),
+                last => return Ok((last, sent)),
+            }
+        }
+        Ok((Handed::Row, most))
     }
 
     /// The cost is a binary search among the feeds.
@@ -139,6 +160,30 @@ impl FeedHost for DbState {
 }
 
 impl DbState {
+    // Hands the item that is due to the feed at this place of the list. The feed keeps this place. The cost is
+    // that of `first_at` and `Feeds::hand_at`.
+    #[inline(always)]
+    fn hand_at<K: Sink<Item<ChangeRow>>, H: Pushes<K, Item<ChangeRow>>>(
+        &mut self,
+        feed: FeedId,
+        at: usize,
+        handle: &H,
+        sink: &mut K,
+    ) -> Result<Handed, AllocError>
+        requires placed { Some at ≡ position (is_of feed.number) self.old.feeds }
+        requires may { IfSome (item_of_number (hosted_of self.old) feed.number)
+            (MayTake K.allows K.sent sink.old) }
+        ensures ok { IfOk result (λ did. HandsOne hosted_of with_hosted K.behind (H.refuses handle.now)
+            feed.number self.old sink.old did self.new sink.new) }
+        ensures err { OnErr result ((self.new ≡ self.old) × (sink.new ≡ sink.old)
+            × IsRowDue (due_of_number (hosted_of self.old) feed.number)) }
+        ensures stays { Some at ≡ position (is_of feed.number) self.new.feeds }
+    {
+        let first = self.first_at(feed, at);
+        self.feeds
+            .hand_at(&self.contents, feed, at, first, handle, sink)
+    }
+
     /// The sequence of the first row in reach of the feed at this place of the list, if it is open. Where
     /// it lists fewer documents than edits lie above its place, and its rows are kept, the cost is that of
     /// `Listing::holds` and `Listing::first_between`. Else it is that of `FeedState::first_of_open`.

@@ -5,11 +5,27 @@ ghost use Rattle.hub_model.specs.Current.{Current, current};
 
 use crate::contents::Contents;
 use crate::ids::Ids;
-use hub_document::ChangeRow;
+use hub_document::{Body, ChangeRow};
 use hub_feed::{Source, is_ahead};
 use hub_index::SeqIndex;
-use hub_model::Style;
+use hub_model::{Item, Style};
 use std::alloc::AllocError;
+
+// The members that an item's row brings, if there are any.
+fn members_of(item: Option<Item<ChangeRow>>) -> Option<Body> {
+    let Some(Item::Row(row)) = item else {
+        return None;
+    };
+    let ChangeRow {
+        seq: _,
+        id: _,
+        changes: _,
+        deleted: _,
+        doc,
+        seen: _,
+    } = row;
+    doc
+}
 
 impl Contents {
     /// The last current row below a place, as its sequence and its document's id. It takes no memory.
@@ -86,10 +102,17 @@ impl Source for Contents {
     }
 
     /// The document is found in constant time. The cost is that of `Document::row`.
-    fn row(&self, seq: u64, style: Style, include_docs: bool) -> Result<ChangeRow, AllocError> {
+    fn row(
+        &self,
+        seq: u64,
+        style: Style,
+        include_docs: bool,
+        spare: Option<Item<ChangeRow>>,
+    ) -> Result<ChangeRow, AllocError> {
         let entry = self.journal[seq as usize - 1];
         let document = &self.documents[entry.document as usize];
-        document.row(self.alloc, seq, self.length(), style, include_docs)
+        let spare = members_of(spare);
+        document.row(self.alloc, seq, self.length(), style, include_docs, spare)
     }
 
     fn seq(row: &ChangeRow) -> u64

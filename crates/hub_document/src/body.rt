@@ -46,6 +46,7 @@ impl Body {
 
     /// Appends a comma and the members, where there are any, and then the closing brace. The text is copied
     /// as it is.
+    #[inline(always)]
     pub(crate) fn put_rest(&self, out: &mut Vec<u8>) -> Result<(), AllocError>
         ensures { Appends (rest_text self.now) result out.old.items out.new.items }
     {
@@ -70,6 +71,20 @@ impl Body {
         ensures { IfOk result (λ b. b ≡ self.now) }
     {
         let text = Vec::from_slice(alloc, self.text.as_slice())?;
+        Ok(Body { text })
+    }
+
+    /// A copy in the memory of a spare body. Other memory is taken where the spare body's is too small, and
+    /// where more than half of it would lie unused. The cost is the text's length.
+    pub fn copy_over(&self, spare: Body) -> Result<Body, AllocError>
+        ensures { IfOk result (λ b. b ≡ self.now) }
+    {
+        let Body { mut text } = spare;
+        if text.capacity() / 2 > self.text.len() {
+            return self.copy(*text.allocator());
+        }
+        text.clear();
+        text.extend_from_slice(self.text.as_slice())?;
         Ok(Body { text })
     }
 }

@@ -1,6 +1,7 @@
 pub mod Due
 pub mod Feeds
 pub mod Hand
+pub mod Hands
 pub mod Handing
 pub mod Host
 pub mod Next

@@ -263,7 +263,7 @@ impl FeedState {
         let first = self.first_of_open(source);
         match self.due(first) {
             DueSequence::Row(seq) => {
-                let row = source.row(seq, self.params.style, self.params.include_docs)?;
+                let row = source.row(seq, self.params.style, self.params.include_docs, None)?;
                 Ok(Next::Give(Item::Row(row)))
             }
             DueSequence::End(last_seq) => Ok(Next::Give(end_at(source, last_seq))),
@@ -375,7 +375,12 @@ impl FeedState {
         let due = self.due(first);
         match due {
             DueSequence::Row(seq) => {
-                let row = source.row(seq, self.params.style, self.params.include_docs)?;
+                let spare = if self.params.include_docs {
+                    sink.spare()
+                } else {
+                    None
+                };
+                let row = source.row(seq, self.params.style, self.params.include_docs, spare)?;
                 Ok(self.give(source, due, Item::Row(row), handle, sink))
             }
             DueSequence::End(last_seq) => {

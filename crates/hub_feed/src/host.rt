@@ -11,6 +11,8 @@ ghost use Rattle.hub_model.specs.declared.feeds.Item.TheVariants.{Beat};
 ghost use Rattle.hub_model.specs.declared.feeds.Style.{Style as Listing};
 ghost use Rattle.hub_params.specs.FeedModel.{params_of};
 ghost use Rattle.hub_feed.specs.Hand.{HandsTo, MayTake};
+ghost use Rattle.hub_feed.specs.Hands.{HandsItems};
+ghost use Rattle.hub_feed.specs.declared.handed.Handed.TheVariants.{Row};
 ghost use Rattle.hub_feed.specs.Next.{IsRowDue};
 ghost use Rattle.hub_feed.specs.Host.{Hosted, with_feeds, opening_refusal, opening_fault, hosted_after_opening};
 ghost use Rattle.hub_feed.specs.Host.{due_of_number, next_of_number, item_of_feed, item_of_number, hosted_after_next};
@@ -111,6 +113,37 @@ pub trait FeedHost: HostView {
             sink.old (next_of_number (Self.hosted self.old) feed.number) did self.new sink.new) }
         ensures err { OnErr result ((self.new ≡ self.old) × (sink.new ≡ sink.old)
             × IsRowDue (due_of_number (Self.hosted self.old) feed.number)) };
+
+    /// Hands a feed's items, one after the other, until an answer is not `Row`, or `most` items were taken. The
+    /// result is the last answer, or `Row` without a hand, and how many items `sink` took. Out of memory, the
+    /// items that were taken stay handed. The cost is that of the hands.
+    fn hand_items<K: Sink<Item<Self::Row>>, H: Pushes<K, Item<Self::Row>>>(
+        &mut self,
+        feed: FeedId,
+        handle: &H,
+        sink: &mut K,
+        most: u64,
+    ) -> Result<(Handed, u64), AllocError>
+        requires may { (count : ℕ) (s : Self) (k : K)
+            → HandsItems Self.hosted with_hosted K.behind (H.refuses handle.now) feed.number
+            self.old sink.old count Row s k
+            → IfSome (item_of_number (Self.hosted s) feed.number) (MayTake K.allows K.sent k) }
+        ensures ok { IfOk result (λ did. HandsItems Self.hosted with_hosted K.behind (H.refuses handle.now)
+            feed.number self.old sink.old did.1 did.0 self.new sink.new) }
+        ensures most { IfOk result (λ did. (did.1 ≤ most) × (did.0 ≡ Row → did.1 ≡ most)) }
+        ensures err { OnErr result ((count : ℕ) × HandsItems Self.hosted with_hosted K.behind
+            (H.refuses handle.now) feed.number self.old sink.old count Row self.new sink.new
+            × IsRowDue (due_of_number (Self.hosted self.new) feed.number)) }
+    {
+        for sent in 0..most {
+            match self.hand(feed, handle, sink)? {
+                Handed::Row => {}
+                Handed::End => return Ok((Handed::End, sent + 1)),
+                last => return Ok((last, sent)),
+            }
+        }
+        Ok((Handed::Row, most))
+    }
 
     /// Whether a feed may hand a heartbeat now: it asked for heartbeats, is open, and waits. It takes no
     /// memory.

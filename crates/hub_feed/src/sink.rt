@@ -13,6 +13,14 @@ pub trait Sink<I> {
 
     /// The sink after it took one more item.
     ghost behind: { Self → I → Self };
+
+    /// Gives up an item that is needed no more: its memory may serve the next item. A sink without such items
+    /// gives none, as this body says. It takes no memory.
+    fn spare(&mut self) -> Option<I>
+        ensures { self.new ≡ self.old }
+    {
+        None
+    }
 }
 
 /// A handle by which a sink is given items. The kind of handle says when a sink refuses an item. Code with

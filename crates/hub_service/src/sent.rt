@@ -1,7 +1,8 @@
 //! The feeds and lists that a connection sends.
 
 ghost use Rattle.std.specs.Prelude.{◌≡◌};
-ghost use Rattle.hub_session.specs.Feeds.{SendsNext};
+ghost use Rattle.hub_session.specs.Feeds.{SendsItem, SendsNext};
+ghost use Rattle.hub_session.specs.StreamItem.{Change};
 ghost use Rattle.hub_service.specs.Feeds.{GoesOn, behind_listed, life_of, next_listed};
 
 use crate::pumping::Pumping;
@@ -74,6 +75,25 @@ impl Listed {
     }
 }
 
+impl Listed {
+    // Sends its next item. The call is never inlined: a feed's rows are sent by the same loop, and would pay for
+    // the room of the item.
+    #[inline(never)]
+    fn send_next<W: Output>(
+        &mut self,
+        sending: Sending,
+        chunks: &mut ChunkWriter,
+        writer: &mut W,
+    ) -> SentItem
+        ensures item { SendsItem W.written W.fault_count W.failure_count sending
+            (Change (next_listed self.old)) result writer.old writer.new }
+        ensures rest { self.new ≡ behind_listed self.old }
+    {
+        let item = self.next();
+        sending.send(chunks, writer, LentItem::Change(&item))
+    }
+}
+
 /// A feed or a list that a connection sends, item by item.
 #[derive(Drop)]
 pub(crate) enum Sent {
@@ -99,9 +119,8 @@ impl Sent {
 
     /// Sends its next item, and becomes its own rest. There is no next item where a feed is handed no further.
     /// The cost is that of `Pumping::hand`, and the item's text; a row of a list is moved out of the list.
-    pub(crate) fn send_next<N: Wait, P: Pumping, W: Output>(
+    pub(crate) fn send_next<P: Pumping, W: Output>(
         &mut self,
-        rt: &N,
         pumping: &P,
         sending: Sending,
         chunks: &mut ChunkWriter,
@@ -111,19 +130,20 @@ impl Sent {
             self.old self.new writer.old writer.new }
     {
         match self {
-            Sent::Listed(listed) => {
-                let item = listed.next();
-                Some(sending.send(chunks, writer, LentItem::Change(&item)))
-            }
+            Sent::Listed(listed) => Some(listed.send_next(sending, chunks, writer)),
             Sent::Changes(feed) => {
-                pumping.hand(feed);
-                feed.show(rt, chunks, writer, |item, chunks, writer| {
+                if !feed.has_left() {
+                    pumping.hand(feed);
+                }
+                feed.show(chunks, writer, |item, chunks, writer| {
                     sending.send(chunks, writer, LentItem::Change(item))
                 })
             }
             Sent::Updates(feed) => {
-                pumping.hand(feed);
-                feed.show(rt, chunks, writer, |item, chunks, writer| {
+                if !feed.has_left() {
+                    pumping.hand(feed);
+                }
+                feed.show(chunks, writer, |item, chunks, writer| {
                     sending.send(chunks, writer, LentItem::Update(item))
                 })
             }

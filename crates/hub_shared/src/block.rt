@@ -103,6 +103,12 @@ impl<R: Drop> Rest<R> {
         self.taken += 1;
     }
 
+    /// Its items, which were all taken, as memory for other items. Constant time, and no memory.
+    pub(crate) fn into_spare(self) -> Vec<Item<R>> {
+        let Self { items, taken: _ } = self;
+        items
+    }
+
     /// Moves the first item out. Constant time.
     pub(crate) fn take(&mut self) -> Option<Item<R>>
         ensures item { result ≡ slice_get self.old 0 }

@@ -13,7 +13,7 @@ use crate::feed_end::FeedEnd;
 use crate::gate::Gate;
 use crate::host::Host;
 use crate::label::FeedLabel;
-use crate::pumping::{Turn, hold};
+use crate::pumping::Turn;
 use crate::signals::Signals;
 use crate::subscriber::FeedTaker;
 use hub_database::DbState;
@@ -89,6 +89,12 @@ impl<S: FeedHost, C: Count> HostFeed<S, C> {
         &self.end
     }
 
+    /// Whether an item is left of the lane's last block. No block is taken from the lane. Constant time.
+    #[inline(always)]
+    pub fn has_left(&self) -> bool {
+        self.end.has_left()
+    }
+
     /// Whether an item is left to take: where none is left of the lane's blocks, the lane's next block is taken
     /// first. `false` says that the lane was empty at a moment of the call. A pump that waits for room is woken
     /// then. No item is taken. It waits for nobody, and takes no memory.
@@ -119,24 +125,17 @@ impl<S: FeedHost, C: Count> HostFeed<S, C> {
         next
     }
 
-    /// As `take`, but the item is not given out: it is shown to `see` where it lies, which saves a copy. `see`
-    /// may change two values, and the answer is that of `see`. The cost is that of `see`.
+    /// Takes the first item that is left of the lane's last block. No block is taken from the lane (`fetch`). The
+    /// item is not given out: it is shown to `see` where it lies, which saves a copy. `see` may change two
+    /// values, and the answer is that of `see`, or `None` where no item is left. The cost is that of `see`.
     #[inline(always)]
-    pub fn show<R, T, A, B, F>(
-        &mut self,
-        rt: &R,
-        first: &mut A,
-        second: &mut B,
-        see: F,
-    ) -> Option<T>
+    pub fn show<T, A, B, F>(&mut self, first: &mut A, second: &mut B, see: F) -> Option<T>
     where
-        R: Asks<FeedLabel<S>, Block<S::Row>>,
         F: FnOnce(&Item<S::Row>, &mut A, &mut B) -> T,
         requires { F.IsAlwaysCallable see }
         ensures { (found : Option (HandedItem S.Row)) × Takes S.right self.old found self.new
             × IsShown F.FnOnce see found first.old second.old result first.new second.new }
     {
-        self.fetch(rt);
         self.end.show(first, second, see)
     }
 
@@ -152,13 +151,17 @@ impl<S: FeedHost, C: Count> HostFeed<S, C> {
         self.signals.is_over.load(Ordering::SeqCst)
     }
 
-    /// Takes the lock once for this feed, as the free function `hold`.
-    pub fn hold<R, G>(&self, rt: &R, turn: Turn, gate: &G) -> Result<Handed, AllocError>
+    /// Takes the lock once for this feed, as the free function `hold`. The memory of items that were taken may
+    /// serve the items that are handed.
+    pub fn hold<R, G>(&mut self, rt: &R, turn: Turn, gate: &G) -> Result<Handed, AllocError>
     where
         R: Asks<FeedLabel<S>, Block<S::Row>>,
         G: Gate,
+        ensures { self.new ≡ self.old }
     {
-        hold(rt, &self.host, self.id, turn, gate)
+        let spare = self.end.spare();
+        let holding = self.host.hold_once(rt, self.id, turn, gate, spare)?;
+        Ok(holding.last)
     }
 }
 

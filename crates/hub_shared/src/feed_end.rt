@@ -16,6 +16,7 @@ use hub_lane::{Asks, Receiver};
 use hub_model::Item;
 use std::alloc::Global;
 use std::marker::Model;
+use std::mem;
 
 /// The taking end of a feed's lane. Blocks come out of the lane, and items out of the block that was taken
 /// last. Contracts see the lane, its label, and all items that were taken.
@@ -65,9 +66,14 @@ impl<S: HostView> FeedEnd<S> {
         self.receiver.label()
     }
 
+    /// Whether an item is left of the lane's last block. Constant time.
+    pub(crate) fn has_left(&self) -> bool {
+        !self.rest.is_empty()
+    }
+
     /// Whether an item is left of the lane's blocks. Where none is left, the lane's next block is taken first.
-    /// `false` says that the lane was empty at a moment of the call, and the end keeps no memory of blocks
-    /// then. No item is taken. It waits for nobody, and takes no memory.
+    /// `false` says that the lane was empty at a moment of the call. The last block stays in memory then
+    /// (`spare`). No item is taken. It waits for nobody, and takes no memory.
     #[inline(always)]
     pub(crate) fn fetch<R>(&mut self, rt: &R) -> bool
     where
@@ -75,13 +81,31 @@ impl<S: HostView> FeedEnd<S> {
         ensures same { self.new ≡ self.old }
         ensures none { OnFalse result (IsDrained (R.lacks rt.now) self.old) }
     {
-        if !self.rest.is_empty() {
+        if self.has_left() {
             return true;
         }
-        let block = self.receiver.take(rt);
-        let found = block.is_some();
-        self.rest = Rest::of(self.alloc, block);
-        found
+        let Some(block) = self.receiver.take(rt) else {
+            return false;
+        };
+        self.rest = Rest::of(self.alloc, Some(block));
+        true
+    }
+
+    /// Gives up the items of the lane's last block where all were taken, and keeps no memory of blocks then.
+    /// The memory of rows with documents may serve the feed's next rows. Other rows are dropped, and so are
+    /// no rows given where an item is left. The cost is that of the drops.
+    pub(crate) fn spare(&mut self) -> Vec<Item<S::Row>>
+        ensures { self.new ≡ self.old }
+    {
+        if self.has_left() {
+            return Vec::new(self.alloc);
+        }
+        let rest = mem::replace(&mut self.rest, Rest::of(self.alloc, None));
+        if self.label().params().include_docs {
+            rest.into_spare()
+        } else {
+            Vec::new(self.alloc)
+        }
     }
 
     /// Takes the first item that the lane got and that was not taken yet. All items taken so far are the

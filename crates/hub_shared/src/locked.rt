@@ -111,6 +111,18 @@ impl<S: HostView, C: Count> Locked<S, C> {
         entry.1.make_room(room)
     }
 
+    /// Lends a feed items whose memory may serve its next rows (`Subscriber::lend`). Without a feed of this
+    /// number they are dropped. The cost is the search of `make_room`.
+    fn lend(&mut self, feed: FeedId, spare: Vec<Item<S::Row>>)
+        ensures { self.new ≡ self.old }
+    {
+        let Some(at) = place_near(self.subscribers.as_slice(), self.near, feed.number) else {
+            return;
+        };
+        let entry = &mut self.subscribers[at];
+        entry.1.lend(spare);
+    }
+
     /// Gives the lane of a feed all its items that wait, as one block, and answers their number: 0 also where
     /// there is no feed of this number. Where the lane was full at a moment of the call, the items go on
     /// waiting, and the answer is `None`. In both cases no memory is reserved for further items: `make_room`
@@ -140,10 +152,25 @@ impl<S: HostView, C: Count> Locked<S, C> {
 
 /// The steps of a holding, for outboxes that are subscribers.
 impl<S: FeedHost, C: Count> Locked<S, C> {
+    // Hands the feed's next items to its outbox, `most` at most (`FeedHost::hand_items`).
+    fn hand_items(&mut self, feed: FeedId, most: u64) -> Result<(Handed, u64), AllocError> {
+        let Some(at) = place_near(self.subscribers.as_slice(), self.near, feed.number) else {
+            return Ok((Handed::Gone, 0));
+        };
+        self.near = at;
+        let entry = &mut self.subscribers[at];
+        self.state.hand_items(feed, &Directly, &mut entry.1, most)
+    }
+
     /// Makes the steps of one holding: the last answer, and how many rows and Ends were sent. `Turn::Hand`
-    /// goes on until an answer is not a row, or `most` items were sent. Room is made for these items alone: a
-    /// short list lies in the C library's quick pieces. The cost is that of the steps.
-    pub(crate) fn step(&mut self, feed: FeedId, turn: Turn) -> Result<(Handed, u64), AllocError> {
+    /// goes on until an answer is not a row, or `most` items were sent. Room is made for these items alone,
+    /// and the spare items may give them memory. The cost is that of the steps.
+    pub(crate) fn step(
+        &mut self,
+        feed: FeedId,
+        turn: Turn,
+        spare: Vec<Item<S::Row>>,
+    ) -> Result<(Handed, u64), AllocError> {
         if turn == Turn::Expire {
             self.expire(feed);
             return Ok((Handed::Nothing, 0));
@@ -154,14 +181,8 @@ impl<S: FeedHost, C: Count> Locked<S, C> {
         }
         let (most, room) = self.most(feed);
         self.make_room(feed, room)?;
-        for sent in 0..most {
-            match self.hand(&Directly, feed)? {
-                Handed::Row => {}
-                Handed::End => return Ok((Handed::End, sent + 1)),
-                last => return Ok((last, sent)),
-            }
-        }
-        Ok((Handed::Row, most))
+        self.lend(feed, spare);
+        self.hand_items(feed, most)
     }
 }
 

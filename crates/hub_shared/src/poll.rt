@@ -19,12 +19,14 @@ use std::sync::{Arc, Wait};
 impl<S: FeedHost, C: Count> HostFeed<S, C> {
     // Makes one holding of the lock for this feed, and says whether its host may have more for it. The feed
     // is over after its end, and where an item finds no memory.
-    fn hold_own<R, G>(&self, rt: &R, turn: Turn, gate: &G) -> bool
+    fn hold_own<R, G>(&mut self, rt: &R, turn: Turn, gate: &G) -> bool
     where
         R: Asks<FeedLabel<S>, Block<S::Row>>,
         G: Gate,
+        ensures { self.new ≡ self.old }
     {
-        match self.host.hold_once(rt, self.id, turn, gate) {
+        let spare = self.end.spare();
+        match self.host.hold_once(rt, self.id, turn, gate, spare) {
             Ok(holding) if holding.last != Handed::Gone => holding.last != Handed::Nothing,
             _ => {
                 self.signals.end();
@@ -57,6 +59,7 @@ impl<S: FeedHost, C: Count> HostFeed<S, C> {
                 self.is_behind = self.hold_own(rt, Turn::Hand, gate);
             }
             ClockDue::Wait(most) => {
+                let _ = self.end.spare();
                 self.due = now.saturating_add(most);
                 self.is_behind = true;
             }

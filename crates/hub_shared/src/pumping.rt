@@ -9,6 +9,7 @@ use crate::signals::Signals;
 use crate::times::ClockDue;
 use hub_feed::{FeedHost, FeedId, Handed};
 use hub_lane::Asks;
+use hub_model::Item;
 use std::alloc::AllocError;
 use std::sync::Wait;
 use std::time;
@@ -39,13 +40,14 @@ impl<S: FeedHost, C: Count> Host<S, C> {
     /// One holding of the lock. The items that wait go into the lane as one block. Then come the steps. The
     /// items that wait after them go into the lane as another block, also where the steps found no memory.
     /// Where items wait after `Turn::Hand` even then, the answer is `Full`: once there is room, the feed is
-    /// to be held again.
+    /// to be held again. The memory of the spare items may serve the items that are handed.
     pub(crate) fn hold_once<R, G>(
         &self,
         rt: &R,
         feed: FeedId,
         turn: Turn,
         gate: &G,
+        spare: Vec<Item<S::Row>>,
     ) -> Result<Holding, AllocError>
     where
         R: Asks<FeedLabel<S>, Block<S::Row>>,
@@ -54,7 +56,7 @@ impl<S: FeedHost, C: Count> Host<S, C> {
         let mut locked = self.locked().lock(rt);
         gate.pass(Point::PumpHolding);
         let before = locked.hand_over(rt, feed);
-        let done = locked.step(feed, turn);
+        let done = locked.step(feed, turn, spare);
         let behind = locked.hand_over(rt, feed);
         let (last, sent) = done?;
         let is_held_up = turn == Turn::Hand && behind.is_none();
@@ -84,7 +86,7 @@ where
     R: Asks<FeedLabel<S>, Block<S::Row>>,
     G: Gate,
 {
-    let holding = host.hold_once(rt, feed, turn, gate)?;
+    let holding = host.hold_once(rt, feed, turn, gate, Vec::new(host.alloc))?;
     Ok(holding.last)
 }
 
@@ -134,7 +136,8 @@ impl<'a, S: FeedHost, C: Count, K: Clock> PumpState<'a, S, C, K> {
         let mut turn = Turn::Hand;
         for _ in rt.forever() {
             gate.pass(Point::PumpFree);
-            let holding = self.host.hold_once(rt, self.feed, turn, gate)?;
+            let none = Vec::new(self.host.alloc);
+            let holding = self.host.hold_once(rt, self.feed, turn, gate, none)?;
             if holding.has_sent {
                 self.last_item = self.clock.now_ms();
                 self.signals.ring_items();

@@ -33,6 +33,8 @@ pub struct Subscriber<S: HostView> {
     waiting: Vec<Item<S::Row>>,
     /// How many items may wait, with no memory taken.
     room: usize,
+    /// Items that were sent and are needed no more, whose memory may serve the next rows.
+    spare: Vec<Item<S::Row>>,
     /// The signals between the feed's connection and a pump of the feed.
     signals: Arc<Signals, Global>,
     /// The watch that gets the news of the host, where a thread polls the feed.
@@ -71,6 +73,10 @@ impl<S: HostView> Sink<Item<S::Row>> for Subscriber<S> {
     ghost sent = { λ s. s.sent };
 
     ghost behind = { λ s item. behind_sent s item };
+
+    fn spare(&mut self) -> Option<Item<S::Row>> {
+        self.spare.pop()
+    }
 }
 
 /// The parts of a feed that its connection gets as the feed is opened.
@@ -125,6 +131,7 @@ impl<S: HostView> TwoEnded<S> for Subscriber<S> {
                 sender,
                 waiting,
                 room: capacity,
+                spare: Vec::new(alloc),
                 signals: own,
                 watch: None,
             },
@@ -150,9 +157,9 @@ impl<S: HostView> Receives<S> for Subscriber<S> {
     ghost permits = { λ s list is. is };
 }
 
-/// The most rows with documents that one holding hands a feed. The C library keeps seven free pieces of each
-/// size at hand for a thread, so the copies of documents take the memory of documents that were sent.
-const MOST_DOCUMENTS: u64 = 7;
+/// The most rows with documents that one holding hands a feed. The copies of documents take the memory of as
+/// many documents that were sent, so that a feed keeps no more of them than these.
+const MOST_DOCUMENTS: u64 = 32;
 
 impl<S: HostView> Subscriber<S> {
     /// Another copy of its signals. Constant time.
@@ -179,6 +186,14 @@ impl<S: HostView> Subscriber<S> {
         self.waiting.len()
     }
 
+    /// Takes items that are needed no more: until the lane gets its next block, their memory may serve the next
+    /// rows. Constant time.
+    pub(crate) fn lend(&mut self, spare: Vec<Item<S::Row>>)
+        ensures { self.new ≡ self.old }
+    {
+        self.spare = spare;
+    }
+
     /// From here on this watch gets the news of the feed's host.
     pub(crate) fn watch(&mut self, watch: Arc<Watch, Global>)
         ensures { self.new ≡ self.old }
@@ -200,7 +215,8 @@ impl<S: HostView> Subscriber<S> {
 
     /// Gives the lane all items that wait, as one block, and answers their number: 0 where none waits. Where
     /// the lane was full at a moment of the call, the items go on waiting, and the answer is `None`. In both
-    /// cases no memory is reserved for further items. Constant time, and it takes no memory.
+    /// cases no memory is reserved for further items, and no spare item is kept. It takes no memory. The cost
+    /// is that of the drop of the spare items.
     pub(crate) fn hand_over<R>(&mut self, rt: &R, alloc: Global) -> Option<usize>
     where
         R: Asks<FeedLabel<S>, Block<S::Row>>,
@@ -210,6 +226,7 @@ impl<S: HostView> Subscriber<S> {
             × IsHeldUp (R.refuses rt.now) self.old) }
     {
         self.room = 0;
+        self.spare = Vec::new(alloc);
         let count = self.waiting.len();
         let Some(block) = Block::of(mem::replace(&mut self.waiting, Vec::new(alloc))) else {
             return Some(0);

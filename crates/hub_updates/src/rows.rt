@@ -5,7 +5,7 @@ use crate::notice::read_id;
 use hub_document::UpdateRow;
 use hub_feed::{Source, is_ahead};
 use hub_index::SeqIndex;
-use hub_model::Style;
+use hub_model::{Item, Style};
 use std::alloc::AllocError;
 
 impl Source for Log {
@@ -68,7 +68,13 @@ impl Source for Log {
 
     /// The pair is found in constant time, and the name is copied. The style and `include_docs` have no
     /// effect: a note has no revisions and no document.
-    fn row(&self, seq: u64, _style: Style, _include_docs: bool) -> Result<UpdateRow, AllocError> {
+    fn row(
+        &self,
+        seq: u64,
+        _style: Style,
+        _include_docs: bool,
+        _spare: Option<Item<UpdateRow>>,
+    ) -> Result<UpdateRow, AllocError> {
         let number = self.notes[seq as usize - 1];
         let pair = &self.pairs[number as usize];
         let (kind, name) = read_id(pair.id.as_str());

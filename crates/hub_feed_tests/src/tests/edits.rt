@@ -86,7 +86,13 @@ impl<'a> Source for Edits<'a> {
         count
     }
 
-    fn row(&self, seq: u64, style: Style, include_docs: bool) -> Result<Shown, AllocError> {
+    fn row(
+        &self,
+        seq: u64,
+        style: Style,
+        include_docs: bool,
+        _spare: Option<Item<Shown>>,
+    ) -> Result<Shown, AllocError> {
         Ok(Shown {
             seq,
             style,

@@ -113,7 +113,7 @@ fn wait_for_pump<R: Wait>(rt: &R, pace: &Pace) {
 }
 
 /// Whether the lane of a feed is full, and the feed is not over.
-fn is_full<R: Wait>(rt: &R, feed: &Feed<Plain>) -> bool {
+fn is_full<R: Wait>(rt: &R, feed: &mut Feed<Plain>) -> bool {
     let handed = feed.hold(rt, Turn::Hand, &Pace::new(0));
     matches!(handed, Ok(Handed::Full)) && !feed.is_over()
 }
@@ -168,7 +168,7 @@ impl<R: Wait> Reader<R, Pace> for Reading {
         wait_for_pump(rt, pace);
         self.is_well = put_many(rt, self.alloc, &mut self.handle, self.case.later).is_some();
         if self.case.items == 0 {
-            let is_full = is_full(rt, &feed);
+            let is_full = is_full(rt, &mut feed);
             self.is_well &= count_left(rt, feed, &mut self.counts) && is_full;
         } else {
             self.is_well &= count_next(rt, &mut feed, self.case.items, &mut self.counts);
