@@ -375,11 +375,7 @@ impl FeedState {
         let due = self.due(first);
         match due {
             DueSequence::Row(seq) => {
-                let spare = if self.params.include_docs {
-                    sink.spare()
-                } else {
-                    None
-                };
+                let spare = sink.spare();
                 let row = source.row(seq, self.params.style, self.params.include_docs, spare)?;
                 Ok(self.give(source, due, Item::Row(row), handle, sink))
             }
