@@ -8,14 +8,11 @@ use crate::ids::Ids;
 use hub_document::{Body, ChangeRow};
 use hub_feed::{Source, is_ahead};
 use hub_index::SeqIndex;
-use hub_model::{Item, Style};
+use hub_model::Style;
 use std::alloc::AllocError;
 
-// The members that an item's row brings, if there are any.
-fn members_of(item: Option<Item<ChangeRow>>) -> Option<Body> {
-    let Some(Item::Row(row)) = item else {
-        return None;
-    };
+// The members that a row brings, if there are any.
+fn members_of(row: Option<ChangeRow>) -> Option<Body> {
     let ChangeRow {
         seq: _,
         id: _,
@@ -23,7 +20,7 @@ fn members_of(item: Option<Item<ChangeRow>>) -> Option<Body> {
         deleted: _,
         doc,
         seen: _,
-    } = row;
+    } = row?;
     doc
 }
 
@@ -107,12 +104,12 @@ impl Source for Contents {
         seq: u64,
         style: Style,
         include_docs: bool,
-        spare: Option<Item<ChangeRow>>,
+        spare: Option<ChangeRow>,
     ) -> Result<ChangeRow, AllocError> {
         let entry = self.journal[seq as usize - 1];
         let document = &self.documents[entry.document as usize];
-        let spare = members_of(spare);
-        document.row(self.alloc, seq, self.length(), style, include_docs, spare)
+        let members = members_of(spare);
+        document.row(self.alloc, seq, self.length(), style, include_docs, members)
     }
 
     fn seq(row: &ChangeRow) -> u64

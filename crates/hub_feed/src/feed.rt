@@ -143,6 +143,14 @@ fn end_at<S: Source>(source: &S, place: u64) -> Item<S::Row>
     }
 }
 
+// The row in an item, if there is one.
+fn row_in<R: Drop>(item: Option<Item<R>>) -> Option<R> {
+    match item {
+        Some(Item::Row(row)) => Some(row),
+        _ => None,
+    }
+}
+
 // The lesser of two sequences; where there is one alone, that sequence.
 fn lesser(first: Option<u64>, second: Option<u64>) -> Option<u64>
     ensures { result ≡ lesser first second }
@@ -375,7 +383,7 @@ impl FeedState {
         let due = self.due(first);
         match due {
             DueSequence::Row(seq) => {
-                let spare = sink.spare();
+                let spare = row_in(sink.spare());
                 let row = source.row(seq, self.params.style, self.params.include_docs, spare)?;
                 Ok(self.give(source, due, Item::Row(row), handle, sink))
             }

@@ -8,7 +8,7 @@ ghost use Rattle.hub_model.specs.Feed.{is_within};
 ghost use Rattle.hub_model.specs.declared.feeds.Style.{Style as Listing};
 ghost use Rattle.hub_feed.specs.Reach.{first_within, first_listed};
 
-use hub_model::{Item, Style};
+use hub_model::Style;
 use std::alloc::AllocError;
 
 /// Whether a sequence lies above a place and not above the bound, if there is one. Constant time.
@@ -65,14 +65,13 @@ pub trait Source {
     fn count_after(&self, place: u64) -> u64
         ensures { result ≡ pending (current self.now) place };
 
-    /// The current row of this sequence, as it is shown now. The row may be made in the memory of a spare
-    /// item.
+    /// The current row of this sequence, as it is shown now. The row may be made in the memory of a spare row.
     fn row(
         &self,
         seq: u64,
         style: Style,
         include_docs: bool,
-        spare: Option<Item<Self::Row>>,
+        spare: Option<Self::Row>,
     ) -> Result<Self::Row, AllocError>
         requires { (c : Current) × Contains (current self.now) c × (c.seq ≡ seq) }
         ensures { IfOk result (λ r. (c : Current) → Contains (current self.now) c → c.seq ≡ seq

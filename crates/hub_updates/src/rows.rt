@@ -5,7 +5,7 @@ use crate::notice::read_id;
 use hub_document::UpdateRow;
 use hub_feed::{Source, is_ahead};
 use hub_index::SeqIndex;
-use hub_model::{Item, Style};
+use hub_model::Style;
 use std::alloc::AllocError;
 
 impl Source for Log {
@@ -73,7 +73,7 @@ impl Source for Log {
         seq: u64,
         _style: Style,
         _include_docs: bool,
-        _spare: Option<Item<UpdateRow>>,
+        _spare: Option<UpdateRow>,
     ) -> Result<UpdateRow, AllocError> {
         let number = self.notes[seq as usize - 1];
         let pair = &self.pairs[number as usize];

@@ -91,7 +91,7 @@ impl<'a> Source for Edits<'a> {
         seq: u64,
         style: Style,
         include_docs: bool,
-        _spare: Option<Item<Shown>>,
+        _spare: Option<Shown>,
     ) -> Result<Shown, AllocError> {
         Ok(Shown {
             seq,
