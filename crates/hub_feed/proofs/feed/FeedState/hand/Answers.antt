@@ -43,7 +43,7 @@ give-requires-clause-may g c =
     subst (λ (feed : Feed). c.in_ok-row-in-Row.row ≡ show feed row) c.self.view_is
     (c.in_ok-row-in-Row.ensures row here same) in
     let may = MayTake g.K.Sink.allows g.K.Sink.sent in
-    subst (λ k. may k (Row c.in_ok-row-in-Row.row)) (sym c.spare-spare.ensures)
+    subst (λ k. may k (Row c.in_ok-row-in-Row.row)) (sym c.spare.ensures)
     (subst (λ r. may c.args.sink.now (Row r)) (sym shown)
     (subst (λ what. IfSome (item_of_due (show f) rows what) (may c.args.sink.now)) is c.requires.may))
 
@@ -65,4 +65,4 @@ returns-in_ok-row-in-Row-clause-ok g c =
     (sym (ap (next_of_due (show f) rows) is ∙ ap (λ r. Give (Row r)) (sym shown)))
     (subst (λ k. HandsTo g.K.Sink.behind (g.H.Pushes.refuses c.args.handle.now) f
     (feed_after_due f (next_due rows f) len) (after_nothing f len) k (Give (Row c.in_ok-row-in-Row.row))
-    c.give.result c.give.new.self c.give.new.sink) c.spare-spare.ensures c.give.ensures)
+    c.give.result c.give.new.self c.give.new.sink) c.spare.ensures c.give.ensures)
