@@ -37,7 +37,7 @@ impl Contents {
 }
 
 impl Source for Contents {
-    ghost use Rattle.std.specs.Prelude.{length};
+    ghost use Rattle.std.specs.Prelude.{length, Contains, IfOk};
     ghost use Rattle.hub_model.specs.Current.{current};
     ghost use Rattle.hub_model.specs.Row.{ChangeRow, row_of};
     ghost use Rattle.hub_model.proofs.Laws.{rows_rise};
@@ -105,7 +105,11 @@ impl Source for Contents {
         style: Style,
         include_docs: bool,
         spare: Option<ChangeRow>,
-    ) -> Result<ChangeRow, AllocError> {
+    ) -> Result<ChangeRow, AllocError>
+        requires { (c : Current) × Contains (current self.now.journal) c × (c.seq ≡ seq) }
+        ensures { IfOk result (λ r. (c : Current) → Contains (current self.now.journal) c → c.seq ≡ seq
+            → r ≡ row_of self.now.journal style include_docs c) }
+    {
         let entry = self.journal[seq as usize - 1];
         let document = &self.documents[entry.document as usize];
         let members = members_of(spare);

@@ -1,6 +1,7 @@
 //! A plain list of edits, for feeds to follow.
 
-ghost use Rattle.std.specs.Prelude.{◌≡◌, length as list_length, refl};
+ghost use Rattle.std.specs.Prelude.{◌≡◌, length as list_length, refl, Contains, IfOk};
+ghost use Rattle.hub_model.specs.Current.{Current};
 ghost use Rattle.hub_feed_tests.specs.Edits.{rows_of};
 ghost use Rattle.hub_feed_tests.specs.EditsLaws.{rows_rise, rows_within};
 
@@ -92,7 +93,11 @@ impl<'a> Source for Edits<'a> {
         style: Style,
         include_docs: bool,
         _spare: Option<Shown>,
-    ) -> Result<Shown, AllocError> {
+    ) -> Result<Shown, AllocError>
+        requires { (c : Current) × Contains (rows_of 1 self.now.ids.now) c × (c.seq ≡ seq) }
+        ensures { IfOk result (λ r. (c : Current) → Contains (rows_of 1 self.now.ids.now) c → c.seq ≡ seq
+            → r ≡ record { seq = c.seq; style = style; include_docs = include_docs }) }
+    {
         Ok(Shown {
             seq,
             style,
