@@ -2,6 +2,7 @@ pub mod Blocks
 pub mod Serving
 pub mod Sending
 pub mod Handing
+pub mod Holding
 pub mod Booking
 pub mod Storing
 pub mod Writing

@@ -1,6 +1,6 @@
 //! A host of feeds and the outboxes of its feeds, as they lie under a lock.
 
-ghost use Rattle.std.specs.Prelude.{◌≡◌, ◌<◌, [], Some, None, option_and_then};
+ghost use Rattle.std.specs.Prelude.{◌≡◌, ◌<◌, ◌≤◌, [], Some, None, option_and_then};
 ghost use Rattle.std.specs.Prelude.{IfErr, IfNone, IfOk, IfSome, IsSome, OnErr, OnOk, length};
 ghost use Rattle.hub_model.specs.Entries.{entry_in, with_change, without};
 ghost use Rattle.hub_model.specs.Feed.{Feed, Params, new_feed};
@@ -152,16 +152,6 @@ impl<S: HostView, C: Count> Locked<S, C> {
 
 /// The steps of a holding, for outboxes that are subscribers.
 impl<S: FeedHost, C: Count> Locked<S, C> {
-    // Hands the feed's next items to its outbox, `most` at most (`FeedHost::hand_items`).
-    fn hand_items(&mut self, feed: FeedId, most: u64) -> Result<(Handed, u64), AllocError> {
-        let Some(at) = place_near(self.subscribers.as_slice(), self.near, feed.number) else {
-            return Ok((Handed::Gone, 0));
-        };
-        self.near = at;
-        let entry = &mut self.subscribers[at];
-        self.state.hand_items(feed, &Directly, &mut entry.1, most)
-    }
-
     /// Makes the steps of one holding: the last answer, and how many rows and Ends were sent. `Turn::Hand`
     /// goes on until an answer is not a row, or `most` items were sent. Room is made for these items alone,
     /// and the spare items may give them memory. The cost is that of the steps.
@@ -182,7 +172,7 @@ impl<S: FeedHost, C: Count> Locked<S, C> {
         let (most, room) = self.most(feed);
         self.make_room(feed, room)?;
         self.lend(feed, spare);
-        self.hand_items(feed, most)
+        self.hand_items(&Directly, feed, most)
     }
 }
 
@@ -332,6 +322,25 @@ impl<S: FeedHost, C: Count, K: Receives<S>> Locked<S, C, K> {
         self.near = at;
         let entry = &mut self.subscribers[at];
         self.state.hand(feed, handle, &mut entry.1)
+    }
+
+    /// Hands the feed's next items to its outbox, until an answer is not `Row`, or `most` items were sent. The
+    /// answer is the last one, and how many items were sent. Out of memory, the items that were sent stay so.
+    /// The outbox is searched for once. Then the cost is that of the host's `hand_items`.
+    pub(crate) fn hand_items<P: Pushes<K, Item<S::Row>>>(
+        &mut self,
+        handle: &P,
+        feed: FeedId,
+        most: u64,
+    ) -> Result<(Handed, u64), AllocError>
+        ensures { IfOk result (λ handed. handed.1 ≤ most) }
+    {
+        let Some(at) = place_near(self.subscribers.as_slice(), self.near, feed.number) else {
+            return Ok((Handed::Gone, 0));
+        };
+        self.near = at;
+        let entry = &mut self.subscribers[at];
+        self.state.hand_items(feed, handle, &mut entry.1, most)
     }
 
     /// Sends a heartbeat where one is due, and the feed keeps its place. `Full` is answered only where the
