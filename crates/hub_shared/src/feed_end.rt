@@ -81,7 +81,7 @@ impl<S: HostView> FeedEnd<S> {
         ensures same { self.new ≡ self.old }
         ensures none { OnFalse result (IsDrained (R.lacks rt.now) self.old) }
     {
-        if self.has_left() {
+        if !self.rest.is_empty() {
             return true;
         }
         let Some(block) = self.receiver.take(rt) else {
@@ -97,7 +97,7 @@ impl<S: HostView> FeedEnd<S> {
     pub(crate) fn spare(&mut self) -> Vec<Item<S::Row>>
         ensures { self.new ≡ self.old }
     {
-        if self.has_left() {
+        if !self.rest.is_empty() {
             return Vec::new(self.alloc);
         }
         let rest = mem::replace(&mut self.rest, Rest::of(self.alloc, None));
