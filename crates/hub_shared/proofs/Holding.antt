@@ -102,7 +102,7 @@ module _ {S R K : Type 0} (hosted : S → Hosted R) (with_hosted : S → Hosted 
   abbrev Holds : S → Type 0
   Holds s = IsBookOf counts total (hosted s).length
 
-  pub book_by_hands : {state new : S} {sink sender : K} {count : ℕ} {answer : Handed} → Holds state
+  pub book_by_hands : {state : S} {sink : K} → Holds state → {count : ℕ} {answer : Handed} {new : S} {sender : K}
       → HandsItems hosted with_hosted behind refuses id state sink count answer new sender → Holds new
   book_by_hands book none = book
   book_by_hands book (more {answer = answer} {mid = mid} {new = new} {held = held} {taker = taker} before hands) =
