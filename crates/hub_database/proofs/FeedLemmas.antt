@@ -1,4 +1,4 @@
--- The changes of a write, and the items that a feed of a database gives.
+-- The changes of a write, the items that a feed of a database gives, and its place among the feeds.
 use Rattle.std.proofs.Common.{◌≡◌, ℕ, ◌≤◌, List, [], ◌∷◌, ◌++◌, length}
 use Rattle.std.proofs.Common.{Bool, true, false, ap, refl, sym, subst, ◌∙◌}
 use Rattle.std.proofs.Common.{◌<◌, arith, get_or, inl, inr, nat_le, take}
