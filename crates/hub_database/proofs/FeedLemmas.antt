@@ -1,13 +1,16 @@
--- The changes of a write, and the items that a feed of a database gives.
+-- The changes of a write, the items that a feed of a database gives, and its place among the feeds.
 use Rattle.std.proofs.Common.{◌≡◌, ℕ, ◌≤◌, List, [], ◌∷◌, ◌++◌, length}
 use Rattle.std.proofs.Common.{Bool, true, false, ap, refl, sym, subst, ◌∙◌}
-use Rattle.std.proofs.Common.{◌<◌, arith, get_or, nat_le, take}
-use Rattle.std.specs.Prelude.{Option, Some, None, option_and_then, replicate, unwrap_or, if◌then◌else◌}
-use Rattle.std.proofs.lemmas.List.{length-append, length_push, length-replicate}
+use Rattle.std.proofs.Common.{◌<◌, arith, get_or, inl, inr, nat_le, take}
+use Rattle.std.specs.Prelude.{Option, Some, None, option_and_then, position, replicate, unwrap_or}
+use Rattle.std.specs.Prelude.{if◌then◌else◌}
+use Rattle.std.specs.List.{position_or_len}
+use Rattle.std.proofs.lemmas.Bool.{cases_Bool}
+use Rattle.std.proofs.lemmas.List.{length-append, length-map, length_push, length-replicate}
 use Rattle.std.proofs.lemmas.Option.{slice_get_read}
 use Rattle.std.proofs.Math.Seq.{get_or-append_seam, take-append_seam, take-length}
 use Rattle.hub_model.specs.Current.{Current, current}
-use Rattle.hub_model.specs.Entries.{entry_in}
+use Rattle.hub_model.specs.Entries.{entry_in, is_of, with_change}
 use Rattle.hub_model.specs.Draft.{Draft, parent_of, generation_of, new_revision, edit_of, extended_path, draft_result_on}
 use Rattle.hub_model.specs.Feed.{Feed, Due, DueRow, DueEnd, DueNothing, DueGone, next_due}
 use Rattle.hub_model.specs.Journal.{Edit, head_of, is_head_known, is_acceptable, is_known}
@@ -155,3 +158,22 @@ gives_due db id item e = from (entry_in id db.feeds) e
     from (Some f) e =
         item_given (row_of db.journal f.params.style f.params.include_docs) (current db.journal)
         (next_due (current db.journal) f) item e
+
+-- A change of an entry moves no entry. Where entry 3 stands at place 1, it stands there after a change at 5.
+search_same : {A : Type 0} (id number : ℕ) (change : A → A) (entries : List (ℕ × A))
+    → position_or_len (is_of number) entries ≡ position_or_len (is_of number) (with_change id change entries)
+search_same id number change [] = refl
+search_same id number change (p ∷ entries) =
+    elim (cases_Bool (is_of id p)) [
+      | inl t ↦ rw (t, search_same id number change entries) refl
+      | inr t ↦ rw (t, search_same id number change entries) refl
+    ]
+
+pub same_place : {A : Type 0} (id number : ℕ) (change : A → A) (entries : List (ℕ × A))
+    → position (is_of number) entries ≡ position (is_of number) (with_change id change entries)
+same_place id number change entries =
+    rw (
+      search_same id number change entries,
+      length-map entries (λ p.
+          if is_of id p then (p.0, change p.1) else p),
+    ) refl
