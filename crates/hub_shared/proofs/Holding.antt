@@ -13,12 +13,13 @@ use Rattle.hub_feed.specs.Hands.{HandsItems, none, more}
 use Rattle.hub_feed.specs.Host.{Hosted, with_feeds, next_of_number, item_of_number, item_of_feed, hosted_feed_after_due}
 use Rattle.hub_feed.specs.Host.{hosted_after_hand, hosted_after_next}
 use Rattle.hub_feed.specs.declared.handed.Handed.{Handed}
+use Rattle.hub_feed.specs.declared.handed.Handed.TheVariants.{Row}
 use Rattle.hub_feed.specs.declared.next.Next.TheVariants.{Nothing}
 use Rattle.hub_feed.proofs.HandLemmas.{hands_keeps}
 use Rattle.hub_shared.specs.Label.{Label}
-use Rattle.hub_shared.specs.Locked.{AreSendersOf, IsBookOf}
+use Rattle.hub_shared.specs.Locked.{AreSendersOf, Hands, HandsEach, IsBookOf, no_hand, one_hand}
 use Rattle.hub_shared.proofs.Booking.{book_kept}
-use Rattle.hub_shared.proofs.Handing.{may_take, serves_hand}
+use Rattle.hub_shared.proofs.Handing.{hand_in, may_take, serves_hand}
 use Rattle.hub_shared.proofs.Sending.{Permits, Serves}
 
 -- the entry with this number stands at this place, and gets another value there
@@ -80,6 +81,28 @@ module _ {S R K : Type 0} (label : K → Label) (sent : K → List (Item R)) (ho
       (serves_items before) waiting_fits behind label_stays sent_adds refuses at (entry.0, held)
       (placed_still id at senders entry placed is held) (value_there id at senders entry placed is held) new sender
       (next_of_number (hosted mid) id) refl answer hands)
+
+  -- the hands of the host are hands of the host with its senders
+  pub hands_in : (lane : ℕ) {count : ℕ} {answer : Handed} {new : S} {sender : K}
+      → HandsItems hosted with_hosted behind refuses id state entry.1 count answer new sender
+      → HandsEach hosted with_hosted behind refuses id
+      (record { state = state; senders = senders; lane = lane }) count answer
+      (record { state = new; senders = after sender; lane = lane })
+  hands_in lane none =
+      subst (λ own. HandsEach hosted with_hosted behind refuses id
+      (record { state = state; senders = senders; lane = lane }) 0 Row
+      (record { state = state; senders = own; lane = lane }))
+      (sym (stays_here id senders at placed entry is entry.1 refl)) no_hand
+  hands_in lane {answer = answer} {new = new} {sender = sender} (more {mid = mid} {held = held} before hands) =
+      one_hand (hands_in lane before)
+      (subst (λ own. Hands hosted with_hosted behind refuses (next_of_number (hosted mid) id)
+      (record { state = mid; senders = after held; lane = lane }) id answer
+      (record { state = new; senders = own; lane = lane }))
+      (set-set senders at (entry.0, held) (entry.0, sender))
+      (hand_in label sent hosted with_hosted fits right hosts rightly stays handed_fits mid id (after held)
+      (serves_items before) waiting_fits behind label_stays sent_adds refuses at (entry.0, held)
+      (placed_still id at senders entry placed is held) (value_there id at senders entry placed is held) new sender
+      lane (next_of_number (hosted mid) id) answer hands))
 
   -- the item that is due after these hands may be sent to the outbox
   pub may_take_next : (Takes : K → Item R → Type 0)

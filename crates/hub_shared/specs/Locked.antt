@@ -1,13 +1,14 @@
 -- A host of feeds and the outbox of each of its feeds, as they lie under a lock (own).
-use Rattle.std.specs.Prelude.{◌≡◌, ℕ, ◌<◌, ◌≤◌, List, [], All, Bool, true, false, Option, Some, None, ⊤}
+use Rattle.std.specs.Prelude.{◌≡◌, ℕ, ◌+◌, ◌<◌, ◌≤◌, List, [], All, Bool, true, false, Option, Some, None, ⊤}
 use Rattle.hub_model.specs.Entries.{entry_in, AreRising}
 use Rattle.hub_model.specs.Feed.{Feed}
 use Rattle.hub_model.specs.declared.feeds.Item.{Item}
 use Rattle.hub_model.specs.declared.feeds.Item.TheVariants.{Beat}
 use Rattle.hub_params.specs.FeedModel.{params_in}
-use Rattle.hub_feed.specs.Host.{Hosted, hosted_after_next}
+use Rattle.hub_feed.specs.Host.{Hosted, hosted_after_next, next_of_number}
 use Rattle.hub_feed.specs.Host as host
 use Rattle.hub_feed.specs.Hand.{handed_as}
+use Rattle.hub_feed.specs.Hands.{taken_in}
 use Rattle.hub_feed.specs.declared.handed.Handed.{Handed}
 use Rattle.hub_feed.specs.declared.handed.Handed.TheVariants as handed
 use Rattle.hub_feed.specs.declared.next.Next.{Next}
@@ -82,6 +83,20 @@ module _ {S R K : Type 0} (hosted : S → Hosted R) (with_hosted : S → Hosted 
     Hands refuses next.Nothing l number answer new =
         (answer ≡ handed.Nothing) × (new ≡ stepped l (λ h. hosted_after_next h number next.Nothing))
     Hands refuses next.Gone l number answer new = (answer ≡ handed.Gone) × (new ≡ l)
+
+    -- Hands of the feed of this number one after the other, of which each but the last one answered Row. So many
+    -- items were sent, and the last answer is this one; the answer of no hand is Row. Say that the rows at 2 and
+    -- 6 are due to feed 3, and then nothing. Then two hands sent 2 items with the answer Row, and three hands
+    -- sent 2 items with the answer Nothing.
+    pub data HandsEach (refuses : K → Item R → Type 0) (number : ℕ) (old : LockedState S K)
+        : ℕ → Handed → LockedState S K → Type 0 where
+      -- no hand
+      no_hand : HandsEach refuses number old 0 handed.Row old
+      -- one hand more
+      one_hand : {count : ℕ} {answer : Handed} {mid new : LockedState S K}
+          → HandsEach refuses number old count handed.Row mid
+          → Hands refuses (next_of_number (hosted mid.state) number) mid number answer new
+          → HandsEach refuses number old (count + taken_in answer) answer new
 
 -- The effect of a beat, where a heartbeat is due or not. A due heartbeat is sent, and the feed stays; or it
 -- is refused, and nothing changes. The answer is Full where it is refused, and else Nothing.

@@ -1,16 +1,17 @@
 //! A host of feeds and the outboxes of its feeds, as they lie under a lock.
 
-ghost use Rattle.std.specs.Prelude.{◌≡◌, ◌<◌, ◌≤◌, [], Some, None, option_and_then};
+ghost use Rattle.std.specs.Prelude.{◌≡◌, ◌<◌, ◌≤◌, [], ℕ, Some, None, option_and_then};
 ghost use Rattle.std.specs.Prelude.{IfErr, IfNone, IfOk, IfSome, IsSome, OnErr, OnOk, length};
 ghost use Rattle.hub_model.specs.Entries.{entry_in, with_change, without};
 ghost use Rattle.hub_model.specs.Feed.{Feed, Params, new_feed};
 ghost use Rattle.hub_feed.specs.Host.{next_of_number, due_of_number, hosted_after_expiry, hosted_after_finish, is_beat_allowed_if_any};
 ghost use Rattle.hub_feed.specs.Host.{opening_fault};
 ghost use Rattle.hub_feed.specs.Next.{IsRowDue};
+ghost use Rattle.hub_feed.specs.declared.handed.Handed.TheVariants.{Row};
 ghost use Rattle.hub_params.specs.FeedShown.{params_asked};
 ghost use Rattle.hub_shared.specs.Blocks.{IsHeldUp, handed_over, waiting_of, with_room};
 ghost use Rattle.hub_shared.specs.Label.{label_of};
-ghost use Rattle.hub_shared.specs.Locked.{AreSendersOf, Beats, Hands, IsSenderOf, IsUnused, stepped};
+ghost use Rattle.hub_shared.specs.Locked.{AreSendersOf, Beats, Hands, HandsEach, IsSenderOf, IsUnused, stepped};
 ghost use Rattle.hub_shared.specs.Opening.{Begins};
 
 use crate::block::Block;
@@ -333,7 +334,12 @@ impl<S: FeedHost, C: Count, K: Receives<S>> Locked<S, C, K> {
         feed: FeedId,
         most: u64,
     ) -> Result<(Handed, u64), AllocError>
-        ensures { IfOk result (λ handed. handed.1 ≤ most) }
+        ensures ok { IfOk result (λ handed. HandsEach S.hosted S.with_hosted K.behind (P.refuses handle.now)
+            feed.number self.old handed.1 handed.0 self.new) }
+        ensures most { IfOk result (λ handed. (handed.1 ≤ most) × (handed.0 ≡ Row → handed.1 ≡ most)) }
+        ensures err { OnErr result ((count : ℕ) × HandsEach S.hosted S.with_hosted K.behind
+            (P.refuses handle.now) feed.number self.old count Row self.new
+            × IsRowDue (due_of_number (S.hosted self.new.state) feed.number)) }
     {
         let Some(at) = place_near(self.subscribers.as_slice(), self.near, feed.number) else {
             return Ok((Handed::Gone, 0));
