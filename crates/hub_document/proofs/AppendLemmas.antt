@@ -1,10 +1,11 @@
 -- Appends to a buffer.
-use Rattle.std.proofs.Common.{◌≡◌, ℕ, List, ◌++◌, Result, Ok, Err, OnOk, ap, sym, ◌∙◌, length, take, arith}
+use Rattle.std.proofs.Common.{◌≡◌, ℕ, List, [], ◌∷◌, ◌++◌, ◌+◌, ◌<◌, Result, Ok, Err, OnOk, ap, sym, ◌∙◌, length, take, arith}
 use Rattle.std.proofs.Common.{append_assoc, drop, take_all}
 use Rattle.std.specs.Prelude.{IsErr, is_ok, if◌then◌else◌}
 use Rattle.std.proofs.lemmas.Grind.{common_steps}
 use Rattle.std.proofs.lemmas.List.{take-append-drop}
-use lib.Seq.{take-append_seam}
+use Rattle.std.proofs.Math.ListN.{set}
+use lib.Seq.{take-append_seam, take-append-add, set-append_seam}
 use Rattle.hub_document.specs.Appends.{Appends}
 
 on_ok : {E : Type 0} {P : Type 0} (result : Result (Unit {0}) E) → P → OnOk result P
@@ -54,3 +55,25 @@ pub refused : {E : Type 0} (result : Result (Unit {0}) E) (text old new : List �
     → take (length old) new ≡ old → Appends text result old new
 refused (Ok u) text old new e h = absurd (cc)
 refused (Err x) text old new e h = record { ok = tt; front = h }
+
+-- the bytes of a vector that was lent whole, where they are as many as before
+pub lent_back : (n : ℕ) (bytes rest : List ℕ) → length bytes ≡ n → take n (bytes ++ rest) ≡ bytes
+lent_back n bytes rest long = ap (λ k. take k (bytes ++ rest)) (sym long) ∙ take-append_seam bytes rest
+
+-- an appended text, written over from its byte k on
+pub over_end : (old text held part bytes : List ℕ) (at k : ℕ) → held ≡ old ++ text → at ≡ length old
+    → bytes ≡ take (at + k) held ++ part → bytes ≡ old ++ (take k text ++ part)
+over_end old text held part bytes at k is place over =
+    over
+    ∙ ap (λ l. l ++ part)
+    (ap (λ m. take (m + k) held) place ∙ ap (take (length old + k)) is ∙ take-append-add old text k)
+    ∙ append_assoc old (take k text) part
+
+-- an appended text, with another first byte
+pub over_first : (old text held : List ℕ) (at byte : ℕ) → held ≡ old ++ text → at ≡ length old
+    → 0 < length text → set held at byte ≡ old ++ byte ∷ drop 1 text
+over_first old [] held at byte is place some = absurd (omega (arith, some))
+over_first old (x ∷ xs) held at byte is place some =
+    ap (λ h. set h at byte) is
+    ∙ ap (λ m. set (old ++ x ∷ xs) m byte) place
+    ∙ set-append_seam old x xs byte

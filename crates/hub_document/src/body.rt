@@ -45,17 +45,18 @@ impl Body {
     }
 
     /// Appends a comma and the members, where there are any, and then the closing brace. The text is copied
-    /// as it is.
+    /// as it is, and the comma is written over its opening brace.
     #[inline(always)]
     pub(crate) fn put_rest(&self, out: &mut Vec<u8>) -> Result<(), AllocError>
         ensures { Appends (rest_text self.now) result out.old.items out.new.items }
     {
-        let rest = &self.text[1..];
-        if rest.len() == 1 {
-            return out.extend_from_slice(rest);
+        if self.text.len() == 2 {
+            return out.extend_from_slice(&self.text[1..]);
         }
-        out.push(b',')?;
-        out.extend_from_slice(rest)
+        let start = out.len();
+        out.extend_from_slice(self.text.as_slice())?;
+        out.as_mut_slice()[start] = b',';
+        Ok(())
     }
 
     /// The body without members, `{}`.

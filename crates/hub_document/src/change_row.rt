@@ -1,6 +1,6 @@
 //! Rows of changes.
 
-ghost use Rattle.std.specs.Prelude.{◌≡◌, ◌++◌, ℕ, List, codes, slice_get, IfOk};
+ghost use Rattle.std.specs.Prelude.{◌≡◌, ◌+◌, ◌++◌, ℕ, List, codes, length, take, slice_get, IfOk};
 ghost use Rattle.json.specs.Print.{escape};
 ghost use Rattle.hub_document.specs.Appends.{Appends};
 ghost use Rattle.hub_document.specs.DocText.{IsFirstText, doc_text, rev_member, row_doc};
@@ -57,13 +57,25 @@ fn put_winner(out: &mut Vec<u8>, changes: &Changes) -> Result<(), AllocError>
     }
 }
 
-// The bytes after an id: its closing quote, and the member `_rev` with this JSON string of a revision.
-fn rev_part(rev: &[u8; 36]) -> [u8; 45]
-    ensures { result ≡ codes "\",\"_rev\":" ++ rev.now }
+// Writes a text over the end of the bytes.
+#[inline(always)]
+fn put_over(bytes: &mut [u8], at: usize, text: &[u8; 36])
+    requires { at + 36 ≡ length bytes.old }
+    ensures bytes { bytes.new ≡ take at bytes.old ++ text.now }
+    ensures len { length bytes.new ≡ length bytes.old }
 {
-    let mut part = *b"\",\"_rev\":....................................";
-    part[9..].copy_from_slice(rev.as_slice());
-    part
+    bytes[at..].copy_from_slice(text.as_slice());
+}
+
+// Appends the bytes after an id: its closing quote, and the member `_rev` with this JSON string of a revision.
+#[inline(always)]
+fn put_rev_part(out: &mut Vec<u8>, rev: &[u8; 36]) -> Result<(), AllocError>
+    ensures { Appends (codes "\",\"_rev\":" ++ rev.now) result out.old.items out.new.items }
+{
+    let start = out.len();
+    out.extend_from_slice(b"\",\"_rev\":....................................")?;
+    put_over(out.as_mut_slice(), start + 9, rev);
+    Ok(())
 }
 
 // Appends the front, which ends with `{"_id":"`, an id that needs no escape, and `_rev` with this JSON string of
@@ -81,7 +93,7 @@ fn put_plain_head(
 {
     out.extend_from_slice(front)?;
     out.extend_from_slice(id.as_bytes())?;
-    out.extend_from_slice(rev_part(rev).as_slice())?;
+    put_rev_part(out, rev)?;
     Ok(())
 }
 

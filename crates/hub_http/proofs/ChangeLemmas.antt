@@ -1,10 +1,11 @@
 -- The texts of rows of changes.
-use Rattle.std.proofs.Common.{◌≡◌, ℕ, ◌≤◌, List, [], ◌∷◌, ◌++◌, length, map, take, take_all}
+use Rattle.std.proofs.Common.{◌≡◌, ℕ, ◌≤◌, List, [], ◌∷◌, ◌++◌, ◌+◌, length, map, take, drop, take_all}
 use Rattle.std.proofs.Common.{sym, ap, ◌∙◌, arith, append_assoc, append-nil, codes, decimal, Some, None, false}
 use Rattle.std.proofs.Common.{Result, Ok, Err}
 use Rattle.hub_document.specs.Appends.{Appends}
 use Rattle.hub_document.proofs.AppendLemmas.{appended, front_by}
 use Rattle.std.specs.List.{flat_map, join_with_byte}
+use lib.Seq.{take-append-add, drop-append-add}
 use Rattle.hub_model.specs.Revision.{Revision, text_of}
 use Rattle.json.specs.Print.{escape, quoted}
 use Rattle.hub_model.specs.Row.{ChangeRow}
@@ -96,11 +97,20 @@ short_ended row text string live none same = simp (live, none, same)
 abbrev pub before_doc : List ℕ → List ℕ
 before_doc text = codes "\",\"changes\":[{\"rev\":" ++ (text ++ codes "}],\"doc\":")
 
--- the text between the id of such a row and the id in its document
-pub front_parts : (front text : List ℕ)
-    → front ≡ codes "\",\"changes\":[{\"rev\":" ++ (text ++ codes "}],\"doc\":{\"_id\":\"")
-    → front ≡ before_doc text ++ codes "{\"_id\":\""
-front_parts front text is = is ∙ simp append_assoc
+-- an appended text, with 36 bytes from its byte 20 on written over
+pub over_part : (old text held part bytes : List ℕ) (at : ℕ) → held ≡ old ++ text → at ≡ length old
+    → bytes ≡ take (at + 20) held ++ (part ++ drop (at + 20 + 36) held)
+    → bytes ≡ old ++ (take 20 text ++ (part ++ drop 56 text))
+over_part old text held part bytes at is place over =
+    let e : length old + 20 + 36 ≡ length old + 56 = omega arith in
+    over
+    ∙ rw (is, place, take-append-add old text 20, e, drop-append-add old text 56)
+    (append_assoc old (take 20 text) (part ++ drop 56 text))
+
+-- the part of an appended text that begins at its byte 20
+pub part_at : (old text held : List ℕ) (at : ℕ) → held ≡ old ++ text → at ≡ length old
+    → drop (at + 20) held ≡ drop 20 text
+part_at old text held at is place = rw (is, place) (drop-append-add old text 20)
 
 -- the rest of a row that is not deleted and brings a document, with the JSON string of its only revision
 pub short_doc : (held : List ℕ) (row : ChangeRow) (text string body : List ℕ) → row.deleted ≡ false

@@ -1,8 +1,7 @@
 //! The texts of rows of changes.
 
-ghost use Rattle.std.specs.Prelude.{◌≡◌, ◌+◌, ◌<◌, ◌≤◌, [], ◌∷◌, ◌++◌, codes, decimal, drop, length};
+ghost use Rattle.std.specs.Prelude.{◌≡◌, ◌+◌, ◌<◌, ◌≤◌, [], ◌∷◌, ◌++◌, codes, decimal, drop, take, length, OnOk};
 ghost use Rattle.std.specs.Prelude.{false};
-ghost use Rattle.std.specs.Option.{ForSome};
 ghost use Rattle.hub_document.specs.Appends.{Appends};
 ghost use Rattle.json.specs.Print.{escape, quoted};
 ghost use Rattle.hub_model.specs.Revision.{text_of};
@@ -150,43 +149,57 @@ fn doc_front(deleted: bool) -> &'static str
     }
 }
 
-// The rest of a row that is not deleted and brings no document, behind the row's id, with the JSON string of
-// its only revision.
-fn short_end(rev: &[u8; 36]) -> [u8; 59]
-    ensures { result ≡ codes "\",\"changes\":[{\"rev\":" ++ (rev.now ++ codes "}]}") }
+// Writes the JSON string of a revision over a part of the bytes, and a copy of it over another text.
+#[inline(always)]
+fn write_rev(bytes: &mut [u8], at: usize, rev: &DigestRev, copy: &mut [u8; 36])
+    requires short { rev.now.generation < 10 }
+    requires place { at + 36 ≤ length bytes.old }
+    requires form { take 36 (drop at bytes.old) ≡ codes "\"0-................................\"" }
+    ensures bytes { bytes.new
+        ≡ take at bytes.old ++ (quoted (text_of rev.now) ++ drop (at + 36) bytes.old) }
+    ensures len { length bytes.new ≡ length bytes.old }
+    ensures copy { copy.new ≡ quoted (text_of rev.now) }
 {
-    let mut end = *b"\",\"changes\":[{\"rev\":....................................}]}";
-    end[20..56].copy_from_slice(rev.as_slice());
-    end
+    let part = &mut bytes[at..at + 36];
+    rev.write_short(part);
+    copy.copy_from_slice(part);
 }
 
-// The text between the id of a row that is not deleted and the id in its document, with the JSON string of the
-// row's only revision.
-fn short_front(rev: &[u8; 36]) -> [u8; 73]
-    ensures { result ≡ codes "\",\"changes\":[{\"rev\":" ++ (rev.now ++ codes "}],\"doc\":{\"_id\":\"") }
+// Appends a text, with the JSON string of a revision over its bytes 20 to 56, and hands out a copy of that
+// string.
+#[inline(always)]
+fn put_with_rev(
+    out: &mut Vec<u8>,
+    text: &[u8],
+    rev: &DigestRev,
+    copy: &mut [u8; 36],
+) -> Result<(), AllocError>
+    requires short { rev.now.generation < 10 }
+    requires place { 56 ≤ length text.now }
+    requires form { take 36 (drop 20 text.now) ≡ codes "\"0-................................\"" }
+    ensures text { Appends (take 20 text.now ++ (quoted (text_of rev.now) ++ drop 56 text.now)) result
+        out.old.items out.new.items }
+    ensures copy { OnOk result (copy.new ≡ quoted (text_of rev.now)) }
 {
-    let mut front =
-        *b"\",\"changes\":[{\"rev\":....................................}],\"doc\":{\"_id\":\"";
-    front[20..56].copy_from_slice(rev.as_slice());
-    front
+    let start = out.len();
+    out.extend_from_slice(text)?;
+    write_rev(out.as_mut_slice(), start + 20, rev, copy);
+    Ok(())
 }
 
 // A row of one revision whose id needs no escape, in a life whose number has one digit. Its text is written
 // in few parts.
 #[derive(Drop)]
-struct PlainRow<'r, 's> {
+struct PlainRow<'r> {
     row: &'r ChangeRow,
     rev: &'r DigestRev,
-    // The JSON string of the revision, where it has 36 bytes.
-    short: Option<&'s [u8; 36]>,
     life: u64,
     ghost plain: { escape row.now.id ≡ row.now.id },
     ghost only: { row.now.changes ≡ rev.now ∷ [] },
-    ghost text: { ForSome short (λ text. text.now ≡ quoted (text_of rev.now)) },
     ghost digit: { life < 10 },
 }
 
-impl PlainRow<'_, '_> {
+impl PlainRow<'_> {
     // Appends the row's front, up to the end of its id.
     fn put_front(&self, out: &mut Vec<u8>) -> Result<(), AllocError>
         ensures { Appends (plain_front self.now.life self.now.row.now.seq self.now.row.now.id) result
@@ -207,26 +220,28 @@ impl PlainRow<'_, '_> {
             out.old.items out.new.items }
     {
         out.extend_from_slice(b"\",\"changes\":[{\"rev\":")?;
-        match self.short {
-            Some(text) => out.extend_from_slice(text.as_slice()),
-            None => self.rev.print_quoted(out),
-        }
+        self.rev.print_quoted(out)?;
+        Ok(())
     }
 
-    // Appends the rest of a row that is not deleted, behind its id. `rev` is the JSON string of its revision.
-    fn put_short(&self, out: &mut Vec<u8>, rev: &[u8; 36]) -> Result<(), AllocError>
+    // Appends the rest of a row that is not deleted, behind its id. The revision is written where it stands.
+    fn put_short(&self, out: &mut Vec<u8>) -> Result<(), AllocError>
         requires live { self.now.row.now.deleted ≡ false }
-        requires text { rev.now ≡ quoted (text_of self.now.rev.now) }
+        requires short { self.now.rev.now.generation < 10 }
         ensures { Appends
             (codes "\",\"changes\":[{\"rev\":"
             ++ (quoted (text_of self.now.rev.now) ++ 125 ∷ row_end self.now.row.now))
             result out.old.items out.new.items }
     {
         let row = self.row;
+        let mut rev = [0u8; 36];
         let Some(body) = &row.doc else {
-            return out.extend_from_slice(short_end(rev).as_slice());
+            let end = b"\",\"changes\":[{\"rev\":\"0-................................\"}]}";
+            return put_with_rev(out, end, self.rev, &mut rev);
         };
-        row.write_plain_doc(out, short_front(rev).as_slice(), body, rev)?;
+        let front = b"\",\"changes\":[{\"rev\":\"0-................................\"}],\"doc\":";
+        put_with_rev(out, front, self.rev, &mut rev)?;
+        row.write_plain_doc(out, b"{\"_id\":\"", body, &rev)?;
         out.extend_from_slice(b"}")?;
         Ok(())
     }
@@ -252,13 +267,11 @@ impl PlainRow<'_, '_> {
     {
         self.put_front(out)?;
         let row = self.row;
-        match self.short {
-            Some(rev) if !row.deleted => self.put_short(out, rev),
-            _ => {
-                self.put_revision(out)?;
-                self.put_end(out)
-            }
+        if self.rev.generation() < 10 && !row.deleted {
+            return self.put_short(out);
         }
+        self.put_revision(out)?;
+        self.put_end(out)
     }
 }
 
@@ -271,12 +284,9 @@ impl RowText for ChangeRow {
         if life < 10 && is_plain(self.id.as_str().as_bytes()) {
             match self.changes.lent() {
                 LentChanges::One(rev) => {
-                    let text = rev.short_text();
-                    let short = text.as_ref();
                     let row = PlainRow {
                         row: self,
                         rev,
-                        short,
                         life,
                     };
                     return row.put(out);

@@ -1,6 +1,6 @@
 //! Revisions whose hashes are digests, in little memory.
 
-ghost use Rattle.std.specs.Prelude.{◌≡◌, ◌≤◌, ◌<◌, IfNone, IfSome};
+ghost use Rattle.std.specs.Prelude.{◌≡◌, ◌≤◌, ◌<◌, codes, IfNone, IfSome};
 ghost use Rattle.hex.specs.Hex.{encode_lower};
 ghost use Rattle.json.specs.Print.{quoted};
 ghost use Rattle.hub_model.specs.Revision.{text_of};
@@ -31,6 +31,23 @@ impl Model for DigestRev {
     ghost invariant = { λ a. 1 ≤ a.generation };
 }
 
+// Writes the JSON string of the revision with this digest and a generation of one digit over a string of the
+// same length. The digest is copied first: so no write into the string can change it, and the digits are made
+// together.
+#[inline(always)]
+fn fill_short(text: &mut [u8], generation: u16, digest: &[u8; 16])
+    requires short { (1 ≤ generation) × (generation < 10) }
+    requires form { text.old ≡ codes "\"0-................................\"" }
+    ensures { text.new ≡ quoted (text_of (record {
+      generation = generation;
+      hash = encode_lower digest.now;
+    })) }
+{
+    let bytes = *digest;
+    text[1] = b'0' + generation as u8;
+    write_digits(&mut text[3..35], &bytes);
+}
+
 // The JSON string of the revision with this digest and a generation of one digit.
 fn short_text(generation: u16, digest: &[u8; 16]) -> [u8; 36]
     requires { (1 ≤ generation) × (generation < 10) }
@@ -39,10 +56,8 @@ fn short_text(generation: u16, digest: &[u8; 16]) -> [u8; 36]
       hash = encode_lower digest.now;
     })) }
 {
-    let mut text = [b'"'; 36];
-    text[1] = b'0' + generation as u8;
-    text[2] = b'-';
-    write_digits(&mut text[3..35], digest);
+    let mut text = *b"\"0-................................\"";
+    fill_short(&mut text, generation, digest);
     text
 }
 
@@ -98,6 +113,17 @@ impl DigestRev {
         } else {
             None
         }
+    }
+
+    /// Writes the revision's text as a JSON string over a string of the same length, which ends alike. Constant
+    /// time. The digits are made in fewer instructions than in `short_text` where the string lies in a vector.
+    #[inline(always)]
+    pub fn write_short(&self, text: &mut [u8])
+        requires short { self.now.generation < 10 }
+        requires form { text.old ≡ codes "\"0-................................\"" }
+        ensures { text.new ≡ quoted (text_of self.now) }
+    {
+        fill_short(text, self.generation, &self.digest);
     }
 
     /// Appends the revision's text as a JSON string. Out of memory, the vector keeps its old bytes, and a

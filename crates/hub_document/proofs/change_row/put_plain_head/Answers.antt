@@ -6,9 +6,7 @@ pub returns : goal.returns
 returns c before is =
     appended _ _ _
     (rw (
-      c.in_ok-extend_from_slice-3.ensures.items,
-      c.as_slice.ensures,
-      c.rev_part.ensures,
+      c.in_ok-put_rev_part.ensures.ok,
       c.in_ok-extend_from_slice-2.ensures.items,
       c.as_bytes.ensures.value,
       c.in_ok-extend_from_slice.ensures.items,
@@ -24,6 +22,6 @@ pub returns-in_err-extend_from_slice-2 : goal.returns-in_err-extend_from_slice-2
 returns-in_err-extend_from_slice-2 c before is =
     refused _ _ _ _ c.from_residual-in_err-extend_from_slice-2.ensures.0 (front_by _ _ _ (front_of _ _ _ c.in_ok-extend_from_slice.ensures.items) (front_same _ _ c.in_err-extend_from_slice-2.ensures.items))
 
-pub returns-in_err-extend_from_slice-3 : goal.returns-in_err-extend_from_slice-3
-returns-in_err-extend_from_slice-3 c before is =
-    refused _ _ _ _ c.from_residual-in_err-extend_from_slice-3.ensures.0 (front_by _ _ _ (front_by _ _ _ (front_of _ _ _ c.in_ok-extend_from_slice.ensures.items) (front_of _ _ _ c.in_ok-extend_from_slice-2.ensures.items)) (front_same _ _ c.in_err-extend_from_slice-3.ensures.items))
+pub returns-in_err-put_rev_part : goal.returns-in_err-put_rev_part
+returns-in_err-put_rev_part c before is =
+    refused _ _ _ _ c.from_residual-in_err-put_rev_part.ensures.0 (front_by _ _ _ (front_by _ _ _ (front_of _ _ _ c.in_ok-extend_from_slice.ensures.items) (front_of _ _ _ c.in_ok-extend_from_slice-2.ensures.items)) c.in_err-put_rev_part.ensures.front)

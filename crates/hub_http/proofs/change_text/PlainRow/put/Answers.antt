@@ -3,21 +3,21 @@ use Rattle.hub_http.proofs.ChangeLemmas.{plain_row, short_row, ended_by}
 use Rattle.hub_http.specs.ChangeTexts.{change_row_text}
 use Rattle.hub_http.proofs.change_text.PlainRow.put.Goals as goal
 
-pub returns-in-Some : goal.returns-in-Some
+pub returns-then-not-row : goal.returns-then-not-row
 unfolding change_row_text
-returns-in-Some c =
+returns-then-not-row c =
     ended_by _ _ _ _ _ _ c.in_ok-put_front.ensures.front
     (rw c.in_ok-put_front.ensures.ok
     (short_row c.args.out.now.items c.args.self.now.life _ c.args.self.now.rev.now c.args.self.now.plain
     c.args.self.now.only))
     c.put_short.ensures
 
-pub returns-in_ok-put_revision-in_default : goal.returns-in_ok-put_revision-in_default
+pub returns : goal.returns
 unfolding change_row_text
-returns-in_ok-put_revision-in_default c =
+returns c =
     ended_by _ _ _ _ _ _
-    (front_by _ _ _ c.in_ok-put_front.ensures.front c.in_ok-put_revision-in_default.ensures.front)
-    (rw (c.in_ok-put_revision-in_default.ensures.ok, c.in_ok-put_front.ensures.ok)
+    (front_by _ _ _ c.in_ok-put_front.ensures.front c.in_ok-put_revision.ensures.front)
+    (rw (c.in_ok-put_revision.ensures.ok, c.in_ok-put_front.ensures.ok)
     (plain_row c.args.out.now.items c.args.self.now.life _ c.args.self.now.rev.now c.args.self.now.plain
     c.args.self.now.only))
     c.put_end.ensures
