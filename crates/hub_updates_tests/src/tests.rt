@@ -7,7 +7,7 @@
 
 use crate::listed::{Listed, NoHandle};
 use crate::tests::Handed::{End, Full, Gone, Nothing, Row};
-use crate::tests::Step::{Beats, Expire, Finish, Hand, Heeds, Length, Note, Open};
+use crate::tests::Step::{Beats, Expire, Finish, Hand, Heeds, Items, Length, Note, Open};
 use hub_document::{Limits, UpdateRow};
 use hub_feed::{FeedHost, FeedId, Handed as Did, OpenFault};
 use hub_model::UpdateKind::{self, Created, Deleted, Updated};
@@ -34,6 +34,8 @@ enum Step {
     Open(&'static str, Result<FeedId, OpenFault>),
     /// The outcome of the next hand of a feed.
     Hand(FeedId, Handed),
+    /// The last answer of so many hands at most, and the items of the hands.
+    Items(FeedId, u64, Did, &'static [Handed]),
     /// Whether a beat is due to a feed.
     Beats(FeedId, bool),
     /// The time of a feed is over.
@@ -144,6 +146,48 @@ fn hands<H: FeedHost<Row = UpdateRow>>(
     Ok(is_hand(did, list.items().first(), handed))
 }
 
+// Hands so many items at most into a list, and answers the last answer. Items before one that found no memory
+// stay handed: the list keeps them, and the rest is handed once more.
+fn handed_rest<H: FeedHost<Row = UpdateRow>>(
+    host: &mut H,
+    feed: FeedId,
+    most: u64,
+    list: &mut Listed<Item<UpdateRow>>,
+) -> Result<(Did, u64), AllocError> {
+    if let Ok(did) = host.hand_items(feed, &NoHandle, list, most) {
+        return Ok(did);
+    }
+    let taken = list.items().len() as u64;
+    let rest = most.saturating_sub(taken);
+    let (last, count) = host.hand_items(feed, &NoHandle, list, rest)?;
+    Ok((last, taken.saturating_add(count)))
+}
+
+// Whether the items are these.
+fn are_items(items: &[Item<UpdateRow>], handed: &[Handed]) -> bool {
+    for (item, handed) in items.iter().zip(handed) {
+        let did = if item.is_end() { Did::End } else { Did::Row };
+        if !is_hand(did, Some(item), handed) {
+            return false;
+        }
+    }
+    items.len() == handed.len()
+}
+
+// Whether so many hands at most have this last answer, and hand these items.
+fn hands_items<H: FeedHost<Row = UpdateRow>>(
+    alloc: Global,
+    host: &mut H,
+    feed: FeedId,
+    most: u64,
+    answer: Did,
+    handed: &[Handed],
+) -> Result<bool, AllocError> {
+    let mut list = Listed::new(alloc, most as usize)?;
+    let (last, count) = handed_rest(host, feed, most, &mut list)?;
+    Ok(last == answer && count == handed.len() as u64 && are_items(list.items(), handed))
+}
+
 // Whether opening a feed of a host has this answer.
 fn opens<H: FeedHost>(
     alloc: Global,
@@ -188,6 +232,9 @@ impl Trial {
             }
             Open(query, answer) => opens(self.alloc, &mut self.state, query, *answer),
             Hand(feed, handed) => hands(self.alloc, &mut self.state, *feed, handed),
+            Items(feed, most, answer, handed) => {
+                hands_items(self.alloc, &mut self.state, *feed, *most, *answer, handed)
+            }
             Beats(feed, answer) => Ok(self.state.beat_due(*feed) == *answer),
             Expire(feed) => {
                 self.state.expire(*feed);
@@ -338,6 +385,26 @@ const TAKEN: &[Step] = &[
     Hand(FIRST, Row(Deleted, "e", 2, 2)),
 ];
 
+const SEVERAL: &[Step] = &[
+    Note(Created, "d", Ok(())),
+    Note(Created, "e", Ok(())),
+    Open("feed=continuous", Ok(FIRST)),
+    Items(
+        FIRST,
+        3,
+        Did::Nothing,
+        &[Row(Created, "d", 1, 2), Row(Created, "e", 2, 2)],
+    ),
+    Note(Updated, "d", Ok(())),
+    Note(Deleted, "e", Ok(())),
+    Items(FIRST, 1, Did::Row, &[Row(Updated, "d", 3, 4)]),
+    Items(FIRST, 1, Did::Row, &[Row(Deleted, "e", 4, 4)]),
+    Items(FIRST, 1, Did::Nothing, &[]),
+    Expire(FIRST),
+    Items(FIRST, 3, Did::End, &[End(4, 0)]),
+    Items(FIRST, 1, Did::Gone, &[]),
+];
+
 const ABSENT: &[Step] = &[
     Note(Created, "d", Ok(())),
     Hand(FIRST, Gone),
@@ -415,6 +482,11 @@ const CASES: &[Case] = &[
         name: "a list has the row that it took",
         narrow: false,
         steps: TAKEN,
+    },
+    Case {
+        name: "several items are handed at once",
+        narrow: false,
+        steps: SEVERAL,
     },
     Case {
         name: "a hand to no feed is gone",

@@ -160,6 +160,29 @@ a {"s":"b"}
 {"_id":"a","s":"b"}
 {"_id":"a","s":"b"}
 {"s":"b"}
+# copies in the memory of spare members: of the same length, longer, shorter, and more than twice as long
+> over {"_id":"a","v":"spare"} | {"_id":"b","w":"equal"}
+{"w":"equal"}
+> over {"_id":"a","v":"longer"} | {"_id":"b","w":"equal"}
+{"w":"equal"}
+> over {"_id":"a","v":1} | {"_id":"b","w":"longer","x":[1,2]}
+{"w":"longer","x":[1,2]}
+> over {"_id":"a","v":"spare that is more than twice as long"} | {"_id":"b","w":"equal"}
+{"w":"equal"}
+# the members without a member are copied over others, and others over them
+> over {"_id":"a","v":1} | {"_id":"b"}
+{}
+> over {"_id":"a"} | {"_id":"b","w":"\u00e9"}
+{"w":"é"}
+# a copy's memory serves the next copy: of 20, 13, 13, 8, 7, 25, 13 and 12 bytes
+> over {"_id":"a","v":"a spare body"} | {"_id":"b","w":"equal"} | {"_id":"c","x":"fully"} | {"_id":"d","y":12} | {"_id":"e","z":3} | {"_id":"f","a":"0123456789abcdefg"} | {"_id":"g","b":"01234"} | {"_id":"h","c":"0123"}
+{"w":"equal"}
+{"x":"fully"}
+{"y":12}
+{"z":3}
+{"a":"0123456789abcdefg"}
+{"b":"01234"}
+{"c":"0123"}
 # local documents: the greatest count, ids under which no route puts one, and of several faults the first
 > local 18446744073709551615 _local/q" | {"v":{"w":7},"b":""}
 {"_id":"_local/q\"","_rev":"0-18446744073709551615","b":"","v":{"w":7}} body {"b":"","v":{"w":7}} id _local/q"

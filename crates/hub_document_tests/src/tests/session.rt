@@ -24,6 +24,9 @@ use std::str;
 /// - `local COUNT ID | TEXT` answers the text of a local document with so many edits, its members and its id;
 /// - `local-id TEXT` answers whether the text is an id, as it stands.
 ///
+/// - `over TEXT | TEXT ..` reads documents. The members of each but the first are copied, in the memory of
+///   the copy before it, or of the first one's members. It answers these copies, a line each.
+///
 /// The other commands are those of `part`.
 #[derive(Drop)]
 pub(super) struct Session {
@@ -103,10 +106,23 @@ fn local_id(alloc: Global, text: &str, out: &mut Out) -> Result<(), DocFault> {
     Ok(())
 }
 
+// Copies of the members of these texts but the first, each in the memory of the one before it.
+fn over(alloc: Global, texts: &str, out: &mut Out) -> Result<(), DocFault> {
+    let (first, texts) = texts.split_once(" | ").unwrap_or((texts, ""));
+    let mut spare = Doc::read(alloc, first.as_bytes(), true)?.body;
+    for text in texts.split(" | ") {
+        let doc = Doc::read(alloc, text.as_bytes(), true)?;
+        spare = doc.body.copy_over(spare)?;
+        out.both("", spare.as_bytes());
+        out.put("\n");
+    }
+    Ok(())
+}
+
 // Carries out a command.
 fn carry_out(alloc: Global, command: &str, out: &mut Out) -> Result<(), DocFault> {
     let mut words = Words::of(command);
-    let verb = words.verb("new came put put-came byte room local local-id");
+    let verb = words.verb("new came put put-came byte room local local-id over");
     let rest = words.rest();
     let read = match verb {
         0 => Doc::read(alloc, rest.as_bytes(), true),
@@ -117,6 +133,7 @@ fn carry_out(alloc: Global, command: &str, out: &mut Out) -> Result<(), DocFault
         5 => with_byte(alloc, rest, true),
         6 => return local(alloc, rest, out),
         7 => return local_id(alloc, rest, out),
+        8 => return over(alloc, rest, out),
         _ => return part(alloc, command, out),
     };
     keep(alloc, read, out)
