@@ -104,7 +104,7 @@ impl DigestRev {
 
     /// The revision's text as a JSON string; None where the generation has more than one digit. Constant
     /// time, and no memory.
-    pub fn short_text(&self) -> Option<[u8; 36]>
+    fn short_text(&self) -> Option<[u8; 36]>
         ensures text { IfSome result (λ text. text ≡ quoted (text_of self.now)) }
         ensures none { IfNone result (10 ≤ self.now.generation) }
     {

@@ -75,7 +75,18 @@ fn one(alloc: Global, text: &str, out: &mut Out) -> Result<(), DocFault> {
     put_changes(alloc, &Changes::one(alloc, rev)?, out)
 }
 
-// A copy of the revision of `DIGEST` in little memory, two texts of it in quotes, and the row's one revision.
+// Appends the text in quotes of a revision whose generation has one digit, as a row of changes writes it.
+fn put_short(rev: &DigestRev, out: &mut Out) {
+    if rev.generation() >= 10 {
+        return;
+    }
+    let mut text = *b"\"0-................................\"";
+    rev.write_short(&mut text);
+    let _ = out.bytes.extend_from_slice(text.as_slice());
+    out.put(" ");
+}
+
+// A copy of the revision of `DIGEST` in little memory, its texts in quotes, and the row's one revision.
 fn digest(alloc: Global, generation: u64, out: &mut Out) -> Result<(), DocFault> {
     let generation = u16::try_from(generation).unwrap_or(1).max(1);
     let rev = DigestRev::new(generation, DIGEST).copy();
@@ -89,6 +100,7 @@ fn digest(alloc: Global, generation: u64, out: &mut Out) -> Result<(), DocFault>
     out.put(" ");
     let _ = rev.rev().print_quoted(&mut out.bytes);
     out.put(" ");
+    put_short(&rev, out);
     put_changes(alloc, &Changes::of_digest(rev), out)
 }
 
