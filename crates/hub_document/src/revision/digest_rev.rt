@@ -1,6 +1,6 @@
 //! Revisions whose hashes are digests, in little memory.
 
-ghost use Rattle.std.specs.Prelude.{◌≡◌, ◌≤◌, ◌<◌, codes, IfNone, IfSome};
+ghost use Rattle.std.specs.Prelude.{◌≡◌, ◌≤◌, ◌<◌, codes};
 ghost use Rattle.hex.specs.Hex.{encode_lower};
 ghost use Rattle.json.specs.Print.{quoted};
 ghost use Rattle.hub_model.specs.Revision.{text_of};
@@ -48,19 +48,6 @@ fn fill_short(text: &mut [u8], generation: u16, digest: &[u8; 16])
     write_digits(&mut text[3..35], &bytes);
 }
 
-// The JSON string of the revision with this digest and a generation of one digit.
-fn short_text(generation: u16, digest: &[u8; 16]) -> [u8; 36]
-    requires { (1 ≤ generation) × (generation < 10) }
-    ensures { result ≡ quoted (text_of (record {
-      generation = generation;
-      hash = encode_lower digest.now;
-    })) }
-{
-    let mut text = *b"\"0-................................\"";
-    fill_short(&mut text, generation, digest);
-    text
-}
-
 impl DigestRev {
     /// The revision of this generation and digest. Constant time.
     pub fn new(generation: u16, digest: [u8; 16]) -> DigestRev
@@ -102,21 +89,8 @@ impl DigestRev {
         RevId::from_digest(self.generation, &self.digest)
     }
 
-    /// The revision's text as a JSON string; None where the generation has more than one digit. Constant
-    /// time, and no memory.
-    fn short_text(&self) -> Option<[u8; 36]>
-        ensures text { IfSome result (λ text. text ≡ quoted (text_of self.now)) }
-        ensures none { IfNone result (10 ≤ self.now.generation) }
-    {
-        if self.generation < 10 {
-            Some(short_text(self.generation, &self.digest))
-        } else {
-            None
-        }
-    }
-
-    /// Writes the revision's text as a JSON string over a string of the same length, which ends alike. Constant
-    /// time. The digits are made in fewer instructions than in `short_text` where the string lies in a vector.
+    /// Writes the revision's text as a JSON string over a string of the same length, which ends alike. So a row of
+    /// changes is appended with room for the text, and no text is copied. Constant time.
     #[inline(always)]
     pub fn write_short(&self, text: &mut [u8])
         requires short { self.now.generation < 10 }
@@ -131,9 +105,11 @@ impl DigestRev {
     pub fn print_quoted(&self, out: &mut Vec<u8>) -> Result<(), AllocError>
         ensures { Appends (quoted (text_of self.now)) result out.old.items out.new.items }
     {
-        match self.short_text() {
-            Some(text) => out.extend_from_slice(text.as_slice()),
-            None => self.rev().print_quoted(out),
+        if self.generation >= 10 {
+            return self.rev().print_quoted(out);
         }
+        let mut text = *b"\"0-................................\"";
+        self.write_short(&mut text);
+        out.extend_from_slice(text.as_slice())
     }
 }
