@@ -11,6 +11,8 @@ use std::marker::Model;
 pub(crate) struct Listed<I> {
     items: Vec<I>,
     limit: usize,
+    /// Items whose memory may serve the next items.
+    spare: Vec<I>,
 }
 
 impl<I> Model for Listed<I> {
@@ -32,7 +34,17 @@ impl<I> Listed<I> {
         Ok(Listed {
             items: Vec::with_capacity(alloc, limit)?,
             limit,
+            spare: Vec::new(alloc),
         })
+    }
+
+    /// The list with these spare items. It gives up the last one first.
+    pub(crate) fn with_spare(self, spare: Vec<I>) -> Listed<I>
+    where
+        I: Drop,
+        ensures { result ≡ self }
+    {
+        Listed { spare, ..self }
     }
 
     /// The items that it took, the first item first.
@@ -40,6 +52,15 @@ impl<I> Listed<I> {
         ensures { result.now ≡ self.now.0 }
     {
         self.items.as_slice()
+    }
+
+    /// The items that it took, without the list.
+    pub(crate) fn into_items(self) -> Vec<I>
+    where
+        I: Drop,
+        ensures { result.items ≡ self.0 }
+    {
+        self.items
     }
 }
 
@@ -51,6 +72,10 @@ impl<I> Sink<I> for Listed<I> {
     ghost sent = { λ list. list.0 };
 
     ghost behind = { λ list item. (list.0 ++ item ∷ [], list.1) };
+
+    fn spare(&mut self) -> Option<I> {
+        self.spare.pop()
+    }
 }
 
 /// The handle by which a list gets its items. It has nothing in it.

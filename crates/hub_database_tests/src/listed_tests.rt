@@ -88,4 +88,35 @@ Row 200/300 200 1-a
 > hand 1 times 2
 End 200, 100 pending
 Gone
+
+# several rows of listed documents are handed at once, also behind edits of one that is due and of a new one
+> next times 300
+> state
+seq 300, length 300, life 6, stands
+> open feed=continuous&filter=_doc_ids&doc_ids=["300","200","100","x"]
+feed 0
+> open filter=_doc_ids&doc_ids=["300","200","100","200"]
+feed 1
+> items 0 1
+Row 1
+Row 100/300 100 1-a
+> items 1 2
+Row 2
+Row 100/300 100 1-a
+Row 200/300 200 1-a
+> merge {"_id":"200","_rev":"1-b"}
+seq 301
+> merge {"_id":"x","_rev":"1-b"}
+seq 302
+> items 0 9
+Nothing 3
+Row 300/302 300 1-a
+Row 301/302 200 1-b
+Row 302/302 x 1-b
+> items 1 9
+End 2
+Row 300/302 300 1-a
+End 300, 2 pending
+> items 1 9
+Gone 0
 "#;

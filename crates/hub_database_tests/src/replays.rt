@@ -15,6 +15,8 @@ fn transcripts(rt: HostRuntime) -> Result<(), Fail> {
         entry_tests::ENTRIES,
         feed_tests::FEEDS,
         host_tests::HOSTED,
+        host_tests::SEVERAL,
+        host_tests::OVER,
         life_tests::LIVES,
         listed_tests::LISTED,
         waiting_tests::WAITING,

@@ -6,7 +6,8 @@ mod items;
 
 use crate::session::items::put_refusal;
 use hub_database::{DbFault, DbState};
-use hub_document::{Doc, Limits};
+use hub_document::{ChangeRow, Doc, Limits};
+use hub_model::Item;
 use hub_transcript::{Answer, Subject, Words};
 use std::alloc::{AllocError, Global};
 use std::fmt::Write;
@@ -35,6 +36,10 @@ const ROOM: usize = 4_000;
 /// - `open QUERY`: opens a feed
 /// - `take FEED`: shows the next item that the feed has to hand, and accepts it
 /// - `hand FEED`, `full FEED`: the feed hands into a list with room for one item, or for none
+/// - `items FEED MOST`, `items-full FEED MOST`: the feed hands so many items at most into a list with room for
+///   all of them, or for all but one. It tells the last answer, how many items the list took, and each item.
+/// - `items-over FEED MOST`: as `items`, and the items of the last such command are spare items of the list,
+///   the last one first. The spare items are dropped behind it.
 /// - `beat-due FEED`: tells whether a beat is due
 /// - `expire FEED`, `finish FEED`: ends the feed's time, or finishes the feed
 ///
@@ -47,6 +52,8 @@ const ROOM: usize = 4_000;
 pub(crate) struct Session {
     alloc: Global,
     state: DbState,
+    // The items that the last command for several items handed.
+    items: Vec<Item<ChangeRow>>,
 }
 
 impl<R> Subject<R> for Session {
@@ -58,6 +65,7 @@ impl<R> Subject<R> for Session {
         Ok(Session {
             alloc,
             state: DbState::new(alloc, limits, LIFE),
+            items: Vec::new(alloc),
         })
     }
 

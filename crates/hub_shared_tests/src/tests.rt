@@ -10,5 +10,6 @@ mod holding;
 mod polls;
 mod receipts;
 mod shared;
+mod shows;
 mod told;
 mod watches;

@@ -5,12 +5,13 @@ use crate::session::Session;
 use crate::session::items::{put_item, put_refusal};
 use hub_database::DbState;
 use hub_document::ChangeRow;
-use hub_feed::{FeedHost, FeedId, Next, OpenFault};
+use hub_feed::{FeedHost, FeedId, Handed, Next, OpenFault};
 use hub_model::Item;
 use hub_params::FeedParams;
 use hub_transcript::Words;
 use std::alloc::AllocError;
 use std::fmt::{Debug, Write};
+use std::mem;
 
 // Answers the next item that a feed has to hand, and accepts it.
 fn take(state: &mut DbState, feed: FeedId) -> Result<Next<ChangeRow>, AllocError> {
@@ -24,13 +25,16 @@ fn take(state: &mut DbState, feed: FeedId) -> Result<Next<ChangeRow>, AllocError
     }
 }
 
+// Writes an item behind its word.
+fn put_named(out: &mut String, item: &Item<ChangeRow>) -> Result<(), AllocError> {
+    out.push_str(if item.is_end() { "End" } else { "Row" })?;
+    put_item(out, item)
+}
+
 // Writes the item that a feed had to hand.
 fn put_next(out: &mut String, next: &Next<ChangeRow>) -> Result<(), AllocError> {
     match next {
-        Next::Give(item) => {
-            out.push_str(if item.is_end() { "End" } else { "Row" })?;
-            put_item(out, item)
-        }
+        Next::Give(item) => put_named(out, item),
         Next::Nothing => out.push_str("Nothing\n"),
         Next::Gone => out.push_str("Gone\n"),
     }
@@ -69,6 +73,64 @@ impl Session {
         put_handed(out, &did, list.items())
     }
 
+    // Hands so many items of a feed at most. Items before one that found no memory stay handed: the list keeps
+    // them, and the rest is handed once more.
+    fn hand_rest(
+        &mut self,
+        feed: FeedId,
+        most: u64,
+        list: &mut Listed<Item<ChangeRow>>,
+    ) -> Result<(Handed, u64), AllocError> {
+        if let Ok(did) = self.state.hand_items(feed, &NoHandle, list, most) {
+            return Ok(did);
+        }
+        let taken = list.items().len() as u64;
+        let rest = most.saturating_sub(taken);
+        let (last, count) = self.state.hand_items(feed, &NoHandle, list, rest)?;
+        Ok((last, taken.saturating_add(count)))
+    }
+
+    // Hands so many items of a feed at most into a list, and writes the outcome and each item.
+    fn hand_items(
+        &mut self,
+        feed: FeedId,
+        most: u64,
+        mut list: Listed<Item<ChangeRow>>,
+        out: &mut String,
+    ) -> Result<(), AllocError> {
+        let (last, count) = self.hand_rest(feed, most, &mut list)?;
+        self.items = list.into_items();
+        writeln!(out, "{last:?} {count}")?;
+        for item in &self.items {
+            put_named(out, item)?;
+        }
+        Ok(())
+    }
+
+    // Carries out a command on several items of a feed.
+    fn run_items(&mut self, command: &str, out: &mut String) -> Result<(), AllocError> {
+        let mut words = Words::of(command);
+        let place = words.verb("items items-full items-over");
+        let feed = FeedId {
+            number: words.number(),
+        };
+        let most = words.number();
+        let room = if place == 1 {
+            most.saturating_sub(1)
+        } else {
+            most
+        };
+        let list = Listed::new(self.alloc, room as usize)?;
+        match place {
+            0 | 1 => self.hand_items(feed, most, list, out),
+            2 => {
+                let spare = mem::replace(&mut self.items, Vec::new(self.alloc));
+                self.hand_items(feed, most, list.with_spare(spare), out)
+            }
+            _ => out.push_str("?"),
+        }
+    }
+
     // Carries out a command on a feed.
     pub(super) fn run_feed(&mut self, command: &str, out: &mut String) -> Result<(), AllocError> {
         let mut words = Words::of(command);
@@ -89,7 +151,7 @@ impl Session {
                 self.state.finish(feed);
                 Ok(())
             }
-            _ => out.push_str("?"),
+            _ => self.run_items(command, out),
         }
     }
 }

@@ -1,5 +1,6 @@
 //! A feed that is followed, which carries out the commands of transcripts.
 
+use crate::tests::shows::Tally;
 use crate::tests::told::{put_debug, put_item};
 use hub_feed::FeedId;
 use hub_model::Item;
@@ -49,6 +50,8 @@ impl Clock for Pace {
 /// - `hand` answers the outcome of the feed's own holding of the lock; `hold`, `beat` and `expire` answer the
 ///   outcome of a holding that names the feed by its number.
 /// - `take` answers the next item of its lane, and `poll` the next item of a poll.
+/// - `show` polls it until no item is left, and shows each item where it lies. It answers how many rows are as
+///   they were written (`round_docs`), and how many items were left before a poll.
 /// - `pump` pumps it. `finish` finishes it, and answers the items that are left of it.
 /// - `held` answers how often the lock was held for it, `due` the reading of the clock at which it is due,
 ///   and `over` whether it is over.
@@ -115,7 +118,7 @@ impl Followed {
         let Some(feed) = &mut self.feed else {
             return answer.line("finished");
         };
-        match Words::of(verb).verb("hand take poll held due over") {
+        match Words::of(verb).verb("hand take poll held due over show") {
             0 => {
                 let handed = feed.hold(rt, Turn::Hand, &self.pace)?;
                 put_debug(&handed, answer)
@@ -125,6 +128,7 @@ impl Followed {
             3 => answer.line(self.pace.holdings.load(Ordering::SeqCst)),
             4 => answer.line(feed.due()),
             5 => answer.line(feed.is_over()),
+            6 => self.show(rt, answer),
             _ => answer.line("?"),
         }
     }
@@ -155,6 +159,27 @@ impl Followed {
             return Err(AllocError);
         }
         put_item(self.alloc, &next, answer)
+    }
+
+    // Shows the items of polls, 99 at most, until a poll leaves none. A feed that is over found no memory: this
+    // is an error.
+    fn show<R: Wait>(&mut self, rt: &R, answer: &mut Answer) -> Result<(), AllocError> {
+        let Some(feed) = &mut self.feed else {
+            return answer.line("finished");
+        };
+        let mut tally = Tally::new(self.alloc);
+        for _ in 0..99 {
+            tally.count_left(feed.has_left());
+            if !feed.poll(rt, &self.pace, &self.pace) {
+                break;
+            }
+            let seen = feed.show(&mut tally, &mut (), |item, tally, _| tally.see(item));
+            seen.unwrap_or(Ok(()))?;
+        }
+        if feed.is_over() || feed.has_left() {
+            return Err(AllocError);
+        }
+        tally.put(answer)
     }
 
     fn finish<R: Wait>(&mut self, rt: &R, answer: &mut Answer) -> Result<(), AllocError> {

@@ -1,6 +1,7 @@
 //! A database that threads share, which carries out the commands of transcripts.
 
 use crate::tests::followed::{Followed, Pace};
+use crate::tests::shows::round_docs;
 use crate::tests::told::{Rev, put_answer, put_debug, put_receipts, put_replies, put_row};
 use hub_database::{DbFault, DbState, Question, Receipt};
 use hub_document::{Asked, Doc, DocId, Limits, LocalDoc, OpenRevs, RevId, Revisions};
@@ -27,6 +28,7 @@ const ROOM: usize = 8_192;
 ///   answers a receipt of each that was stored. `load` is the same, and answers the receipts alone.
 /// - `store DOC ..` stores documents whose revisions are made here, without receipts, and answers the outcome
 ///   of each. `edit DOC` stores one, and answers its revision, or the fault.
+/// - `round NUMBER` writes the documents of a round (`round_docs`), and answers nothing.
 /// - `local TEXT` stores a local document, and answers how often it was written.
 /// - `look ID` answers how many edits there are, whether there is a document of this id, and how often the
 ///   local document was written. `look` alone is a look that finds no memory.
@@ -267,7 +269,7 @@ impl Database {
         answer: &mut Answer,
     ) -> Result<(), AllocError> {
         let mut words = Words::of(command);
-        match words.verb("open limits rows news watch delete") {
+        match words.verb("open limits rows news watch delete round") {
             0 => self.open(rt, words.rest(), answer),
             1 => self.limits(words.rest()),
             2 => self.rows(rt, answer),
@@ -280,6 +282,7 @@ impl Database {
             },
             4 => self.watch(rt, words.number(), words.number() as usize),
             5 => put_debug(&self.handle.delete(rt), answer),
+            6 => self.round(rt, words.number()),
             _ => self.run_feed(rt, command, answer),
         }
     }
@@ -341,6 +344,15 @@ impl Database {
         let docs = docs(self.alloc, texts, false)?;
         match self.handle.write(rt, docs, false) {
             Ok(accepted) if !accepted.stopped => self.keep(accepted, has_replies, answer),
+            _ => Err(AllocError),
+        }
+    }
+
+    // Writes the documents of a round.
+    fn round<R: Wait>(&mut self, rt: &R, round: u64) -> Result<(), AllocError> {
+        let docs = round_docs(self.alloc, round)?;
+        match self.handle.write(rt, docs, false) {
+            Ok(accepted) if !accepted.stopped => Ok(()),
             _ => Err(AllocError),
         }
     }
