@@ -192,8 +192,10 @@ fn put_with_rev(
 #[derive(Drop)]
 struct PlainRow<'r> {
     row: &'r ChangeRow,
+    id: &'r str,
     rev: &'r DigestRev,
     life: u64,
+    ghost same: { id.now ≡ row.now.id },
     ghost plain: { escape row.now.id ≡ row.now.id },
     ghost only: { row.now.changes ≡ rev.now ∷ [] },
     ghost digit: { life < 10 },
@@ -210,7 +212,7 @@ impl PlainRow<'_> {
         let digits = write_digits(row.seq, &mut text, 28);
         let at = put_name(&mut text, digits);
         put_from(out, text.as_slice(), at)?;
-        out.extend_from_slice(row.id.as_str().as_bytes())?;
+        out.extend_from_slice(self.id.as_bytes())?;
         Ok(())
     }
 
@@ -234,11 +236,12 @@ impl PlainRow<'_> {
             result out.old.items out.new.items }
     {
         let row = self.row;
-        let mut rev = [0u8; 36];
         let Some(body) = &row.doc else {
+            let mut unread = [0u8; 36];
             let end = b"\",\"changes\":[{\"rev\":\"0-................................\"}]}";
-            return put_with_rev(out, end, self.rev, &mut rev);
+            return put_with_rev(out, end, self.rev, &mut unread);
         };
+        let mut rev = [0u8; 36];
         let front = b"\",\"changes\":[{\"rev\":\"0-................................\"}],\"doc\":";
         put_with_rev(out, front, self.rev, &mut rev)?;
         row.write_plain_doc(out, b"{\"_id\":\"", body, &rev)?;
@@ -281,11 +284,13 @@ impl RowText for ChangeRow {
     ghost end_text = { change_end_text };
 
     fn put_row(&self, out: &mut Vec<u8>, life: u64) -> Result<(), AllocError> {
-        if life < 10 && is_plain(self.id.as_str().as_bytes()) {
+        let id = self.id.as_str();
+        if life < 10 && is_plain(id.as_bytes()) {
             match self.changes.lent() {
                 LentChanges::One(rev) => {
                     let row = PlainRow {
                         row: self,
+                        id,
                         rev,
                         life,
                     };
@@ -294,7 +299,7 @@ impl RowText for ChangeRow {
                 LentChanges::Many(_) => {}
             }
         }
-        put_row_head(out, life, self.seq, self.id.as_str())?;
+        put_row_head(out, life, self.seq, id)?;
         put_changes(out, &self.changes)?;
         put_row_end(out, self)?;
         Ok(())

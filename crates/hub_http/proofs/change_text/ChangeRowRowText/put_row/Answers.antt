@@ -12,6 +12,6 @@ returns c =
       ← c.self.view_is,
       c.in_ok-put_changes.ensures.ok,
       c.in_ok-put_row_head.ensures.ok,
-      c.as_str-2.ensures.value,
+      c.as_str-id.ensures.value,
     )
     (three_parts c.args.out.now.items _ _ _))

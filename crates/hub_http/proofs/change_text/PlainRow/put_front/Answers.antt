@@ -18,7 +18,7 @@ returns c =
     (rw (
       c.in_ok-extend_from_slice.ensures.items,
       c.as_bytes.ensures.value,
-      c.as_str.ensures.value,
+      c.args.self.now.same,
       c.in_ok-put_from.ensures.ok,
       c.as_slice.ensures,
       c.put_name-at.ensures.written,
