@@ -234,7 +234,7 @@ impl<'h, N: Wait, P: Pumping> Service for Connection<'h, N, P> {
         writer: &mut W,
     ) -> Option<SentItem> {
         let sent = self.sent.as_mut()?;
-        let item = sent.send_next(&self.pumping, sending, chunks, writer)?;
+        let item = sent.send_next(self.context.rt, &self.pumping, sending, chunks, writer)?;
         if item.is_end {
             self.drop_stream();
         }

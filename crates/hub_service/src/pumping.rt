@@ -11,8 +11,8 @@ pub trait Pumping: Drop {
     /// Called before each answer to a request: a test may hold the connection there.
     fn pass_request(&self);
 
-    /// Hands a feed its next items, unless an item is left to take, and takes their block from the feed's lane.
-    /// There is none where the feed waits, and where it is handed no further, as out of memory.
+    /// Hands a feed its next item, unless an item is left to take. There is none where the feed waits, and where
+    /// it is handed no further, as out of memory.
     fn hand<S: FeedHost>(&self, feed: &mut HostFeed<S>)
         ensures { feed.new ≡ feed.old };
 
@@ -49,7 +49,6 @@ impl<'h, N: Wait> Pumping for ByTurns<'h, N> {
         let is_held = !feed.fetch(self.rt) && feed.hold(self.rt, Turn::Hand, &OpenGate).is_ok();
         if is_held && !feed.fetch(self.rt) && feed.hold(self.rt, Turn::Expire, &OpenGate).is_ok() {
             let _ = feed.hold(self.rt, Turn::Hand, &OpenGate);
-            feed.fetch(self.rt);
         }
     }
 

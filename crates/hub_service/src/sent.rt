@@ -119,8 +119,9 @@ impl Sent {
 
     /// Sends its next item, and becomes its own rest. There is no next item where a feed is handed no further.
     /// The cost is that of `Pumping::hand`, and the item's text; a row of a list is moved out of the list.
-    pub(crate) fn send_next<P: Pumping, W: Output>(
+    pub(crate) fn send_next<N: Wait, P: Pumping, W: Output>(
         &mut self,
+        rt: &N,
         pumping: &P,
         sending: Sending,
         chunks: &mut ChunkWriter,
@@ -132,18 +133,18 @@ impl Sent {
         match self {
             Sent::Listed(listed) => Some(listed.send_next(sending, chunks, writer)),
             Sent::Changes(feed) => {
-                if !feed.has_left() {
+                if !feed.end().has_left() {
                     pumping.hand(feed);
                 }
-                feed.show(chunks, writer, |item, chunks, writer| {
+                feed.show(rt, chunks, writer, |item, chunks, writer| {
                     sending.send(chunks, writer, LentItem::Change(item))
                 })
             }
             Sent::Updates(feed) => {
-                if !feed.has_left() {
+                if !feed.end().has_left() {
                     pumping.hand(feed);
                 }
-                feed.show(chunks, writer, |item, chunks, writer| {
+                feed.show(rt, chunks, writer, |item, chunks, writer| {
                     sending.send(chunks, writer, LentItem::Update(item))
                 })
             }

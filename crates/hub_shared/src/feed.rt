@@ -89,12 +89,6 @@ impl<S: FeedHost, C: Count> HostFeed<S, C> {
         &self.end
     }
 
-    /// Whether an item is left of the lane's last block. No block is taken from the lane. Constant time.
-    #[inline(always)]
-    pub fn has_left(&self) -> bool {
-        self.end.has_left()
-    }
-
     /// Whether an item is left to take: where none is left of the lane's blocks, the lane's next block is taken
     /// first. `false` says that the lane was empty at a moment of the call. A pump that waits for room is woken
     /// then. No item is taken. It waits for nobody, and takes no memory.
@@ -125,17 +119,26 @@ impl<S: FeedHost, C: Count> HostFeed<S, C> {
         next
     }
 
-    /// Takes the first item that is left of the lane's last block. No block is taken from the lane (`fetch`). The
-    /// item is not given out: it is shown to `see` where it lies, which saves a copy. `see` may change two
-    /// values, and the answer is that of `see`, or `None` where no item is left. The cost is that of `see`.
+    /// As `take`, but the item is not given out: it is shown to `see` where it lies, which saves a copy. `see`
+    /// may change two values, and the answer is that of `see`. The cost is that of `see`.
     #[inline(always)]
-    pub fn show<T, A, B, F>(&mut self, first: &mut A, second: &mut B, see: F) -> Option<T>
+    pub fn show<R, T, A, B, F>(
+        &mut self,
+        rt: &R,
+        first: &mut A,
+        second: &mut B,
+        see: F,
+    ) -> Option<T>
     where
+        R: Asks<FeedLabel<S>, Block<S::Row>>,
         F: FnOnce(&Item<S::Row>, &mut A, &mut B) -> T,
         requires { F.IsAlwaysCallable see }
         ensures { (found : Option (HandedItem S.Row)) × Takes S.right self.old found self.new
             × IsShown F.FnOnce see found first.old second.old result first.new second.new }
     {
+        if !self.end.has_left() {
+            self.fetch(rt);
+        }
         self.end.show(first, second, see)
     }
 

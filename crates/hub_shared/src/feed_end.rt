@@ -66,8 +66,10 @@ impl<S: HostView> FeedEnd<S> {
         self.receiver.label()
     }
 
-    /// Whether an item is left of the lane's last block. Constant time.
-    pub(crate) fn has_left(&self) -> bool {
+    /// Whether an item is left of the block that the lane gave last. No block is taken from the lane. Constant
+    /// time.
+    #[inline(always)]
+    pub fn has_left(&self) -> bool {
         !self.rest.is_empty()
     }
 

@@ -140,7 +140,7 @@ fn take_all<R: Wait>(rt: &R, scene: &Scene, feed: &mut Feed<Plain>) {
         if !feed.poll(rt, &Free, &Free) {
             break;
         }
-        feed.show(&mut (), &mut (), |item, _, _| {
+        feed.show(rt, &mut (), &mut (), |item, _, _| {
             if let Item::Row(_) = item {
                 scene.count_row();
             }

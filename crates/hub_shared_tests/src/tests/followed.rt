@@ -169,14 +169,14 @@ impl Followed {
         };
         let mut tally = Tally::new(self.alloc);
         for _ in 0..99 {
-            tally.count_left(feed.has_left());
+            tally.count_left(feed.end().has_left());
             if !feed.poll(rt, &self.pace, &self.pace) {
                 break;
             }
-            let seen = feed.show(&mut tally, &mut (), |item, tally, _| tally.see(item));
+            let seen = feed.show(rt, &mut tally, &mut (), |item, tally, _| tally.see(item));
             seen.unwrap_or(Ok(()))?;
         }
-        if feed.is_over() || feed.has_left() {
+        if feed.is_over() || feed.end().has_left() {
             return Err(AllocError);
         }
         tally.put(answer)

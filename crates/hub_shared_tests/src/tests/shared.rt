@@ -207,7 +207,7 @@ fn put_rows<R: Wait>(
         if !feed.poll(rt, &pace, &pace) {
             return Ok(!feed.is_over());
         }
-        let put = feed.show(last, answer, |item, last, answer| {
+        let put = feed.show(rt, last, answer, |item, last, answer| {
             put_next(alloc, item, last, answer)
         });
         match put {
