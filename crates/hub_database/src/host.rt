@@ -119,7 +119,8 @@ impl FeedHost for DbState {
         self.hand_at(feed, at, handle, sink)
     }
 
-    /// The feed is searched for once. Then the cost is that of the hands.
+    /// The feed is searched for once, and where there is none the answer is `Gone`. Then the cost is that of the
+    /// hands.
     fn hand_items<K: Sink<Item<ChangeRow>>, H: Pushes<K, Item<ChangeRow>>>(
         &mut self,
         feed: FeedId,

@@ -11,17 +11,9 @@ use hub_index::SeqIndex;
 use hub_model::Style;
 use std::alloc::AllocError;
 
-// The members that a row brings, if there are any.
-fn members_of(row: Option<ChangeRow>) -> Option<Body> {
-    let ChangeRow {
-        seq: _,
-        id: _,
-        changes: _,
-        deleted: _,
-        doc,
-        seen: _,
-    } = row?;
-    doc
+// Takes the members that a row brings, if there are any.
+fn members_of(row: &mut Option<ChangeRow>) -> Option<Body> {
+    row.as_mut()?.doc.take()
 }
 
 impl Contents {
@@ -104,7 +96,7 @@ impl Source for Contents {
         seq: u64,
         style: Style,
         include_docs: bool,
-        spare: Option<ChangeRow>,
+        mut spare: Option<ChangeRow>,
     ) -> Result<ChangeRow, AllocError>
         requires { (c : Current) × Contains (current self.now.journal) c × (c.seq ≡ seq) }
         ensures { IfOk result (λ r. (c : Current) → Contains (current self.now.journal) c → c.seq ≡ seq
@@ -112,7 +104,7 @@ impl Source for Contents {
     {
         let entry = self.journal[seq as usize - 1];
         let document = &self.documents[entry.document as usize];
-        let members = members_of(spare);
+        let members = members_of(&mut spare);
         document.row(self.alloc, seq, self.length(), style, include_docs, members)
     }
 
