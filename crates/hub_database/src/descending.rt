@@ -96,7 +96,7 @@ impl Contents {
             if !params.filter.passes(id) {
                 continue;
             }
-            rows.push(self.row(seq, params.style, params.include_docs, None)?)?;
+            rows.push(self.row(seq, params.style, params.include_docs)?)?;
         }
         Ok(rows)
     }

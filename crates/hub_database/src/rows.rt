@@ -5,16 +5,11 @@ ghost use Rattle.hub_model.specs.Current.{Current, current};
 
 use crate::contents::Contents;
 use crate::ids::Ids;
-use hub_document::{Body, ChangeRow};
+use hub_document::ChangeRow;
 use hub_feed::{Source, is_ahead};
 use hub_index::SeqIndex;
 use hub_model::Style;
 use std::alloc::AllocError;
-
-// Takes the members that a row brings, if there are any.
-fn members_of(row: &mut Option<ChangeRow>) -> Option<Body> {
-    row.as_mut()?.doc.take()
-}
 
 impl Contents {
     /// The last current row below a place, as its sequence and its document's id. It takes no memory.
@@ -29,7 +24,7 @@ impl Contents {
 }
 
 impl Source for Contents {
-    ghost use Rattle.std.specs.Prelude.{length, Contains, IfOk};
+    ghost use Rattle.std.specs.Prelude.{length, Contains, IfOk, true};
     ghost use Rattle.hub_model.specs.Current.{current};
     ghost use Rattle.hub_model.specs.Row.{ChangeRow, row_of};
     ghost use Rattle.hub_model.proofs.Laws.{rows_rise};
@@ -91,21 +86,27 @@ impl Source for Contents {
     }
 
     /// The document is found in constant time. The cost is that of `Document::row`.
-    fn row(
+    fn row(&self, seq: u64, style: Style, include_docs: bool) -> Result<ChangeRow, AllocError> {
+        let entry = self.journal[seq as usize - 1];
+        let document = &self.documents[entry.document as usize];
+        document.row(self.alloc, seq, self.length(), style, include_docs, None)
+    }
+
+    /// The members are written over those of the spare row (`Body::copy_over`). The cost is that of `row`.
+    fn row_over(
         &self,
         seq: u64,
         style: Style,
-        include_docs: bool,
-        mut spare: Option<ChangeRow>,
+        mut spare: ChangeRow,
     ) -> Result<ChangeRow, AllocError>
         requires { (c : Current) × Contains (current self.now.journal) c × (c.seq ≡ seq) }
         ensures { IfOk result (λ r. (c : Current) → Contains (current self.now.journal) c → c.seq ≡ seq
-            → r ≡ row_of self.now.journal style include_docs c) }
+            → r ≡ row_of self.now.journal style true c) }
     {
+        let members = spare.doc.take();
         let entry = self.journal[seq as usize - 1];
         let document = &self.documents[entry.document as usize];
-        let members = members_of(&mut spare);
-        document.row(self.alloc, seq, self.length(), style, include_docs, members)
+        document.row(self.alloc, seq, self.length(), style, true, members)
     }
 
     fn seq(row: &ChangeRow) -> u64

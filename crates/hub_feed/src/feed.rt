@@ -1,7 +1,7 @@
 //! The state of a feed.
 
 ghost use Rattle.std.specs.Prelude.{◌≡◌, ◌<◌, ◌≤◌, map, option_map, find};
-ghost use Rattle.std.specs.Prelude.{List, Some, string_bytes, IfSome, IfOk, OnErr};
+ghost use Rattle.std.specs.Prelude.{List, Some, true, Contains, string_bytes, IfSome, IfOk, OnErr};
 ghost use Rattle.hub_model.specs.Feed.{Open, new_feed, next_due, is_in_reach, is_open, bound_of, bound_after};
 ghost use Rattle.hub_model.specs.Feed.{status_after, feed_after_due, after_nothing, after_row, is_beat_allowed, expired_feed};
 ghost use Rattle.hub_model.specs.Feed.{end};
@@ -21,7 +21,7 @@ use crate::next::Next;
 use crate::sink::{Pushes, Sink};
 use crate::source::Source;
 use hub_filter::Filter;
-use hub_model::{Item, Mode, by_mode};
+use hub_model::{Item, Mode, Style, by_mode};
 use hub_params::FeedParams;
 use std::alloc::AllocError;
 use std::marker::Model;
@@ -143,11 +143,23 @@ fn end_at<S: Source>(source: &S, place: u64) -> Item<S::Row>
     }
 }
 
-// The row in an item, if there is one.
-fn row_in<R: Drop>(item: Option<Item<R>>) -> Option<R> {
-    match item {
-        Some(Item::Row(row)) => Some(row),
-        _ => None,
+// The row of this sequence with its document, made in the memory of a spare item of the sink, if that is a row.
+// The call is never inlined: a row without a document would pay for the room of the spare item.
+#[inline(never)]
+fn row_over<S: Source, K: Sink<Item<S::Row>>>(
+    source: &S,
+    seq: u64,
+    style: Style,
+    sink: &mut K,
+) -> Result<S::Row, AllocError>
+    requires { (c : Current) × Contains (S.current source.now) c × (c.seq ≡ seq) }
+    ensures row { IfOk result (λ r. (c : Current) → Contains (S.current source.now) c → c.seq ≡ seq
+        → r ≡ S.shown source.now style true c) }
+    ensures sink { sink.new ≡ sink.old }
+{
+    match sink.spare() {
+        Some(Item::Row(spare)) => source.row_over(seq, style, spare),
+        _ => source.row(seq, style, true),
     }
 }
 
@@ -271,7 +283,7 @@ impl FeedState {
         let first = self.first_of_open(source);
         match self.due(first) {
             DueSequence::Row(seq) => {
-                let row = source.row(seq, self.params.style, self.params.include_docs, None)?;
+                let row = source.row(seq, self.params.style, self.params.include_docs)?;
                 Ok(Next::Give(Item::Row(row)))
             }
             DueSequence::End(last_seq) => Ok(Next::Give(end_at(source, last_seq))),
@@ -325,6 +337,26 @@ impl FeedState {
             Item::Beat => return,
         };
         self.accept_due(source, sequence);
+    }
+
+    // The row of this sequence, as the feed shows it. The sink may give memory for a row with its document.
+    #[inline(always)]
+    fn row<S: Source, K: Sink<Item<S::Row>>>(
+        &self,
+        source: &S,
+        seq: u64,
+        sink: &mut K,
+    ) -> Result<S::Row, AllocError>
+        requires { (c : Current) × Contains (S.current source.now) c × (c.seq ≡ seq) }
+        ensures row { IfOk result (λ r. (c : Current) → Contains (S.current source.now) c → c.seq ≡ seq
+            → r ≡ S.shown source.now self.now.params.style self.now.params.include_docs c) }
+        ensures sink { sink.new ≡ sink.old }
+    {
+        if self.params.include_docs {
+            row_over(source, seq, self.params.style, sink)
+        } else {
+            source.row(seq, self.params.style, false)
+        }
     }
 
     // Gives the sink the item that is due, and then the feed moves. Where the sink gives the item back
@@ -383,8 +415,7 @@ impl FeedState {
         let due = self.due(first);
         match due {
             DueSequence::Row(seq) => {
-                let spare = row_in(sink.spare());
-                let row = source.row(seq, self.params.style, self.params.include_docs, spare)?;
+                let row = self.row(source, seq, sink)?;
                 Ok(self.give(source, due, Item::Row(row), handle, sink))
             }
             DueSequence::End(last_seq) => {

@@ -1,7 +1,7 @@
 //! The sources that feeds follow.
 
 ghost use Rattle.std.specs.Prelude.{◌≡◌, ◌<◌, ◌≤◌, ◌&&◌, ℕ, List, [], ◌∷◌};
-ghost use Rattle.std.specs.Prelude.{Bool, nat_lt, Contains, option_map, IfOk};
+ghost use Rattle.std.specs.Prelude.{Bool, true, nat_lt, Contains, option_map, IfOk};
 ghost use Rattle.std.specs.List.{AllPairs};
 ghost use Rattle.hub_model.specs.Current.{Current, pending};
 ghost use Rattle.hub_model.specs.Feed.{is_within};
@@ -65,17 +65,22 @@ pub trait Source {
     fn count_after(&self, place: u64) -> u64
         ensures { result ≡ pending (current self.now) place };
 
-    /// The current row of this sequence, as it is shown now. The row may be made in the memory of a spare row.
-    fn row(
-        &self,
-        seq: u64,
-        style: Style,
-        include_docs: bool,
-        spare: Option<Self::Row>,
-    ) -> Result<Self::Row, AllocError>
+    /// The current row of this sequence, as it is shown now.
+    fn row(&self, seq: u64, style: Style, include_docs: bool) -> Result<Self::Row, AllocError>
         requires { (c : Current) × Contains (current self.now) c × (c.seq ≡ seq) }
         ensures { IfOk result (λ r. (c : Current) → Contains (current self.now) c → c.seq ≡ seq
             → r ≡ shown self.now style include_docs c) };
+
+    /// As `row`, with the document. The row may be made in the memory of a spare row. A source without a use for
+    /// that memory gives it back, as this body does.
+    fn row_over(&self, seq: u64, style: Style, spare: Self::Row) -> Result<Self::Row, AllocError>
+        requires { (c : Current) × Contains (current self.now) c × (c.seq ≡ seq) }
+        ensures { IfOk result (λ r. (c : Current) → Contains (current self.now) c → c.seq ≡ seq
+            → r ≡ shown self.now style true c) }
+    {
+        drop(spare);
+        self.row(seq, style, true)
+    }
 
     /// The sequence of a row.
     fn seq(row: &Self::Row) -> u64

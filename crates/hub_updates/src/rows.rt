@@ -9,8 +9,8 @@ use hub_model::Style;
 use std::alloc::AllocError;
 
 impl Source for Log {
-    ghost use Rattle.std.specs.Prelude.{◌≡◌, length, Contains, IfOk};
-    ghost use Rattle.hub_model.specs.Current.{Current, current};
+    ghost use Rattle.std.specs.Prelude.{length};
+    ghost use Rattle.hub_model.specs.Current.{current};
     ghost use Rattle.hub_model.specs.Updates.{UpdateRow as Shown, edits_of_log, update_row_of};
     ghost use Rattle.hub_model.proofs.Laws.{rows_rise};
     ghost use Rattle.hub_updates.specs.Laid.{rows_below};
@@ -68,17 +68,7 @@ impl Source for Log {
 
     /// The pair is found in constant time, and the name is copied. The style and `include_docs` have no
     /// effect: a note has no revisions and no document.
-    fn row(
-        &self,
-        seq: u64,
-        style: Style,
-        include_docs: bool,
-        _spare: Option<UpdateRow>,
-    ) -> Result<UpdateRow, AllocError>
-        requires { (c : Current) × Contains (current (edits_of_log self.now.notes)) c × (c.seq ≡ seq) }
-        ensures { IfOk result (λ r. (c : Current) → Contains (current (edits_of_log self.now.notes)) c
-            → c.seq ≡ seq → r ≡ update_row_of (edits_of_log self.now.notes) style include_docs c) }
-    {
+    fn row(&self, seq: u64, _style: Style, _include_docs: bool) -> Result<UpdateRow, AllocError> {
         let number = self.notes[seq as usize - 1];
         let pair = &self.pairs[number as usize];
         let (kind, name) = read_id(pair.id.as_str());

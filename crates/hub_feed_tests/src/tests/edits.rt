@@ -1,7 +1,6 @@
 //! A plain list of edits, for feeds to follow.
 
-ghost use Rattle.std.specs.Prelude.{◌≡◌, length as list_length, refl, Contains, IfOk};
-ghost use Rattle.hub_model.specs.Current.{Current};
+ghost use Rattle.std.specs.Prelude.{◌≡◌, length as list_length, refl};
 ghost use Rattle.hub_feed_tests.specs.Edits.{rows_of};
 ghost use Rattle.hub_feed_tests.specs.EditsLaws.{rows_rise, rows_within};
 
@@ -87,17 +86,7 @@ impl<'a> Source for Edits<'a> {
         count
     }
 
-    fn row(
-        &self,
-        seq: u64,
-        style: Style,
-        include_docs: bool,
-        _spare: Option<Shown>,
-    ) -> Result<Shown, AllocError>
-        requires { (c : Current) × Contains (rows_of 1 self.now.ids.now) c × (c.seq ≡ seq) }
-        ensures { IfOk result (λ r. (c : Current) → Contains (rows_of 1 self.now.ids.now) c → c.seq ≡ seq
-            → r ≡ record { seq = c.seq; style = style; include_docs = include_docs }) }
-    {
+    fn row(&self, seq: u64, style: Style, include_docs: bool) -> Result<Shown, AllocError> {
         Ok(Shown {
             seq,
             style,

@@ -27,8 +27,7 @@ give-requires-clause-item g c =
     let show = λ (feed : Feed).
     g.S.Source.shown c.args.source.now feed.params.style feed.params.include_docs in
     let shown : c.in_ok-row-in-Row.row ≡ show f row =
-    subst (λ (feed : Feed). c.in_ok-row-in-Row.row ≡ show feed row) c.self.view_is
-    (c.in_ok-row-in-Row.ensures row here same) in
+    c.in_ok-row-in-Row.ensures.row row here same in
     ap (next_of_due (show f) rows) is ∙ ap (λ r. Give (Row r)) (sym shown)
 
 pub give-requires-clause-may : goal.give-requires-clause-may
@@ -40,10 +39,9 @@ give-requires-clause-may g c =
     let show = λ (feed : Feed).
     g.S.Source.shown c.args.source.now feed.params.style feed.params.include_docs in
     let shown : c.in_ok-row-in-Row.row ≡ show f row =
-    subst (λ (feed : Feed). c.in_ok-row-in-Row.row ≡ show feed row) c.self.view_is
-    (c.in_ok-row-in-Row.ensures row here same) in
+    c.in_ok-row-in-Row.ensures.row row here same in
     let may = MayTake g.K.Sink.allows g.K.Sink.sent in
-    subst (λ k. may k (Row c.in_ok-row-in-Row.row)) (sym c.spare.ensures)
+    subst (λ k. may k (Row c.in_ok-row-in-Row.row)) (sym c.row.ensures.sink)
     (subst (λ r. may c.args.sink.now (Row r)) (sym shown)
     (subst (λ what. IfSome (item_of_due (show f) rows what) (may c.args.sink.now)) is c.requires.may))
 
@@ -56,8 +54,7 @@ returns-in_ok-row-in-Row-clause-ok g c =
     let show = λ (feed : Feed).
     g.S.Source.shown c.args.source.now feed.params.style feed.params.include_docs in
     let shown : c.in_ok-row-in-Row.row ≡ show f row =
-    subst (λ (feed : Feed). c.in_ok-row-in-Row.row ≡ show feed row) c.self.view_is
-    (c.in_ok-row-in-Row.ensures row here same) in
+    c.in_ok-row-in-Row.ensures.row row here same in
     let len = g.S.Source.length c.args.source.now in
     subst (λ next. HandsTo g.K.Sink.behind (g.H.Pushes.refuses c.args.handle.now) f
     (feed_after_due f (next_due rows f) len) (after_nothing f len) c.args.sink.now next c.give.result c.give.new.self
@@ -65,4 +62,4 @@ returns-in_ok-row-in-Row-clause-ok g c =
     (sym (ap (next_of_due (show f) rows) is ∙ ap (λ r. Give (Row r)) (sym shown)))
     (subst (λ k. HandsTo g.K.Sink.behind (g.H.Pushes.refuses c.args.handle.now) f
     (feed_after_due f (next_due rows f) len) (after_nothing f len) k (Give (Row c.in_ok-row-in-Row.row))
-    c.give.result c.give.new.self c.give.new.sink) c.spare.ensures c.give.ensures)
+    c.give.result c.give.new.self c.give.new.sink) c.row.ensures.sink c.give.ensures)

@@ -73,9 +73,9 @@ returns c =
       seq = c.args.seq;
       seen = c.len.result;
     }
-    ≡ update_row_of (edits_of_log noted.notes) c.args.style c.args.include_docs row) c.self.view_is
+    ≡ update_row_of (edits_of_log noted.notes) c.args._style c.args._include_docs row) c.self.view_is
     (entry_row (get_by_text s.numbers) s.pairs.items s.notes.items s.index c.self.invariant
     (c.args.seq - 1) c.index-number.result.now (omega (arith, noted.0, noted.1, many))
     c.index-number.ensures c.index-pair.result.now c.index-pair.ensures c.read_id-kind.result.0
-    (string_bytes c.in_ok-db_name.db_name) c.args.seq c.len.result c.args.style c.args.include_docs
+    (string_bytes c.in_ok-db_name.db_name) c.args.seq c.len.result c.args._style c.args._include_docs
     kinds names (omega (arith, noted.0)) (omega (arith, c.len.ensures, s.notes.ok.0)))
