@@ -1,11 +1,12 @@
 //! The rows of a database as feeds read them.
 
-ghost use Rattle.std.specs.Prelude.{◌≡◌, find, nat_lt, reverse, option_map};
+ghost use Rattle.std.specs.Prelude.{◌≡◌, find, nat_lt, reverse, option_map, Contains, IfOk};
 ghost use Rattle.hub_model.specs.Current.{Current, current};
+ghost use Rattle.hub_model.specs.Row.{row_of};
 
 use crate::contents::Contents;
 use crate::ids::Ids;
-use hub_document::ChangeRow;
+use hub_document::{Body, ChangeRow};
 use hub_feed::{Source, is_ahead};
 use hub_index::SeqIndex;
 use hub_model::Style;
@@ -20,6 +21,25 @@ impl Contents {
         let (seq, number) = self.index.last_before(place)?;
         let document = &self.documents[number as usize];
         Some((seq, document.id.as_str()))
+    }
+
+    // The current row of this sequence, as it is shown now. Its members may be written over those of a spare
+    // body.
+    #[inline(always)]
+    fn row_at(
+        &self,
+        seq: u64,
+        style: Style,
+        include_docs: bool,
+        spare: Option<Body>,
+    ) -> Result<ChangeRow, AllocError>
+        requires { (c : Current) × Contains (current self.now.journal) c × (c.seq ≡ seq) }
+        ensures { IfOk result (λ r. (c : Current) → Contains (current self.now.journal) c → c.seq ≡ seq
+            → r ≡ row_of self.now.journal style include_docs c) }
+    {
+        let entry = self.journal[seq as usize - 1];
+        let document = &self.documents[entry.document as usize];
+        document.row(self.alloc, seq, self.length(), style, include_docs, spare)
     }
 }
 
@@ -87,9 +107,7 @@ impl Source for Contents {
 
     /// The document is found in constant time. The cost is that of `Document::row`.
     fn row(&self, seq: u64, style: Style, include_docs: bool) -> Result<ChangeRow, AllocError> {
-        let entry = self.journal[seq as usize - 1];
-        let document = &self.documents[entry.document as usize];
-        document.row(self.alloc, seq, self.length(), style, include_docs, None)
+        self.row_at(seq, style, include_docs, None)
     }
 
     /// The members are written over those of the spare row (`Body::copy_over`). The cost is that of `row`.
@@ -104,9 +122,7 @@ impl Source for Contents {
             → r ≡ row_of self.now.journal style true c) }
     {
         let members = spare.doc.take();
-        let entry = self.journal[seq as usize - 1];
-        let document = &self.documents[entry.document as usize];
-        document.row(self.alloc, seq, self.length(), style, true, members)
+        self.row_at(seq, style, true, members)
     }
 
     fn seq(row: &ChangeRow) -> u64

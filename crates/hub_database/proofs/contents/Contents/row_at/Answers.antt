@@ -9,7 +9,7 @@ use Rattle.hub_database.specs.Filed.{edit_at}
 use Rattle.hub_database.specs.Documents.{files}
 use Rattle.hub_database.specs.Inside.{edits_inside, number_by}
 use Rattle.hub_database.proofs.RowLemmas.{entry_low, row_answer}
-use Rattle.hub_database.proofs.rows.ContentsSource.row.Goals as goal
+use Rattle.hub_database.proofs.contents.Contents.row_at.Goals as goal
 
 pub overflow_sub-seq : goal.overflow_sub-seq
 overflow_sub-seq c = (row_lies c.args.self.now.journal c.args.seq c.requires).0
