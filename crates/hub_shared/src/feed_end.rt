@@ -94,8 +94,8 @@ impl<S: HostView> FeedEnd<S> {
     }
 
     /// Gives up the items of the lane's last block where all were taken, and keeps no memory of blocks then.
-    /// The memory of rows with documents may serve the feed's next rows. Other rows are dropped, and so are
-    /// no rows given where an item is left. The cost is that of the drops.
+    /// The memory of rows with documents may serve the feed's next rows. Rows without documents are dropped.
+    /// Where an item is left, no item is given up. The cost is that of the drops.
     pub(crate) fn spare(&mut self) -> Vec<Item<S::Row>>
         ensures { self.new ≡ self.old }
     {
