@@ -340,7 +340,8 @@ impl FeedState {
     }
 
     // The row of this sequence, as the feed shows it. The sink may give memory for a row with its document.
-    #[inline(always)]
+    // The call is never inlined: its caller would move each row twice for the choice.
+    #[inline(never)]
     fn row<S: Source, K: Sink<Item<S::Row>>>(
         &self,
         source: &S,
