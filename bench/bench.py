@@ -105,10 +105,10 @@ def feed(query=""):
     return ("GET /d/_changes%s HTTP/1.1\r\n\r\n" % query).encode()
 
 
-def listed(count):
-    """A request for a feed of 1,000 listed ids."""
+def listed(count, query=""):
+    """A request for a feed of 1,000 listed ids, with more of a query."""
     ids = ["doc%07d" % (at * count // 1000) for at in range(1000)]
-    return request("POST /d/_changes?filter=_doc_ids", compact({"doc_ids": ids}))
+    return request("POST /d/_changes?filter=_doc_ids" + query, compact({"doc_ids": ids}))
 
 
 def gets(count):

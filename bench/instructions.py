@@ -7,8 +7,9 @@
 runs each program over the same requests under valgrind's callgrind, and prints a line for each case. The line
 has the instructions of the first program, and of each other program the ratio to these. A program is any
 build of changes_hub, so two states of the hub can be compared. Instructions repeat where times do not. A case
-that reads has a setup, which is run alone too, and the difference is printed. All programs have to answer
-with the same bytes. The line of a case in which they do not says so.
+that reads has a setup, which is run alone too, and the difference is printed. For a listed id the setup has the
+same list and no rows. All programs have to answer with the same bytes. The line of a case in which they do not
+says so.
 
 With --keep the instructions of the first program are written to FILE too, a case a line: the name, a tab, the
 number. The file bench/instructions.txt is of this form, from the last state that was landed. Without --keep
@@ -24,7 +25,7 @@ import subprocess
 import sys
 import tempfile
 
-from bench import MAKE, batches, compact, diffs, feed, gets, leaves, line, members, puts, request, revision
+from bench import MAKE, batches, compact, diffs, feed, gets, leaves, line, listed, members, puts, request, revision
 
 
 KEPT = os.path.join(os.path.dirname(os.path.abspath(__file__)), "instructions.txt")
@@ -100,8 +101,18 @@ def by_turns(lines, count):
     return b"".join(parts)
 
 
+def after(setup, asked):
+    """The setup, and the requests behind it."""
+    return setup, setup + asked
+
+
+def of_listed(stored, query=""):
+    """Feeds of listed ids with no rows, and the same with 1,000 rows."""
+    return stored + listed(10000, "&since=now" + query) * 20, stored + listed(10000, query) * 20
+
+
 def cases():
-    """The cases: a name, the setup or None, the requests, and the number that divides the instructions."""
+    """The cases: a name, the setup or None, all requests, and the number that divides the instructions."""
     stored = batches(10000, 100)
     get = b"GET /d/doc%s HTTP/1.1\r\n\r\n"
     found = [
@@ -118,24 +129,28 @@ def cases():
         ("a leaf of 250", None, leaves(250), 250),
         ("a leaf of 1,000", None, leaves(1000), 1000),
         ("a leaf of 2,000", None, leaves(2000), 2000),
-        ("a row", stored, feed() * 5, 50000),
-        ("a row with its document", stored, feed("?include_docs=true") * 5, 50000),
-        ("a row with all leaves", stored, feed("?style=all_docs") * 5, 50000),
-        ("an empty feed", stored, feed("?since=now") * 1000, 1000),
-        ("a feed of ten rows", stored, feed("?since=9990") * 1000, 1000),
-        ("a GET", stored, gets(10000), 10000),
-        ("an id of _revs_diff", stored, diffs(10000) * 10, 10000),
-        ("a GET with revs, of 3", replicated(1000, 3), (get % b"0000007?revs=true") * 1000, 1000),
-        ("a GET with revs, of 1,000", line(1000), (get % b"?revs=true") * 100, 100),
+        ("a row", *after(stored, feed() * 5), 50000),
+        ("a row with its document", *after(stored, feed("?include_docs=true") * 5), 50000),
+        ("a row with all leaves", *after(stored, feed("?style=all_docs") * 5), 50000),
+        ("a row of a continuous feed", *after(stored, feed("?feed=continuous&limit=10000") * 5), 50000),
+        ("a row downwards", *after(stored, feed("?descending=true") * 5), 50000),
+        ("a row of a listed id", *of_listed(stored), 20000),
+        ("the same with its document", *of_listed(stored, "&include_docs=true"), 20000),
+        ("an empty feed", *after(stored, feed("?since=now") * 1000), 1000),
+        ("a feed of ten rows", *after(stored, feed("?since=9990") * 1000), 1000),
+        ("a GET", *after(stored, gets(10000)), 10000),
+        ("an id of _revs_diff", *after(stored, diffs(10000) * 10), 10000),
+        ("a GET with revs, of 3", *after(replicated(1000, 3), (get % b"0000007?revs=true") * 1000), 1000),
+        ("a GET with revs, of 1,000", *after(line(1000), (get % b"?revs=true") * 100), 100),
     ]
     opened = (get % b"?open_revs=all") * 100
     for count in [10, 100, 300, 1000]:
-        found.append(("open_revs=all of a line of %d" % count, line(count), opened, 100))
+        found.append(("open_revs=all of a line of %d" % count, *after(line(count), opened), 100))
     found += [
-        ("a leaf of 500 deleted", leaves(500), deletions(500), 500),
-        ("a leaf of 500 edited", leaves(500), edits_of_leaves(500), 500),
-        ("a PUT by turns on 2 lines", leaves(2), by_turns(2, 1000), 1000),
-        ("a PUT by turns on 10 lines", leaves(10), by_turns(10, 1000), 1000),
+        ("a leaf of 500 deleted", *after(leaves(500), deletions(500)), 500),
+        ("a leaf of 500 edited", *after(leaves(500), edits_of_leaves(500)), 500),
+        ("a PUT by turns on 2 lines", *after(leaves(2), by_turns(2, 1000)), 1000),
+        ("a PUT by turns on 10 lines", *after(leaves(10), by_turns(10, 1000)), 1000),
     ]
     return found
 
@@ -174,7 +189,7 @@ def measure(programs, setup, asked, count, folder):
     each, answers = [], set()
     for program in programs:
         before = 0 if setup is None else run(program, setup, folder)[0]
-        whole, told = run(program, (setup or b"") + asked, folder)
+        whole, told = run(program, asked, folder)
         each.append((whole - before) / count)
         answers.add(told)
     return each, len(answers) == 1

@@ -174,7 +174,8 @@ fn are_items(items: &[Item<UpdateRow>], handed: &[Handed]) -> bool {
     items.len() == handed.len()
 }
 
-// Whether so many hands at most have this last answer, and hand these items.
+// Whether so many hands at most have this last answer, and hand these items. The list has room for so many items,
+// or for these alone where the answer is `Full`.
 fn hands_items<H: FeedHost<Row = UpdateRow>>(
     alloc: Global,
     host: &mut H,
@@ -183,7 +184,12 @@ fn hands_items<H: FeedHost<Row = UpdateRow>>(
     answer: Did,
     handed: &[Handed],
 ) -> Result<bool, AllocError> {
-    let mut list = Listed::new(alloc, most as usize)?;
+    let room = if answer == Did::Full {
+        handed.len()
+    } else {
+        most as usize
+    };
+    let mut list = Listed::new(alloc, room)?;
     let (last, count) = handed_rest(host, feed, most, &mut list)?;
     Ok(last == answer && count == handed.len() as u64 && are_items(list.items(), handed))
 }
@@ -400,8 +406,12 @@ const SEVERAL: &[Step] = &[
     Items(FIRST, 1, Did::Row, &[Row(Updated, "d", 3, 4)]),
     Items(FIRST, 1, Did::Row, &[Row(Deleted, "e", 4, 4)]),
     Items(FIRST, 1, Did::Nothing, &[]),
+    Note(Created, "e", Ok(())),
+    Note(Updated, "f", Ok(())),
+    Items(FIRST, 3, Did::Full, &[Row(Created, "e", 5, 6)]),
+    Items(FIRST, 1, Did::Row, &[Row(Updated, "f", 6, 6)]),
     Expire(FIRST),
-    Items(FIRST, 3, Did::End, &[End(4, 0)]),
+    Items(FIRST, 3, Did::End, &[End(6, 0)]),
     Items(FIRST, 1, Did::Gone, &[]),
 ];
 
