@@ -7,6 +7,8 @@ use Rattle.hub_model.specs.Feed.{DueNothing, DueGone, next_due, is_in_reach}
 use Rattle.hub_model.proofs.Due.{due_row, reach_parts, within_bound}
 use Rattle.hub_model.proofs.Shown.{find_is}
 use Rattle.hub_feed.specs.Due.{due_sequence}
+use Rattle.hub_model.specs.Hand.{item_of_due}
+use Rattle.hub_model.specs.declared.feeds.Item.{Item}
 use Rattle.hub_model.specs.declared.feeds.Item.TheVariants as item
 use Rattle.hub_feed.specs.Next.{next_of_due}
 use Rattle.hub_feed.specs.declared.next.Next.TheVariants.{Give}
@@ -55,6 +57,16 @@ pub row_given : {R : Type 0} (show : Current → R) (rows : List Current) (feed 
 row_given show rows feed seq made e shows =
     let (row, is, here, same, reached) = row_here rows feed seq e in
     ap (next_of_due show rows) is ∙ ap (λ r. Give (item.Row r)) (sym (shows row here same))
+
+-- the row of this sequence may be taken where the item that is due may be, and `made` is that row as it is shown
+pub row_allowed : {R : Type 0} (show : Current → R) (rows : List Current) (feed : Feed) (seq : ℕ) (made : R)
+    → Row seq ≡ due_sequence (next_due rows feed)
+    → ((row : Current) → Contains rows row → row.seq ≡ seq → made ≡ show row)
+    → (May : Item R → Type 0) → IfSome (item_of_due show rows (next_due rows feed)) May → May (item.Row made)
+row_allowed show rows feed seq made e shows May may =
+    let (row, is, here, same, reached) = row_here rows feed seq e in
+    subst (λ r. May (item.Row r)) (sym (shows row here same))
+    (subst (λ what. IfSome (item_of_due show rows what) May) is may)
 
 -- the answer of a feed to which an end is due
 pub end_given : {R : Type 0} (show : Current → R) (rows : List Current) (feed : Feed) (last_seq : ℕ)

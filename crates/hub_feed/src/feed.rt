@@ -15,6 +15,7 @@ ghost use Rattle.hub_feed.specs.Next.{next_of_due, feed_after_next, IsRowDue};
 ghost use Rattle.hub_feed.specs.Reach.{IsReady, first_listed, lesser, listed_in};
 ghost use Rattle.hub_feed.specs.Shown.{status_of};
 ghost use Rattle.hub_feed.specs.declared.next.Next.TheVariants.{Give};
+ghost use Rattle.hub_feed.specs.declared.feed.DueSequence.TheVariants.{Row as RowAt};
 
 use crate::handed::Handed;
 use crate::next::Next;
@@ -339,27 +340,6 @@ impl FeedState {
         self.accept_due(source, sequence);
     }
 
-    // The row of this sequence, as the feed shows it. The sink may give memory for a row with its document.
-    // The call is never inlined: its caller would move each row twice for the choice.
-    #[inline(never)]
-    fn row<S: Source, K: Sink<Item<S::Row>>>(
-        &self,
-        source: &S,
-        seq: u64,
-        sink: &mut K,
-    ) -> Result<S::Row, AllocError>
-        requires { (c : Current) × Contains (S.current source.now) c × (c.seq ≡ seq) }
-        ensures row { IfOk result (λ r. (c : Current) → Contains (S.current source.now) c → c.seq ≡ seq
-            → r ≡ S.shown source.now self.now.params.style self.now.params.include_docs c) }
-        ensures sink { sink.new ≡ sink.old }
-    {
-        if self.params.include_docs {
-            row_over(source, seq, self.params.style, sink)
-        } else {
-            source.row(seq, self.params.style, false)
-        }
-    }
-
     // Gives the sink the item that is due, and then the feed moves. Where the sink gives the item back
     // nothing changes. It costs a push.
     #[inline(always)]
@@ -385,6 +365,35 @@ impl FeedState {
         }
         self.accept_due(source, given);
         handed
+    }
+
+    // Hands the row of this sequence, which is due, with its document. The sink may give memory for the row. The
+    // call is never inlined: a row without a document would pay for the moves of this row.
+    #[inline(never)]
+    fn hand_with_doc<S: Source, K: Sink<Item<S::Row>>, H: Pushes<K, Item<S::Row>>>(
+        &mut self,
+        source: &S,
+        seq: u64,
+        handle: &H,
+        sink: &mut K,
+    ) -> Result<Handed, AllocError>
+        requires docs { self.old.params.include_docs ≡ true }
+        requires due { RowAt seq ≡ due_sequence (next_due (S.current source.now) self.old) }
+        requires may { IfSome (item_of_due
+            (S.shown source.now self.old.params.style self.old.params.include_docs)
+            (S.current source.now) (next_due (S.current source.now) self.old))
+            (MayTake K.allows K.sent sink.old) }
+        ensures ok { IfOk result (λ did. HandsTo K.behind (H.refuses handle.now) self.old
+            (feed_after_due self.old (next_due (S.current source.now) self.old) (S.length source.now))
+            (after_nothing self.old (S.length source.now)) sink.old
+            (next_of_due (S.shown source.now self.old.params.style self.old.params.include_docs)
+            (S.current source.now) (next_due (S.current source.now) self.old))
+            did self.new sink.new) }
+        ensures err { OnErr result ((self.new ≡ self.old) × (sink.new ≡ sink.old)
+            × IsRowDue (next_due (S.current source.now) self.old)) }
+    {
+        let row = row_over(source, seq, self.params.style, sink)?;
+        Ok(self.give(source, DueSequence::Row(seq), Item::Row(row), handle, sink))
     }
 
     /// Hands the item that is due. `first` is the sequence of the first row in reach of an open feed, if
@@ -416,7 +425,10 @@ impl FeedState {
         let due = self.due(first);
         match due {
             DueSequence::Row(seq) => {
-                let row = self.row(source, seq, sink)?;
+                if self.params.include_docs {
+                    return self.hand_with_doc(source, seq, handle, sink);
+                }
+                let row = source.row(seq, self.params.style, self.params.include_docs)?;
                 Ok(self.give(source, due, Item::Row(row), handle, sink))
             }
             DueSequence::End(last_seq) => {
