@@ -52,18 +52,11 @@ impl<S: Service> Port<S> {
         })
     }
 
-    // Wakes the worker, if it sleeps.
-    fn wake(&self) {
+    /// Wakes the worker, if it sleeps.
+    pub(crate) fn wake(&self) {
         if self.is_asleep.load(Ordering::SeqCst) && self.is_asleep.swap(false, Ordering::SeqCst) {
             // A counter of the system's takes each 1 that is added to it (eventfd(2)).
             let _woken = self.waker.wake();
-        }
-    }
-
-    /// Wakes the worker, if it sleeps while its bell is rung.
-    pub(crate) fn ring(&self) {
-        if self.bell.is_rung() {
-            self.wake();
         }
     }
 

@@ -27,11 +27,14 @@ pub(crate) struct Seat<S: Service> {
 }
 
 impl<S: Service + Watchable + Drop> Seat<S> {
-    /// A seat without connections, which nobody runs yet. An error says that there was no memory, or that the
-    /// system has no descriptor left.
-    pub(crate) fn new(net: &impl Net, alloc: Global) -> io::Result<Seat<S>> {
+    /// A seat without connections, which nobody runs yet, and whose streams ring this bell. An error says that
+    /// there was no memory, or that the system has no descriptor left.
+    pub(crate) fn new(
+        net: &impl Net,
+        alloc: Global,
+        bell: Arc<Bell, Global>,
+    ) -> io::Result<Seat<S>> {
         let poll = Poll::new(net)?;
-        let bell = Arc::new(alloc, Bell::new())?;
         let port = Port::new(alloc, poll.registry(), Arc::try_clone(&bell)?)?;
         Ok(Seat {
             port,

@@ -8,11 +8,11 @@ use crate::relief::Monitor;
 use crate::seat::Seat;
 use crate::turn::Turn;
 use hub_session::Service;
-use hub_shared::{Clock, Watchable};
+use hub_shared::{Bell, Clock, Watchable};
 use std::alloc::{AllocError, Global};
 use std::io;
 use std::net::Net;
-use std::sync::Wait;
+use std::sync::{Arc, Wait};
 use std::thread::{self, Threads};
 
 /// How many bytes a runner reads at once.
@@ -29,6 +29,9 @@ pub(crate) struct Team<'e, R, S: Service, K> {
     clock: &'e K,
     /// The workers.
     pub(crate) seats: Vec<Seat<S>>,
+    /// The workers' bells, in the order of the workers. Each turn looks at all bells, so they do not lie where
+    /// workers write.
+    bells: Vec<Arc<Bell, Global>>,
     /// How many connections are served.
     pub(crate) alive: Alive,
     /// The monitor, which says when the workers are looked at.
@@ -52,14 +55,18 @@ impl<'e, R, S: Service + Watchable + Drop, K> Team<'e, R, S, K> {
         R: Threads + Net,
     {
         let mut seats = Vec::new(alloc);
+        let mut bells = Vec::new(alloc);
         for _ in 0..worker_count(rt) {
-            seats.push(Seat::new(rt, alloc)?)?;
+            let bell = Arc::new(alloc, Bell::new())?;
+            bells.push(Arc::try_clone(&bell)?)?;
+            seats.push(Seat::new(rt, alloc, bell)?)?;
         }
         Ok(Team {
             rt,
             alloc,
             clock,
             seats,
+            bells,
             alive: Alive::new(),
             monitor: Monitor::new(),
         })
@@ -72,8 +79,10 @@ impl<'e, R, S: Service + Watchable + Drop, K> Team<'e, R, S, K> {
 
     // Wakes each worker that sleeps while a stream of it has news.
     fn ring(&self) {
-        for seat in &self.seats {
-            seat.port.ring();
+        for (bell, seat) in self.bells.iter().zip(&self.seats) {
+            if bell.is_rung() {
+                seat.port.wake();
+            }
         }
     }
 
