@@ -8,6 +8,7 @@ use hub_service::JsonRooms;
 use hub_shared::{Clock, Gate};
 use hub_workers::serve_all;
 use std::alloc::Global;
+use std::array;
 use std::io;
 use std::net::{Net, TcpListener};
 use std::sync::Wait;
@@ -39,7 +40,7 @@ where
 {
     let hub = Hub::new(alloc, limits)?;
     let routes = Routes::new(alloc)?;
-    let rooms = JsonRooms::new(alloc);
+    let rooms = array::from_fn(|_| JsonRooms::new(alloc));
     let services = HubServices {
         rt,
         alloc,
