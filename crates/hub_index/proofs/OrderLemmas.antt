@@ -117,6 +117,24 @@ module _ {X : Type 0} (p : X → Bool) where
     λ i d a b. absurd (omega arith),
   )
 
+  -- where an element passes, all up to it do
+  pub passes_up_to : (xs : List X) (k m : ℕ) (x : X) → IsPartitionedBy p xs → k + 1 ≡ m → k < length xs
+      → x ≡ get_or xs k x → p x ≡ true → AllWithin (λ y. p y ≡ true) xs 0 m
+  passes_up_to xs k m x divided next l here passes i d a b =
+      divided i k d (omega arith) l (ap p (get_or_default xs k d x l ∙ sym here) ∙ passes)
+
+  -- where an element fails, all from it on do
+  pub fails_from : (xs : List X) (k : ℕ) (x : X) → IsPartitionedBy p xs → x ≡ get_or xs k x → p x ≡ false
+      → AllWithin (λ y. p y ≡ false) xs k (length xs)
+  fails_from xs k x divided here fails i d a b = from (p (get_or xs i d)) refl
+    where
+      from : (t : Bool) → p (get_or xs i d) ≡ t → t ≡ false
+      from true e =
+          let l : k < length xs = omega arith in
+          let passes : p x ≡ true = ap p (here ∙ get_or_default xs k x d l) ∙ divided k i d a b e in
+          sym passes ∙ fails
+      from false e = refl
+
   -- where the elements that pass stand before the others
   pub parted : (xs : List X) (k : ℕ) → k ≤ length xs → AllWithin (λ x. p x ≡ true) xs 0 k
       → AllWithin (λ x. p x ≡ false) xs k (length xs)

@@ -3,6 +3,7 @@
 ghost use Rattle.std.specs.Prelude.{◌≡◌, ℕ, List, [], ◌++◌, ◌∷◌, length, None, OnOk, OnErr};
 ghost use Rattle.hub_index.specs.Order.{IsOrder, id_at, number_in, with_number};
 
+use crate::guesses::Guesses;
 use crate::id_pages::{page_at, place_in, push_page, put};
 use std::alloc::{AllocError, Global};
 use std::marker::Model;
@@ -18,17 +19,24 @@ pub trait Named {
 }
 
 /// Numbers in the byte order of their ids. A contract sees the list of the numbers. The ids stand elsewhere:
-/// each call is given them. A number takes four bytes, and some two more where pages are not full.
+/// each call is given them. A number takes four bytes, and some two more where pages are not full. An order
+/// has 512 bytes besides, for guesses of places. Ids that follow one another are found by a guess.
 #[derive(Debug)]
 pub struct IdOrder {
     alloc: Global,
     /// Pages of numbers, none of them empty.
     pages: Vec<Vec<u32>>,
+    /// The place behind the number that came last, for each beginning of ids. A guess is verified.
+    guesses: Guesses,
 }
 
 impl Drop for IdOrder {
     fn drop(self) {
-        let Self { alloc, pages } = self;
+        let Self {
+            alloc,
+            pages,
+            guesses,
+        } = self;
     }
 }
 
@@ -52,20 +60,23 @@ impl IdOrder {
         IdOrder {
             alloc,
             pages: Vec::new(alloc),
+            guesses: Guesses::new(),
         }
     }
 
     /// The number of this id. It compares logarithmically many ids, and two where the id lies above all. It
-    /// takes no memory.
+    /// compares at most six where the id belongs behind the one that came last with the same beginning, which
+    /// is all but the last three bytes. That place is a guess, and is verified. The call takes no memory.
     pub fn find<N: Named>(&self, names: &N, id: &str) -> Option<u32>
         requires order { IsOrder (N.ids names.now) self.now }
         ensures { result ≡ number_in (N.ids names.now) self.now id.now }
     {
-        let page = page_at(names, self.pages.as_slice(), id);
+        let (page_guess, guess) = self.guesses.of(id);
+        let page = page_at(names, self.pages.as_slice(), id, page_guess);
         let numbers = self.pages.get(page)?;
         let is_last = page + 1 == self.pages.len();
         let list = numbers.as_slice();
-        let at = place_in(names, list, id, is_last);
+        let at = place_in(names, list, id, is_last, guess);
         let number = *list.get(at)?;
         if names.id(number) == id {
             Some(number)
@@ -75,9 +86,11 @@ impl IdOrder {
     }
 
     /// Takes in the number of a new id. It is the next number after those that have ids, and its id joins
-    /// them later. The call compares logarithmically many ids, and two where the id lies above all. It moves
-    /// the numbers behind the new one on its page. A full page is halved before, and ids that come in order
-    /// fill pages whole. An error leaves all numbers as they were.
+    /// them later. The call compares logarithmically many ids, and two where the id lies above all. It
+    /// compares at most five where the id belongs behind the one that came last with the same beginning, which
+    /// is all but the last three bytes. That place is a guess, and is verified. Where a page was halved since,
+    /// the guess may be missed once. The call moves the numbers behind the new one on its page. A full page is
+    /// halved before, and ids that come in order fill pages whole. An error leaves all numbers as they were.
     pub fn insert<N: Named>(&mut self, names: &N, number: u32, id: &str) -> Result<(), AllocError>
         requires order { IsOrder (N.ids names.now) self.old }
         requires next { number ≡ length (N.ids names.now) }
@@ -86,12 +99,14 @@ impl IdOrder {
         ensures order { OnOk result (IsOrder (N.ids names.now ++ id.now ∷ []) self.new) }
         ensures err { OnErr result (self.new ≡ self.old) }
     {
-        let page = page_at(names, self.pages.as_slice(), id);
+        let (page_guess, guess) = self.guesses.of(id);
+        let page = page_at(names, self.pages.as_slice(), id, page_guess);
         if page == self.pages.len() {
             return push_page(&mut self.pages, self.alloc, number);
         }
         let is_last = page + 1 == self.pages.len();
-        let at = place_in(names, self.pages[page].as_slice(), id, is_last);
+        let at = place_in(names, self.pages[page].as_slice(), id, is_last, guess);
+        self.guesses.note(id, page, at + 1);
         put(&mut self.pages, self.alloc, page, at, number)
     }
 }

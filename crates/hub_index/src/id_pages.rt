@@ -1,8 +1,9 @@
 //! Pages of numbers, in the order of the ids that the numbers stand for.
 
 ghost use Rattle.std.specs.Prelude.{◌≡◌, ◌+◌, ◌<◌, ◌≤◌, length, filter, not};
-ghost use Rattle.std.specs.Prelude.{true, take, drop, slice_get, IsSomeAnd, OnOk, OnErr};
-ghost use Rattle.std.specs.List.{All, insert};
+ghost use Rattle.std.specs.Prelude.{true, false, take, drop, slice_get, IsSomeAnd, OnOk, OnErr};
+ghost use Rattle.std.specs.Bool.{OnTrue};
+ghost use Rattle.std.specs.List.{All, AllWithin, insert};
 ghost use Rattle.std.specs.Ordering.{is_gt};
 ghost use Rattle.hub_index.specs.Order.{IsNumberPage, IsOrder, PutsAt, begins_up_to, id_cmp};
 ghost use Rattle.hub_index.specs.Order.{is_below, numbers_of, place_of};
@@ -29,10 +30,30 @@ fn begins_up_to<N: Named>(names: &N, numbers: &[u32], id: &str) -> bool
     }
 }
 
+// Whether an id stands or belongs on a page that has a page behind it: the page begins with this id or a
+// lower one, and the page behind it above the id. Any number may be asked for. It compares at most two ids.
+fn is_page_of<N: Named>(names: &N, pages: &[Vec<u32>], id: &str, page: usize) -> bool
+    requires order { IsOrder (N.ids names.now) (numbers_of pages.now) }
+    requires pages { All IsNumberPage pages.now }
+    ensures within { OnTrue result (page < length pages.now) }
+    ensures below { OnTrue result (All (λ n. is_below (N.ids names.now) id.now n ≡ true)
+        (numbers_of (take page pages.now))) }
+    ensures above { OnTrue result (All (λ n. is_gt (id_cmp (N.ids names.now) id.now n) ≡ true)
+        (numbers_of (drop (page + 1) pages.now))) }
+{
+    if page >= pages.len() || page + 1 >= pages.len() {
+        return false;
+    }
+    if !begins_up_to(names, pages[page].as_slice(), id) {
+        return false;
+    }
+    !begins_up_to(names, pages[page + 1].as_slice(), id)
+}
+
 /// The page where an id stands or belongs. It is the last page that begins with this id or a lower one, and
-/// the first page where none does. It compares one id where the page is the last one, and else
-/// logarithmically many.
-pub(crate) fn page_at<N: Named>(names: &N, pages: &[Vec<u32>], id: &str) -> usize
+/// the first page where none does. It compares one id where the page is the last one, three where it is the
+/// guess, and else logarithmically many. The guess is verified, and may be any number.
+pub(crate) fn page_at<N: Named>(names: &N, pages: &[Vec<u32>], id: &str, guess: usize) -> usize
     requires order { IsOrder (N.ids names.now) (numbers_of pages.now) }
     requires pages { All IsNumberPage pages.now }
     ensures within { 0 < length pages.now → result < length pages.now }
@@ -46,15 +67,47 @@ pub(crate) fn page_at<N: Named>(names: &N, pages: &[Vec<u32>], id: &str) -> usiz
     if end > 0 && begins_up_to(names, pages[end - 1].as_slice(), id) {
         return end - 1;
     }
+    if is_page_of(names, pages, id, guess) {
+        return guess;
+    }
     pages
         .partition_point(|page| begins_up_to(names, page.as_slice(), id))
         .saturating_sub(1)
 }
 
+// Whether an id belongs to a place on a page, or behind it: the ids before the place lie below. It compares
+// one id, and none at the first place.
+fn belongs_from<N: Named>(names: &N, numbers: &[u32], id: &str, at: usize) -> bool
+    requires order { IsOrder (N.ids names.now) numbers.now }
+    requires place { at ≤ length numbers.now }
+    ensures { OnTrue result
+        (AllWithin (λ n. is_below (N.ids names.now) id.now n ≡ true) numbers.now 0 at) }
+{
+    at == 0 || names.id(numbers[at - 1]).cmp(id).is_lt()
+}
+
+// Whether an id belongs to a place on a page, or before it: no id from the place on lies below. It compares
+// one id, and none behind all numbers.
+fn belongs_up_to<N: Named>(names: &N, numbers: &[u32], id: &str, at: usize) -> bool
+    requires order { IsOrder (N.ids names.now) numbers.now }
+    ensures { OnTrue result
+        (AllWithin (λ n. is_below (N.ids names.now) id.now n ≡ false) numbers.now at
+        (length numbers.now)) }
+{
+    at >= numbers.len() || !names.id(numbers[at]).cmp(id).is_lt()
+}
+
 /// The place where the number of an id stands or belongs on a page: behind the numbers whose ids lie below.
-/// It compares logarithmically many ids. On the last page it compares the highest id first, and no other
-/// where that id lies below.
-pub(crate) fn place_in<N: Named>(names: &N, numbers: &[u32], id: &str, is_last: bool) -> usize
+/// It compares two ids where the place is the guess, and else logarithmically many. The guess is verified,
+/// and may be any number. On the last page the call compares the highest id first, and no other where that id
+/// lies below.
+pub(crate) fn place_in<N: Named>(
+    names: &N,
+    numbers: &[u32],
+    id: &str,
+    is_last: bool,
+    guess: usize,
+) -> usize
     requires order { IsOrder (N.ids names.now) numbers.now }
     ensures within { result ≤ length numbers.now }
     ensures before { take result numbers.now ≡ filter (is_below (N.ids names.now) id.now) numbers.now }
@@ -64,6 +117,12 @@ pub(crate) fn place_in<N: Named>(names: &N, numbers: &[u32], id: &str, is_last: 
     let count = numbers.len();
     if is_last && count > 0 && names.id(numbers[count - 1]).cmp(id).is_lt() {
         return count;
+    }
+    if guess <= count
+        && belongs_from(names, numbers, id, guess)
+        && belongs_up_to(names, numbers, id, guess)
+    {
+        return guess;
     }
     numbers.partition_point(|number| names.id(*number).cmp(id).is_lt())
 }

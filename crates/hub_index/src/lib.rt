@@ -2,6 +2,7 @@
 //! next row. Beside them the numbers of documents, in the order of their ids.
 #![tactic(auto)]
 
+mod guesses;
 mod id_hints;
 mod id_order;
 mod id_pages;

@@ -60,3 +60,13 @@ returns-then-is_lt-clause-behind g c =
     at last (below_parted ids id numbers c.requires.order.rising) (omega (arith, c.if-count-gt0.true))
     (get_or_default numbers at 0 last (omega (arith, c.if-count-gt0.true))) passes in
     (parted (is_below ids id) numbers (length numbers) (omega arith) point.0 point.1).1
+
+pub returns-then-belongs_up_to-clause-before : goal.returns-then-belongs_up_to-clause-before
+returns-then-belongs_up_to-clause-before g c =
+    (parted (is_below (g.N.Named.ids c.args.names.now) c.args.id.now) c.args.numbers.now c.args.guess
+    (omega (arith, c.if-guess-count.true)) c.if-belongs_from.ensures c.if-belongs_up_to.ensures).0
+
+pub returns-then-belongs_up_to-clause-behind : goal.returns-then-belongs_up_to-clause-behind
+returns-then-belongs_up_to-clause-behind g c =
+    (parted (is_below (g.N.Named.ids c.args.names.now) c.args.id.now) c.args.numbers.now c.args.guess
+    (omega (arith, c.if-guess-count.true)) c.if-belongs_from.ensures c.if-belongs_up_to.ensures).1
