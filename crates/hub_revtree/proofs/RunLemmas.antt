@@ -81,6 +81,14 @@ module _ (revisions : List Revision) (n : ℕ) (ds : List (List ℕ)) (is : revi
           from (n - 1) ds k (omega arith) read
           ∙ ap (λ g. Some (record { generation = g; hash = encode_lower d })) down
 
+  -- its generation
+  pub digest_generation : (k : ℕ) → k < length revisions
+      → option_map (λ revision. revision.generation) (slice_get revisions k) ≡ Some (n - k)
+  digest_generation k low =
+      let some = get_some ds k (omega (arith, low, digest_length)) in
+      ap (option_map (λ (revision : Revision). revision.generation))
+      (digest_read k some.0 low (sym (get_or_from_slice_get ds k some.0 some.0 some.1)))
+
   pub digest_first : (k : ℕ) (d : List ℕ) (revision : Revision) → k < length revisions → d ≡ get_or ds k d
       → is_first revision (drop k revisions) ≡
       (nat_eq revision.generation (n - k) && bytes_eq revision.hash (encode_lower d))

@@ -1,5 +1,5 @@
 -- The winner once one edit more has come.
-use Rattle.std.proofs.Common.{◌≡◌, ◌≢◌, ℕ, ◌-◌, ◌<◌, ◌≤◌, List, [], ◌∷◌, ◌++◌, length}
+use Rattle.std.proofs.Common.{◌≡◌, ◌≢◌, ℕ, zero, suc, ◌-◌, ◌<◌, ◌≤◌, List, [], ◌∷◌, ◌++◌, length}
 use Rattle.std.proofs.Common.{take, drop, Bool, true, false, ◌⊎◌, inl, inr, refl, sym}
 use Rattle.std.proofs.Common.{ap, ap₂, ◌∙◌, subst, append-nil, append_assoc, arith}
 use Rattle.std.specs.Prelude.{Contains, Option, Some, None, slice_get, option_and_then, map}
@@ -12,20 +12,22 @@ use Rattle.std.proofs.lemmas.List.{length-append, length-take, map-append}
 use Rattle.std.proofs.lemmas.List.Elements.{Contains-push, Contains-push_cases}
 use Rattle.std.proofs.lemmas.Option.{same_Some, slice_get_past}
 use Rattle.hub_model.specs.Revision.{Revision}
-use Rattle.hub_model.specs.Path.{IsFirst, names}
+use Rattle.hub_model.specs.Path.{IsFirst, IsPath, names}
 use Rattle.hub_model.specs.Journal.{Edit, IsAcceptable, IsKnown, IsLegal, IsLegalAfter}
 use Rattle.hub_model.specs.Leaves.{IsLeaf, IsMarked, Leaf, is_behind_head, leaf_cmp, leaves_of, revisions_of}
 use Rattle.hub_model.proofs.Drafts.{new_leaf, old_leaf}
 use Rattle.hub_model.proofs.Legal.{first_in, holds_more}
-use Rattle.hub_model.proofs.Lists.{contains_cases, contains_here, contains_none}
+use Rattle.hub_model.proofs.Lists.{contains_cases, contains_here, contains_none, contains_there}
 use Rattle.hub_model.proofs.Order.{order_back, order_flip, order_total}
 use Rattle.hub_model.proofs.Sorted.{gt_is, mark_is, winner_is}
 use Rattle.hub_model.proofs.Tests.{is_named}
+use Rattle.hub_model.proofs.Walks.{legal_histories}
 use Rattle.hub_revtree.specs.declared.leaf.Winner.{Winner}
 use Rattle.hub_revtree.specs.Branch.{Branch, earlier_branches, edit_of, edits_in}
 use Rattle.hub_revtree.specs.Tree.{IsRevTree}
 use Rattle.hub_revtree.specs.Winner.{HasWinner, head_in, is_better_than, winner_of}
 use Rattle.hub_revtree.proofs.LeafLemmas.{head_there}
+use Rattle.hub_revtree.proofs.RunLemmas.{get_some}
 use Rattle.hub_revtree.proofs.StemLemmas.{any_at, get_taken, split_at}
 use Rattle.hub_revtree.proofs.TreeLemmas.{first_of, none_wins, rev_tree, wins}
 
@@ -188,6 +190,30 @@ module _ (other_journal : List Edit) (tree : IsRevTree other_journal) (edit : Ed
             let f : names revisions winner.rev ≡ false = subst
             (λ z. names (drop 1 z) winner.rev ≡ false) q front in cc)
       ]
+
+-- a branch is an edit of the journal
+in_journal : (branches : List Branch) (k : ℕ) (branch : Branch) → slice_get branches k ≡ Some branch
+    → Contains (edits_in branches) (edit_of branch)
+in_journal [] k branch q = absurd (cc)
+in_journal (other ∷ branches) zero branch q =
+    subst (λ z. Contains (edits_in (other ∷ branches)) (edit_of z)) (same_Some other branch q)
+    (contains_here (edit_of other) (edits_in branches))
+in_journal (other ∷ branches) (suc k) branch q =
+    contains_there (edit_of other) (edit_of branch) (edits_in branches) (in_journal branches k branch q)
+
+-- each edit of a legal journal has a head
+pub has_head : (branches : List Branch) → IsLegal (edits_in branches) → (k : ℕ) → k < length branches
+    → (leaf : Winner) × (option_and_then head_in (slice_get branches k) ≡ Some leaf)
+has_head branches legal k low =
+    let here = get_some branches k low in
+    from here.0 here.1 here.0.path refl
+    (legal_histories (edits_in branches) legal (edit_of here.0) (in_journal branches k here.0 here.1)).falls
+  where
+    from : (branch : Branch) → slice_get branches k ≡ Some branch → (path : List Revision)
+        → branch.path ≡ path → IsPath path
+        → (leaf : Winner) × (option_and_then head_in (slice_get branches k) ≡ Some leaf)
+    from branch there [] q path = absurd path
+    from branch there (revision ∷ older) q path = (leaf_as revision branch.deleted, rw (there, q) refl)
 
 -- the branches with the newest, whose head is `leaf`, and the number of the winner before it came
 module _ (branches : List Branch) (legal : IsLegal (edits_in branches)) (best : ℕ)

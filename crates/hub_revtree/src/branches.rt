@@ -27,7 +27,7 @@ use crate::line::Line;
 use crate::run::Run;
 use crate::stem::{Standing, Stem};
 use crate::stems::{Meeting, headed, is_newest, new_in};
-use hub_document::{Body, RevId};
+use hub_document::{Body, DigestRev, RevId};
 use std::alloc::{AllocError, Global};
 use std::marker::Model;
 
@@ -222,6 +222,16 @@ impl Branches {
         ensures { result ≡ list_any (λ b. names b.path rev.now) self.now.list }
     {
         self.place(rev).is_some()
+    }
+
+    /// The same of a revision whose hash is a digest's text. Above the highest generation the text is not made.
+    pub(crate) fn is_digest_named(&self, rev: &DigestRev) -> bool
+        ensures { result ≡ list_any (λ b. names b.path rev.now) self.now.list }
+    {
+        if rev.generation() > self.highest {
+            return false;
+        }
+        self.is_named(&rev.rev())
     }
 
     /// Whether the revision of the edit of this number stands behind another edit's head. Constant time.

@@ -175,7 +175,7 @@ impl RevTree {
             Ok(rev) => rev,
             Err(e) => return Err(e),
         };
-        if self.knows(&rev.rev()) {
+        if self.knows_digest(&rev) {
             return Err(EditFault::Conflict);
         }
         let path = self.path_on(alloc, &rev, &older)?;

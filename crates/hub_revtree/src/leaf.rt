@@ -102,10 +102,10 @@ pub(crate) fn best_with_newest(branches: &mut Branches, best: usize) -> usize
         ≡ winner_of (leaves_of (edits_in branches.old.list) []) }
 {
     let newest = branches.len() - 1;
-    let leaf = branches.head(newest);
     if best >= newest {
         return newest;
     }
+    let leaf = branches.head(newest);
     let winner = branches.head(best);
     if leaf_order(&leaf, &winner).is_gt() {
         return newest;

@@ -252,6 +252,19 @@ impl Run {
         }
     }
 
+    /// The generation of the revision at this place, counted from 0 for the newest. Constant time.
+    pub(crate) fn generation_at(&self, place: usize) -> u16
+        requires { place < length self.now }
+        ensures { option_map (λ r. r.generation) (slice_get self.now place) ≡ Some result }
+    {
+        match &self.kept {
+            RunRepr::One(newest, _) => *newest,
+            RunRepr::Digests(newest, _) => *newest - place as u16,
+            RunRepr::Shared(newest, _, _, _) => *newest - place as u16,
+            RunRepr::Texts(revisions) => revisions[place].generation(),
+        }
+    }
+
     /// The revision at this place, counted from 0 for the newest. Constant time.
     pub(crate) fn at(&self, place: usize) -> RevId
         requires { place < length self.now }

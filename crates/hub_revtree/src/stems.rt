@@ -345,6 +345,20 @@ impl Branches {
         Some(revisions.len())
     }
 
+    // A place of the run's revision at this position, as `place` finds it. Above the highest generation of the
+    // stems no revision is made.
+    fn place_on(&self, run: &Run, at: usize) -> Option<Place>
+        requires { at < length run.now }
+        ensures place { (r : Revision) × (slice_get run.now at ≡ Some r)
+            × IsFound self.now.stems r result }
+        ensures stored { AreStemsOf self.now.stems self.now.list }
+    {
+        if run.generation_at(at) > self.highest {
+            return None;
+        }
+        self.place(&run.at(at))
+    }
+
     /// How a path that may be stored meets the stems: behind the revisions that its stem keeps, it is the
     /// front of one chain. The cost is that of `place` for each new revision and for each chain on the way.
     pub(crate) fn met_by(&self, path: &Run) -> Meeting
@@ -353,7 +367,7 @@ impl Branches {
         let mut at = 0usize;
         let mut joins = false;
         while at < path.len() {
-            match self.place(&path.at(at)) {
+            match self.place_on(path, at) {
                 Some(place) => {
                     let behind = self.reach_from(place);
                     if path.len() - at <= behind {

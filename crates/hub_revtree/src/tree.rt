@@ -17,7 +17,7 @@ use crate::branches::Branches;
 use crate::fault::{MergeFault, Merged};
 use crate::leaf::{Winner, best_with_newest};
 use crate::run::Run;
-use hub_document::{Body, Changes, Path, RevId, Revisions};
+use hub_document::{Body, Changes, DigestRev, Path, RevId, Revisions};
 use std::alloc::{AllocError, Global};
 use std::marker::Model;
 
@@ -163,6 +163,13 @@ impl RevTree {
         ensures { IsTrue result ↔ IsKnown self.now.edits [] rev.now }
     {
         self.branches.is_named(rev)
+    }
+
+    // The same of a revision whose hash is a digest's text, which is made only where a find needs it.
+    pub(crate) fn knows_digest(&self, rev: &DigestRev) -> bool
+        ensures { IsTrue result ↔ IsKnown self.now.edits [] rev.now }
+    {
+        self.branches.is_digest_named(rev)
     }
 
     /// Whether the edit that the revision heads deletes the document; None where it heads no edit. One find.

@@ -12,8 +12,8 @@ use Rattle.hub_revtree.proofs.EditLemmas.{is_taken, is_new, known_conflicts, las
 use Rattle.hub_revtree.proofs.EditLemmas.{new_extends, next_history, next_acceptable}
 use Rattle.hub_revtree.proofs.tree.RevTree.look_extend.Goals as goal
 
-pub returns-then-knows-clause-err : goal.returns-then-knows-clause-err
-returns-then-knows-clause-err c =
+pub returns-then-knows_digest-clause-err : goal.returns-then-knows_digest-clause-err
+returns-then-knows_digest-clause-err c =
     let line = line_to c.args.self.now.edits c.in_ok-older.older in
     let first = c.in_ok-older.ensures.first in
     let rev =
@@ -22,8 +22,8 @@ returns-then-knows-clause-err c =
     known_conflicts c.args.self.now.edits
     c.branches.ensures.tree c.args.id.now c.args.parent c.args.deleted c.args.body line
     (sym c.in_ok-older.ensures.line) (subst (λ z. generation_of z < 65535) (sym first) c.in-Ok.ensures.below)
-    (is_taken c.args.self.now.edits c.rev.result _ c.knows.result c.knows.ensures
-    (c.rev.ensures ∙ rev) c.if-knows.true)
+    (is_taken c.args.self.now.edits c.in-Ok.rev _ c.knows_digest.result c.knows_digest.ensures
+    rev c.if-knows_digest.true)
 
 pub returns-in_err-older-clause-err : goal.returns-in_err-older-clause-err
 returns-in_err-older-clause-err c =
@@ -88,8 +88,8 @@ returns-clause-ok c =
     c.in-Ok.ensures.ok
     ∙ ap (new_revision (draft c.args.id.now c.args.parent c.args.deleted c.args.body)) (sym first) in
     let new =
-    is_new c.args.self.now.edits c.rev.result _ c.knows.result c.knows.ensures
-    (c.rev.ensures ∙ rev) c.if-knows.false in
+    is_new c.args.self.now.edits c.in-Ok.rev _ c.knows_digest.result c.knows_digest.ensures
+    rev c.if-knows_digest.false in
     new_extends c.args.self.now.edits c.branches.ensures.tree c.args.id.now
     c.args.parent c.args.deleted c.args.body line (sym c.in_ok-older.ensures.line)
     (subst (λ z. generation_of z < 65535) (sym first) c.in-Ok.ensures.below) new
@@ -104,8 +104,8 @@ returns-clause-acceptable c =
     ∙ ap (new_revision (draft c.args.id.now c.args.parent c.args.deleted c.args.body))
     (sym c.in_ok-older.ensures.first) in
     let new =
-    is_new c.args.self.now.edits c.rev.result _ c.knows.result c.knows.ensures
-    (c.rev.ensures ∙ rev) c.if-knows.false in
+    is_new c.args.self.now.edits c.in-Ok.rev _ c.knows_digest.result c.knows_digest.ensures
+    rev c.if-knows_digest.false in
     subst (IsAcceptable c.args.self.now.edits)
     (sym (c.in_ok-ready.ensures.ready
     ∙ ap (λ z. nameless z c.args.deleted c.args.body) (c.in_ok-path.ensures ∙ ap (λ z. z ∷ line) rev)))
