@@ -7,9 +7,9 @@
 runs each program over the same requests under valgrind's callgrind, and prints a line for each case. The line
 has the instructions of the first program, and of each other program the ratio to these. A program is any
 build of changes_hub, so two states of the hub can be compared. Instructions repeat where times do not. A case
-that reads has a setup, which is run alone too, and the difference is printed. For a listed id the setup has the
-same list and no rows. All programs have to answer with the same bytes. The line of a case in which they do not
-says so.
+that reads has a setup, which is run alone too, and the difference is printed. A feed of listed ids finds their rows
+at its second row. So the setup of its rows has the same feeds, each with two rows, and the finding is a case of its
+own. All programs have to answer with the same bytes. The line of a case in which they do not says so.
 
 With --keep the instructions of the first program are written to FILE too, a case a line: the name, a tab, the
 number. The file bench/instructions.txt is of this form, from the last state that was landed. Without --keep
@@ -106,15 +106,16 @@ def after(setup, asked):
     return setup, setup + asked
 
 
-def of_listed(stored, query=""):
-    """Feeds of listed ids with no rows, and the same with 1,000 rows."""
-    return stored + listed(10000, "&since=now" + query) * 20, stored + listed(10000, query) * 20
+def of_listed(stored, few, many):
+    """Feeds of 1,000 listed ids with few rows by one query, and with more rows by another."""
+    return stored + listed(10000, few) * 20, stored + listed(10000, many) * 20
 
 
 def cases():
     """The cases: a name, the setup or None, all requests, and the number that divides the instructions."""
     stored = batches(10000, 100)
     get = b"GET /d/doc%s HTTP/1.1\r\n\r\n"
+    with_docs = "&include_docs=true"
     found = [
         ("a PUT of a new document, 10,000", None, puts(10000, 100), 10000),
         ("a document in batches of 100", None, batches(10000, 100, 100), 10000),
@@ -134,8 +135,9 @@ def cases():
         ("a row with all leaves", *after(stored, feed("?style=all_docs") * 5), 50000),
         ("a row of a continuous feed", *after(stored, feed("?feed=continuous&limit=10000") * 5), 50000),
         ("a row downwards", *after(stored, feed("?descending=true") * 5), 50000),
-        ("a row of a listed id", *of_listed(stored), 20000),
-        ("the same with its document", *of_listed(stored, "&include_docs=true"), 20000),
+        ("the finding of a listed id", *of_listed(stored, "&since=now", "&limit=2"), 20000),
+        ("a row of a listed id", *of_listed(stored, "&limit=2", ""), 19960),
+        ("the same with its document", *of_listed(stored, "&limit=2" + with_docs, with_docs), 19960),
         ("an empty feed", *after(stored, feed("?since=now") * 1000), 1000),
         ("a feed of ten rows", *after(stored, feed("?since=9990") * 1000), 1000),
         ("a GET", *after(stored, gets(10000)), 10000),
