@@ -95,14 +95,25 @@ quoted_text revision good =
     ∙ ap (λ l. decimal revision.generation ++ l) dash in
     ap (λ l. 34 ∷ (l ++ 34 ∷ [])) whole
 
--- so the JSON string of a revision, with a comma after it, is made of these parts
-pub quoted_revision : (revision : Revision) → IsRevision revision → quoted (text_of revision) ++ 44 ∷ []
-    ≡ 34 ∷ (decimal revision.generation ++ 45 ∷ (revision.hash ++ 34 ∷ 44 ∷ []))
+-- so the JSON string of a revision, with a comma and a quote after it, is made of these parts
+quoted_revision : (revision : Revision) → IsRevision revision → quoted (text_of revision) ++ 44 ∷ 34 ∷ []
+    ≡ 34 ∷ (decimal revision.generation ++ 45 ∷ (revision.hash ++ 34 ∷ 44 ∷ 34 ∷ []))
 quoted_revision revision good =
-    ap (λ l. l ++ 44 ∷ []) (quoted_text revision good)
+    ap (λ l. l ++ 44 ∷ 34 ∷ []) (quoted_text revision good)
     ∙ ap (λ l. 34 ∷ l)
-    (append_assoc (text_of revision) (34 ∷ []) (44 ∷ [])
-    ∙ append_assoc (decimal revision.generation) (45 ∷ revision.hash) (34 ∷ 44 ∷ []))
+    (append_assoc (text_of revision) (34 ∷ []) (44 ∷ 34 ∷ [])
+    ∙ append_assoc (decimal revision.generation) (45 ∷ revision.hash) (34 ∷ 44 ∷ 34 ∷ []))
+
+-- and so is the text in front of an id, with the mark whether the edit deletes
+pub front_revision : (mark : List ℕ) (revision : Revision) → IsRevision revision
+    → (91 ∷ (mark ++ 44 ∷ 34 ∷ []))
+    ++ (decimal revision.generation ++ (45 ∷ [] ++ (revision.hash ++ 34 ∷ 44 ∷ 34 ∷ [])))
+    ≡ 91 ∷ (mark ++ 44 ∷ (quoted (text_of revision) ++ 44 ∷ 34 ∷ []))
+front_revision mark revision good =
+    ap (λ l. 91 ∷ l)
+    (append_assoc mark (44 ∷ 34 ∷ [])
+    (decimal revision.generation ++ (45 ∷ [] ++ (revision.hash ++ 34 ∷ 44 ∷ 34 ∷ [])))
+    ∙ ap (λ l. mark ++ 44 ∷ l) (sym (quoted_revision revision good)))
 
 -- the revision of a local document stands between its quotes as it is
 pub quoted_count : (n : ℕ) → n < 2 ^ 64 → quoted (48 ∷ 45 ∷ decimal n) ≡ 34 ∷ 48 ∷ 45 ∷ (decimal n ++ 34 ∷ [])

@@ -1,9 +1,9 @@
 //! The revisions that a database makes.
 
 ghost use Rattle.std.specs.Prelude.{◌≡◌, ◌<◌, ◌≤◌, ◌++◌, codes, IfOk, OnOk};
-ghost use Rattle.json.specs.Print.{escape, quoted};
-ghost use Rattle.hub_model.specs.Draft.{new_revision, generation_of as generation_in, bool_text, parent_text};
-ghost use Rattle.hub_document.specs.DraftText.{Takes};
+ghost use Rattle.json.specs.Print.{escape};
+ghost use Rattle.hub_model.specs.Draft.{new_revision, generation_of as generation_in, bool_text};
+ghost use Rattle.hub_document.specs.DraftText.{Takes, front_text};
 
 use crate::body::Body;
 use crate::doc_id::DocId;
@@ -23,42 +23,52 @@ fn generation_of(parent: &Option<RevId>) -> u16
     }
 }
 
-// The text in front of the parent: a bracket, whether the edit deletes, and a comma.
+// The text in front of a parent's: a bracket, whether the edit deletes, a comma, and the quote of the parent.
 fn opening(deleted: bool) -> &'static [u8]
-    ensures { result.now ≡ codes "[" ++ (bool_text deleted ++ codes ",") }
+    ensures { result.now ≡ codes "[" ++ (bool_text deleted ++ codes ",\"") }
 {
-    if deleted { b"[true," } else { b"[false," }
+    if deleted { b"[true,\"" } else { b"[false,\"" }
 }
 
-// Hashes the text of the parent and a comma.
-fn hash_parent(hasher: &mut Md5, parent: &Option<RevId>)
-    ensures { Takes (parent_text parent.now ++ codes ",") hasher.old hasher.new }
+// The text in front of the id's where there is no parent, with the quote that opens the id.
+fn opening_alone(deleted: bool) -> &'static [u8]
+    ensures { result.now ≡ codes "[" ++ (bool_text deleted ++ codes ",null,\"") }
+{
+    if deleted {
+        b"[true,null,\""
+    } else {
+        b"[false,null,\""
+    }
+}
+
+// Hashes all that stands in front of the id, and the quote that opens the id.
+fn hash_front(hasher: &mut Md5, deleted: bool, parent: &Option<RevId>)
+    ensures { Takes (front_text deleted parent.now) hasher.old hasher.new }
 {
     let Some(rev) = parent else {
-        hasher.update(b"null,");
+        hasher.update(opening_alone(deleted));
         return;
     };
     let mut number = Buffer::new();
-    hasher.update(b"\"");
+    hasher.update(opening(deleted));
     hasher.update(number.format(rev.generation()).as_bytes());
     hasher.update(b"-");
     hasher.update(rev.hash());
-    hasher.update(b"\",");
+    hasher.update(b"\",\"");
 }
 
-// Hashes the JSON string of any text, and a comma.
-fn hash_quoted(alloc: Global, hasher: &mut Md5, text: &str) -> Result<(), AllocError>
-    ensures { OnOk result (Takes (quoted text.now ++ codes ",") hasher.old hasher.new) }
+// Hashes the JSON string of any text, without its first quote, and a comma.
+fn hash_rest(alloc: Global, hasher: &mut Md5, text: &str) -> Result<(), AllocError>
+    ensures { OnOk result (Takes (escape text.now ++ codes "\",") hasher.old hasher.new) }
 {
     if is_plain(text.as_bytes()) {
-        hasher.update(b"\"");
         hasher.update(text.as_bytes());
         hasher.update(b"\",");
         return Ok(());
     }
     let mut string = Vec::new(alloc);
     put_quoted(&mut string, text)?;
-    hasher.update(string.as_slice());
+    hasher.update(&string.as_slice()[1..]);
     hasher.update(b",");
     Ok(())
 }
@@ -78,9 +88,8 @@ pub fn rev_of_edit(
         (λ r. r ≡ new_revision (record { id = id.now; rev = parent; deleted = deleted; body = body.now }) parent) }
 {
     let mut hasher = Md5::new();
-    hasher.update(opening(deleted));
-    hash_parent(&mut hasher, &parent);
-    hash_quoted(alloc, &mut hasher, id.as_str())?;
+    hash_front(&mut hasher, deleted, &parent);
+    hash_rest(alloc, &mut hasher, id.as_str())?;
     hasher.update(body.as_bytes());
     hasher.update(b"]");
     Ok(DigestRev::new(generation_of(&parent) + 1, hasher.finalize()))
