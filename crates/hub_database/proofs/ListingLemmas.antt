@@ -1,6 +1,6 @@
 -- The rows of a feed of listed documents: how they are found and searched, and which steps keep them.
-use Rattle.std.proofs.Common.{◌≡◌, ℕ, suc, zero, ◌+◌, ◌<◌, ◌≤◌, List, [], ◌∷◌, ◌++◌, length, map, Bool}
-use Rattle.std.proofs.Common.{true, false, ◌&&◌, nat_lt, nat_le, nat_eq, inl, inr, refl, sym, ◌∙◌, ap}
+use Rattle.std.proofs.Common.{◌≡◌, ◌≢◌, ℕ, suc, zero, ◌+◌, ◌-◌, ◌<◌, ◌≤◌, List, [], ◌∷◌, ◌++◌, length, map}
+use Rattle.std.proofs.Common.{Bool, true, false, ◌&&◌, nat_lt, nat_le, nat_eq, inl, inr, refl, sym, ◌∙◌, ap}
 use Rattle.std.proofs.Common.{subst, arith, take, String, Global, string_bytes, Bor, HoldsAt, MatchOption}
 use Rattle.std.specs.Prelude.{Option, Some, None, option_map, filter, find, Contains, IfSome, get_or}
 use Rattle.std.specs.Prelude.{slice_get, ◌⊎◌, if◌then◌else◌}
@@ -9,8 +9,8 @@ use Rattle.std.specs.Option.{option_copied}
 use Rattle.std.specs.List.Sorted.{IsPartitionPoint, IsPartitionedBy}
 use Rattle.std.specs.Str.{bytes_eq}
 use Rattle.std.proofs.lemmas.Bool.{cases_Bool, both_ways, and_parts, lt-ltb, le-ltb, leb-true, leb-false}
-use Rattle.std.proofs.lemmas.Bool.{le-leb}
-use Rattle.std.proofs.lemmas.List.{map-append, take_more}
+use Rattle.std.proofs.lemmas.Bool.{le-leb, lt-leb}
+use Rattle.std.proofs.lemmas.List.{get_or_default, map-append, take_more}
 use Rattle.std.proofs.lemmas.List.Elements.{filter_map-append}
 use Rattle.std.proofs.lemmas.List.Kept.{AllPairs-filter}
 use Rattle.std.proofs.lemmas.Option.{none-some, same_Some}
@@ -39,7 +39,7 @@ use Rattle.hub_feed.specs.declared.next.Next.TheVariants.{Give, Gone, Nothing}
 use Rattle.hub_feed.proofs.CurrentLemmas.{contains_map, next_ahead}
 use Rattle.hub_feed.proofs.FeedsLemmas.{pairs_map}
 use Rattle.hub_feed.proofs.ListedLemmas.{one_parts}
-use Rattle.hub_database.specs.Listing.{IsListing, passing_sequences, seq_of_row}
+use Rattle.hub_database.specs.Listing.{IsListing, IsPartedAt, passing_sequences, seq_of_row}
 use Rattle.hub_database.specs.declared.listing.Listing.{Listing}
 
 -- of rising numbers those after the first are above it, and they rise
@@ -208,6 +208,33 @@ parted xs place rise i j d le lt e =
       | inr n ↦ let a = rise i j d (omega (arith, le, n)) lt in
           let b = leb-true (get_or xs j d) place e in le-leb (get_or xs i d) place (omega (arith, a, b))
     ]
+
+-- two neighbours on either side of a place part all the numbers that rise
+pub parted_between : (xs : List ℕ) (place at first : ℕ) → AllPairs (λ m n. m < n) xs → at < length xs
+    → (at ≡ 0) ⊎ ((before : ℕ) × (before ≡ get_or xs (at - 1) before) × (before ≤ place))
+    → first ≡ get_or xs at first → place < first → IsPartedAt place xs at
+parted_between xs place at first rise inside below is above = (
+  λ k d a b. le-leb (get_or xs k d) place (low below k d b (same_number k (at - 1))),
+  λ k d a b. lt-leb (get_or xs k d) place (high k d a b (same_number at k)),
+)
+  where
+    low : (at ≡ 0) ⊎ ((before : ℕ) × (before ≡ get_or xs (at - 1) before) × (before ≤ place))
+        → (k d : ℕ) → k < at → (k ≡ at - 1) ⊎ (k ≢ at - 1) → get_or xs k d ≤ place
+    low (inl none) k d b same = absurd (omega (arith, b, none))
+    low (inr (before, same, le)) k d b (inl s) =
+        let e = get_or_default xs (at - 1) d before (omega (arith, b, inside)) in
+        subst (λ i. get_or xs i d ≤ place) (sym s) (omega (arith, e, same, le))
+    low (inr (before, same, le)) k d b (inr n) =
+        let e = get_or_default xs (at - 1) d before (omega (arith, b, inside)) in
+        let up = rise k (at - 1) d (omega (arith, b, n)) (omega (arith, b, inside)) in
+        omega (arith, up, e, same, le)
+    high : (k d : ℕ) → at ≤ k → k < length xs → (at ≡ k) ⊎ (at ≢ k) → place < get_or xs k d
+    high k d a b (inl s) =
+        let e = get_or_default xs at d first inside in
+        subst (λ i. place < get_or xs i d) s (omega (arith, e, is, above))
+    high k d a b (inr n) =
+        let e = get_or_default xs at d first inside in
+        let up = rise at k d (omega (arith, a, n)) b in omega (arith, up, e, is, above)
 
 -- the test of a number above a place, and not above a bound
 abbrev is_between : ℕ → Option ℕ → ℕ → Bool

@@ -1,6 +1,7 @@
 -- The rows of a feed of listed documents, kept in order (own).
 use Rattle.std.specs.Prelude.{◌≡◌, ◌⊎◌, ◌<◌, ℕ, List, [], ◌∷◌, map, filter, Option, Some, None, option_map}
-use Rattle.std.specs.Prelude.{IfSome}
+use Rattle.std.specs.Prelude.{IfSome, false, true, nat_le}
+use Rattle.std.specs.List.Sorted.{IsPartitionPoint}
 use Rattle.hub_model.specs.Current.{current}
 use Rattle.hub_model.specs.Entries.{entry_in}
 use Rattle.hub_model.specs.Feed.{Feed}
@@ -31,3 +32,7 @@ abbrev pub KeepsOrLists : ℕ → Filter → List Edit → Listing → Listing �
 KeepsOrLists number shows journal old new =
     ((new.feed ≡ old.feed) × (new.rows.items ≡ old.rows.items))
     ⊎ ((new.feed ≡ None) ⊎ ((new.feed ≡ Some number) × (new.rows.items ≡ passing_sequences shows journal)))
+
+-- an index of these rows: no row before it is above this place, and each from it on is
+abbrev pub IsPartedAt : ℕ → List ℕ → ℕ → Type 0
+IsPartedAt place rows at = IsPartitionPoint (λ n. nat_le n place ≡ true) (λ n. nat_le n place ≡ false) rows at

@@ -67,7 +67,9 @@ impl Looked {
     }
 }
 
-// Looks at an edit that comes with its history.
+// Looks at an edit that comes with its history. The call is never inlined: an edit made here would clear the
+// room of a merge.
+#[inline(never)]
 fn look_merge(
     tree: &mut RevTree,
     path: Path,

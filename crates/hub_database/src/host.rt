@@ -106,7 +106,7 @@ impl FeedHost for DbState {
     /// The cost is that of `FeedState::first_of_open` and `Feeds::hand_at`, and a binary search among the
     /// feeds unless the last hand was to the same feed. A feed of listed documents may ask again with no
     /// write between. Then it costs a search for each id and a sort of the rows, once until the next write.
-    /// After that it costs a binary search among these rows, and the row.
+    /// After that it costs a look at the rows beside the last one, and the row.
     fn hand<K: Sink<Item<ChangeRow>>, H: Pushes<K, Item<ChangeRow>>>(
         &mut self,
         feed: FeedId,
@@ -186,8 +186,9 @@ impl DbState {
     }
 
     /// The sequence of the first row in reach of the feed at this place of the list, if it is open. Where
-    /// it lists fewer documents than edits lie above its place, and its rows are kept, the cost is that of
-    /// `Listing::holds` and `Listing::first_between`. Else it is that of `FeedState::first_of_open`.
+    /// its rows are kept already, the cost is that of `Listing::first_between`. Where it lists fewer
+    /// documents than edits lie above its place, `Listing::holds` is asked before, which may find them. Else
+    /// the cost is that of `FeedState::first_of_open`.
     pub(crate) fn first_at(&mut self, feed: FeedId, at: usize) -> Option<u64>
         requires placed { Some at ≡ position (is_of feed.number) self.old.feeds }
         ensures same { self.new ≡ self.old }
@@ -195,9 +196,10 @@ impl DbState {
     {
         let state = self.feeds.state_at(feed, at);
         if let Some(ids) = state.listed() {
+            let kept = self.listing.feed == Some(feed.number);
             let few = state.place().saturating_add(ids.len() as u64);
             if state.is_open()
-                && self.contents.length() > few
+                && (kept || self.contents.length() > few)
                 && self.listing.holds(feed.number, &self.contents, ids)
             {
                 return self.listing.first_between(state.place(), state.bound());

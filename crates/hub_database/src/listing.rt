@@ -5,7 +5,7 @@ ghost use Rattle.std.specs.Prelude.{string_bytes, Contains, None, Some, IsTrue, 
 ghost use Rattle.std.specs.List.{AllPairs, cons_option, filter_map};
 ghost use Rattle.hub_model.specs.Feed.{is_within};
 ghost use Rattle.hub_model.specs.Filter.{DocIds};
-ghost use Rattle.hub_database.specs.Listing.{KeepsOrLists, passing_sequences, seq_of_row};
+ghost use Rattle.hub_database.specs.Listing.{IsPartedAt, KeepsOrLists, passing_sequences, seq_of_row};
 
 use crate::contents::Contents;
 use hub_feed::{Source, is_ahead};
@@ -21,6 +21,8 @@ pub(crate) struct Listing {
     pub(crate) feed: Option<u64>,
     /// The sequences of the current rows that the feed's filter passes, rising.
     pub(crate) rows: Vec<u64>,
+    /// The index where `first_between` searched last. No contract rests on it: rows are compared first.
+    near: usize,
 }
 
 // Puts a sequence at the end of the list, if there is one.
@@ -65,6 +67,7 @@ impl Listing {
             asked: None,
             feed: None,
             rows: Vec::new(alloc),
+            near: 0,
         }
     }
 
@@ -109,13 +112,43 @@ impl Listing {
         again && self.list(number, contents, ids).is_ok()
     }
 
-    /// The first of the sequences above a place and not above a bound, if there is one. The cost is a
-    /// binary search.
-    pub(crate) fn first_between(&self, place: u64, bound: Option<u64>) -> Option<u64>
+    // Whether no row before this index is above a place, and each from it on is. Constant time: the two rows
+    // at the index are compared.
+    fn is_parted_at(&self, at: usize, place: u64) -> bool
         requires { AllPairs (λ m n. m < n) self.now.rows.items }
-        ensures { result ≡ find (λ n. nat_lt place n && is_within bound n) self.now.rows.items }
+        ensures { IsTrue result → IsPartedAt place self.now.rows.items at }
     {
-        let at = self.rows.partition_point(|seq| *seq <= place);
+        at <= self.rows.len()
+            && (at == 0 || self.rows[at - 1] <= place)
+            && (at == self.rows.len() || place < self.rows[at])
+    }
+
+    // The index of the first row above a place, or the number of rows. The index of the last search and the
+    // one behind it are looked at first. Else the cost is a binary search.
+    fn place_above(&self, place: u64) -> usize
+        requires { AllPairs (λ m n. m < n) self.now.rows.items }
+        ensures { IsPartedAt place self.now.rows.items result }
+    {
+        let guess = match self.rows.get(self.near) {
+            Some(seq) if *seq <= place => self.near + 1,
+            _ => self.near,
+        };
+        if self.is_parted_at(guess, place) {
+            return guess;
+        }
+        self.rows.partition_point(|seq| *seq <= place)
+    }
+
+    /// The first of the sequences above a place and not above a bound, if there is one. The time is constant
+    /// where the place is as before, or that of the row given last. Else the cost is a binary search.
+    pub(crate) fn first_between(&mut self, place: u64, bound: Option<u64>) -> Option<u64>
+        requires { AllPairs (λ m n. m < n) self.old.rows.items }
+        ensures first { result ≡ find (λ n. nat_lt place n && is_within bound n) self.old.rows.items }
+        ensures rows { self.new.rows ≡ self.old.rows }
+        ensures feed { self.new.feed ≡ self.old.feed }
+    {
+        let at = self.place_above(place);
+        self.near = at;
         let seq = *self.rows.get(at)?;
         if is_ahead(place, bound, seq) {
             return Some(seq);

@@ -119,4 +119,84 @@ Row 300/302 300 1-a
 End 300, 2 pending
 > items 1 9
 Gone 0
+
+# rows are kept up to the journal's end: a full list leaves the feed, and a write between moves a row
+> next times 300
+> state
+seq 300, length 300, life 6, stands
+> open feed=continuous&filter=_doc_ids&doc_ids=["300","299","298","297","20","10"]
+feed 0
+> hand 0 times 3
+Row 10/300 10 1-a
+Row 20/300 20 1-a
+Row 297/300 297 1-a
+> full 0 times 2
+Full
+Full
+> hand 0
+Row 298/300 298 1-a
+> merge {"_id":"299","_rev":"1-b"}
+seq 301
+> hand 0 times 4
+Row 300/301 300 1-a
+Row 301/301 299 1-b
+Nothing
+Nothing
+> merge {"_id":"10","_rev":"1-b"}
+seq 302
+> hand 0 times 3
+Row 302/302 10 1-b
+Nothing
+Nothing
+
+# feeds that begin at different places ask by turns for rows that are kept, also behind the last of them
+> next times 300
+> state
+seq 300, length 300, life 6, stands
+> open feed=continuous&filter=_doc_ids&doc_ids=["300","150","100"]
+feed 0
+> hand 0 times 5
+Row 100/300 100 1-a
+Row 150/300 150 1-a
+Row 300/300 300 1-a
+Nothing
+Nothing
+> open since=150&filter=_doc_ids&doc_ids=["100","140","200","210","250","300"]
+feed 1
+> full 1 times 3
+Full
+Full
+Full
+> hand 1 times 3
+Row 200/300 200 1-a
+Row 210/300 210 1-a
+Row 250/300 250 1-a
+> open feed=continuous&since=90&filter=_doc_ids&doc_ids=["95"]
+feed 2
+> full 2 times 2
+Full
+Full
+> hand 2 times 2
+Row 95/300 95 1-a
+Nothing
+> hand 1 times 3
+Row 300/300 300 1-a
+End 300, 0 pending
+Gone
+> open feed=continuous&since=20&filter=_doc_ids&doc_ids=["x","y"]
+feed 3
+> hand 3 times 3
+Nothing
+Nothing
+Nothing
+> merge {"_id":"y","_rev":"1-b"}
+seq 301
+> merge {"_id":"95","_rev":"1-b"}
+seq 302
+> hand 3 times 2
+Row 301/302 y 1-b
+Nothing
+> hand 2 times 2
+Row 302/302 95 1-b
+Nothing
 "#;

@@ -23,6 +23,6 @@ returns-then-holds-clause-first c =
     (map string_bytes c.in-Some.ids.now) c.place-then-holds.result c.bound.result c.holds.new.self.rows.items
     first
     c.in-Some.ensures c.place-then-holds.ensures c.bound.ensures
-    (c.if-holds.ensures.held refl) c.first_between.ensures in
+    (c.if-holds.ensures.held refl) c.first_between.ensures.first in
     let there = subst (IsFirst first (current J)) (sym c.state_at-state.ensures.found) is in
     subst (λ (db : Database). IsFirst first (current db.journal) (entry_in id db.feeds)) c.self.view_is there
