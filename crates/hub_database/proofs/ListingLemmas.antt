@@ -228,6 +228,7 @@ parted_between xs place at first rise inside below is above = (
         let e = get_or_default xs (at - 1) d before (omega (arith, b, inside)) in
         let up = rise k (at - 1) d (omega (arith, b, n)) (omega (arith, b, inside)) in
         omega (arith, up, e, same, le)
+
     high : (k d : ℕ) → at ≤ k → k < length xs → (at ≡ k) ⊎ (at ≢ k) → place < get_or xs k d
     high k d a b (inl s) =
         let e = get_or_default xs at d first inside in

@@ -15,14 +15,17 @@ returns-else-at-len-2 c above =
     let high = ltb-true c.args.place first above in
     elim c.if-at-len.branch [
       | then-at-len+then-at-eq0 w ↦
-      by (omega (arith, w.if-at-len.true, c.if-at-len-2.false, c.len.ensures, c.len-then-index-place.ensures))
-      (inl w.if-at-eq0.true) c.index-else-at-len-2.ensures high
+          by (omega (arith, w.if-at-len.true, c.if-at-len-2.false, c.len.ensures, c.len-then-index-place.ensures))
+          (inl w.if-at-eq0.true) c.index-else-at-len-2.ensures high
       | then-at-len+else-at-eq0 w ↦
-      by (omega (arith, w.if-at-len.true, c.if-at-len-2.false, c.len.ensures, c.len-then-index-place.ensures))
-      (inr (w.index.result.now, w.index.ensures,
-          leb-true w.index.result.now c.args.place (sym w.value-is ∙ c.if-index-place.true)))
-      c.index-else-at-len-2.ensures high
+          by (omega (arith, w.if-at-len.true, c.if-at-len-2.false, c.len.ensures, c.len-then-index-place.ensures))
+          (inr (
+            w.index.result.now,
+            w.index.ensures,
+            leb-true w.index.result.now c.args.place (sym w.value-is ∙ c.if-index-place.true),
+          ))
+          c.index-else-at-len-2.ensures high
       | else-at-len w ↦
-      let low = leb-true at c.len.result (sym w.value-is ∙ c.if-index-place.true) in
-      absurd (omega (arith, low, w.if-at-len.false))
+          let low = leb-true at c.len.result (sym w.value-is ∙ c.if-index-place.true) in
+          absurd (omega (arith, low, w.if-at-len.false))
     ]
