@@ -11,14 +11,15 @@ returns-else-at-len-2 c above =
     let rows = c.args.self.now.rows.items in
     let at = c.args.at in
     let first = c.index-else-at-len-2.result.now in
+    let count = c.len-then-index-place.ensures in
     let by = parted_between rows c.args.place at first c.requires in
     let high = ltb-true c.args.place first above in
     elim c.if-at-len.branch [
       | then-at-len+then-at-eq0 w ↦
-          by (omega (arith, w.if-at-len.true, c.if-at-len-2.false, c.len.ensures, c.len-then-index-place.ensures))
+          by (omega (arith, w.if-at-len.true, c.if-at-len-2.false, c.len.ensures, count))
           (inl w.if-at-eq0.true) c.index-else-at-len-2.ensures high
       | then-at-len+else-at-eq0 w ↦
-          by (omega (arith, w.if-at-len.true, c.if-at-len-2.false, c.len.ensures, c.len-then-index-place.ensures))
+          by (omega (arith, w.if-at-len.true, c.if-at-len-2.false, c.len.ensures, count))
           (inr (
             w.index.result.now,
             w.index.ensures,
