@@ -45,8 +45,8 @@ impl Guesses {
         (page as usize, at as usize)
     }
 
-    /// Notes a page, and a place there, for the beginning of this id. What its slot had is forgotten. The call
-    /// takes a step for each byte of the id.
+    /// Notes a page, and a place there, for the beginning of this id. What its slot had is forgotten. The
+    /// call takes a step for each byte of the id.
     pub(crate) fn note(&mut self, id: &str, page: usize, at: usize) {
         self.places[slot_of(id)] = ((page & 0xffff_ffff) as u32, (at & 0xffff_ffff) as u32);
     }

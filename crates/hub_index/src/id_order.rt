@@ -66,7 +66,8 @@ impl IdOrder {
 
     /// The number of this id. It compares logarithmically many ids, and two where the id lies above all. It
     /// compares at most six where the id belongs behind the one that came last with the same beginning, which
-    /// is all but the last three bytes. That place is a guess, and is verified. The call takes no memory.
+    /// is all but the last three bytes. It compares seven where one id stands between. Such a place is a
+    /// guess, and is verified. The call takes no memory.
     pub fn find<N: Named>(&self, names: &N, id: &str) -> Option<u32>
         requires order { IsOrder (N.ids names.now) self.now }
         ensures { result ≡ number_in (N.ids names.now) self.now id.now }
@@ -87,10 +88,11 @@ impl IdOrder {
 
     /// Takes in the number of a new id. It is the next number after those that have ids, and its id joins
     /// them later. The call compares logarithmically many ids, and two where the id lies above all. It
-    /// compares at most five where the id belongs behind the one that came last with the same beginning, which
-    /// is all but the last three bytes. That place is a guess, and is verified. Where a page was halved since,
-    /// the guess may be missed once. The call moves the numbers behind the new one on its page. A full page is
-    /// halved before, and ids that come in order fill pages whole. An error leaves all numbers as they were.
+    /// compares at most five where the id belongs behind the one that came last with the same beginning,
+    /// which is all but the last three bytes. It compares six where one id stands between. Such a place is a
+    /// guess, and is verified. It may be wrong once after a page was halved. The call moves the numbers
+    /// behind the new one on its page. A full page is halved before, and ids that come in order fill pages
+    /// whole. An error leaves all numbers as they were.
     pub fn insert<N: Named>(&mut self, names: &N, number: u32, id: &str) -> Result<(), AllocError>
         requires order { IsOrder (N.ids names.now) self.old }
         requires next { number ≡ length (N.ids names.now) }

@@ -2,7 +2,7 @@
 
 ghost use Rattle.std.specs.Prelude.{◌≡◌, ◌+◌, ◌<◌, ◌≤◌, length, filter, not};
 ghost use Rattle.std.specs.Prelude.{true, false, take, drop, slice_get, IsSomeAnd, OnOk, OnErr};
-ghost use Rattle.std.specs.Bool.{OnTrue};
+ghost use Rattle.std.specs.Bool.{OnTrue, OnFalse};
 ghost use Rattle.std.specs.List.{All, AllWithin, insert};
 ghost use Rattle.std.specs.Ordering.{is_gt};
 ghost use Rattle.hub_index.specs.Order.{IsNumberPage, IsOrder, PutsAt, begins_up_to, id_cmp};
@@ -86,21 +86,24 @@ fn belongs_from<N: Named>(names: &N, numbers: &[u32], id: &str, at: usize) -> bo
     at == 0 || names.id(numbers[at - 1]).cmp(id).is_lt()
 }
 
-// Whether an id belongs to a place on a page, or before it: no id from the place on lies below. It compares
-// one id, and none behind all numbers.
+// Whether an id belongs to a place on a page, or before it: no id from the place on lies below. Else the id
+// at the place lies below, and so do those before it. It compares one id, and none behind all numbers.
 fn belongs_up_to<N: Named>(names: &N, numbers: &[u32], id: &str, at: usize) -> bool
     requires order { IsOrder (N.ids names.now) numbers.now }
-    ensures { OnTrue result
+    ensures yes { OnTrue result
         (AllWithin (λ n. is_below (N.ids names.now) id.now n ≡ false) numbers.now at
         (length numbers.now)) }
+    ensures within { OnFalse result (at < length numbers.now) }
+    ensures no { OnFalse result
+        (AllWithin (λ n. is_below (N.ids names.now) id.now n ≡ true) numbers.now 0 (at + 1)) }
 {
     at >= numbers.len() || !names.id(numbers[at]).cmp(id).is_lt()
 }
 
 /// The place where the number of an id stands or belongs on a page: behind the numbers whose ids lie below.
-/// It compares two ids where the place is the guess, and else logarithmically many. The guess is verified,
-/// and may be any number. On the last page the call compares the highest id first, and no other where that id
-/// lies below.
+/// It compares two ids where the place is the guess, three where it is the next, and else logarithmically
+/// many. The guess is verified, and may be any number. On the last page the call compares the highest id
+/// first, and no other where that id lies below.
 pub(crate) fn place_in<N: Named>(
     names: &N,
     numbers: &[u32],
@@ -118,11 +121,14 @@ pub(crate) fn place_in<N: Named>(
     if is_last && count > 0 && names.id(numbers[count - 1]).cmp(id).is_lt() {
         return count;
     }
-    if guess <= count
-        && belongs_from(names, numbers, id, guess)
-        && belongs_up_to(names, numbers, id, guess)
-    {
-        return guess;
+    if guess <= count && belongs_from(names, numbers, id, guess) {
+        if belongs_up_to(names, numbers, id, guess) {
+            return guess;
+        }
+        // The id `124` stands between `1239` and `1240`.
+        if belongs_up_to(names, numbers, id, guess + 1) {
+            return guess + 1;
+        }
     }
     numbers.partition_point(|number| names.id(*number).cmp(id).is_lt())
 }

@@ -1,4 +1,4 @@
-use Rattle.std.proofs.Common.{rules, ◌≡◌, ℕ, ◌-◌, length, get_or, true, ap, sym, ◌∙◌, arith}
+use Rattle.std.proofs.Common.{rules, ◌≡◌, ℕ, ◌+◌, ◌-◌, length, get_or, true, ap, sym, ◌∙◌, arith}
 use Rattle.std.proofs.lemmas.List.Sorted.{IsPartitionPoint-from_clause}
 use Rattle.std.specs.Cmp.Lexicographic.{slice_cmp}
 use Rattle.std.specs.Ordering.{nat_cmp, is_lt}
@@ -64,9 +64,21 @@ returns-then-is_lt-clause-behind g c =
 pub returns-then-belongs_up_to-clause-before : goal.returns-then-belongs_up_to-clause-before
 returns-then-belongs_up_to-clause-before g c =
     (parted (is_below (g.N.Named.ids c.args.names.now) c.args.id.now) c.args.numbers.now c.args.guess
-    (omega (arith, c.if-guess-count.true)) c.if-belongs_from.ensures c.if-belongs_up_to.ensures).0
+    (omega (arith, c.if-guess-count.true)) c.if-belongs_from.ensures c.if-belongs_up_to.ensures.yes).0
 
 pub returns-then-belongs_up_to-clause-behind : goal.returns-then-belongs_up_to-clause-behind
 returns-then-belongs_up_to-clause-behind g c =
     (parted (is_below (g.N.Named.ids c.args.names.now) c.args.id.now) c.args.numbers.now c.args.guess
-    (omega (arith, c.if-guess-count.true)) c.if-belongs_from.ensures c.if-belongs_up_to.ensures).1
+    (omega (arith, c.if-guess-count.true)) c.if-belongs_from.ensures c.if-belongs_up_to.ensures.yes).1
+
+pub returns-then-belongs_up_to-2-clause-before : goal.returns-then-belongs_up_to-2-clause-before
+returns-then-belongs_up_to-2-clause-before g c =
+    (parted (is_below (g.N.Named.ids c.args.names.now) c.args.id.now) c.args.numbers.now (c.args.guess + 1)
+    (omega (arith, c.if-belongs_up_to.ensures.within)) c.if-belongs_up_to.ensures.no
+    c.if-belongs_up_to-2.ensures.yes).0
+
+pub returns-then-belongs_up_to-2-clause-behind : goal.returns-then-belongs_up_to-2-clause-behind
+returns-then-belongs_up_to-2-clause-behind g c =
+    (parted (is_below (g.N.Named.ids c.args.names.now) c.args.id.now) c.args.numbers.now (c.args.guess + 1)
+    (omega (arith, c.if-belongs_up_to.ensures.within)) c.if-belongs_up_to.ensures.no
+    c.if-belongs_up_to-2.ensures.yes).1
