@@ -14,6 +14,7 @@ use Rattle.hub_model.specs.Path.{IsPath, names, is_first}
 use Rattle.hub_model.specs.Leaves.{is_behind_head}
 use Rattle.hub_model.proofs.Shown.{find_is}
 use Rattle.hub_model.proofs.Tests.{or_false, or_left, or_right, same_is}
+use Rattle.hub_revtree.specs.declared.leaf.Winner.{Winner}
 use Rattle.hub_revtree.specs.declared.stem.Place.{Place}
 use Rattle.hub_revtree.specs.Branch.{Branch, edit_of}
 use Rattle.hub_revtree.specs.Stem.{Stem, Chain, AreStems, IsWithin, branch_of, branches_of}
@@ -247,6 +248,26 @@ head_at stems a k stem revision e h =
     (ap (option_map (λ (other : Revision). record { rev = other; deleted = stem.deleted }))
     (ap (λ (tip : Tip). tip.rev) (tip_same (chains_of stems) stem (a.falling k stem e) (a.counted k stem e).0)
     ∙ h))
+
+-- the same, by the generation of the revision alone
+pub rank_at : (stems : List Stem) → AreStems stems → (k : ℕ) (stem : Stem) (generation : ℕ)
+    → slice_get stems k ≡ Some stem
+    → option_map (λ (revision : Revision). revision.generation) (slice_get stem.revisions 0) ≡ Some generation
+    → (head : Winner) × (option_and_then head_in (slice_get (branches_of stems) k) ≡ Some head)
+    × (stem.deleted ≡ head.deleted) × (generation ≡ head.rev.generation)
+rank_at stems a k stem generation e h = from (slice_get stem.revisions 0) refl h
+  where
+    from : (maybe_revision : Option Revision) → slice_get stem.revisions 0 ≡ maybe_revision
+        → option_map (λ (revision : Revision). revision.generation) maybe_revision ≡ Some generation
+        → (head : Winner) × (option_and_then head_in (slice_get (branches_of stems) k) ≡ Some head)
+        × (stem.deleted ≡ head.deleted) × (generation ≡ head.rev.generation)
+    from None q g = absurd (cc)
+    from (Some revision) q g = (
+      record { rev = revision; deleted = stem.deleted },
+      head_at stems a k stem revision e q,
+      refl,
+      sym (same_Some revision.generation generation g),
+    )
 
 -- the branch that a revision heads
 module _ (revision : Revision) where

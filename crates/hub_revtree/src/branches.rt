@@ -181,6 +181,16 @@ impl Branches {
         headed(self.stems.as_slice(), lent(&self.index), rev)
     }
 
+    /// The mark of the edit of this number, and the generation of its revision. Constant time.
+    pub(crate) fn rank(&self, at: usize) -> (bool, u16)
+        requires { at < length self.now.list }
+        ensures { (head : Winner) × (option_and_then head_in (slice_get self.now.list at) ≡ Some head)
+            × (result.0 ≡ head.deleted) × (result.1 ≡ head.rev.generation) }
+    {
+        let stem = &self.stems[at];
+        (stem.mark().deleted(), stem.run().generation())
+    }
+
     /// The revision of the edit of this number, and its mark. Constant time.
     pub(crate) fn head(&self, at: usize) -> Winner
         requires { at < length self.now.list }

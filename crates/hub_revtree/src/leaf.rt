@@ -3,6 +3,7 @@
 ghost use Rattle.std.specs.Prelude.{◌≡◌, ◌<◌, [], Some, length, map, option_and_then};
 ghost use Rattle.std.specs.Prelude.{option_map, reverse, slice_get, List, IfOk, IfSome};
 ghost use Rattle.std.specs.List.{list_any};
+ghost use Rattle.std.specs.Ordering.{is_gt};
 ghost use Rattle.hub_model.specs.Revision.{revision_cmp};
 ghost use Rattle.hub_model.specs.Leaves.{Leaf, leaf_cmp, leaves_among, leaves_of, best_first, with_leaf};
 ghost use Rattle.hub_revtree.specs.Branch.{earlier_branches, edit_of, edits_in};
@@ -89,6 +90,23 @@ fn best_candidate(branches: &mut Branches) -> Option<usize>
     Some(best)
 }
 
+// Whether the head of the edit `at` is above that of the edit `other`. No text is made of its hash where it has
+// the same mark and a greater generation. Constant time.
+fn is_head_above(branches: &Branches, at: usize, other: usize) -> bool
+    requires at { at < length branches.now.list }
+    requires other { other < length branches.now.list }
+    ensures { (w v : Winner) → option_and_then head_in (slice_get branches.now.list at) ≡ Some w
+        → option_and_then head_in (slice_get branches.now.list other) ≡ Some v
+        → result ≡ is_gt (leaf_cmp w.deleted w.rev v.deleted v.rev) }
+{
+    let (deleted, generation) = branches.rank(at);
+    let (other_deleted, other_generation) = branches.rank(other);
+    if deleted == other_deleted && generation > other_generation {
+        return true;
+    }
+    leaf_order(&branches.head(at), &branches.head(other)).is_gt()
+}
+
 /// The number of the best leaf's edit, where `best` was that before the newest edit came. Constant time where
 /// the newest edit wins, or the winner is not an ancestor of its revision. Else the cost is that of
 /// `best_candidate` where the edits have an index, and memory for candidates; and where not, that of
@@ -105,9 +123,7 @@ pub(crate) fn best_with_newest(branches: &mut Branches, best: usize) -> usize
     if best >= newest {
         return newest;
     }
-    let leaf = branches.head(newest);
-    let winner = branches.head(best);
-    if leaf_order(&leaf, &winner).is_gt() {
+    if is_head_above(branches, newest, best) {
         return newest;
     }
     if branches.is_head_inner(best) {

@@ -1,5 +1,4 @@
 use Rattle.std.proofs.Common.{◌-◌, ◌∙◌, ap, arith, sym}
-use Rattle.std.specs.Ordering.{is_gt}
 use Rattle.hub_revtree.specs.Winner.{winner_of}
 use Rattle.hub_revtree.proofs.TreeLemmas.{leaves_by}
 use Rattle.hub_revtree.proofs.WinnerLemmas.{better_wins, first_wins, has_head, still_wins}
@@ -13,12 +12,17 @@ returns-then-best-newest-clause-best c =
     first_wins c.args.branches.now.list c.len-newest.ensures.legal c.args.best c.requires.winner
     c.len-newest.result c.len-newest.ensures.length c.requires.some head.0 head.1 c.if-best-newest.true
 
-pub returns-then-is_gt-clause-best : goal.returns-then-is_gt-clause-best
-returns-then-is_gt-clause-best c =
-    better_wins c.args.branches.now.list c.len-newest.ensures.legal c.args.best c.requires.winner
-    c.len-newest.result c.len-newest.ensures.length c.requires.some c.head-leaf.result c.head-leaf.ensures
-    c.if-best-newest.false c.head-winner.result c.head-winner.ensures
-    (ap is_gt (sym c.leaf_order.ensures) ∙ (sym c.is_gt.ensures ∙ c.if-is_gt.true))
+pub returns-then-is_head_above-clause-best : goal.returns-then-is_head_above-clause-best
+returns-then-is_head_above-clause-best c =
+    let all = c.args.branches.now.list in
+    let legal = c.len-newest.ensures.legal in
+    let n = c.len-newest.result in
+    let long = c.len-newest.ensures.length in
+    let leaf = has_head all legal (n - 1) (omega (arith, long, c.requires.some)) in
+    let winner = has_head all legal c.args.best (omega (arith, long, c.if-best-newest.false)) in
+    better_wins all legal c.args.best c.requires.winner n long c.requires.some leaf.0 leaf.1
+    c.if-best-newest.false winner.0 winner.1
+    (sym (c.is_head_above.ensures leaf.0 winner.0 leaf.1 winner.1) ∙ c.if-is_head_above.true)
 
 pub returns-in-None-clause-best : goal.returns-in-None-clause-best
 returns-in-None-clause-best c =
@@ -27,8 +31,13 @@ returns-in-None-clause-best c =
 
 pub returns-clause-best : goal.returns-clause-best
 returns-clause-best c =
-    still_wins c.args.branches.now.list c.len-newest.ensures.legal c.args.best c.requires.winner
-    c.len-newest.result c.len-newest.ensures.length c.requires.some c.head-leaf.result c.head-leaf.ensures
-    c.if-best-newest.false c.head-winner.result c.head-winner.ensures
-    (ap is_gt (sym c.leaf_order.ensures) ∙ (sym c.is_gt.ensures ∙ c.if-is_gt.false))
-    (sym (c.is_head_inner.ensures c.head-winner.result c.head-winner.ensures) ∙ c.if-is_head_inner.false)
+    let all = c.args.branches.now.list in
+    let legal = c.len-newest.ensures.legal in
+    let n = c.len-newest.result in
+    let long = c.len-newest.ensures.length in
+    let leaf = has_head all legal (n - 1) (omega (arith, long, c.requires.some)) in
+    let winner = has_head all legal c.args.best (omega (arith, long, c.if-best-newest.false)) in
+    still_wins all legal c.args.best c.requires.winner n long c.requires.some leaf.0 leaf.1
+    c.if-best-newest.false winner.0 winner.1
+    (sym (c.is_head_above.ensures leaf.0 winner.0 leaf.1 winner.1) ∙ c.if-is_head_above.false)
+    (sym (c.is_head_inner.ensures winner.0 winner.1) ∙ c.if-is_head_inner.false)
