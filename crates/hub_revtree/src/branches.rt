@@ -234,7 +234,8 @@ impl Branches {
         self.place(rev).is_some()
     }
 
-    /// The same of a revision whose hash is a digest's text. Above the highest generation the text is not made.
+    /// Whether a path has the revision, where its hash is a digest's text. No text is made for a generation above
+    /// the highest.
     pub(crate) fn is_digest_named(&self, rev: &DigestRev) -> bool
         ensures { result ≡ list_any (λ b. names b.path rev.now) self.now.list }
     {

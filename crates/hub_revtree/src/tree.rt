@@ -165,7 +165,8 @@ impl RevTree {
         self.branches.is_named(rev)
     }
 
-    // The same of a revision whose hash is a digest's text, which is made only where a find needs it.
+    /// Whether the revision is known, where its hash is a digest's text. The text is made only where a find
+    /// needs it.
     pub(crate) fn knows_digest(&self, rev: &DigestRev) -> bool
         ensures { IsTrue result ↔ IsKnown self.now.edits [] rev.now }
     {
