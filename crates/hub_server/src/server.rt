@@ -8,11 +8,10 @@ use hub_service::JsonRooms;
 use hub_shared::{Clock, Gate};
 use hub_workers::serve_all;
 use std::alloc::Global;
-use std::array;
-use std::io;
 use std::net::{Net, TcpListener};
 use std::sync::Wait;
 use std::thread::Threads;
+use std::{array, io};
 
 /// Serves so many connections of a hub without databases, by a worker a processor and at least two, and comes
 /// back once all have ended. Connections are numbered from 1 as they are accepted; each passes

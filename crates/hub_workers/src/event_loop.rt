@@ -12,12 +12,15 @@ use hub_session::Service;
 use hub_shared::{Bell, Watchable};
 use mio::{Events, Poll, Token};
 use std::alloc::Global;
-use std::io;
 use std::sync::{Arc, Wait};
 use std::time::Duration;
+use std::{io, thread};
 
 /// How many events are taken from the poll at once.
 const EVENTS: usize = 256;
+
+/// How often the poll is asked before a sleep.
+const LOOKS: usize = 2;
 
 /// The connections of a worker, with the poll and the watches that tell of them.
 #[derive(Drop)]
@@ -119,6 +122,21 @@ impl<S: Service + Watchable + Drop> EventLoop<S> {
         }
     }
 
+    // Asks the poll without a wait, `LOOKS` times at most, and lets other threads run after each time. The
+    // answer is whether a connection is to have a turn. A sleep and the waking of a thread cost more than these
+    // calls.
+    fn is_told_soon(&mut self) -> bool {
+        for _ in 0..LOOKS {
+            self.ask(Some(Duration::from_millis(0)));
+            if self.table.is_ready() {
+                self.table.begin_round();
+                return true;
+            }
+            thread::yield_now();
+        }
+        false
+    }
+
     /// Looks for connections that are to have a turn, where none is known. It sleeps until there is one, or
     /// something else for the worker. It may come back for no reason.
     pub(crate) fn look<R: Wait>(&mut self, rt: &R, port: &Port<S>, now: u64) {
@@ -126,7 +144,7 @@ impl<S: Service + Watchable + Drop> EventLoop<S> {
         if self.watches.take_bell() {
             self.watches.take_news(&mut self.table);
         }
-        if self.table.is_ready() {
+        if self.table.is_ready() || (!self.table.has_later() && self.is_told_soon()) {
             return;
         }
         let most = if self.table.has_later() || !port.begin_sleep(rt) {
