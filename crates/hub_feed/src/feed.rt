@@ -392,12 +392,8 @@ impl FeedState {
         ensures err { OnErr result ((self.new ≡ self.old) × (sink.new ≡ sink.old)
             × IsRowDue (next_due (S.current source.now) self.old)) }
     {
-        match row_over(source, seq, self.params.style, sink) {
-            Ok(row) => {
-                Ok(self.give(source, DueSequence::Row(seq), Item::Row(row), handle, sink))
-            }
-            Err(AllocError) => Err(AllocError),
-        }
+        let row = row_over(source, seq, self.params.style, sink)?;
+        Ok(self.give(source, DueSequence::Row(seq), Item::Row(row), handle, sink))
     }
 
     /// Hands the item that is due. `first` is the sequence of the first row in reach of an open feed, if
@@ -432,11 +428,8 @@ impl FeedState {
                 if self.params.include_docs {
                     return self.hand_with_doc(source, seq, handle, sink);
                 }
-                // A `?` would move the row once more.
-                match source.row(seq, self.params.style, self.params.include_docs) {
-                    Ok(row) => Ok(self.give(source, due, Item::Row(row), handle, sink)),
-                    Err(AllocError) => Err(AllocError),
-                }
+                let row = source.row(seq, self.params.style, self.params.include_docs)?;
+                Ok(self.give(source, due, Item::Row(row), handle, sink))
             }
             DueSequence::End(last_seq) => {
                 Ok(self.give(source, due, end_at(source, last_seq), handle, sink))

@@ -97,7 +97,6 @@ pub fn write_all<W: Output>(writer: &mut W, bytes: &[u8]) -> Result<(), IoFault>
     let mut tries = TRIES;
     while !rest.is_empty() {
         match writer.write(rest) {
-            Ok(n) if n == rest.len() => return Ok(()),
             Ok(n) if n > 0 => {
                 rest = &rest[n..];
                 tries = TRIES;

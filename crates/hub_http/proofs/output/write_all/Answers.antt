@@ -30,9 +30,3 @@ returns-in_default-3-clause-front g c =
 
 pub returns-clause-front : goal.returns-clause-front
 returns-clause-front g c = front_of _ _ c.args.bytes.now c.loop-rest.rest.now c.loop-rest.invariant.0
-
-pub returns-in-Ok-clause-front : goal.returns-in-Ok-clause-front
-returns-in-Ok-clause-front g c =
-    front_of _ _ c.args.bytes.now _
-    (next_part _ _ _ c.args.bytes.now c.loop-rest.rest.now c.in-Ok.n
-    c.loop-rest.invariant.0 c.in-Ok.ensures.bytes)

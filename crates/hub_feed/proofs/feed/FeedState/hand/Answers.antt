@@ -18,23 +18,23 @@ give-requires-clause-item g c =
     let f = c.args.self.now in
     let rows = g.S.Source.current c.args.source.now in
     row_given (g.S.Source.shown c.args.source.now f.params.style f.params.include_docs) rows f c.in-Row.seq
-    c.in-Ok.row (sym c.in-Row.is ∙ c.due-due.ensures rows c.requires.ready.first)
-    (λ row here same. subst (λ (feed : Feed). c.in-Ok.row
+    c.in_ok-row-in-Row.row (sym c.in-Row.is ∙ c.due-due.ensures rows c.requires.ready.first)
+    (λ row here same. subst (λ (feed : Feed). c.in_ok-row-in-Row.row
     ≡ g.S.Source.shown c.args.source.now feed.params.style feed.params.include_docs row) c.self.view_is
-    (c.in-Ok.ensures row here same))
+    (c.in_ok-row-in-Row.ensures row here same))
 
 pub give-requires-clause-may : goal.give-requires-clause-may
 give-requires-clause-may g c =
     let f = c.args.self.now in
     let rows = g.S.Source.current c.args.source.now in
     row_allowed (g.S.Source.shown c.args.source.now f.params.style f.params.include_docs) rows f c.in-Row.seq
-    c.in-Ok.row (sym c.in-Row.is ∙ c.due-due.ensures rows c.requires.ready.first)
-    (λ row here same. subst (λ (feed : Feed). c.in-Ok.row
+    c.in_ok-row-in-Row.row (sym c.in-Row.is ∙ c.due-due.ensures rows c.requires.ready.first)
+    (λ row here same. subst (λ (feed : Feed). c.in_ok-row-in-Row.row
     ≡ g.S.Source.shown c.args.source.now feed.params.style feed.params.include_docs row) c.self.view_is
-    (c.in-Ok.ensures row here same)) (MayTake g.K.Sink.allows g.K.Sink.sent c.args.sink.now) c.requires.may
+    (c.in_ok-row-in-Row.ensures row here same)) (MayTake g.K.Sink.allows g.K.Sink.sent c.args.sink.now) c.requires.may
 
-pub returns-in-Ok-clause-ok : goal.returns-in-Ok-clause-ok
-returns-in-Ok-clause-ok g c =
+pub returns-in_ok-row-in-Row-clause-ok : goal.returns-in_ok-row-in-Row-clause-ok
+returns-in_ok-row-in-Row-clause-ok g c =
     let f = c.args.self.now in
     let rows = g.S.Source.current c.args.source.now in
     let len = g.S.Source.length c.args.source.now in
@@ -42,8 +42,8 @@ returns-in-Ok-clause-ok g c =
     (feed_after_due f (next_due rows f) len) (after_nothing f len) c.args.sink.now next c.give.result c.give.new.self
     c.give.new.sink)
     (sym (row_given (g.S.Source.shown c.args.source.now f.params.style f.params.include_docs) rows f c.in-Row.seq
-    c.in-Ok.row (sym c.in-Row.is ∙ c.due-due.ensures rows c.requires.ready.first)
-    (λ row here same. subst (λ (feed : Feed). c.in-Ok.row
+    c.in_ok-row-in-Row.row (sym c.in-Row.is ∙ c.due-due.ensures rows c.requires.ready.first)
+    (λ row here same. subst (λ (feed : Feed). c.in_ok-row-in-Row.row
     ≡ g.S.Source.shown c.args.source.now feed.params.style feed.params.include_docs row) c.self.view_is
-    (c.in-Ok.ensures row here same))))
+    (c.in_ok-row-in-Row.ensures row here same))))
     c.give.ensures

@@ -17,24 +17,24 @@ pub give-requires-clause-item : goal.give-requires-clause-item
 give-requires-clause-item g c =
     let f = c.args.self.now in
     let show = λ (feed : Feed). g.S.Source.shown c.args.source.now feed.params.style in
-    row_given (show f f.params.include_docs) (g.S.Source.current c.args.source.now) f c.args.seq c.in-Ok.row
+    row_given (show f f.params.include_docs) (g.S.Source.current c.args.source.now) f c.args.seq c.in_ok-row.row
     c.requires.due
-    (λ row here same. subst (λ docs. c.in-Ok.row ≡ show f docs row) (sym c.requires.docs)
-    (subst (λ feed. c.in-Ok.row ≡ show feed true row) c.self.view_is (c.in-Ok.ensures.row row here same)))
+    (λ row here same. subst (λ docs. c.in_ok-row.row ≡ show f docs row) (sym c.requires.docs)
+    (subst (λ feed. c.in_ok-row.row ≡ show feed true row) c.self.view_is (c.in_ok-row.ensures.row row here same)))
 
 pub give-requires-clause-may : goal.give-requires-clause-may
 give-requires-clause-may g c =
     let f = c.args.self.now in
     let show = λ (feed : Feed). g.S.Source.shown c.args.source.now feed.params.style in
-    subst (λ k. MayTake g.K.Sink.allows g.K.Sink.sent k (item.Row c.in-Ok.row)) (sym c.row_over.ensures.sink)
-    (row_allowed (show f f.params.include_docs) (g.S.Source.current c.args.source.now) f c.args.seq c.in-Ok.row
+    subst (λ k. MayTake g.K.Sink.allows g.K.Sink.sent k (item.Row c.in_ok-row.row)) (sym c.row_over.ensures.sink)
+    (row_allowed (show f f.params.include_docs) (g.S.Source.current c.args.source.now) f c.args.seq c.in_ok-row.row
     c.requires.due
-    (λ row here same. subst (λ docs. c.in-Ok.row ≡ show f docs row) (sym c.requires.docs)
-    (subst (λ feed. c.in-Ok.row ≡ show feed true row) c.self.view_is (c.in-Ok.ensures.row row here same)))
+    (λ row here same. subst (λ docs. c.in_ok-row.row ≡ show f docs row) (sym c.requires.docs)
+    (subst (λ feed. c.in_ok-row.row ≡ show feed true row) c.self.view_is (c.in_ok-row.ensures.row row here same)))
     (MayTake g.K.Sink.allows g.K.Sink.sent c.args.sink.now) c.requires.may)
 
-pub returns-in-Ok-clause-ok : goal.returns-in-Ok-clause-ok
-returns-in-Ok-clause-ok g c =
+pub returns-clause-ok : goal.returns-clause-ok
+returns-clause-ok g c =
     let f = c.args.self.now in
     let rows = g.S.Source.current c.args.source.now in
     let len = g.S.Source.length c.args.source.now in
@@ -42,8 +42,8 @@ returns-in-Ok-clause-ok g c =
     let hands = HandsTo g.K.Sink.behind (g.H.Pushes.refuses c.args.handle.now) f
     (feed_after_due f (next_due rows f) len) (after_nothing f len) in
     subst (λ next. hands c.args.sink.now next c.give.result c.give.new.self c.give.new.sink)
-    (sym (row_given (show f f.params.include_docs) rows f c.args.seq c.in-Ok.row c.requires.due
-    (λ row here same. subst (λ docs. c.in-Ok.row ≡ show f docs row) (sym c.requires.docs)
-    (subst (λ feed. c.in-Ok.row ≡ show feed true row) c.self.view_is (c.in-Ok.ensures.row row here same)))))
-    (subst (λ k. hands k (Give (item.Row c.in-Ok.row)) c.give.result c.give.new.self c.give.new.sink)
+    (sym (row_given (show f f.params.include_docs) rows f c.args.seq c.in_ok-row.row c.requires.due
+    (λ row here same. subst (λ docs. c.in_ok-row.row ≡ show f docs row) (sym c.requires.docs)
+    (subst (λ feed. c.in_ok-row.row ≡ show feed true row) c.self.view_is (c.in_ok-row.ensures.row row here same)))))
+    (subst (λ k. hands k (Give (item.Row c.in_ok-row.row)) c.give.result c.give.new.self c.give.new.sink)
     c.row_over.ensures.sink c.give.ensures)
