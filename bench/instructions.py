@@ -106,9 +106,9 @@ def after(setup, asked):
     return setup, setup + asked
 
 
-def of_listed(stored, few, many):
-    """Feeds of 1,000 listed ids with few rows by one query, and with more rows by another."""
-    return stored + listed(10000, few) * 20, stored + listed(10000, many) * 20
+def of_listed(stored, few, many, count=10000):
+    """Feeds of 1,000 listed ids of so many documents: few rows by one query, and more rows by another."""
+    return stored + listed(count, few) * 20, stored + listed(count, many) * 20
 
 
 def cases():
@@ -138,6 +138,7 @@ def cases():
         ("the finding of a listed id", *of_listed(stored, "&since=now", "&limit=2"), 20000),
         ("a row of a listed id", *of_listed(stored, "&limit=2", ""), 19960),
         ("the same with its document", *of_listed(stored, "&limit=2" + with_docs, with_docs), 19960),
+        ("a row where every id is listed", *of_listed(batches(1000, 100), "&limit=2", "", 1000), 19960),
         ("an empty feed", *after(stored, feed("?since=now") * 1000), 1000),
         ("a feed of ten rows", *after(stored, feed("?since=9990") * 1000), 1000),
         ("a GET", *after(stored, gets(10000)), 10000),
