@@ -186,9 +186,10 @@ impl DbState {
     }
 
     /// The sequence of the first row in reach of the feed at this place of the list, if it is open. Where
-    /// its rows are kept already, the cost is that of `Listing::first_between`. Where it lists fewer
-    /// documents than edits lie above its place, `Listing::holds` is asked before, which may find them. Else
-    /// the cost is that of `FeedState::first_of_open`.
+    /// its rows are kept already, the cost is that of `Listing::first_between`. Where it lists fewer than twice
+    /// as many documents as edits lie above its place, `Listing::holds` is asked before, which may find them: a
+    /// find costs less than half of a search of the list for an edit. Else the cost is that of
+    /// `FeedState::first_of_open`.
     pub(crate) fn first_at(&mut self, feed: FeedId, at: usize) -> Option<u64>
         requires placed { Some at ≡ position (is_of feed.number) self.old.feeds }
         ensures same { self.new ≡ self.old }
@@ -197,7 +198,7 @@ impl DbState {
         let state = self.feeds.state_at(feed, at);
         if let Some(ids) = state.listed() {
             let kept = self.listing.feed == Some(feed.number);
-            let few = state.place().saturating_add(ids.len() as u64);
+            let few = state.place().saturating_add(ids.len() as u64 / 2);
             if state.is_open()
                 && (kept || self.contents.length() > few)
                 && self.listing.holds(feed.number, &self.contents, ids)

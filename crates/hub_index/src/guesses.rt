@@ -2,6 +2,8 @@
 
 ghost use Rattle.std.specs.Prelude.{◌<◌};
 
+use crate::hash::hash_of;
+
 /// The count of slots.
 const SLOTS: usize = 64;
 
@@ -18,16 +20,13 @@ pub(crate) struct Guesses {
     places: [(u32, u32); SLOTS],
 }
 
-// The slot of an id, by a hash of its beginning (FNV-1a).
+// The slot of an id, by a hash of its beginning.
 fn slot_of(id: &str) -> usize
     ensures { result < 64 }
 {
     let bytes = id.as_bytes();
-    let mut hash = 0x811c_9dc5u32;
-    for byte in &bytes[..bytes.len().saturating_sub(TAIL)] {
-        hash = (hash ^ u32::from(*byte)).wrapping_mul(0x0100_0193);
-    }
-    hash as usize % SLOTS
+    let front = bytes.len().saturating_sub(TAIL);
+    hash_of(&bytes[..front]) as usize % SLOTS
 }
 
 impl Guesses {
@@ -39,14 +38,14 @@ impl Guesses {
     }
 
     /// The page, and the place there, that were noted last for the beginning of this id, or for another of
-    /// the same slot. The call takes a step for each byte of the id.
+    /// the same slot. The cost is that of `hash_of`.
     pub(crate) fn of(&self, id: &str) -> (usize, usize) {
         let (page, at) = self.places[slot_of(id)];
         (page as usize, at as usize)
     }
 
-    /// Notes a page, and a place there, for the beginning of this id. What its slot had is forgotten. The
-    /// call takes a step for each byte of the id.
+    /// Notes a page, and a place there, for the beginning of this id. The slot's last pair is forgotten. The cost
+    /// is that of `hash_of`.
     pub(crate) fn note(&mut self, id: &str, page: usize, at: usize) {
         self.places[slot_of(id)] = ((page & 0xffff_ffff) as u32, (at & 0xffff_ffff) as u32);
     }

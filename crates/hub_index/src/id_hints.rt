@@ -3,6 +3,7 @@
 ghost use Rattle.std.specs.Prelude.{◌≡◌, ◌<◌, length, IfSome};
 ghost use Rattle.hub_index.specs.Order.{id_at};
 
+use crate::hash::hash_of;
 use crate::id_order::Named;
 use std::alloc::{AllocError, Global};
 
@@ -15,17 +16,18 @@ const PLACE_BITS: u32 = 0xffff_fff8;
 /// The mask of the fewest slots that are made, 16.
 const FIRST_MASK: u32 = 15;
 
-/// Numbers in slots by a hash of their ids (FNV-1a). No contract rests on the slots: a number is given only
-/// after a look at its id. A number that is missing has to be found in another way, such as by `IdOrder`. So
-/// ids that are made to collide cost that other way, and the hash has no secret.
+/// Numbers in slots by a hash of their ids. No contract rests on the slots: a number is given only after a look
+/// at its id. A number that is missing has to be found in another way, such as by `IdOrder`. So ids that are made
+/// to collide cost that other way, and the hash has no secret.
 ///
-/// Each slot has a tag of one byte. A new id mostly costs a look at tags alone: they are a fourth of the slots,
-/// and so lie in the cache where the slots do not.
+/// Each slot has a tag of one byte, and the tags of eight slots are compared at once. A new id mostly costs a look
+/// at tags alone: they are a fourth of the slots, and so lie in the cache where the slots do not.
 #[derive(Debug)]
 pub struct IdHints {
     alloc: Global,
-    /// A tag for each slot: zero where the slot is empty, and else `tag_of` the hash of its id.
-    tags: Vec<u8>,
+    /// The tags of eight slots in each word, the first in its lowest byte. The tag is zero where the slot is
+    /// empty, and else `tag_of` the hash of its id.
+    tags: Vec<u64>,
     /// Zeros, and numbers plus one. The bits above the mask are those of the id's hash. So few other ids are
     /// looked at, and a move into more slots needs no look at an id.
     slots: Vec<u32>,
@@ -44,18 +46,22 @@ impl Drop for IdHints {
     }
 }
 
-// The hash of an id, of 32 bits.
-fn hash_of(id: &str) -> u32 {
-    let mut hash = 0xcbf2_9ce4_8422_2325u64;
-    for byte in id.as_bytes() {
-        hash = (hash ^ u64::from(*byte)).wrapping_mul(0x0000_0100_0000_01b3);
-    }
-    ((hash ^ (hash >> 32)) & 0xffff_ffff) as u32
-}
+/// The lowest bit of each byte of a word.
+const LOWEST: u64 = 0x0101_0101_0101_0101;
+
+/// The highest bit of each byte of a word.
+const HIGHEST: u64 = 0x8080_8080_8080_8080;
 
 // The tag of a hash: 1 to 128, by the highest bits of the hash.
 fn tag_of(hash: u32) -> u8 {
     (hash >> 25) as u8 + 1
+}
+
+// The highest bit of each byte that is this tag, and of some bytes above the first that is. Zero says that no byte
+// is the tag. (Mycroft's test for a byte that is zero.)
+fn places_of(tags: u64, tag: u8) -> u64 {
+    let others = tags ^ LOWEST.wrapping_mul(u64::from(tag));
+    others.wrapping_sub(LOWEST) & !others & HIGHEST
 }
 
 impl IdHints {
@@ -71,9 +77,6 @@ impl IdHints {
 
     // The number in a slot, where its id may have this hash.
     fn number_at(&self, at: usize, hash: u32) -> Option<u32> {
-        if *self.tags.get(at)? != tag_of(hash) {
-            return None;
-        }
         let slot = *self.slots.get(at)?;
         if (slot ^ hash) & !self.mask != 0 {
             return None;
@@ -91,14 +94,17 @@ impl IdHints {
         if id.is_empty() {
             return None;
         }
-        let hash = hash_of(id);
+        let hash = hash_of(id.as_bytes());
         let first = (hash & self.mask & PLACE_BITS) as usize;
-        for at in first..first + PLACES {
+        let mut places = places_of(*self.tags.get(first / PLACES)?, tag_of(hash));
+        while places != 0 {
+            let at = first + places.trailing_zeros() as usize / PLACES;
             if let Some(number) = self.number_at(at, hash)
                 && names.id(number) == id
             {
                 return Some(number);
             }
+            places &= places - 1;
         }
         None
     }
@@ -106,14 +112,13 @@ impl IdHints {
     // Puts a number plus one into the first empty slot of a hash, else into its first slot.
     fn put(&mut self, hash: u32, next: u32) {
         let first = (hash & self.mask & PLACE_BITS) as usize;
-        let mut places = first..first + PLACES;
-        let free = places
-            .find(|at| self.tags.get(*at) == Some(&0))
-            .unwrap_or(first);
-        if let Some(tag) = self.tags.get_mut(free) {
-            *tag = tag_of(hash);
-        }
-        if let Some(slot) = self.slots.get_mut(free) {
+        let Some(tags) = self.tags.get_mut(first / PLACES) else {
+            return;
+        };
+        let at = places_of(*tags, 0).trailing_zeros() as usize / PLACES % PLACES;
+        let bits = 8 * at as u32;
+        *tags = (*tags & !(0xff << bits)) | (u64::from(tag_of(hash)) << bits);
+        if let Some(slot) = self.slots.get_mut(first + at) {
             *slot = (hash & !self.mask) | (next & self.mask);
         }
     }
@@ -123,7 +128,7 @@ impl IdHints {
         let mask = self.mask.saturating_mul(2) | FIRST_MASK;
         let mut grown = IdHints {
             alloc: self.alloc,
-            tags: vec![in self.alloc; 0; mask as usize + 1]?,
+            tags: vec![in self.alloc; 0; mask as usize / PLACES + 1]?,
             slots: vec![in self.alloc; 0; mask as usize + 1]?,
             mask,
         };
@@ -147,7 +152,7 @@ impl IdHints {
             *self = grown;
         }
         if number < self.mask {
-            self.put(hash_of(id), number + 1);
+            self.put(hash_of(id.as_bytes()), number + 1);
         }
     }
 }

@@ -3,6 +3,7 @@
 #![tactic(auto)]
 
 mod guesses;
+mod hash;
 mod id_hints;
 mod id_order;
 mod id_pages;

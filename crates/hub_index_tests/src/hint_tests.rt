@@ -79,15 +79,15 @@ fn most_are_found_after_growth(rt: HostRuntime) -> Result<(), Fail> {
 }
 
 // Texts whose hashes all begin at the same one of 32 slots.
-const COLLIDING: &str = "00001 00011 00017 00018 00020 00025 00027 00032 00035 00038 00041 00043";
+const COLLIDING: &str = "00001 00007 00010 00015 00018 00020 00021 00027 00030 00033 00034 00039";
 
 #[test]
 fn of_ids_that_collide_each_place_has_one(rt: HostRuntime) -> Result<(), Fail> {
     let (ids, hints) = listed(rt.alloc(), COLLIDING)?;
     same(&rt, &found(&ids, &hints), &8);
     same(&rt, &hints.find(&ids, "00001"), &None);
-    same(&rt, &hints.find(&ids, "00011"), &Some(1));
-    same(&rt, &hints.find(&ids, "00043"), &Some(11));
+    same(&rt, &hints.find(&ids, "00007"), &Some(1));
+    same(&rt, &hints.find(&ids, "00039"), &Some(11));
     Ok(())
 }
 

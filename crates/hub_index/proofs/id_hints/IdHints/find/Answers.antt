@@ -16,8 +16,8 @@ numbered ids id n is some = from (cases_lt n (length ids))
         let none : length id ≡ 0 = ap length (sym is ∙ get_or_past ids n [] past) in
         absurd (omega arith)
 
-pub returns-in-loop-at : goal.returns-in-loop-at
-returns-in-loop-at g c =
+pub returns-in-loop-places : goal.returns-in-loop-places
+returns-in-loop-places g c =
     let ids = g.N.Named.ids c.args.names.now in
     let id = c.args.id.now in
     let is : id_at ids c.in-Some.number ≡ id =
