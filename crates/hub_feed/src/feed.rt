@@ -5,6 +5,7 @@ ghost use Rattle.std.specs.Prelude.{List, Some, true, Contains, string_bytes, If
 ghost use Rattle.hub_model.specs.Feed.{Open, new_feed, next_due, is_in_reach, is_open, bound_of, bound_after};
 ghost use Rattle.hub_model.specs.Feed.{status_after, feed_after_due, after_nothing, after_row, is_beat_allowed, expired_feed};
 ghost use Rattle.hub_model.specs.Feed.{end};
+ghost use Rattle.hub_model.specs.Filter.{Everything};
 ghost use Rattle.hub_model.specs.Hand.{item_of_due};
 ghost use Rattle.hub_model.specs.declared.feeds.Item.TheVariants.{End};
 ghost use Rattle.hub_model.specs.Current.{Current, pending};
@@ -225,6 +226,17 @@ impl FeedState {
         None
     }
 
+    // The sequence of the first row in reach of a feed that shows every document. It costs a step of the source.
+    fn first_ahead<S: Source>(&self, source: &S) -> Option<u64>
+        requires { self.now.params.filter ≡ Everything }
+        ensures { result ≡ option_map (λ c. c.seq) (find (is_in_reach self.now) (S.current source.now)) }
+    {
+        match source.next_after(self.place, self.bound) {
+            Some((seq, _)) => Some(seq),
+            None => None,
+        }
+    }
+
     /// The sequence of the first row in reach of an open feed. It costs a step of the source for each row
     /// that does not pass, and one more. With listed ids there are at most as many steps as ids, and then a
     /// `Source::next_of` for each id.
@@ -236,10 +248,11 @@ impl FeedState {
             return None;
         }
         let length = source.length();
-        let Filter::DocIds(ids) = &self.params.filter else {
-            return self.first_until(source, length);
+        let ids = match &self.params.filter {
+            Filter::All => return self.first_ahead(source),
+            Filter::Design => return self.first_until(source, length),
+            Filter::DocIds(ids) => ids.as_slice(),
         };
-        let ids = ids.as_slice();
         let few = self.place.saturating_add(ids.len() as u64);
         if length <= few {
             return self.first_until(source, length);
