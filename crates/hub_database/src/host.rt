@@ -185,11 +185,10 @@ impl DbState {
             .hand_at(&self.contents, feed, at, first, handle, sink)
     }
 
-    /// The sequence of the first row in reach of the feed at this place of the list, if it is open. Where
-    /// its rows are kept already, the cost is that of `Listing::first_between`. Where it lists fewer than twice
-    /// as many documents as edits lie above its place, `Listing::holds` is asked before, which may find them: a
-    /// find costs less than half of a search of the list for an edit. Else the cost is that of
-    /// `FeedState::first_of_open`.
+    /// The sequence of the first row in reach of the feed at this place of the list, if it is open. Where it
+    /// lists documents and its rows are kept, the cost is that of `Listing::first_between`. They may be found
+    /// where the feed lists fewer than twice as many documents as edits lie above its place: a find costs less
+    /// than half of a search of the list for an edit. Else the cost is that of `FeedState::first_of_open`.
     pub(crate) fn first_at(&mut self, feed: FeedId, at: usize) -> Option<u64>
         requires placed { Some at ≡ position (is_of feed.number) self.old.feeds }
         ensures same { self.new ≡ self.old }
@@ -197,11 +196,12 @@ impl DbState {
     {
         let state = self.feeds.state_at(feed, at);
         if let Some(ids) = state.listed() {
-            let kept = self.listing.feed == Some(feed.number);
-            let few = state.place().saturating_add(ids.len() as u64 / 2);
+            let half = state.place().saturating_add(ids.len() as u64 / 2);
+            let is_short = half < self.contents.length();
             if state.is_open()
-                && (kept || self.contents.length() > few)
-                && self.listing.holds(feed.number, &self.contents, ids)
+                && self
+                    .listing
+                    .holds(feed.number, &self.contents, ids, is_short)
             {
                 return self.listing.first_between(state.place(), state.bound());
             }

@@ -92,11 +92,17 @@ impl Listing {
         Ok(())
     }
 
-    /// Whether the rows of the feed of this number, which lists these ids, are kept. They are found where
-    /// the feed asks twice with no write and no other such feed between: else feeds that ask by turns would
-    /// find theirs for one step alone. To find them costs a search for each id, and a sort of the rows. Out
-    /// of memory they are not kept. Once they are kept, the time is constant.
-    pub(crate) fn holds(&mut self, number: u64, contents: &Contents, ids: &[String]) -> bool
+    /// Whether the rows of the feed of this number, which lists these ids, are kept. A short list's are found
+    /// where the feed asks twice with no write and no other such feed between: else feeds that ask by turns
+    /// would find theirs for one step alone. To find them costs a search for each id, and a sort of the rows.
+    /// Out of memory they are not kept. Once they are kept, the time is constant.
+    pub(crate) fn holds(
+        &mut self,
+        number: u64,
+        contents: &Contents,
+        ids: &[String],
+        is_short: bool,
+    ) -> bool
         requires kept { self.old.feed ≡ Some number
             → self.old.rows.items ≡ passing_sequences (DocIds (map string_bytes ids.now)) contents.now.journal }
         ensures held { IsTrue result
@@ -104,12 +110,9 @@ impl Listing {
         ensures new { KeepsOrLists number (DocIds (map string_bytes ids.now)) contents.now.journal
             self.old self.new }
     {
-        let again = self.asked == Some(number);
-        self.asked = Some(number);
-        if self.feed == Some(number) {
-            return true;
-        }
-        again && self.list(number, contents, ids).is_ok()
+        let is_kept = self.feed == Some(number);
+        let asked = self.asked.replace(number);
+        is_kept || (is_short && asked == Some(number) && self.list(number, contents, ids).is_ok())
     }
 
     // Whether no row before this index is above a place, and each from it on is. Constant time: the two rows

@@ -1,6 +1,9 @@
 -- A digest and its text.
-use Rattle.std.proofs.Common.{◌≡◌, ℕ, ◌-◌, ◌*◌, ◌<◌, ◌≤◌, ◌^◌, Bool, false, List, [], ◌∷◌, ◌++◌, length}
-use Rattle.std.proofs.Common.{take, replicate, sym, ap, ◌∙◌, subst, append_assoc, decimal}
+use Rattle.std.proofs.Common.{◌≡◌, ◌⊎◌, ℕ, ◌+◌, ◌-◌, ◌*◌, ◌<◌, ◌≤◌, ◌^◌, Bool, false, List, [], ◌∷◌, ◌++◌, length}
+use Rattle.std.proofs.Common.{take, replicate, sym, ap, ◌∙◌, subst, append_assoc, decimal, slice_index, slice_set}
+use Rattle.std.proofs.Common.{inl, inr, arith}
+use Rattle.std.proofs.lemmas.Bool.{cases_lt}
+use Rattle.std.proofs.lemmas.List.{get_or-set_same, get_or-set_other}
 use Rattle.std.specs.Prelude.{Option, Some, None, Result}
 use Rattle.std.specs.Str.{bytes_eq}
 use Rattle.std.proofs.lemmas.Bool.{both_ways}
@@ -62,3 +65,16 @@ module _ (hash : List ℕ) (read : Result (List ℕ) FromHexError) (is : read �
       let one : found ≡ d = same_Some found d (got ∙ text_read) in
       both_ways _ (sym says ∙ other)
       ((bytes_eq-Decides hash (encode_lower found)).1 (same ∙ ap encode_lower (sym one)))
+
+-- A list has the number of f at each place below n. Where the number at n is set, it has the number of f at each
+-- place below n + 1.
+pub set_next : (f : ℕ → ℕ) (xs : List ℕ) (n x : ℕ) → n < length xs → x ≡ f n
+    → ((i : ℕ) → i < n → slice_index xs i ≡ f i)
+    → (i : ℕ) → i < n + 1 → slice_index (slice_set xs n x) i ≡ f i
+set_next f xs n x room is before i within = from (cases_lt i n)
+  where
+    from : (i < n) ⊎ (n ≤ i) → slice_index (slice_set xs n x) i ≡ f i
+    from (inl low) = get_or-set_other xs n i x 0 (λ same. absurd (omega (arith, same, low))) ∙ before i low
+    from (inr past) =
+        let same : i ≡ n = omega (arith, within, past) in
+        subst (λ j. slice_index (slice_set xs n x) j ≡ f j) (sym same) (get_or-set_same xs n x 0 room ∙ is)

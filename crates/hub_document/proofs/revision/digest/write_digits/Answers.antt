@@ -8,7 +8,9 @@ loop-at-preserved c =
     encode_step lower_digits c.args.digest.now c.loop-at.letters c.loop-at.at _ _
     (omega (arith, c.told-digest, c.loop-at-test.true))
     (omega (arith, c.requires, c.loop-at.auto.letters, c.loop-at-test.true))
-    c.digit-high.ensures c.digit-low.ensures c.loop-at.invariant
+    (c.high_digits-high.ensures c.loop-at.at (omega (arith, c.loop-at-test.true)))
+    (c.low_digits-low.ensures c.loop-at.at (omega (arith, c.loop-at-test.true)))
+    c.loop-at.invariant
 
 pub returns : goal.returns
 returns c =
