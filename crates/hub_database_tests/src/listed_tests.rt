@@ -199,4 +199,29 @@ Nothing
 > hand 2 times 2
 Row 302/302 95 1-b
 Nothing
+
+# a list as long as the edits ahead keeps its rows, and one that is longer than twice as long looks at each edit
+> next times 300
+> state
+seq 300, length 300, life 6, stands
+> open since=296&filter=_doc_ids&doc_ids=["300","299","297","2","1"]
+feed 0
+> open feed=continuous&since=298&filter=_doc_ids&doc_ids=["300","299","5","4","3","2","1"]
+feed 1
+> hand 0 times 2
+Row 297/300 297 1-a
+Row 299/300 299 1-a
+> hand 1 times 3
+Row 299/300 299 1-a
+Row 300/300 300 1-a
+Nothing
+> hand 0 times 3
+Row 300/300 300 1-a
+End 300, 0 pending
+Gone
+> merge {"_id":"4","_rev":"1-b"}
+seq 301
+> hand 1 times 2
+Row 301/301 4 1-b
+Nothing
 "#;
