@@ -15,3 +15,4 @@ pub mod ChangeTexts
 pub mod UpdateTexts
 pub mod Items
 pub mod MethodNames
+pub mod Buffers

@@ -1,8 +1,9 @@
 //! Chunks that are written to a writer.
 
-ghost use Rattle.std.specs.Prelude.{◌≡◌, ◌<◌, ◌≤◌, [], ◌∷◌, ◌++◌, drop};
-ghost use Rattle.std.specs.Prelude.{false, length, IfOk, IsErrOf};
+ghost use Rattle.std.specs.Prelude.{◌≡◌, ◌+◌, ◌<◌, ◌≤◌, [], ◌∷◌, ◌++◌, drop, take};
+ghost use Rattle.std.specs.Prelude.{false, length, OnOk, IsErrOf};
 ghost use Rattle.std.specs.Fmt.{digit_glyph, digits};
+ghost use Rattle.hub_document.specs.Appends.{Appends};
 ghost use Rattle.hub_http.specs.Chunks.{WritesTo, text_chunks};
 
 use crate::output::{Output, write_all};
@@ -54,47 +55,83 @@ fn put_head(bytes: &mut [u8], size: usize) -> usize
     at
 }
 
-/// Writes texts as chunks (RFC 9112, section 7.1), each by one write where the writer takes all of it. A text
-/// is made in the buffer from which its chunk is written, and is not copied.
+/// The length of a head with two digits, CR and LF.
+const SHORT: usize = 4;
+
+// Puts the head of a chunk of `size` bytes in place of the four bytes from a place on. The bytes behind them are
+// moved where the size has not two digits.
+fn put_any_head(out: &mut Vec<u8>, start: usize, size: usize) -> Result<(), AllocError>
+    requires { start + 4 ≤ length out.old.items }
+    ensures ok { OnOk result (out.new.items ≡ take start out.old.items
+        ++ (digits 16 false size ++ (13 ∷ 10 ∷ drop (start + 4) out.old.items))) }
+    ensures front { take start out.new.items ≡ take start out.old.items }
+{
+    let mut head = [b'0'; ROOM];
+    let at = put_head(&mut head, size);
+    let count = ROOM - at;
+    if count < SHORT {
+        out.remove(start);
+    }
+    for _ in SHORT..count {
+        out.insert(start, b'0')?;
+    }
+    out[start..start + count].copy_from_slice(&head[at..]);
+    Ok(())
+}
+
+// As `put_any_head`. CR and LF stand there already, and a size of two digits is written without a move.
+fn set_head(out: &mut Vec<u8>, start: usize, size: usize) -> Result<(), AllocError>
+    requires place { start + 4 ≤ length out.old.items }
+    requires behind { drop (start + 2) out.old.items ≡ 13 ∷ 10 ∷ drop (start + 4) out.old.items }
+    ensures ok { OnOk result (out.new.items ≡ take start out.old.items
+        ++ (digits 16 false size ++ (13 ∷ 10 ∷ drop (start + 4) out.old.items))) }
+    ensures front { take start out.new.items ≡ take start out.old.items }
+{
+    if size < 16 || size >= 256 {
+        return put_any_head(out, start, size);
+    }
+    out[start] = digit(size / 16);
+    out[start + 1] = digit(size % 16);
+    Ok(())
+}
+
+/// Appends the chunk of a text (RFC 9112, section 7.1), and nothing for an empty text. Out of memory, the vector
+/// keeps its old bytes, and a part of the chunk may follow them. The cost is the text's length. The text is made
+/// where its chunk lies, behind room for two digits of its size. It is moved where the size has not two digits.
+pub(crate) fn append_chunk<T: Text>(out: &mut Vec<u8>, text: &T) -> Result<(), AllocError>
+    ensures { Appends (text_chunks (T.bytes text.now)) result out.old.items out.new.items }
+{
+    let start = out.len();
+    out.extend_from_slice(b"00\r\n")?;
+    text.append(out)?;
+    let size = out.len() - start - SHORT;
+    if size == 0 {
+        out.truncate(start);
+        return Ok(());
+    }
+    out.extend_from_slice(b"\r\n")?;
+    set_head(out, start, size)
+}
+
+/// Writes texts as chunks (RFC 9112, section 7.1). A writer may have a place of its own where a chunk is made
+/// (`Output::write_chunk`). For other writers the chunk is made in a buffer here, and written by one write where
+/// the writer takes all of it.
 #[derive(Debug, Drop)]
 pub struct ChunkWriter {
-    /// Room for the head of a chunk, and behind it the text and the end of the chunk.
     buffer: Vec<u8>,
 }
 
 impl ChunkWriter {
-    /// A writer of chunks. It costs nothing: the first text allocates.
+    /// A writer of chunks. It costs nothing: the first text that needs the buffer allocates.
     pub fn new(alloc: Global) -> ChunkWriter {
         ChunkWriter {
             buffer: Vec::new(alloc),
         }
     }
 
-    /// Whether the writer of chunks has memory of its own, as after its first text. Constant time.
-    pub fn has_room(&self) -> bool {
-        self.buffer.capacity() > 0
-    }
-
-    /// Makes the chunk of a text behind the room for its head, and answers the place where the chunk begins.
-    /// For an empty text that is the buffer's end. Two pushes cost less than an append of two bytes.
-    fn put<T: Text>(&mut self, text: &T) -> Result<usize, AllocError>
-        ensures { IfOk result (λ start. (start ≤ length self.new.buffer.items)
-            × (drop start self.new.buffer.items ≡ text_chunks (T.bytes text.now))) }
-    {
-        self.buffer.resize(ROOM, b'0')?;
-        text.append(&mut self.buffer)?;
-        let size = self.buffer.len() - ROOM;
-        if size == 0 {
-            return Ok(ROOM);
-        }
-        self.buffer.push(b'\r')?;
-        self.buffer.push(b'\n')?;
-        Ok(put_head(self.buffer.as_mut_slice(), size))
-    }
-
-    /// Writes a text as one chunk. For an empty text, and out of memory, the writer is not called. Nothing is
-    /// flushed. The cost is the text's length. The first text takes memory, and so does a text that is longer
-    /// than each before.
+    /// Writes a text as one chunk. For an empty text, and out of memory, the writer stays as it is. Nothing is
+    /// flushed. The cost is the text's length. Memory is taken as the writer takes it for its own bytes, and for
+    /// another writer by the first text, and by a text that is longer than each before.
     pub fn write<T: Text, W: Output>(&mut self, writer: &mut W, text: &T) -> Result<(), ChunkFault>
         ensures sent { WritesTo W.written W.fault_count W.failure_count result writer.old writer.new
             (text_chunks (T.bytes text.now)) }
@@ -102,14 +139,16 @@ impl ChunkWriter {
         ensures empty { T.bytes text.now ≡ []
             → (writer.new ≡ writer.old) × ¬ (IsErrOf result ChunkFault.IoFault) }
     {
-        let Ok(start) = self.put(text) else {
-            return Err(ChunkFault::NoMemory);
-        };
-        let chunk = &self.buffer.as_slice()[start..];
-        if chunk.is_empty() {
-            return Ok(());
+        match writer.write_chunk(text) {
+            Some(Ok(())) => return Ok(()),
+            Some(Err(AllocError)) => return Err(ChunkFault::NoMemory),
+            None => {}
         }
-        match write_all(writer, chunk) {
+        self.buffer.clear();
+        if append_chunk(&mut self.buffer, text).is_err() {
+            return Err(ChunkFault::NoMemory);
+        }
+        match write_all(writer, self.buffer.as_slice()) {
             Ok(()) => Ok(()),
             Err(_) => Err(ChunkFault::IoFault),
         }

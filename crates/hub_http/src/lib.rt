@@ -2,6 +2,7 @@
 #![tactic(auto)]
 
 mod block;
+mod buffered;
 mod change_text;
 mod chunk;
 mod connection;
@@ -28,6 +29,7 @@ mod tally;
 mod text;
 mod update_text;
 
+pub use buffered::Buffered;
 pub use chunk::{ChunkFault, ChunkWriter};
 pub use fault::HttpFault;
 pub use fixed::stream_head_text;

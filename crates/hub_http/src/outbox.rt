@@ -7,6 +7,7 @@ ghost use Rattle.hub_http.specs.Boxes.{Transfers, HasLeft, pending_in, faults_in
 use crate::output::Output;
 use crate::pending::Pending;
 use crate::tally::bump;
+use crate::text::Text;
 use std::alloc::{AllocError, Global};
 use std::io;
 use std::io::{ErrorKind, Write};
@@ -166,6 +167,13 @@ impl Output for Outbox {
         }
         self.moved = Pending::new(bytes);
         None
+    }
+
+    fn write_chunk<T: Text>(&mut self, text: &T) -> Option<Result<(), AllocError>> {
+        if !self.moved.is_empty() {
+            return None;
+        }
+        Some(self.texts.put_chunk(text))
     }
 
     fn flush(&mut self) -> io::Result<()> {

@@ -1,12 +1,15 @@
 //! The writers that replies go to.
 ghost use Rattle.std.specs.Prelude.{◌≡◌, ℕ, List, [], Option, is_err};
-ghost use Rattle.std.specs.Prelude.{IfNone, IfSome, OnOk, IsErr};
+ghost use Rattle.std.specs.Prelude.{IfNone, IfSome, MatchResult, OnOk, IsErr};
 ghost use Rattle.std.specs.Io.{WritesAtMost};
 ghost use Rattle.std.specs.IoError.{error_kind};
 ghost use Rattle.std.specs.Io.KnownBytes.{Keeps, Appends, WriteAppends};
 ghost use Rattle.hub_http.specs.Counts.{one_more_if, write_faulted, write_failed, call_failed};
 ghost use Rattle.hub_http.specs.Counts.{is_interruption, CallCounts, AppendsFront, SendsTo};
+ghost use Rattle.hub_http.specs.Chunks.{text_chunks};
 
+use crate::text::Text;
+use std::alloc::AllocError;
 use std::io;
 use std::io::ErrorKind;
 use thiserror::Error;
@@ -41,6 +44,22 @@ pub trait Output {
         ensures failures { failure_count self.new ≡ failure_count self.old }
     {
         Some(bytes)
+    }
+
+    /// Writes a text as one chunk that is made where the writer keeps its bytes, so that no byte is copied. `None`
+    /// says that nothing changed: the chunk is to be written as other bytes are. A writer without bytes of its own
+    /// answers so, as this body does. Out of memory nothing changes, and no fault is counted. For an empty text
+    /// nothing changes.
+    fn write_chunk<T: Text>(&mut self, text: &T) -> Option<Result<(), AllocError>>
+        ensures some { IfSome result (λ did. MatchResult did
+            (λ _. Appends (written self.old) (written self.new) (text_chunks (T.bytes text.now)))
+            (λ _. self.new ≡ self.old)) }
+        ensures empty { T.bytes text.now ≡ [] → self.new ≡ self.old }
+        ensures none { IfNone result (self.new ≡ self.old) }
+        ensures faults { fault_count self.new ≡ fault_count self.old }
+        ensures failures { failure_count self.new ≡ failure_count self.old }
+    {
+        None
     }
 
     /// Hands on the bytes that were written and not handed on yet.

@@ -2,8 +2,11 @@
 ghost use Rattle.std.specs.Prelude.{◌≡◌, ◌<◌, ◌≤◌, ◌+◌, [], length, take, drop};
 ghost use Rattle.std.specs.Prelude.{min, max, IfOk, IsTrue, IsFalse, OnErr};
 ghost use Rattle.hub_document.specs.Appends.{AppendsWhole};
+ghost use Rattle.hub_http.specs.Chunks.{text_chunks};
 
 use crate::block::BLOCK;
+use crate::chunk::append_chunk;
+use crate::text::Text;
 use std::alloc::{AllocError, Global};
 use std::marker::Model;
 use std::mem;
@@ -115,6 +118,20 @@ impl Pending {
     {
         self.compact();
         self.bytes.extend_from_slice(bytes)
+    }
+
+    /// Puts the chunk of a text behind the bytes that are left, and nothing for an empty text. The text is made
+    /// where it lies. An error changes nothing.
+    pub(crate) fn put_chunk<T: Text>(&mut self, text: &T) -> Result<(), AllocError>
+        ensures { AppendsWhole (text_chunks (T.bytes text.now)) result self.old self.new }
+    {
+        self.compact();
+        let len = self.bytes.len();
+        let done = append_chunk(&mut self.bytes, text);
+        if done.is_err() {
+            self.bytes.truncate(len);
+        }
+        done
     }
 
     /// Makes room on the way to `wanted` bytes, and answers how many bytes may then be left. It is twice the

@@ -1,6 +1,7 @@
 //! Texts that are made in a buffer.
 
-ghost use Rattle.std.specs.Prelude.{◌≡◌, ◌++◌, ℕ, List, OnOk};
+ghost use Rattle.std.specs.Prelude.{ℕ, List};
+ghost use Rattle.hub_document.specs.Appends.{Appends};
 
 use std::alloc::AllocError;
 
@@ -9,9 +10,10 @@ pub trait Text {
     /// The bytes of the text.
     ghost bytes: { Self → List ℕ };
 
-    /// Appends the bytes. After an error the buffer holds nothing of use. It costs the text's length.
+    /// Appends the bytes. Out of memory, the buffer keeps its old bytes, and a part of the text may follow them. It
+    /// costs the text's length.
     fn append(&self, buffer: &mut Vec<u8>) -> Result<(), AllocError>
-        ensures { OnOk result (buffer.new.items ≡ buffer.old.items ++ bytes self.now) };
+        ensures { Appends (bytes self.now) result buffer.old.items buffer.new.items };
 }
 
 impl Text for &[u8] {
