@@ -58,8 +58,25 @@ fn put_head(bytes: &mut [u8], size: usize) -> usize
 /// The length of a head with two digits, CR and LF.
 const SHORT: usize = 4;
 
+// Puts a text in place of the four bytes from a place on, and moves the bytes behind them by the difference.
+fn replace_four(out: &mut Vec<u8>, start: usize, text: &[u8]) -> Result<(), AllocError>
+    requires { start + 4 ≤ length out.old.items }
+    ensures ok { OnOk result (out.new.items
+        ≡ take start out.old.items ++ (text.now ++ drop (start + 4) out.old.items)) }
+    ensures front { take start out.new.items ≡ take start out.old.items }
+{
+    let len = out.len();
+    out.extend_from_slice(text)?;
+    let end = start + text.len();
+    out.copy_within(start + SHORT..len, end);
+    out[start..end].copy_from_slice(text);
+    out.truncate(len - SHORT + text.len());
+    Ok(())
+}
+
 // Puts the head of a chunk of `size` bytes in place of the four bytes from a place on. The bytes behind them are
 // moved where the size has not two digits.
+#[inline(never)]
 fn put_any_head(out: &mut Vec<u8>, start: usize, size: usize) -> Result<(), AllocError>
     requires { start + 4 ≤ length out.old.items }
     ensures ok { OnOk result (out.new.items ≡ take start out.old.items
@@ -68,15 +85,7 @@ fn put_any_head(out: &mut Vec<u8>, start: usize, size: usize) -> Result<(), Allo
 {
     let mut head = [b'0'; ROOM];
     let at = put_head(&mut head, size);
-    let count = ROOM - at;
-    if count < SHORT {
-        out.remove(start);
-    }
-    for _ in SHORT..count {
-        out.insert(start, b'0')?;
-    }
-    out[start..start + count].copy_from_slice(&head[at..]);
-    Ok(())
+    replace_four(out, start, &head[at..])
 }
 
 // As `put_any_head`. CR and LF stand there already, and a size of two digits is written without a move.
