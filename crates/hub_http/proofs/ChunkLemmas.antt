@@ -3,11 +3,14 @@ use Rattle.std.proofs.Common.{◌≡◌, ℕ, zero, suc, ◌+◌, ◌-◌, ◌*�
 use Rattle.std.proofs.Common.{◌≤◌, ◌==◌, Bool, true, false, cond, List, [], ◌∷◌, ◌++◌}
 use Rattle.std.proofs.Common.{length, take, drop, refl, sym, ap, subst, ◌∙◌, arith}
 use Rattle.std.proofs.lemmas.Bool.Decides.{nat_tests}
-use Rattle.std.proofs.lemmas.List.{drop-set, drop-append-le, length-drop, length-set}
+use Rattle.std.proofs.Common.{append_assoc, length-append, Result, OnOk}
+use Rattle.std.proofs.lemmas.List.{drop-set, drop-set-lt, take-set, take_more_set, take-append-drop, length-set}
+use Rattle.std.proofs.lemmas.Result.{on_ok_weaker}
 use Rattle.std.proofs.Math.ListN.{set}
 use Rattle.std.proofs.Math.Nat.{pow-succ'}
-use lib.Seq.{take-append_seam}
+use lib.Seq.{take-append_seam, drop-append-add}
 use Rattle.std.specs.Fmt.{digit_glyph, digits, digits_onto}
+use Rattle.hub_document.specs.Appends.{Appends}
 use Rattle.hub_document.proofs.WriteLemmas.{three_parts}
 use Rattle.hub_http.specs.Texts.{chunk_text}
 use Rattle.hub_http.specs.Chunks.{text_chunks}
@@ -126,21 +129,62 @@ ended text size e =
     ap (λ n. digits 16 false n ++ (13 ∷ 10 ∷ (text ++ 13 ∷ 10 ∷ []))) (sym e)
     ∙ sym (three_parts (digits 16 false (length text)) (13 ∷ 10 ∷ []) text (13 ∷ 10 ∷ []))
 
--- the whole chunk
-pub chunk_made : (held ext new : List ℕ) (start size : ℕ) → 18 < length held → ext ≡ held ++ 13 ∷ 10 ∷ []
-    → size ≡ length held
-    → drop start new ≡ digits 16 false (size - 18) ++ (13 ∷ 10 ∷ drop 18 ext)
-    → drop start new ≡ text_chunks (drop 18 held)
-chunk_made held ext new start size room e long h =
-    let n : length (drop 18 held) ≡ size - 18 = omega (arith, length-drop 18 held) in
-    let le : 18 ≤ length held = omega arith in
-    h ∙ ap (λ l. digits 16 false (size - 18) ++ (13 ∷ 10 ∷ drop 18 l)) e
-    ∙ ap (λ l. digits 16 false (size - 18) ++ (13 ∷ 10 ∷ l)) (drop-append-le 18 held (13 ∷ 10 ∷ []) le)
-    ∙ ended (drop 18 held) (size - 18) n
-    ∙ sym (some_text (drop 18 held) (omega (arith, length-drop 18 held)))
+-- a number below 256 that has two digits
+pub two_digits : (n : ℕ) → 16 ≤ n → n < 256
+    → digits 16 false n ≡ digit_glyph false (n / 16) ∷ digit_glyph false (n % 16) ∷ []
+unfolding digits
+two_digits n big small =
+    one_more 63 n [] big ∙ last_one 62 (n / 16) (digit_glyph false (n % 16) ∷ []) (omega arith)
 
--- the first n bytes are the whole front, where the front has n bytes
-pub lent_whole : (ys rest text : List ℕ) (n start : ℕ) → length ys ≡ n → drop start ys ≡ text
-    → drop start (take n (ys ++ rest)) ≡ text
-lent_whole ys rest text n start long e =
-    ap (drop start) (ap (λ k. take k (ys ++ rest)) (sym long) ∙ take-append_seam ys rest) ∙ e
+-- two bytes that are written one behind the other
+two_written : (bytes : List ℕ) (at a b : ℕ) → at + 4 ≤ length bytes
+    → set (set bytes at a) (at + 1) b ≡ take at bytes ++ (a ∷ b ∷ drop (at + 2) bytes)
+two_written bytes at a b room =
+    let first : List ℕ = set bytes at a in
+    let long : at + 1 < length first = omega (arith, length-set bytes at a) in
+    let e : at + 1 + 1 ≡ at + 2 = omega arith in
+    sym (take-append-drop (at + 1) (set first (at + 1) b))
+    ∙ ap (λ l. l ++ drop (at + 1) (set first (at + 1) b))
+    (take-set first (at + 1) b ∙ take_more_set bytes at a (omega arith))
+    ∙ ap (λ l. (take at bytes ++ a ∷ []) ++ l)
+    (drop-set first (at + 1) b long
+    ∙ ap (λ l. b ∷ l) (ap (λ n. drop n first) e ∙ drop-set-lt (at + 2) bytes at a (omega arith)))
+    ∙ append_assoc (take at bytes) (a ∷ []) (b ∷ drop (at + 2) bytes)
+
+-- a size of two digits, where CR and LF stand behind its place
+pub head_set : (bytes : List ℕ) (at size a b : ℕ) → at + 4 ≤ length bytes
+    → drop (at + 2) bytes ≡ 13 ∷ 10 ∷ drop (at + 4) bytes → 16 ≤ size → size < 256
+    → a ≡ digit_glyph false (size / 16) → b ≡ digit_glyph false (size % 16)
+    → set (set bytes at a) (at + 1) b
+    ≡ take at bytes ++ (digits 16 false size ++ (13 ∷ 10 ∷ drop (at + 4) bytes))
+head_set bytes at size a b room behind big small high low =
+    two_written bytes at a b room
+    ∙ ap (λ l. take at bytes ++ (a ∷ b ∷ l)) behind
+    ∙ ap (λ x. take at bytes ++ (x ∷ b ∷ 13 ∷ 10 ∷ drop (at + 4) bytes)) high
+    ∙ ap (λ x. take at bytes ++ (digit_glyph false (size / 16) ∷ x ∷ 13 ∷ 10 ∷ drop (at + 4) bytes)) low
+    ∙ ap (λ l. take at bytes ++ (l ++ (13 ∷ 10 ∷ drop (at + 4) bytes))) (sym (two_digits size big small))
+
+-- The head in place of the first four bytes behind the old bytes makes a chunk of the text behind them. The
+-- four bytes are `00`, CR and LF.
+pub chunk_made : {E : Type 0} (r : Result (Unit {0}) E) (old text held whole new : List ℕ)
+    (start size : ℕ) → start ≡ length old → length held ≡ start + 4 + size → 0 < size
+    → held ≡ (old ++ 48 ∷ 48 ∷ 13 ∷ 10 ∷ []) ++ text → whole ≡ held ++ 13 ∷ 10 ∷ []
+    → OnOk r (new ≡ take start whole ++ (digits 16 false size ++ (13 ∷ 10 ∷ drop (start + 4) whole)))
+    → take start new ≡ take start whole → Appends (text_chunks text) r old new
+chunk_made r old text held whole new start size place long some is end ok front =
+    let all : whole ≡ old ++ (48 ∷ 48 ∷ 13 ∷ 10 ∷ (text ++ 13 ∷ 10 ∷ [])) =
+    end ∙ ap (λ l. l ++ 13 ∷ 10 ∷ []) is
+    ∙ three_parts old (48 ∷ 48 ∷ 13 ∷ 10 ∷ []) text (13 ∷ 10 ∷ []) in
+    let before : take start whole ≡ old =
+    ap (λ n. take n whole) place ∙ ap (take (length old)) all ∙ take-append_seam old _ in
+    let behind : drop (start + 4) whole ≡ text ++ 13 ∷ 10 ∷ [] =
+    ap (λ n. drop (n + 4) whole) place ∙ ap (drop (length old + 4)) all ∙ drop-append-add old _ 4 in
+    let n : length text ≡ size = omega (arith, long, place, ap length is,
+      length-append (old ++ 48 ∷ 48 ∷ 13 ∷ 10 ∷ []) text, length-append old (48 ∷ 48 ∷ 13 ∷ 10 ∷ [])) in
+    record {
+      ok = on_ok_weaker r (λ e. e
+          ∙ ap (λ l. l ++ (digits 16 false size ++ (13 ∷ 10 ∷ drop (start + 4) whole))) before
+          ∙ ap (λ l. old ++ (digits 16 false size ++ (13 ∷ 10 ∷ l))) behind
+          ∙ ap (λ l. old ++ l) (ended text size n ∙ sym (some_text text (omega (arith, n, some))))) ok;
+      front = ap (λ k. take k new) (sym place) ∙ front ∙ before;
+    }

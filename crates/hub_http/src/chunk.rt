@@ -157,6 +157,9 @@ impl ChunkWriter {
         if append_chunk(&mut self.buffer, text).is_err() {
             return Err(ChunkFault::NoMemory);
         }
+        if self.buffer.is_empty() {
+            return Ok(());
+        }
         match write_all(writer, self.buffer.as_slice()) {
             Ok(()) => Ok(()),
             Err(_) => Err(ChunkFault::IoFault),
