@@ -179,8 +179,14 @@ chunk_made r old text held whole new start size place long some is end ok front 
     ap (λ n. take n whole) place ∙ ap (take (length old)) all ∙ take-append_seam old _ in
     let behind : drop (start + 4) whole ≡ text ++ 13 ∷ 10 ∷ [] =
     ap (λ n. drop (n + 4) whole) place ∙ ap (drop (length old + 4)) all ∙ drop-append-add old _ 4 in
-    let n : length text ≡ size = omega (arith, long, place, ap length is,
-      length-append (old ++ 48 ∷ 48 ∷ 13 ∷ 10 ∷ []) text, length-append old (48 ∷ 48 ∷ 13 ∷ 10 ∷ [])) in
+    let n : length text ≡ size = omega (
+      arith,
+      long,
+      place,
+      ap length is,
+      length-append (old ++ 48 ∷ 48 ∷ 13 ∷ 10 ∷ []) text,
+      length-append old (48 ∷ 48 ∷ 13 ∷ 10 ∷ []),
+    ) in
     record {
       ok = on_ok_weaker r (λ e. e
           ∙ ap (λ l. l ++ (digits 16 false size ++ (13 ∷ 10 ∷ drop (start + 4) whole))) before
