@@ -9,20 +9,16 @@ mod tests;
 use answering::answer;
 use command::Command;
 use hub_document::Limits;
-use hub_http::{Requests, Tally};
+use hub_http::{Buffered, Requests, Tally};
 use hub_server::{Uptime, run_server};
 use hub_shared::{Gate, Point};
 use std::alloc::Global;
-use std::io::BufWriter;
 use std::net::{Net, TcpListener, TcpStream};
 use std::process::ExitCode;
 use std::sync::Wait;
 use std::thread::Threads;
 use std::time::Clock;
 use std::{env, io};
-
-/// The size of the buffer of standard output, in bytes.
-const OUTPUT: usize = 65_536;
 
 /// The words of the command line, without the program's own name.
 fn words(rt: &HostRuntime) -> io::Result<Vec<String>> {
@@ -67,8 +63,8 @@ fn main(rt: HostRuntime) -> io::Result<ExitCode> {
     match Command::read(words(&rt)?) {
         Some(Command::Stdin) => {
             let mut requests = Requests::new(rt.alloc(), Tally::new(rt.stdin()));
-            let output = BufWriter::with_capacity(rt.alloc(), OUTPUT, rt.stdout())?;
-            answer(&rt, rt.alloc(), &mut requests, &mut Tally::new(output))
+            let mut output = Buffered::new(rt.alloc(), rt.stdout());
+            answer(&rt, rt.alloc(), &mut requests, &mut output)
         }
         Some(Command::Serve { address, count }) => {
             match serve(&rt, rt.alloc(), address.as_str(), count) {

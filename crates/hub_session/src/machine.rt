@@ -51,10 +51,12 @@ pub struct Session<S> {
     alloc: Global,
     inbox: Inbox,
     outbox: Outbox,
-    /// The buffer in which the items of a stream become chunks.
+    /// The writer of chunks for the items of a stream.
     chunks: ChunkWriter,
     service: S,
     place: Place,
+    /// Whether the stream sent an item since it had none to send.
+    is_sending: bool,
 }
 
 impl<S: Service> Session<S> {
@@ -71,6 +73,7 @@ impl<S: Service> Session<S> {
             chunks: ChunkWriter::new(alloc),
             service,
             place: Place::Between,
+            is_sending: false,
         }
     }
 
@@ -135,8 +138,10 @@ impl<S: Service> Session<S> {
             .send_next(sending, &mut self.chunks, &mut self.outbox);
         if sent.is_none() && self.service.waits() {
             self.chunks = ChunkWriter::new(self.alloc);
+            self.is_sending = false;
             return Step::WantsNews;
         }
+        self.is_sending = true;
         match after_item(&mut self.outbox, &mut self.service, sending, sent) {
             Ok(rows) => {
                 self.place = Place::Within(Sending { rows, ..sending }, close);
@@ -221,7 +226,7 @@ impl<S: Service> Session<S> {
     {
         let handed = self.outbox.send_to(writer);
         // A stream that sent items since its last wait has more to send: the outbox keeps its room.
-        if !matches!(self.place, Place::Within(..)) || !self.chunks.has_room() {
+        if !matches!(self.place, Place::Within(..)) || !self.is_sending {
             self.outbox.release();
         }
         handed

@@ -1,4 +1,4 @@
-use Rattle.std.proofs.Common.{◌∙◌, refl, sym}
+use Rattle.std.proofs.Common.{◌∙◌, refl, sym, true}
 use Rattle.hub_session.specs.declared.closing.StreamEnd.TheVariants.{Exhausted}
 use Rattle.hub_session.specs.Runs.{Steps, moment_of, session_view}
 use Rattle.hub_session.proofs.AnswerLemmas.{broken_stream}
@@ -37,6 +37,7 @@ returns-in-Err g c = λ place.
       outbox = c.after_item.new.writer;
       chunks = c.send_next-sent.new.chunks;
       service = c.after_item.new.service;
+      is_sending = true;
     }) in
     let step = c.go_behind-in-Err.ensures.step in (
       stepped_ends g.S.Service.rules c.args.sending c.args.close c.in-Err.end c.after_stream-in-Err.result
