@@ -39,6 +39,7 @@ impl<W: Write> Buffered<W> {
     }
 
     // Writes the buffer out. After an error a front of it was written.
+    #[inline(never)]
     fn drain(&mut self) -> io::Result<()>
         ensures bytes { Keeps (bytes_of W.contents self.old) (bytes_of W.contents self.new) }
         ensures empty { OnOk result (self.new.pending ≡ []) }
