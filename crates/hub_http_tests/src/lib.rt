@@ -2,6 +2,8 @@
 #![tactic(auto)]
 
 #[cfg(test)]
+mod buffered_tests;
+#[cfg(test)]
 mod inbox_tests;
 #[cfg(test)]
 mod item_tests;
