@@ -15,12 +15,12 @@ use std::alloc::{AllocError, Global};
 use std::io;
 use std::io::{ErrorKind, Write};
 
-/// The count of bytes at which the buffer is written out before more bytes come.
+/// The most bytes that a write leaves in the buffer.
 const FULL: usize = 65_536;
 
-/// A writer of std behind a buffer, with its counts. Chunks are made in the buffer itself, which is all that it
-/// has before std's `BufWriter`. The buffer grows by one text above 64 KiB. Out of memory a text is written
-/// through.
+/// A writer of std behind a buffer, with its counts. It has what std's `BufWriter` has, and a chunk is made in the
+/// buffer itself. The buffer is written out before bytes that would fill it above 64 KiB, and a chunk may fill it
+/// above that. A text of 64 KiB and more is written through, and so is a text out of memory.
 #[derive(Drop)]
 pub struct Buffered<W> {
     inner: Tally<W>,
@@ -67,10 +67,10 @@ impl<W: Write> Output for Buffered<W> {
     ghost failure_count = { λ b. failures_counted b.inner };
 
     fn write(&mut self, buf: &[u8]) -> io::Result<usize> {
-        if self.pending.len() >= FULL {
+        if self.pending.len().saturating_add(buf.len()) > FULL {
             self.drain()?;
         }
-        if let Ok(()) = self.pending.put(buf) {
+        if buf.len() < FULL && self.pending.put(buf).is_ok() {
             return Ok(buf.len());
         }
         self.drain()?;
