@@ -107,16 +107,6 @@ module _ {X : Type 0} (p : X → Bool) where
   find_before (x ∷ xs) ys all =
       ap (λ o. if p x then Some x else o) (find_before xs ys all)
 
-  -- where the last element passes, all do
-  pub whole_parted : (xs : List X) (k : ℕ) (x : X) → IsPartitionedBy p xs → k + 1 ≡ length xs
-      → x ≡ get_or xs k x → p x ≡ true
-      → AllWithin (λ y. p y ≡ true) xs 0 (length xs) × AllWithin (λ y. p y ≡ false) xs (length xs) (length xs)
-  whole_parted xs k x divided last here passes = (
-    (λ i d a b. divided i k d (omega arith) (omega arith)
-        (ap p (get_or_default xs k d x (omega arith) ∙ sym here) ∙ passes)),
-    λ i d a b. absurd (omega arith),
-  )
-
   -- where an element passes, all up to it do
   pub passes_up_to : (xs : List X) (k m : ℕ) (x : X) → IsPartitionedBy p xs → k + 1 ≡ m → k < length xs
       → x ≡ get_or xs k x → p x ≡ true → AllWithin (λ y. p y ≡ true) xs 0 m
@@ -214,6 +204,11 @@ module _ (ids : List (List ℕ)) where
             true_not_false : bytes_eq (id_at ids n) id ≡ true → bytes_eq (id_at ids n) id ≡ false → ⊥
             true_not_false a b = cc
         from Greater e h = refl
+
+    -- whether a number lies below the id, as a comparison of its text says
+    pub below_read : (n : ℕ) (text : List ℕ) (o : Ordering) (b : Bool) → text ≡ id_at ids n
+        → o ≡ slice_cmp nat_cmp text id → b ≡ is_lt o → is_below ids id n ≡ b
+    below_read n text o b is cmp lt = sym (lt ∙ ap is_lt (cmp ∙ ap (λ t. slice_cmp nat_cmp t id) is))
 
     pub below_parted : (numbers : List ℕ) → AllPairs Rises numbers
         → IsPartitionedBy (is_below ids id) numbers

@@ -1,11 +1,9 @@
-use Rattle.std.proofs.Common.{◌≡◌, ℕ, ◌-◌, ◌<◌, length, get_or, true, ap, sym, ◌∙◌, arith}
-use Rattle.std.specs.Cmp.Lexicographic.{slice_cmp}
+use Rattle.std.proofs.Common.{◌≡◌, ℕ, ◌-◌, ◌<◌, ◌∙◌, length, get_or, true, arith}
 use Rattle.std.specs.List.{AllWithin}
-use Rattle.std.specs.Ordering.{nat_cmp, is_lt}
 use Rattle.std.proofs.lemmas.Bool.{OnTrue_from}
 use Rattle.std.proofs.lemmas.List.{get_or_default}
 use Rattle.hub_index.specs.Order.{is_below}
-use Rattle.hub_index.proofs.OrderLemmas.{below_parted, passes_up_to}
+use Rattle.hub_index.proofs.OrderLemmas.{below_parted, below_read, passes_up_to}
 use Rattle.hub_index.proofs.id_pages.belongs_from.Goals as goal
 
 pub returns-else-at-eq0 : goal.returns-else-at-eq0
@@ -21,5 +19,4 @@ returns-else-at-eq0 g c =
     passes_up_to (is_below ids id) numbers k c.args.at last
     (below_parted ids id numbers c.requires.order.rising) (omega (arith, c.if-at-eq0.false)) low
     (get_or_default numbers k 0 last low)
-    (ap (λ t. is_lt (slice_cmp nat_cmp t id)) (sym c.id.ensures)
-    ∙ (ap is_lt (sym c.cmp.ensures) ∙ (sym c.is_lt.ensures ∙ h))))
+    (below_read ids id last _ _ _ c.id.ensures c.cmp.ensures c.is_lt.ensures ∙ h))

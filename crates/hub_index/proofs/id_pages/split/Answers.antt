@@ -20,53 +20,24 @@ there c =
     ∙ ap (λ (l : List (Vec ℕ Global)). get_or l c.args.page c.index_mut.result.now)
     c.in_ok-insert.ensures.items
 
-pub returns-clause-numbers : goal.returns-clause-numbers
-returns-clause-numbers c =
+pub returns : goal.returns
+returns c =
     let f : Vec ℕ Global → List ℕ = λ v. v.items in
-    let full =
-    some_at (λ (v : Vec ℕ Global). length v.items ≡ 256) c.args.pages.now.items c.args.page c.requires in
-    rw c.in_ok-insert.ensures.items
-    (cut_numbers f c.args.pages.now.items c.args.page c.index.result.now c.index_mut.result.now
-    c.cut.new.numbers c.in_ok-upper.upper full.0 c.index.ensures (full.1 c.index.result.now c.index.ensures)
-    (upper c) (there c) c.cut.ensures)
-
-pub returns-clause-pages : goal.returns-clause-pages
-returns-clause-pages c pages =
-    let f : Vec ℕ Global → List ℕ = λ v. v.items in
-    let full =
-    some_at (λ (v : Vec ℕ Global). length v.items ≡ 256) c.args.pages.now.items c.args.page c.requires in
-    rw c.in_ok-insert.ensures.items
-    (cut_pages f c.args.pages.now.items c.args.page
-    c.index.result.now c.index_mut.result.now c.cut.new.numbers c.in_ok-upper.upper full.0 c.index.ensures
-    (full.1 c.index.result.now c.index.ensures) (upper c) (there c) c.cut.ensures IsNumberPage
-    (λ z h. record { some = omega arith; few = omega arith }) pages)
-
-pub returns-clause-before : goal.returns-clause-before
-returns-clause-before c =
-    let f : Vec ℕ Global → List ℕ = λ v. v.items in
-    let full =
-    some_at (λ (v : Vec ℕ Global). length v.items ≡ 256) c.args.pages.now.items c.args.page c.requires in
-    rw c.in_ok-insert.ensures.items
-    (cut_before f c.args.pages.now.items c.args.page c.index.result.now c.index_mut.result.now
-    c.cut.new.numbers c.in_ok-upper.upper full.0 c.index.ensures (full.1 c.index.result.now c.index.ensures)
-    (upper c) (there c) c.cut.ensures)
-
-pub returns-clause-lower : goal.returns-clause-lower
-returns-clause-lower c =
-    let f : Vec ℕ Global → List ℕ = λ v. v.items in
-    let full =
-    some_at (λ (v : Vec ℕ Global). length v.items ≡ 256) c.args.pages.now.items c.args.page c.requires in
-    rw c.in_ok-insert.ensures.items
-    (cut_lower f c.args.pages.now.items c.args.page c.index.result.now c.index_mut.result.now
-    c.cut.new.numbers c.in_ok-upper.upper full.0 c.index.ensures (full.1 c.index.result.now c.index.ensures)
-    (upper c) (there c) c.cut.ensures)
-
-pub returns-clause-upper : goal.returns-clause-upper
-returns-clause-upper c =
-    let f : Vec ℕ Global → List ℕ = λ v. v.items in
-    let full =
-    some_at (λ (v : Vec ℕ Global). length v.items ≡ 256) c.args.pages.now.items c.args.page c.requires in
-    rw c.in_ok-insert.ensures.items
-    (cut_upper f c.args.pages.now.items c.args.page c.index.result.now c.index_mut.result.now
-    c.cut.new.numbers c.in_ok-upper.upper full.0 c.index.ensures (full.1 c.index.result.now c.index.ensures)
-    (upper c) (there c) c.cut.ensures)
+    let es = c.args.pages.now.items in
+    let k = c.args.page in
+    let x = c.index.result.now in
+    let y = c.index_mut.result.now in
+    let low = c.cut.new.numbers in
+    let high = c.in_ok-upper.upper in
+    let is = c.index.ensures in
+    let full = some_at (λ (v : Vec ℕ Global). length v.items ≡ 256) es k c.requires in
+    let size = full.1 x is in
+    rw c.in_ok-insert.ensures.items (record {
+      numbers = cut_numbers f es k x y low high full.0 is size (upper c) (there c) c.cut.ensures;
+      pages =
+          cut_pages f es k x y low high full.0 is size (upper c) (there c) c.cut.ensures IsNumberPage
+          (λ z h. record { some = omega arith; few = omega arith });
+      before = cut_before f es k x y low high full.0 is size (upper c) (there c) c.cut.ensures;
+      lower = cut_lower f es k x y low high full.0 is size (upper c) (there c) c.cut.ensures;
+      upper = cut_upper f es k x y low high full.0 is size (upper c) (there c) c.cut.ensures;
+    })
