@@ -11,37 +11,34 @@ use Rattle.hub_index.proofs.page_index.add_row.Goals as goal
 use Rattle.hub_index.proofs.page_index.add_row.Goals.{else-end-gt0-via-then-end-gt0+else-number}
 use Rattle.hub_index.proofs.page_index.add_row.Goals.{else-end-gt0-via-else-end-gt0}
 
+-- the sequence of the slot, on the page that was read twice
+last : (c : goal.After-pages-1)
+    → 256 * c.index_mut.result.now.0 + c.slot_of-number.result.1 + 1 ≡ c.args.seq
+last c =
+    let number =
+    same_number c.args.pages.now.items (c.len-end.result - 1) c.slot_of-number.result.0
+    c.index_mut.result.now c.index.result.now (omega (arith, c.len-end.ensures, c.if-end-gt0.true))
+    c.index_mut.ensures.value c.index.ensures (sym c.number.ensures ∙ c.if-number.true) in
+    omega (arith, number, c.slot_of-number.ensures.before, c.requires.positive)
+
 pub returns-then-number-clause-ok : goal.returns-then-number-clause-ok
 returns-then-number-clause-ok c =
     let es : List (ℕ × List (Option ℕ)) = c.args.pages.now.items in
     let at = c.len-end.result - 1 in
-    let x : ℕ × List (Option ℕ) = c.index_mut.result.now in
-    let l : at < length es = omega (arith, c.len-end.ensures, c.if-end-gt0.true) in
-    let number : x.0 ≡ c.slot_of-number.result.0 =
-    same_number es at c.slot_of-number.result.0 x c.index.result.now l c.index_mut.ensures.value
-    c.index.ensures (sym c.number.ensures ∙ c.if-number.true) in
-    let is : 256 * x.0 + c.slot_of-number.result.1 + 1 ≡ c.args.seq =
-    omega (arith, number, c.slot_of-number.ensures.before, c.requires.positive) in
     ap (λ (e : ℕ × List (Option ℕ)). rows_of (set es at e)) c.put.ensures
-    ∙ pages_filled es at x l c.index_mut.ensures.value c.requires.laid.each c.slot_of-number.result.1
-    c.args.seq
-    c.slot_of-number.ensures.slot is (omega (arith, c.len-end.ensures)) c.requires.above c.args.document
+    ∙ pages_filled es at c.index_mut.result.now (omega (arith, c.len-end.ensures, c.if-end-gt0.true))
+    c.index_mut.ensures.value c.requires.laid.each c.slot_of-number.result.1 c.args.seq
+    c.slot_of-number.ensures.slot (last c) (omega (arith, c.len-end.ensures)) c.requires.above c.args.document
 
 pub returns-then-number-clause-pages : goal.returns-then-number-clause-pages
 returns-then-number-clause-pages c =
     let es : List (ℕ × List (Option ℕ)) = c.args.pages.now.items in
     let at = c.len-end.result - 1 in
-    let x : ℕ × List (Option ℕ) = c.index_mut.result.now in
-    let l : at < length es = omega (arith, c.len-end.ensures, c.if-end-gt0.true) in
-    let number : x.0 ≡ c.slot_of-number.result.0 =
-    same_number es at c.slot_of-number.result.0 x c.index.result.now l c.index_mut.ensures.value
-    c.index.ensures (sym c.number.ensures ∙ c.if-number.true) in
-    let is : 256 * x.0 + c.slot_of-number.result.1 + 1 ≡ c.args.seq =
-    omega (arith, number, c.slot_of-number.ensures.before, c.requires.positive) in
     subst (λ (e : ℕ × List (Option ℕ)). All IsPage (set es at e)) (sym c.put.ensures)
-    (pages_filled_are es at x l c.index_mut.ensures.value
-    c.requires.laid.each c.slot_of-number.result.1 c.args.seq c.slot_of-number.ensures.slot is
-    (omega (arith, c.len-end.ensures)) c.requires.above c.args.document (omega (arith, c.ranges.seq.fits)))
+    (pages_filled_are es at c.index_mut.result.now (omega (arith, c.len-end.ensures, c.if-end-gt0.true))
+    c.index_mut.ensures.value c.requires.laid.each c.slot_of-number.result.1 c.args.seq
+    c.slot_of-number.ensures.slot (last c) (omega (arith, c.len-end.ensures)) c.requires.above c.args.document
+    (omega (arith, c.ranges.seq.fits)))
 
 -- the slots of a new page
 abbrev empty : List (Option ℕ)
@@ -51,33 +48,30 @@ none : All (λ (slot : Option ℕ). slot ≡ None) empty
 none = All-replicate (λ (slot : Option ℕ). slot ≡ None) 256 None refl
 
 -- the pages, with the new one
-pushed : (es new : List (ℕ × List (Option ℕ))) (k i d : ℕ) (page put : ℕ × List (Option ℕ))
-    → new ≡ es ++ put ∷ [] → put ≡ (page.0, set page.1 i (Some d)) → page ≡ (k, empty)
-    → new ≡ es ++ (k, set empty i (Some d)) ∷ []
-pushed es new k i d page put at filled is =
-    at
-    ∙ ap (λ (e : ℕ × List (Option ℕ)). es ++ e ∷ [])
-    (filled ∙ ap (λ (e : ℕ × List (Option ℕ)). (e.0, set e.1 i (Some d))) is)
+pushed : (c : goal.In_ok-push)
+    → c.push.new.self.items ≡ c.args.pages.now.items
+    ++ (c.slot_of-number.result.0, set empty c.slot_of-number.result.1 (Some c.args.document)) ∷ []
+pushed c =
+    c.in_ok-push.ensures.items
+    ∙ ap (λ (e : ℕ × List (Option ℕ)). c.args.pages.now.items ++ e ∷ [])
+    (c.put-2.ensures
+    ∙ ap (λ (e : ℕ × List (Option ℕ)). (e.0, set e.1 c.slot_of-number.result.1 (Some c.args.document)))
+    c.in_ok-page.ensures)
 
 pub returns-clause-ok : goal.returns-clause-ok
 returns-clause-ok c =
-    ap rows_of
-    (pushed c.args.pages.now.items c.push.new.self.items c.slot_of-number.result.0 c.slot_of-number.result.1
-    c.args.document c.in_ok-page.page c.put-2.new.self c.in_ok-push.ensures.items c.put-2.ensures
-    c.in_ok-page.ensures)
+    ap rows_of (pushed c)
     ∙ rows_added c.slot_of-number.result.0 c.slot_of-number.result.1 c.args.seq c.slot_of-number.ensures.slot
     (omega (arith, c.slot_of-number.ensures.before, c.requires.positive))
     c.args.document empty (length-replicate {A = Option ℕ} 256 None) none c.args.pages.now.items
 
 pub returns-clause-pages : goal.returns-clause-pages
 returns-clause-pages c =
-    subst (All IsPage)
-    (sym (pushed c.args.pages.now.items c.push.new.self.items c.slot_of-number.result.0 c.slot_of-number.result.1
-    c.args.document c.in_ok-page.page c.put-2.new.self c.in_ok-push.ensures.items c.put-2.ensures
-    c.in_ok-page.ensures))
+    subst (All IsPage) (sym (pushed c))
     (added_is c.slot_of-number.result.0 c.slot_of-number.result.1 c.args.seq c.slot_of-number.ensures.slot
     (omega (arith, c.slot_of-number.ensures.before, c.requires.positive))
-    c.args.document empty (length-replicate {A = Option ℕ} 256 None) none c.args.pages.now.items (omega (arith, c.ranges.seq.fits)) c.requires.laid.each)
+    c.args.document empty (length-replicate {A = Option ℕ} 256 None) none c.args.pages.now.items
+    (omega (arith, c.ranges.seq.fits)) c.requires.laid.each)
 
 pub returns-clause-rising : goal.returns-clause-rising
 returns-clause-rising c =
@@ -94,9 +88,6 @@ returns-clause-rising c =
       | else-end-gt0-via-else-end-gt0 w ↦
           λ z d l. absurd (omega (arith, l, c.len-end.ensures, w.if-end-gt0.false))
     ] in
-    subst (AllPairs (λ (a b : ℕ × List (Option ℕ)). a.0 < b.0))
-    (sym (pushed c.args.pages.now.items c.push.new.self.items c.slot_of-number.result.0 c.slot_of-number.result.1
-    c.args.document c.in_ok-page.page c.put-2.new.self c.in_ok-push.ensures.items c.put-2.ensures
-    c.in_ok-page.ensures))
+    subst (AllPairs (λ (a b : ℕ × List (Option ℕ)). a.0 < b.0)) (sym (pushed c))
     (all_pairs_push (λ (a b : ℕ × List (Option ℕ)). a.0 < b.0) es
     (k, set empty c.slot_of-number.result.1 (Some c.args.document)) c.requires.laid.rising low)

@@ -12,6 +12,7 @@ use Rattle.hub_index.proofs.PageLemmas.{pages_cleared, rows_dropped, dropped_is,
 use Rattle.hub_index.proofs.page_index.remove_row.Goals as goal
 use Rattle.hub_index.proofs.page_index.remove_row.Goals.{then-at-len-via-then-at-len}
 use Rattle.hub_index.proofs.page_index.remove_row.Goals.{then-at-len-via-else-at-len+then-number}
+use Rattle.hub_index.proofs.page_index.remove_row.Goals.{After-live}
 
 pub returns-then-at-len-clause-rows : goal.returns-then-at-len-clause-rows
 returns-then-at-len-clause-rows c =
@@ -37,61 +38,54 @@ returns-then-at-len-clause-rows c =
     ]))
     ∙ row_behind c.args.seq c.ranges.seq.fits es c.requires.pages
 
-pub returns-then-live-eq0-clause-rows : goal.returns-then-live-eq0-clause-rows
-returns-then-live-eq0-clause-rows c =
-    let es : List (ℕ × List (Option ℕ)) = c.args.pages.now.items in
-    let at = c.place_of-at.result in
-    let x : ℕ × List (Option ℕ) = c.index_mut-page.result.now in
-    let l : at < length es =
-    omega (arith, c.place_of-at.ensures.within, c.as_slice.ensures.len, c.if-at-len.false, c.len.ensures) in
-    let number : x.0 ≡ c.slot_of-number.result.0 =
-    same_number es at c.slot_of-number.result.0 x c.index.result.now l c.index_mut-page.ensures.value
+-- the page is there
+low : (c : After-live) → c.place_of-at.result < length c.args.pages.now.items
+low c = omega (arith, c.place_of-at.ensures.within, c.as_slice.ensures.len, c.if-at-len.false, c.len.ensures)
+
+-- the sequence of the slot, on the page that was read twice
+place : (c : After-live)
+    → 256 * c.index_mut-page.result.now.0 + c.slot_of-number.result.1 + 1 ≡ behind c.args.seq
+place c =
+    let number =
+    same_number c.args.pages.now.items c.place_of-at.result c.slot_of-number.result.0
+    c.index_mut-page.result.now c.index.result.now (low c) c.index_mut-page.ensures.value
     c.index.ensures (sym c.number.ensures ∙ c.if-number.false) in
+    omega (arith, number, c.slot_of-number.ensures.before)
+
+pub returns-then-live-eq0 : goal.returns-then-live-eq0
+returns-then-live-eq0 c =
+    let es : List (ℕ × List (Option ℕ)) = c.args.pages.now.items in
+    let at = c.place_of-at.result in
+    let x : ℕ × List (Option ℕ) = c.index_mut-page.result.now in
     let i = c.slot_of-number.result.1 in
-    let is : 256 * x.0 + i + 1 ≡ behind c.args.seq =
-    omega (arith, number, c.slot_of-number.ensures.before) in
-    ap rows_of (c.remove.ensures.items ∙ remove_set es at c.put.new.self)
-    ∙ (rows_dropped es
-    at x l c.index_mut-page.ensures.value c.requires.pages i (behind c.args.seq) c.slot_of-number.ensures.slot is
-    (set x.1 i None) (ap (λ (e : ℕ × List (Option ℕ)). count_by is_some e.1) (sym c.put.ensures) ∙ (sym c.live.ensures ∙ c.if-live-eq0.true))
-    ∙ pages_cleared es at x l c.index_mut-page.ensures.value c.requires.pages i (behind c.args.seq)
-    c.slot_of-number.ensures.slot is c.requires.rising)
-    ∙ row_behind c.args.seq c.ranges.seq.fits es c.requires.pages
-
-pub returns-then-live-eq0-clause-pages : goal.returns-then-live-eq0-clause-pages
-returns-then-live-eq0-clause-pages c =
-    let es : List (ℕ × List (Option ℕ)) = c.args.pages.now.items in
-    let at = c.place_of-at.result in
-    let x : ℕ × List (Option ℕ) = c.index_mut-page.result.now in
-    subst (All IsPage) (sym (c.remove.ensures.items ∙ remove_set es at c.put.new.self))
-    (dropped_is es at c.requires.pages)
-
-pub returns-then-live-eq0-clause-rising : goal.returns-then-live-eq0-clause-rising
-returns-then-live-eq0-clause-rising c =
-    let es : List (ℕ × List (Option ℕ)) = c.args.pages.now.items in
-    let at = c.place_of-at.result in
-    let x : ℕ × List (Option ℕ) = c.index_mut-page.result.now in
-    let l : at < length es =
-    omega (arith, c.place_of-at.ensures.within, c.as_slice.ensures.len, c.if-at-len.false, c.len.ensures) in
-    subst (AllPairs (λ (a b : ℕ × List (Option ℕ)). a.0 < b.0))
-    (sym (c.remove.ensures.items ∙ remove_set es at c.put.new.self))
-    (all_pairs_remove (λ (a b : ℕ × List (Option ℕ)). a.0 < b.0) es at l c.requires.rising)
+    let l = low (goal.at.returns-then-live-eq0 c).After-live in
+    let is = place (goal.at.returns-then-live-eq0 c).After-live in
+    let gone = c.remove.ensures.items ∙ remove_set es at c.put.new.self in
+    record {
+      rows =
+          ap rows_of gone
+          ∙ (rows_dropped es at x l c.index_mut-page.ensures.value c.requires.pages i (behind c.args.seq)
+          c.slot_of-number.ensures.slot is (set x.1 i None)
+          (ap (λ (e : ℕ × List (Option ℕ)). count_by is_some e.1) (sym c.put.ensures)
+          ∙ (sym c.live.ensures ∙ c.if-live-eq0.true))
+          ∙ pages_cleared es at x l c.index_mut-page.ensures.value c.requires.pages i (behind c.args.seq)
+          c.slot_of-number.ensures.slot is c.requires.rising)
+          ∙ row_behind c.args.seq c.ranges.seq.fits es c.requires.pages;
+      pages = subst (All IsPage) (sym gone) (dropped_is es at c.requires.pages);
+      rising =
+          subst (AllPairs (λ (a b : ℕ × List (Option ℕ)). a.0 < b.0)) (sym gone)
+          (all_pairs_remove (λ (a b : ℕ × List (Option ℕ)). a.0 < b.0) es at l c.requires.rising);
+    }
 
 pub returns-else-live-eq0-clause-rows : goal.returns-else-live-eq0-clause-rows
 returns-else-live-eq0-clause-rows c =
     let es : List (ℕ × List (Option ℕ)) = c.args.pages.now.items in
     let at = c.place_of-at.result in
-    let x : ℕ × List (Option ℕ) = c.index_mut-page.result.now in
-    let l : at < length es =
-    omega (arith, c.place_of-at.ensures.within, c.as_slice.ensures.len, c.if-at-len.false, c.len.ensures) in
-    let number : x.0 ≡ c.slot_of-number.result.0 =
-    same_number es at c.slot_of-number.result.0 x c.index.result.now l c.index_mut-page.ensures.value
-    c.index.ensures (sym c.number.ensures ∙ c.if-number.false) in
-    let is : 256 * x.0 + c.slot_of-number.result.1 + 1 ≡ behind c.args.seq =
-    omega (arith, number, c.slot_of-number.ensures.before) in
+    let before = (goal.at.returns-else-live-eq0-clause-rows c).After-live in
     ap (λ (e : ℕ × List (Option ℕ)). rows_of (set es at e)) c.put.ensures
-    ∙ pages_cleared es at x l c.index_mut-page.ensures.value c.requires.pages c.slot_of-number.result.1 (behind c.args.seq)
-    c.slot_of-number.ensures.slot is c.requires.rising
+    ∙ pages_cleared es at c.index_mut-page.result.now (low before) c.index_mut-page.ensures.value
+    c.requires.pages c.slot_of-number.result.1 (behind c.args.seq) c.slot_of-number.ensures.slot
+    (place before) c.requires.rising
     ∙ row_behind c.args.seq c.ranges.seq.fits es c.requires.pages
 
 pub returns-else-live-eq0-clause-pages : goal.returns-else-live-eq0-clause-pages
@@ -100,19 +94,12 @@ returns-else-live-eq0-clause-pages c =
     let at = c.place_of-at.result in
     let x : ℕ × List (Option ℕ) = c.index_mut-page.result.now in
     let i = c.slot_of-number.result.1 in
-    let l : at < length es =
-    omega (arith, c.place_of-at.ensures.within, c.as_slice.ensures.len, c.if-at-len.false, c.len.ensures) in
-    let number : x.0 ≡ c.slot_of-number.result.0 =
-    same_number es at c.slot_of-number.result.0 x c.index.result.now l c.index_mut-page.ensures.value
-    c.index.ensures (sym c.number.ensures ∙ c.if-number.false) in
-    let is : 256 * x.0 + i + 1 ≡ behind c.args.seq =
-    omega (arith, number, c.slot_of-number.ensures.before) in
-    let count : count_by is_some c.put.new.self.1 ≡ count_by is_some (set x.1 i None) =
-    ap (λ (e : ℕ × List (Option ℕ)). count_by is_some e.1) c.put.ensures in
+    let before = (goal.at.returns-else-live-eq0-clause-pages c).After-live in
+    let count = ap (λ (e : ℕ × List (Option ℕ)). count_by is_some e.1) c.put.ensures in
     let live : 0 < count_by is_some (set x.1 i None) =
     omega (arith, count, c.live.ensures, c.if-live-eq0.false) in
     All-set IsPage es at c.put.new.self
     (subst IsPage (sym c.put.ensures)
-    (cleared_is x.0 i (behind c.args.seq) c.slot_of-number.ensures.slot is x.1
-    (is_page es at x l c.index_mut-page.ensures.value c.requires.pages) live))
+    (cleared_is x.0 i (behind c.args.seq) c.slot_of-number.ensures.slot (place before) x.1
+    (is_page es at x (low before) c.index_mut-page.ensures.value c.requires.pages) live))
     c.requires.pages

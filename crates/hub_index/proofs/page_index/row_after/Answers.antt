@@ -14,24 +14,20 @@ loop-at-init c =
 pub returns-in-Some : goal.returns-in-Some
 returns-in-Some c =
     let x : ℕ × List (Option ℕ) = c.index-pages-at.result in
-    let found : Some c.in-Some.row ≡ find (λ (row : ℕ × ℕ). nat_lt c.args.place row.0) (page_rows x) =
-    c.in-Some.ensures in
     sym
     (c.loop-at.invariant
     ∙ (ap (λ pages. find (λ (row : ℕ × ℕ). nat_lt c.args.place row.0) (rows_of pages))
     (drop_more c.args.pages.now c.loop-at.at x c.loop-at-test.true
     ∙ ap (λ y. y ∷ drop (c.loop-at.at + 1) c.args.pages.now) (sym c.index-pages-at.is))
     ∙ found_first (λ (row : ℕ × ℕ). nat_lt c.args.place row.0) x
-    (drop (c.loop-at.at + 1) c.args.pages.now) c.in-Some.row found))
+    (drop (c.loop-at.at + 1) c.args.pages.now) c.in-Some.row c.in-Some.ensures))
 
 pub loop-at-preserved : goal.loop-at-preserved
 loop-at-preserved c =
     let x : ℕ × List (Option ℕ) = c.index-pages-at.result in
-    let none : None ≡ find (λ (row : ℕ × ℕ). nat_lt c.args.place row.0) (page_rows x) = c.in_default.ensures
-    in
     c.loop-at.invariant
     ∙ (ap (λ pages. find (λ (row : ℕ × ℕ). nat_lt c.args.place row.0) (rows_of pages))
     (drop_more c.args.pages.now c.loop-at.at x c.loop-at-test.true
     ∙ ap (λ y. y ∷ drop (c.loop-at.at + 1) c.args.pages.now) (sym c.index-pages-at.is))
     ∙ found_later (λ (row : ℕ × ℕ). nat_lt c.args.place row.0) x
-    (drop (c.loop-at.at + 1) c.args.pages.now) none)
+    (drop (c.loop-at.at + 1) c.args.pages.now) c.in_default.ensures)

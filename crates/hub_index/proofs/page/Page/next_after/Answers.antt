@@ -1,31 +1,25 @@
-use Rattle.std.proofs.Common.{◌≡◌, ℕ, List, Option, ◌+◌, ◌*◌, ◌^◌, ◌<◌, ◌∙◌, arith, sym, subst, find, nat_le, Some, None}
+use Rattle.std.proofs.Common.{ℕ, List, Option, ◌+◌, ◌*◌, ◌^◌, ◌<◌, ◌∙◌, arith, sym, subst}
 use Rattle.std.specs.List.{All}
-use Rattle.hub_index.specs.Pages.{slot_rows, page_rows}
+use Rattle.hub_index.specs.Pages.{page_rows}
 use Rattle.hub_index.proofs.SlotLemmas.{nothing_from, found_from, fits_from}
 use Rattle.hub_index.proofs.page.Page.next_after.Goals as goal
 
 pub returns-in_err-at : goal.returns-in_err-at
 returns-in_err-at c =
-    let e : None ≡ find (λ (row : ℕ × ℕ). nat_le c.saturating_sub-from.result row.0)
-    (slot_rows 0 c.as_slice.result.now) =
-    c.in_err-at.ensures in
     rw (← c.self.view_is)
     (c.from_residual.ensures
     ∙ nothing_from (256 * c.self.inside.number) c.args.place c.saturating_sub-from.result
     c.self.inside.slots.items
-    c.as_slice.result.now c.as_slice.ensures.value c.saturating_sub-from.ensures e)
+    c.as_slice.result.now c.as_slice.ensures.value c.saturating_sub-from.ensures c.in_err-at.ensures)
 
 -- the found row lies at a number of 64 bits
 fits : (c : goal.In_ok-at) → 256 * c.self.inside.number + (c.in_ok-at.at + 1) < 2 ^ 64
 fits c =
-    let e : Some (c.in_ok-at.at, c.in_ok-at.document)
-    ≡ find (λ (row : ℕ × ℕ). nat_le c.saturating_sub-from.result row.0) (slot_rows 0 c.as_slice.result.now) =
-    c.in_ok-at.ensures in
     fits_from (256 * c.self.inside.number) c.args.place c.saturating_sub-from.result c.self.inside.slots.items
     c.as_slice.result.now c.as_slice.ensures.value c.saturating_sub-from.ensures
     c.in_ok-at.at c.in_ok-at.document (2 ^ 64)
     (subst (λ (page : ℕ × List (Option ℕ)). All (λ (row : ℕ × ℕ). row.0 < 2 ^ 64) (page_rows page))
-    (sym c.self.view_is) c.requires) e
+    (sym c.self.view_is) c.requires) c.in_ok-at.ensures
 
 pub overflow_add-result : goal.overflow_add-result
 overflow_add-result c = omega (arith, fits c)
@@ -35,10 +29,7 @@ overflow_add-result-2 c = omega (arith, fits c)
 
 pub returns : goal.returns
 returns c =
-    let e : Some (c.in_ok-at.at, c.in_ok-at.document)
-    ≡ find (λ (row : ℕ × ℕ). nat_le c.saturating_sub-from.result row.0) (slot_rows 0 c.as_slice.result.now) =
-    c.in_ok-at.ensures in
     rw (← c.self.view_is)
     (found_from (256 * c.self.inside.number) c.args.place c.saturating_sub-from.result c.self.inside.slots.items
     c.as_slice.result.now c.as_slice.ensures.value c.saturating_sub-from.ensures
-    c.in_ok-at.at c.in_ok-at.document e)
+    c.in_ok-at.at c.in_ok-at.document c.in_ok-at.ensures)
