@@ -52,17 +52,6 @@ module _ (revisions : List Revision) (n : ℕ) (ds : List (List ℕ)) (is : revi
   pub digest_length : length revisions ≡ length ds
   digest_length = ap length (sym is) ∙ as_many_digests n ds
 
-  -- the generations stay above 0
-  pub digest_low : (k : ℕ) → IsPath revisions → k < length revisions → k < n
-  digest_low k path low = from n ds k (subst IsPath (sym is) path) (omega (arith, low, digest_length))
-    where
-      from : (n : ℕ) (ds : List (List ℕ)) (k : ℕ) → IsPath (revisions_from n ds) → k < length ds → k < n
-      from n [] k path low = absurd (omega arith)
-      from n (d ∷ ds) zero path low = least _ (revisions_from (n - 1) ds) path
-      from n (d ∷ []) (suc k) path low = absurd (omega arith)
-      from n (d ∷ e ∷ ds) (suc k) path low =
-          omega (arith, path.0, from (n - 1) (e ∷ ds) k path.1 (omega arith))
-
   -- the revision at a place
   pub digest_read : (k : ℕ) (d : List ℕ) → k < length revisions → d ≡ get_or ds k d
       → slice_get revisions k ≡ Some (record { generation = n - k; hash = encode_lower d })
@@ -137,6 +126,19 @@ module _ (revisions : List Revision) (n : ℕ) (ds : List (List ℕ)) (is : revi
       from n [] (suc k) = refl
       from n (d ∷ ds) (suc k) =
           ap (λ z. record { generation = n; hash = encode_lower d } ∷ z) (from (n - 1) ds k)
+
+-- the generations of a run of digests stay above 0
+pub place_low : (kept revisions : List Revision) (n : ℕ) (ds : List (List ℕ)) → kept ≡ revisions_from n ds
+    → kept ≡ revisions → IsPath kept → (k : ℕ) → k < length revisions → k < n
+place_low kept revisions n ds is view path k low =
+    from n ds k (subst IsPath is path) (omega (arith, low, digest_length revisions n ds (sym is ∙ view)))
+  where
+    from : (n : ℕ) (ds : List (List ℕ)) (k : ℕ) → IsPath (revisions_from n ds) → k < length ds → k < n
+    from n [] k path low = absurd (omega arith)
+    from n (d ∷ ds) zero path low = least _ (revisions_from (n - 1) ds) path
+    from n (d ∷ []) (suc k) path low = absurd (omega arith)
+    from n (d ∷ e ∷ ds) (suc k) path low =
+        omega (arith, path.0, from (n - 1) (e ∷ ds) k path.1 (omega arith))
 
 -- a run of texts
 pub texts_read : (revisions others : List Revision) (k : ℕ) (revision : Revision) → others ≡ revisions
@@ -288,9 +290,6 @@ module _ (revisions : List Revision) (n most : ℕ) (d : List ℕ) (line : List 
       digest_length revisions n (take most (d ∷ line)) is
       ∙ length-take most (d ∷ line)
       ∙ ap (min most) (sym (add-one (length line)))
-
-  pub shared_low : (k : ℕ) → IsPath revisions → k < length revisions → k < n
-  shared_low k path low = digest_low revisions n (take most (d ∷ line)) is k path low
 
   pub shared_read : (k : ℕ) (e : List ℕ) → k < length revisions → slice_get (d ∷ line) k ≡ Some e
       → slice_get revisions k ≡ Some (record { generation = n - k; hash = encode_lower e })

@@ -7,13 +7,8 @@ use Rattle.hub_revtree.proofs.run.Run.key_at.Goals as goal
 
 pub index-requires : goal.index-requires
 index-requires c =
-    let is = sym (ap kept_in c.in-Digests.is) ∙ c.self.view_is in
-    omega (
-      arith,
-      c.requires,
-      digest_length c.args.self.now c.in-Digests.field-0 c.in-Digests.digests.items is,
-      c.in-Digests.digests.ok.0,
-    )
+    let long = digest_length c.args.self.now c.in-Digests.field-0 _ (sym (ap kept_in c.in-Digests.is) ∙ c.self.view_is) in
+    omega (arith, c.requires, long, c.in-Digests.digests.ok.0)
 
 pub returns-in-One : goal.returns-in-One
 returns-in-One c =
@@ -41,13 +36,10 @@ returns-in-Texts c =
 
 pub digest_at-requires : goal.digest_at-requires
 digest_at-requires c =
-    let is = sym (ap kept_in c.in-Shared.is) ∙ c.self.view_is in
-    omega (
-      arith,
-      c.requires,
-      shared_length c.args.self.now c.in-Shared.field-0 c.in-Shared.field-1
-          c.in-Shared.digest c.in-Shared.line is,
-    )
+    let long =
+    shared_length c.args.self.now c.in-Shared.field-0 c.in-Shared.field-1 c.in-Shared.digest c.in-Shared.line
+    (sym (ap kept_in c.in-Shared.is) ∙ c.self.view_is) in
+    omega (arith, c.requires, long)
 
 pub returns-in-Shared : goal.returns-in-Shared
 returns-in-Shared c =
