@@ -17,7 +17,7 @@ use Rattle.hub_model.proofs.Tests.{or_false, or_left, or_right, same_is}
 use Rattle.hub_revtree.specs.declared.leaf.Winner.{Winner}
 use Rattle.hub_revtree.specs.declared.stem.Place.{Place}
 use Rattle.hub_revtree.specs.Branch.{Branch, edit_of}
-use Rattle.hub_revtree.specs.Stem.{Stem, Chain, AreStems, IsWithin, branch_of, branches_of}
+use Rattle.hub_revtree.specs.Stem.{Stem, Storage, Chain, AreStems, IsWithin, branch_of, branches_of}
 use Rattle.hub_revtree.specs.Stem.{chain_from, chain_of, chains_of, is_at, is_behind_newest}
 use Rattle.hub_revtree.specs.Stem.{one_of, own_path, rev_at, revisions_at, whole_in}
 use Rattle.hub_revtree.specs.Tree.{Tip, tip, tip_of}
@@ -421,14 +421,21 @@ pub read_stem : (stems : List Stem) (k : ℕ) (stem : Stem) → k < length stems
     → slice_get stems k ≡ Some stem
 read_stem stems k stem low is = slice_get_read stems _ k stem refl low is
 
+-- the stored edits of these stems
+abbrev pub stored : List Stem → ℕ → Storage
+stored stems spare = record { list = branches_of stems; stems = stems; spare = spare }
+
 -- a number of the branches is one of the stems
-pub low_stem : (stems : List Stem) (branches : List Branch) (k : ℕ) → branches_of stems ≡ branches
-    → k < length branches → k < length stems
-low_stem stems branches k same low =
-    let many = as_many stems in
-    let n : length (branches_of stems) ≡ length branches = ap (λ (others : List Branch). length others) same
-    in
-    omega (arith, low, many, n)
+pub low_stem : (stems : List Stem) (spare : ℕ) (s : Storage) (k : ℕ) → stored stems spare ≡ s
+    → k < length s.list → k < length stems
+low_stem stems spare s k view low =
+    let n : length (branches_of stems) ≡ length s.list = ap (λ (z : Storage). length z.list) view in
+    omega (arith, low, as_many stems, n)
+
+-- the stem of this number
+pub listed_stem : (stems : List Stem) (spare : ℕ) (s : Storage) (k : ℕ) (stem : Stem) → stored stems spare ≡ s
+    → k < length s.list → stem ≡ get_or stems k stem → slice_get stems k ≡ Some stem
+listed_stem stems spare s k stem view low = read_stem stems k stem (low_stem stems spare s k view low)
 
 -- ---- how long the paths are
 
@@ -534,8 +541,10 @@ pub none_long : (stems : List Stem) → AreStems stems
 none_long stems a rev e = long_in rev stems a ∙ ap (option_map (λ (stem : Stem). stem.count)) (sym e)
 
 -- a stem that is read at a place
-pub stem_there : (stems : List Stem) (place : Place) (stem : Stem) → IsWithin stems place
-    → stem ≡ get_or stems place.stem stem → slice_get stems place.stem ≡ Some stem
-stem_there stems place stem w is =
-    let i = within_stem stems place w in
-    read_stem stems place.stem stem (slice_get_within stems place.stem i.0 i.1) is
+pub stem_read : (stems lent : List Stem) (spare : ℕ) (s : Storage) (place : Place) (stem : Stem)
+    → stored stems spare ≡ s → lent ≡ stems → IsWithin s.stems place → stem ≡ get_or lent place.stem stem
+    → slice_get s.stems place.stem ≡ Some stem
+stem_read stems lent spare s place stem view same w is =
+    let i = within_stem s.stems place w in
+    read_stem s.stems place.stem stem (slice_get_within s.stems place.stem i.0 i.1)
+    (subst (λ xs. stem ≡ get_or xs place.stem stem) (same ∙ ap (λ (z : Storage). z.stems) view) is)

@@ -19,15 +19,16 @@ use Rattle.hub_revtree.proofs.JoinLemmas.{chain_long, found_behind, last_left, n
 use Rattle.hub_revtree.proofs.JoinLemmas.{walk_step}
 use Rattle.hub_revtree.proofs.LineLemmas.{has_last, line_short}
 use Rattle.hub_revtree.proofs.StemLemmas.{rev_within}
+use Rattle.hub_revtree.proofs.StemLooks.{stored}
 use Rattle.hub_revtree.proofs.StepLemmas.{parent_brought}
 
 -- the invariant of the stored edits, by the stems
-pub stored_by : (stems : List Stem) (spare : ℕ) (s : Storage)
-    → s ≡ record { list = branches_of stems; stems = stems; spare = spare } → AreStems stems → AreMarked stems
-    → IsLegal (edits_in (branches_of stems)) → AreStemsOf s.stems s.list
-stored_by stems spare s is a m l =
-    subst (λ (z : Storage). AreStemsOf z.stems z.list) (sym is)
-    (record { stems = a; marked = m; shown = refl; legal = l })
+pub stored_by : {U I C : Type 0} (stems : List Stem) (spare : ℕ) (s : Storage) → stored stems spare ≡ s
+    → AreStems stems × U × I × AreMarked stems × C × IsLegal (edits_in (branches_of stems))
+    → AreStemsOf s.stems s.list
+stored_by stems spare s is a =
+    subst (λ (z : Storage). AreStemsOf z.stems z.list) is
+    (record { stems = a.0; marked = a.3; shown = refl; legal = a.5 })
 
 -- the place of the last of some revisions
 last_get : (revisions : List Revision) (x : Revision) → last_in revisions ≡ Some x
@@ -74,10 +75,9 @@ module _ (s : Storage) (k : AreStemsOf s.stems s.list) where
     pub own_is : own_from s.stems p ≡ drop p.at stem.revisions
     own_is = ap (λ o. drop p.at (revisions_in o)) e
 
-    pub common_own : (revisions : List Revision) (result other : Option ℕ)
-        → result ≡ common revisions (drop p.at stem.revisions) → result ≡ other
-        → common revisions (own_from s.stems p) ≡ other
-    common_own revisions result other is was = ap (λ z. common revisions z) own_is ∙ (sym is ∙ was)
+    pub common_own : (revisions : List Revision) (result : Option ℕ)
+        → result ≡ common revisions (drop p.at stem.revisions) → common revisions (own_from s.stems p) ≡ result
+    common_own revisions result is = ap (λ z. common revisions z) own_is ∙ sym is
 
     pub low : p.at < length stem.revisions
     low = rw e at w

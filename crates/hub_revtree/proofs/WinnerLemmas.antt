@@ -215,15 +215,20 @@ has_head branches legal k low =
     from branch there [] q path = absurd path
     from branch there (revision ∷ older) q path = (leaf_as revision branch.deleted, rw (there, q) refl)
 
--- the branches with the newest, whose head is `leaf`, and the number of the winner before it came
+-- the branches with the newest, and the number of the winner before it came
 module _ (branches : List Branch) (legal : IsLegal (edits_in branches)) (best : ℕ)
     (before : HasWinner (edits_in (earlier_branches branches))
     (option_and_then head_in (slice_get (earlier_branches branches) best)))
-    (n : ℕ) (all : n ≡ length branches) (some : 0 < length branches) (leaf : Winner)
-    (head : option_and_then head_in (slice_get branches (n - 1)) ≡ Some leaf) where
+    (n : ℕ) (all : n ≡ length branches) (some : 0 < length branches) where
+  abbrev newest : (leaf : Winner) × (option_and_then head_in (slice_get branches (n - 1)) ≡ Some leaf)
+  newest = has_head branches legal (n - 1) (omega (arith, all, some))
+
+  abbrev leaf : Winner
+  leaf = newest.0
+
   abbrev here : (branch : Branch) × (slice_get branches (n - 1) ≡ Some branch)
       × (slice_get branch.path 0 ≡ Some leaf.rev) × (branch.deleted ≡ leaf.deleted)
-  here = head_there branches (n - 1) leaf head
+  here = head_there branches (n - 1) leaf newest.1
 
   split : branches ≡ earlier_branches branches ++ here.0 ∷ []
   split =
@@ -243,7 +248,7 @@ module _ (branches : List Branch) (legal : IsLegal (edits_in branches)) (best : 
       (option_and_then head_in (slice_get (earlier_branches branches) best)) ≡ true
       → option_and_then head_in (slice_get branches (n - 1)) ≡ winner_of (leaves_of (edits_in branches) [])
   newest_wins better =
-      head ∙ sym (
+      newest.1 ∙ sym (
       ap (λ es. winner_of (leaves_of es [])) edits
       ∙ new_wins (edits_in (earlier_branches branches)) (rev_tree (earlier_branches branches) before.legal)
       (edit_of here.0) refl legal_split leaf.rev (first_of here.0.path leaf.rev here.2)
@@ -261,36 +266,44 @@ module _ (branches : List Branch) (legal : IsLegal (edits_in branches)) (best : 
       (slice_get_past (earlier_branches branches) best
       (omega (arith, length-take (length branches - 1) branches, all, past))))
 
-  module _ (low : best < n - 1) (w : Winner)
-      (there : option_and_then head_in (slice_get branches best) ≡ Some w) where
-    was : option_and_then head_in (slice_get (earlier_branches branches) best) ≡ Some w
+  module _ (low : best < n - 1) (above : Bool)
+      (told : (u v : Winner) → option_and_then head_in (slice_get branches (n - 1)) ≡ Some u
+      → option_and_then head_in (slice_get branches best) ≡ Some v
+      → above ≡ is_gt (leaf_cmp u.deleted u.rev v.deleted v.rev)) where
+    abbrev old : (w : Winner) × (option_and_then head_in (slice_get branches best) ≡ Some w)
+    old = has_head branches legal best (omega (arith, all, low))
+
+    was : option_and_then head_in (slice_get (earlier_branches branches) best) ≡ Some old.0
     was =
         ap (option_and_then head_in) (get_taken (length branches - 1) best branches (omega (arith, all, low)))
-        ∙ there
+        ∙ old.1
 
     -- the newest edit's head is above the winner
-    pub better_wins : is_gt (leaf_cmp leaf.deleted leaf.rev w.deleted w.rev) ≡ true
+    pub better_wins : above ≡ true
         → option_and_then head_in (slice_get branches (n - 1)) ≡ winner_of (leaves_of (edits_in branches) [])
-    better_wins better = newest_wins (ap (is_better_than leaf) was ∙ better)
+    better_wins better =
+        newest_wins (ap (is_better_than leaf) was ∙ (sym (told leaf old.0 newest.1 old.1) ∙ better))
 
     -- the winner stands behind no revision still, and the newest edit's head is not above it
-    pub still_wins : is_gt (leaf_cmp leaf.deleted leaf.rev w.deleted w.rev) ≡ false
-        → list_any (λ c. is_behind_head w.rev (edit_of c)) branches ≡ false
+    pub still_wins : above ≡ false → (inner : Bool)
+        → ((w : Winner) → option_and_then head_in (slice_get branches best) ≡ Some w
+        → inner ≡ list_any (λ c. is_behind_head w.rev (edit_of c)) branches) → inner ≡ false
         → option_and_then head_in (slice_get branches best) ≡ winner_of (leaves_of (edits_in branches) [])
-    still_wins lower front =
-        there ∙ sym (
+    still_wins lower inner behind front =
+        old.1 ∙ sym (
         ap (λ es. winner_of (leaves_of es [])) edits
         ∙ old_wins (edits_in (earlier_branches branches)) (rev_tree (earlier_branches branches) before.legal)
-        (edit_of here.0) refl legal_split leaf.rev (first_of here.0.path leaf.rev here.2) w
+        (edit_of here.0) refl legal_split leaf.rev (first_of here.0.path leaf.rev here.2) old.0
         (sym before.first ∙ was)
-        (ap (λ d. is_gt (leaf_cmp d leaf.rev w.deleted w.rev)) here.3 ∙ lower) own
+        (ap (λ d. is_gt (leaf_cmp d leaf.rev old.0.deleted old.0.rev)) here.3
+        ∙ (sym (told leaf old.0 newest.1 old.1) ∙ lower)) own
         )
       where
-        own : names (drop 1 here.0.path) w.rev ≡ false
-        own = elim (cases_Bool (names (drop 1 here.0.path) w.rev)) [
+        own : names (drop 1 here.0.path) old.0.rev ≡ false
+        own = elim (cases_Bool (names (drop 1 here.0.path) old.0.rev)) [
           | inl t ↦
-              absurd (both_ways _ front
-              (any_at (λ c. is_behind_head w.rev (edit_of c)) branches (n - 1) here.0 here.1 t))
+              absurd (both_ways _ (sym (behind old.0 old.1) ∙ front)
+              (any_at (λ c. is_behind_head old.0.rev (edit_of c)) branches (n - 1) here.0 here.1 t))
           | inr t ↦ t
         ]
 

@@ -1,11 +1,11 @@
-use Rattle.std.proofs.Common.{◌≡◌, ◌++◌, ◌∙◌, ap, append_assoc, get_or, map, subst, sym}
+use Rattle.std.proofs.Common.{◌≡◌, ◌++◌, ◌∙◌, ap, append_assoc, map, sym}
 use Rattle.std.proofs.lemmas.List.{map-append}
 use Rattle.hex.specs.Hex.{encode_lower}
 use Rattle.hub_model.specs.Revision.{Revision}
 use Rattle.hub_revtree.specs.Branch.{edits_in}
 use Rattle.hub_revtree.specs.Extend.{line_to}
-use Rattle.hub_revtree.specs.Stem.{Storage, own_from, rev_at}
-use Rattle.hub_revtree.proofs.StemLooks.{stem_there}
+use Rattle.hub_revtree.specs.Stem.{own_from, rev_at}
+use Rattle.hub_revtree.proofs.StemLooks.{stem_read}
 use Rattle.hub_revtree.proofs.WalkLemmas.{begins_within, line_begins, line_less, line_step, own_is}
 use Rattle.hub_revtree.proofs.branches.Branches.append_digests.Goals as goal
 
@@ -34,13 +34,11 @@ pub loop-next-preserved : goal.loop-next-preserved
 loop-next-preserved c =
     let s = c.args.self.now in
     let k = c.place-next.ensures.stored in
-    let same : c.as_slice-stems.result.now ≡ s.stems =
-    c.as_slice-stems.ensures.value ∙ ap (λ (z : Storage). z.stems) c.self.view_is in
     let w = rw c.in-Some.is at c.loop-next.invariant.within in
     let stem = c.index-stems-place.result in
     let there =
-    stem_there s.stems c.in-Some.place stem w
-    (subst (λ xs. stem ≡ get_or xs c.in-Some.place.stem stem) same c.index-stems-place.is) in
+    stem_read c.self.inside.stems.items c.as_slice-stems.result.now _ s c.in-Some.place stem c.self.view_is
+    c.as_slice-stems.ensures.value w c.index-stems-place.is in
     let own = own_from s.stems c.in-Some.place in
     let rest = line_to (edits_in s.list) (rev_at s.stems c.after-next.result) in
     record {

@@ -2,14 +2,15 @@ use Rattle.std.proofs.Common.{◌≡◌, ◌-◌, ◌∙◌, ap, drop, get_or, l
 use Rattle.std.specs.Prelude.{None, Some, is_some}
 use Rattle.std.proofs.lemmas.Option.{slice_get_read}
 use Rattle.hub_model.specs.Path.{IsHistory}
-use Rattle.hub_revtree.specs.Stem.{Storage}
+use Rattle.hub_revtree.specs.Common.{common}
+use Rattle.hub_revtree.specs.Stem.{own_from}
 use Rattle.hub_revtree.proofs.BranchLemmas.{some_history}
 use Rattle.hub_revtree.proofs.MeetLemmas.{Goes, agree_all, agrees_more, agrees_none, agrees_unknown}
 use Rattle.hub_revtree.proofs.MeetLemmas.{agrees_whole, all_agree, differs, some_common, within_common}
-use Rattle.hub_revtree.proofs.StemLooks.{stem_there}
+use Rattle.hub_revtree.proofs.StemLooks.{stem_read}
 use Rattle.hub_revtree.proofs.WalkLemmas.{agrees_shown, common_own, legal_in, low, told_in, stored_by}
 use Rattle.hub_revtree.proofs.branches.Branches.new_count.Goals as goal
-use Rattle.hub_revtree.proofs.branches.Branches.new_count.Goals.{In-Some, then-is_none, else-is_none}
+use Rattle.hub_revtree.proofs.branches.Branches.new_count.Goals.{After-common, In-Some, then-is_none, else-is_none}
 
 -- the path goes on with a stem
 goes : (c : In-Some)
@@ -28,9 +29,7 @@ goes c = record {
 pub loop-at-init : goal.loop-at-init
 loop-at-init c =
     let s = c.args.self.now in
-    let k =
-    stored_by c.self.inside.stems.items _ s (sym c.self.view_is) c.self.invariant.0 c.self.invariant.3
-    c.self.invariant.5 in
+    let k = stored_by c.self.inside.stems.items _ s c.self.view_is c.self.invariant in
     let r = c.revisions-revisions.result.now in
     let legal = legal_in s k in
     record { agrees = agrees_none s.stems k.stems legal r; kept = omega arith }
@@ -38,15 +37,11 @@ loop-at-init c =
 pub common-requires : goal.common-requires
 common-requires c =
     let s = c.args.self.now in
-    let k =
-    stored_by c.self.inside.stems.items _ s (sym c.self.view_is) c.self.invariant.0 c.self.invariant.3
-    c.self.invariant.5 in
-    let same : c.as_slice-stems.result.now ≡ s.stems =
-    c.as_slice-stems.ensures.value ∙ ap (λ (z : Storage). z.stems) c.self.view_is in
+    let k = stored_by c.self.inside.stems.items _ s c.self.view_is c.self.invariant in
     let stem = c.index-stems-place.result in
     let there =
-    stem_there s.stems c.in-Some.place stem c.in-Some.ensures.within
-    (subst (λ xs. stem ≡ get_or xs c.in-Some.place.stem stem) same c.index-stems-place.is) in
+    stem_read c.self.inside.stems.items c.as_slice-stems.result.now _ s c.in-Some.place stem c.self.view_is
+    c.as_slice-stems.ensures.value c.in-Some.ensures.within c.index-stems-place.is in
     omega (
       arith,
       low s k c.in-Some.place c.in-Some.ensures.within stem there,
@@ -54,25 +49,31 @@ common-requires c =
       ap length c.run.ensures,
     )
 
+-- how far the path goes with the stem's own revisions
+own : (c : After-common)
+    → common (take (length c.revisions-revisions.result.now - c.loop-at.at)
+    (drop c.loop-at.at c.revisions-revisions.result.now)) (own_from c.args.self.now.stems c.in-Some.place)
+    ≡ c.common.result
+own c =
+    let s = c.args.self.now in
+    let k = stored_by c.self.inside.stems.items _ s c.self.view_is c.self.invariant in
+    let r = c.revisions-revisions.result.now in
+    let stem = c.index-stems-place.result in
+    let there =
+    stem_read c.self.inside.stems.items c.as_slice-stems.result.now _ s c.in-Some.place stem c.self.view_is
+    c.as_slice-stems.ensures.value c.in-Some.ensures.within c.index-stems-place.is in
+    common_own s k c.in-Some.place c.in-Some.ensures.within stem there
+    (take (length r - c.loop-at.at) (drop c.loop-at.at r)) c.common.result
+    (rw (c.from.ensures, c.run.ensures) at c.common.ensures)
+
 pub returns-in_err-count-in-Some-clause-agrees : goal.returns-in_err-count-in-Some-clause-agrees
 returns-in_err-count-in-Some-clause-agrees c =
     let s = c.args.self.now in
-    let k =
-    stored_by c.self.inside.stems.items _ s (sym c.self.view_is) c.self.invariant.0 c.self.invariant.3
-    c.self.invariant.5 in
-    let same : c.as_slice-stems.result.now ≡ s.stems =
-    c.as_slice-stems.ensures.value ∙ ap (λ (z : Storage). z.stems) c.self.view_is in
+    let k = stored_by c.self.inside.stems.items _ s c.self.view_is c.self.invariant in
     let r = c.revisions-revisions.result.now in
     let legal = legal_in s k in
     let g = goes (goal.at.returns-in_err-count-in-Some-clause-agrees c).In-Some in
-    let stem = c.index-stems-place.result in
-    let there =
-    stem_there s.stems c.in-Some.place stem c.in-Some.ensures.within
-    (subst (λ xs. stem ≡ get_or xs c.in-Some.place.stem stem) same c.index-stems-place.is) in
-    let one =
-    common_own s k c.in-Some.place c.in-Some.ensures.within stem there
-    (take (length r - c.loop-at.at) (drop c.loop-at.at r)) c.common.result None
-    (rw (c.from.ensures, c.run.ensures) at c.common.ensures) c.in_err-count-in-Some.was in
+    let one = own (goal.at.returns-in_err-count-in-Some-clause-agrees c).After-common ∙ c.in_err-count-in-Some.was in
     agrees_shown s k c.args.path.now r _ c.revisions-revisions.ensures
     (ap is_some c.from_residual.ensures
     ∙ differs s.stems k.stems legal r c.loop-at.at c.loop-at.told c.in-Some.place g
@@ -81,22 +82,11 @@ returns-in_err-count-in-Some-clause-agrees c =
 pub returns-then-count-revisions-clause-agrees : goal.returns-then-count-revisions-clause-agrees
 returns-then-count-revisions-clause-agrees c =
     let s = c.args.self.now in
-    let k =
-    stored_by c.self.inside.stems.items _ s (sym c.self.view_is) c.self.invariant.0 c.self.invariant.3
-    c.self.invariant.5 in
-    let same : c.as_slice-stems.result.now ≡ s.stems =
-    c.as_slice-stems.ensures.value ∙ ap (λ (z : Storage). z.stems) c.self.view_is in
+    let k = stored_by c.self.inside.stems.items _ s c.self.view_is c.self.invariant in
     let r = c.revisions-revisions.result.now in
     let legal = legal_in s k in
     let g = goes (goal.at.returns-then-count-revisions-clause-agrees c).In-Some in
-    let stem = c.index-stems-place.result in
-    let there =
-    stem_there s.stems c.in-Some.place stem c.in-Some.ensures.within
-    (subst (λ xs. stem ≡ get_or xs c.in-Some.place.stem stem) same c.index-stems-place.is) in
-    let one =
-    common_own s k c.in-Some.place c.in-Some.ensures.within stem there
-    (take (length r - c.loop-at.at) (drop c.loop-at.at r)) c.common.result (Some c.in_ok-count-in-Some.count)
-    (rw (c.from.ensures, c.run.ensures) at c.common.ensures) c.in_ok-count-in-Some.was in
+    let one = own (goal.at.returns-then-count-revisions-clause-agrees c).After-common ∙ c.in_ok-count-in-Some.was in
     agrees_shown s k c.args.path.now r _ c.revisions-revisions.ensures
     (agree_all s.stems k.stems legal r
     (all_agree s.stems k.stems legal r c.loop-at.at c.loop-at.told c.in-Some.place g
@@ -105,22 +95,11 @@ returns-then-count-revisions-clause-agrees c =
 pub overflow_add-at : goal.overflow_add-at
 overflow_add-at c =
     let s = c.args.self.now in
-    let k =
-    stored_by c.self.inside.stems.items _ s (sym c.self.view_is) c.self.invariant.0 c.self.invariant.3
-    c.self.invariant.5 in
-    let same : c.as_slice-stems.result.now ≡ s.stems =
-    c.as_slice-stems.ensures.value ∙ ap (λ (z : Storage). z.stems) c.self.view_is in
+    let k = stored_by c.self.inside.stems.items _ s c.self.view_is c.self.invariant in
     let r = c.revisions-revisions.result.now in
     let legal = legal_in s k in
     let g = goes (goal.at.overflow_add-at c).In-Some in
-    let stem = c.index-stems-place.result in
-    let there =
-    stem_there s.stems c.in-Some.place stem c.in-Some.ensures.within
-    (subst (λ xs. stem ≡ get_or xs c.in-Some.place.stem stem) same c.index-stems-place.is) in
-    let one =
-    common_own s k c.in-Some.place c.in-Some.ensures.within stem there
-    (take (length r - c.loop-at.at) (drop c.loop-at.at r)) c.common.result (Some c.in_ok-count-in-Some.count)
-    (rw (c.from.ensures, c.run.ensures) at c.common.ensures) c.in_ok-count-in-Some.was in
+    let one = own (goal.at.overflow_add-at c).After-common ∙ c.in_ok-count-in-Some.was in
     omega (
       arith,
       within_common s.stems k.stems legal r c.loop-at.at c.loop-at.told c.in-Some.place g
@@ -130,22 +109,11 @@ overflow_add-at c =
 pub loop-at-smaller-in-Some : goal.loop-at-smaller-in-Some
 loop-at-smaller-in-Some c =
     let s = c.args.self.now in
-    let k =
-    stored_by c.self.inside.stems.items _ s (sym c.self.view_is) c.self.invariant.0 c.self.invariant.3
-    c.self.invariant.5 in
-    let same : c.as_slice-stems.result.now ≡ s.stems =
-    c.as_slice-stems.ensures.value ∙ ap (λ (z : Storage). z.stems) c.self.view_is in
+    let k = stored_by c.self.inside.stems.items _ s c.self.view_is c.self.invariant in
     let r = c.revisions-revisions.result.now in
     let legal = legal_in s k in
     let g = goes (goal.at.loop-at-smaller-in-Some c).In-Some in
-    let stem = c.index-stems-place.result in
-    let there =
-    stem_there s.stems c.in-Some.place stem c.in-Some.ensures.within
-    (subst (λ xs. stem ≡ get_or xs c.in-Some.place.stem stem) same c.index-stems-place.is) in
-    let one =
-    common_own s k c.in-Some.place c.in-Some.ensures.within stem there
-    (take (length r - c.loop-at.at) (drop c.loop-at.at r)) c.common.result (Some c.in_ok-count-in-Some.count)
-    (rw (c.from.ensures, c.run.ensures) at c.common.ensures) c.in_ok-count-in-Some.was in
+    let one = own (goal.at.loop-at-smaller-in-Some c).After-common ∙ c.in_ok-count-in-Some.was in
     omega (
       arith,
       some_common s.stems k.stems legal r c.loop-at.at c.loop-at.told c.in-Some.place g
@@ -155,22 +123,11 @@ loop-at-smaller-in-Some c =
 pub loop-at-preserved-in-Some : goal.loop-at-preserved-in-Some
 loop-at-preserved-in-Some c =
     let s = c.args.self.now in
-    let k =
-    stored_by c.self.inside.stems.items _ s (sym c.self.view_is) c.self.invariant.0 c.self.invariant.3
-    c.self.invariant.5 in
-    let same : c.as_slice-stems.result.now ≡ s.stems =
-    c.as_slice-stems.ensures.value ∙ ap (λ (z : Storage). z.stems) c.self.view_is in
+    let k = stored_by c.self.inside.stems.items _ s c.self.view_is c.self.invariant in
     let r = c.revisions-revisions.result.now in
     let legal = legal_in s k in
     let g = goes (goal.at.loop-at-preserved-in-Some c).In-Some in
-    let stem = c.index-stems-place.result in
-    let there =
-    stem_there s.stems c.in-Some.place stem c.in-Some.ensures.within
-    (subst (λ xs. stem ≡ get_or xs c.in-Some.place.stem stem) same c.index-stems-place.is) in
-    let one =
-    common_own s k c.in-Some.place c.in-Some.ensures.within stem there
-    (take (length r - c.loop-at.at) (drop c.loop-at.at r)) c.common.result (Some c.in_ok-count-in-Some.count)
-    (rw (c.from.ensures, c.run.ensures) at c.common.ensures) c.in_ok-count-in-Some.was in
+    let one = own (goal.at.loop-at-preserved-in-Some c).After-common ∙ c.in_ok-count-in-Some.was in
     let within =
     within_common s.stems k.stems legal r c.loop-at.at c.loop-at.told c.in-Some.place g
     c.in_ok-count-in-Some.count one in
@@ -187,9 +144,7 @@ loop-at-preserved-in-Some c =
 pub loop-at-preserved : goal.loop-at-preserved
 loop-at-preserved c =
     let s = c.args.self.now in
-    let k =
-    stored_by c.self.inside.stems.items _ s (sym c.self.view_is) c.self.invariant.0 c.self.invariant.3
-    c.self.invariant.5 in
+    let k = stored_by c.self.inside.stems.items _ s c.self.view_is c.self.invariant in
     let r = c.revisions-revisions.result.now in
     let legal = legal_in s k in
     record {
@@ -204,9 +159,7 @@ loop-at-preserved c =
 pub returns-clause-agrees : goal.returns-clause-agrees
 returns-clause-agrees c =
     let s = c.args.self.now in
-    let k =
-    stored_by c.self.inside.stems.items _ s (sym c.self.view_is) c.self.invariant.0 c.self.invariant.3
-    c.self.invariant.5 in
+    let k = stored_by c.self.inside.stems.items _ s c.self.view_is c.self.invariant in
     let r = c.revisions-revisions.result.now in
     let legal = legal_in s k in
     agrees_shown s k c.args.path.now r _ c.revisions-revisions.ensures

@@ -21,10 +21,8 @@ returns-clause-named c =
 
 pub returns-then-generation-self-clause-stored : goal.returns-then-generation-self-clause-stored
 returns-then-generation-self-clause-stored c =
-    stored_by c.self.inside.stems.items _ c.args.self.now (sym c.self.view_is) c.self.invariant.0
-    c.self.invariant.3 c.self.invariant.5
+    stored_by c.self.inside.stems.items _ c.args.self.now c.self.view_is c.self.invariant
 
 pub returns-clause-stored : goal.returns-clause-stored
 returns-clause-stored c =
-    stored_by c.self.inside.stems.items _ c.args.self.now (sym c.self.view_is) c.self.invariant.0
-    c.self.invariant.3 c.self.invariant.5
+    stored_by c.self.inside.stems.items _ c.args.self.now c.self.view_is c.self.invariant
