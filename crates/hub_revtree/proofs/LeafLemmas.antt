@@ -43,13 +43,9 @@ with_path : (edits : List Edit) (edit : Edit) (path : List Revision) (revision :
     else Some (better_of (record { rev = revision; deleted = edit.deleted }) (winner_of (best_first leaves))))
 with_path edits edit [] revision leaves h b is = absurd (cc)
 with_path edits edit (other ∷ older) revision leaves h true is =
-    let t : list_any (is_behind_head other) edits ≡ true =
-    subst (λ z. list_any (is_behind_head z) edits ≡ true) (sym (same_Some other revision h)) is in
-    rw t refl
+    rw (ap (λ z. list_any (is_behind_head z) edits) (same_Some other revision h) ∙ is) refl
 with_path edits edit (other ∷ older) revision leaves h false is =
-    let t : list_any (is_behind_head other) edits ≡ false =
-    subst (λ z. list_any (is_behind_head z) edits ≡ false) (sym (same_Some other revision h)) is in
-    rw t
+    rw (ap (λ z. list_any (is_behind_head z) edits) (same_Some other revision h) ∙ is)
     (placed_first (record { rev = other; edit = edit }) (best_first leaves)
     ∙ ap (λ z. Some (better_of (record { rev = z; deleted = edit.deleted }) (winner_of (best_first leaves))))
     (same_Some other revision h))
@@ -109,13 +105,10 @@ found_with : (edits : List Edit) (edit : Edit) (path : List Revision) (revision 
     (record { rev = revision; deleted = edit.deleted } ∷ winners_of leaves))
 found_with edits edit [] revision leaves h b is = absurd (cc)
 found_with edits edit (other ∷ older) revision leaves h true is =
-    let t : list_any (is_behind_head other) edits ≡ true =
-    subst (λ z. list_any (is_behind_head z) edits ≡ true) (sym (same_Some other revision h)) is in
-    rw t refl
+    rw (ap (λ z. list_any (is_behind_head z) edits) (same_Some other revision h) ∙ is) refl
 found_with edits edit (other ∷ older) revision leaves h false is =
-    let t : list_any (is_behind_head other) edits ≡ false =
-    subst (λ z. list_any (is_behind_head z) edits ≡ false) (sym (same_Some other revision h)) is in
-    rw t (ap (λ (z : Revision). record { rev = z; deleted = edit.deleted } ∷ winners_of leaves)
+    rw (ap (λ z. list_any (is_behind_head z) edits) (same_Some other revision h) ∙ is)
+    (ap (λ (z : Revision). record { rev = z; deleted = edit.deleted } ∷ winners_of leaves)
     (same_Some other revision h))
 
 found_more : (all some : List Branch) (branch : Branch) (revision : Revision)

@@ -14,7 +14,13 @@ use Rattle.hub_revtree.proofs.MarkLemmas.{branches_same, indexed_front, line_sam
 use Rattle.hub_revtree.proofs.MarkLemmas.{plain_more, stems_same, up_to_same, within_told}
 use Rattle.hub_revtree.proofs.RunLemmas.{newest_of}
 use Rattle.hub_revtree.proofs.branches.Branches.push.Goals as goal
-use Rattle.hub_revtree.proofs.branches.Branches.push.Goals.{Joined-drop, then-whole, else-whole}
+use Rattle.hub_revtree.proofs.branches.Branches.push.Goals.{After-met_by-met, Joined-drop, then-whole, else-whole}
+
+-- where the path meets the stems
+meets : (c : After-met_by-met)
+    → IsMeeting c.self.inside.stems.items c.args.path c.met_by-met.result.at c.met_by-met.result.place
+    c.met_by-met.result.behind c.met_by-met.result.joins
+meets c = rw (sym c.self.view_is) at c.met_by-met.ensures
 
 pub behind_last-requires : goal.behind_last-requires
 behind_last-requires c = c.requires.acceptable.history.falls
@@ -29,9 +35,7 @@ standing_of-standing-requires-clause-reach c =
     let xs = c.self.inside.stems.items in
     let legal = c.self.invariant.5 in
     let ok = rw (sym c.self.view_is) at c.requires.acceptable in
-    let is : IsMeeting xs c.args.path c.met_by-met.result.at c.met_by-met.result.place
-    c.met_by-met.result.behind c.met_by-met.result.joins =
-    rw (sym c.self.view_is) at c.met_by-met.ensures in
+    let is = meets (goal.at.standing_of-standing-requires-clause-reach c).After-met_by-met in
     let head = newest_of c.args.path c.generation-newest.result c.generation-newest.ensures in
     let low =
     reach_low xs c.self.invariant.0 legal c.args.path c.args.deleted c.args.body
@@ -43,9 +47,7 @@ kept-run-requires-clause-some c =
     let xs = c.self.inside.stems.items in
     let legal = c.self.invariant.5 in
     let ok = rw (sym c.self.view_is) at c.requires.acceptable in
-    let is : IsMeeting xs c.args.path c.met_by-met.result.at c.met_by-met.result.place
-    c.met_by-met.result.behind c.met_by-met.result.joins =
-    rw (sym c.self.view_is) at c.met_by-met.ensures in
+    let is = meets (goal.at.kept-run-requires-clause-some c).After-met_by-met in
     some_kept xs c.self.invariant.0 legal c.args.path c.args.deleted c.args.body ok _ _ _ _ is
 
 pub new-requires-clause-path : goal.new-requires-clause-path
@@ -53,9 +55,7 @@ new-requires-clause-path c =
     let xs = c.self.inside.stems.items in
     let legal = c.self.invariant.5 in
     let ok = rw (sym c.self.view_is) at c.requires.acceptable in
-    let is : IsMeeting xs c.args.path c.met_by-met.result.at c.met_by-met.result.place
-    c.met_by-met.result.behind c.met_by-met.result.joins =
-    rw (sym c.self.view_is) at c.met_by-met.ensures in
+    let is = meets (goal.at.new-requires-clause-path c).After-met_by-met in
     let some = some_kept xs c.self.invariant.0 legal c.args.path c.args.deleted c.args.body ok _ _ _ _ is in
     rw c.kept-run.ensures.run
     (take_falls c.met_by-met.result.at c.args.path
@@ -66,9 +66,7 @@ new-requires-clause-stands c =
     let xs = c.self.inside.stems.items in
     let legal = c.self.invariant.5 in
     let ok = rw (sym c.self.view_is) at c.requires.acceptable in
-    let is : IsMeeting xs c.args.path c.met_by-met.result.at c.met_by-met.result.place
-    c.met_by-met.result.behind c.met_by-met.result.joins =
-    rw (sym c.self.view_is) at c.met_by-met.ensures in
+    let is = meets (goal.at.new-requires-clause-stands c).After-met_by-met in
     stands_low xs c.self.invariant.0 legal c.args.path c.args.deleted c.args.body ok _ _ _
     _ is c.standing_of-standing.result.parent c.kept-run.result.0 c.standing_of-standing.result.reach
     c.standing_of-standing.ensures.parent c.kept-run.ensures.run c.standing_of-standing.ensures.reach
@@ -122,9 +120,7 @@ note_inner-requires c =
     let xs = c.self.inside.stems.items in
     let legal = c.self.invariant.5 in
     let ok = rw (sym c.self.view_is) at c.requires.acceptable in
-    let is : IsMeeting xs c.args.path c.met_by-met.result.at c.met_by-met.result.place
-    c.met_by-met.result.behind c.met_by-met.result.joins =
-    rw (sym c.self.view_is) at c.met_by-met.ensures in
+    let is = meets (goal.at.note_inner-requires c).After-met_by-met in
     let some = some_kept xs c.self.invariant.0 legal c.args.path c.args.deleted c.args.body ok _ _ _ _ is in
     record {
       stems = c.self.invariant.0;
@@ -146,9 +142,7 @@ renewed-requires-clause-stems c =
     let ys = c.note_inner.new.stems.items in
     let legal = c.self.invariant.5 in
     let ok = rw (sym c.self.view_is) at c.requires.acceptable in
-    let is : IsMeeting xs c.args.path c.met_by-met.result.at c.met_by-met.result.place
-    c.met_by-met.result.behind c.met_by-met.result.joins =
-    rw (sym c.self.view_is) at c.met_by-met.ensures in
+    let is = meets (goal.at.renewed-requires-clause-stems c).After-met_by-met in
     let stem : Stem = record {
       revisions = c.kept-run.result.0;
       parent = c.standing_of-standing.result.parent;

@@ -5,13 +5,7 @@ pub invariant_of-self : goal.invariant_of-self
 invariant_of-self c = elim c.match-self.branch [
   | in-Some w ↦
       let own = rw w.in-Some.is at c.self.invariant.2 in
-      rw w.self-inside-is (
-        c.self.invariant.0,
-        c.self.invariant.1,
-        rw w.deref_mut.ensures.value own,
-        c.self.invariant.3,
-        rw w.take.ensures.after tt,
-        c.self.invariant.5,
-      )
+      let was = c.self.invariant in
+      rw w.self-inside-is (was.0, was.1, rw w.deref_mut.ensures.value own, was.3, rw w.take.ensures.after tt, was.5)
   | in-None w ↦ rw w.self-inside-is c.self.invariant
 ]

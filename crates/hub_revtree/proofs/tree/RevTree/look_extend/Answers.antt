@@ -1,7 +1,7 @@
 use Rattle.std.proofs.Common.{◌≡◌, ◌∷◌, ◌+◌, ◌<◌, ◌≤◌, ◌∙◌, arith, sym, ap, inl, inr, refl, subst}
 use Rattle.std.specs.Prelude.{Err, Ok}
 use Rattle.std.proofs.lemmas.Result.{err_from_is_err_and}
-use Rattle.hub_model.specs.Draft.{generation_of, new_revision}
+use Rattle.hub_model.specs.Draft.{generation_of, new_revision, parent_of}
 use Rattle.hub_model.specs.Journal.{IsAcceptable}
 use Rattle.hub_model.specs.Path.{IsHistory}
 use Rattle.hub_model.specs.Revision.{Revision}
@@ -11,14 +11,29 @@ use Rattle.hub_revtree.proofs.BranchLemmas.{within_generation}
 use Rattle.hub_revtree.proofs.EditLemmas.{is_taken, is_new, known_conflicts, last_limits}
 use Rattle.hub_revtree.proofs.EditLemmas.{new_extends, next_history, next_acceptable}
 use Rattle.hub_revtree.proofs.tree.RevTree.look_extend.Goals as goal
+use Rattle.hub_revtree.proofs.tree.RevTree.look_extend.Goals.{In-Ok}
+
+-- the revision that is made
+made : (c : In-Ok)
+    → c.in-Ok.rev ≡ new_revision (draft c.args.id.now c.args.parent c.args.deleted c.args.body)
+    (parent_of (line_to c.args.self.now.edits c.in_ok-older.older))
+made c =
+    c.in-Ok.ensures.ok
+    ∙ ap (new_revision (draft c.args.id.now c.args.parent c.args.deleted c.args.body))
+    (sym c.in_ok-older.ensures.first)
+
+-- its history
+history : (c : In-Ok) → IsHistory (c.in-Ok.rev ∷ line_to c.args.self.now.edits c.in_ok-older.older)
+history c =
+    subst (λ z. IsHistory (z ∷ line_to c.args.self.now.edits c.in_ok-older.older)) (sym (made c))
+    (next_history c.args.self.now.edits c.branches.ensures.tree c.args.id.now c.args.parent c.args.deleted
+    c.args.body _ (sym c.in_ok-older.ensures.line))
 
 pub returns-then-knows_digest-clause-err : goal.returns-then-knows_digest-clause-err
 returns-then-knows_digest-clause-err c =
     let line = line_to c.args.self.now.edits c.in_ok-older.older in
     let first = c.in_ok-older.ensures.first in
-    let rev =
-    c.in-Ok.ensures.ok
-    ∙ ap (new_revision (draft c.args.id.now c.args.parent c.args.deleted c.args.body)) (sym first) in
+    let rev = made (goal.at.returns-then-knows_digest-clause-err c).In-Ok in
     known_conflicts c.args.self.now.edits
     c.branches.ensures.tree c.args.id.now c.args.parent c.args.deleted c.args.body line
     (sym c.in_ok-older.ensures.line) (subst (λ z. generation_of z < 65535) (sym first) c.in-Ok.ensures.below)
@@ -51,32 +66,17 @@ returns-in-Err-clause-err c =
     ]
 
 pub path_on-requires : goal.path_on-requires
-path_on-requires c =
-    let line = line_to c.args.self.now.edits c.in_ok-older.older in
-    let rev =
-    c.in-Ok.ensures.ok
-    ∙ ap (new_revision (draft c.args.id.now c.args.parent c.args.deleted c.args.body))
-    (sym c.in_ok-older.ensures.first) in
-    subst (λ z. IsHistory (z ∷ line)) (sym rev)
-    (next_history c.args.self.now.edits c.branches.ensures.tree c.args.id.now c.args.parent c.args.deleted
-    c.args.body line (sym c.in_ok-older.ensures.line))
+path_on-requires c = history (goal.at.path_on-requires c).In-Ok
 
 pub ready_with-requires : goal.ready_with-requires
 ready_with-requires c =
     let line = line_to c.args.self.now.edits c.in_ok-older.older in
-    let rev =
-    c.in-Ok.ensures.ok
-    ∙ ap (new_revision (draft c.args.id.now c.args.parent c.args.deleted c.args.body))
-    (sym c.in_ok-older.ensures.first) in
-    let history =
-    subst (λ z. IsHistory (z ∷ line)) (sym rev)
-    (next_history c.args.self.now.edits c.branches.ensures.tree c.args.id.now c.args.parent c.args.deleted
-    c.args.body line (sym c.in_ok-older.ensures.line)) in
+    let old = history (goal.at.ready_with-requires c).In-Ok in
     let up : c.in-Ok.rev.generation ≡ generation_of c.in_ok-older.older + 1 =
     ap (λ (z : Revision). z.generation) c.in-Ok.ensures.ok in
     rw c.in_ok-path.ensures (record {
-      history = history;
-      short = omega (arith, up, c.in-Ok.ensures.below, within_generation (c.in-Ok.rev ∷ line) c.in-Ok.rev history refl);
+      history = old;
+      short = omega (arith, up, c.in-Ok.ensures.below, within_generation (c.in-Ok.rev ∷ line) c.in-Ok.rev old refl);
       front = rw c.of_one.ensures refl;
     })
 
@@ -84,9 +84,7 @@ pub returns-clause-ok : goal.returns-clause-ok
 returns-clause-ok c =
     let line = line_to c.args.self.now.edits c.in_ok-older.older in
     let first = c.in_ok-older.ensures.first in
-    let rev =
-    c.in-Ok.ensures.ok
-    ∙ ap (new_revision (draft c.args.id.now c.args.parent c.args.deleted c.args.body)) (sym first) in
+    let rev = made (goal.at.returns-clause-ok c).In-Ok in
     let new =
     is_new c.args.self.now.edits c.in-Ok.rev _ c.knows_digest.result c.knows_digest.ensures
     rev c.if-knows_digest.false in
@@ -99,10 +97,7 @@ returns-clause-ok c =
 pub returns-clause-acceptable : goal.returns-clause-acceptable
 returns-clause-acceptable c =
     let line = line_to c.args.self.now.edits c.in_ok-older.older in
-    let rev =
-    c.in-Ok.ensures.ok
-    ∙ ap (new_revision (draft c.args.id.now c.args.parent c.args.deleted c.args.body))
-    (sym c.in_ok-older.ensures.first) in
+    let rev = made (goal.at.returns-clause-acceptable c).In-Ok in
     let new =
     is_new c.args.self.now.edits c.in-Ok.rev _ c.knows_digest.result c.knows_digest.ensures
     rev c.if-knows_digest.false in
