@@ -196,33 +196,31 @@ module _ {A : Type 0} where
   at_some P xs k x l is h = subst (λ o. IsSomeAnd o P) (sym (at_place xs k x l is)) h
 
 module _ {A : Type 0} (f : A → List ℕ) where
+  -- the numbers of the pages, where a page is changed
+  page_set : (pages : List A) (k : ℕ) (y : A) → k < length pages
+      → flat_map f (set pages k y) ≡ flat_map f (take k pages) ++ (f y ++ flat_map f (drop (k + 1) pages))
+  page_set pages k y l =
+      let next : suc k ≡ k + 1 = omega arith in
+      ap (flat_map f) (set_split pages k y l ∙ ap (λ m. take k pages ++ y ∷ drop m pages) next)
+      ∙ flat_map-append f (take k pages) (y ∷ drop (k + 1) pages)
+
   -- a page takes in a number, and so do the numbers of all pages
   pub page_put : (pages : List A) (k : ℕ) (x y : A) (at n : ℕ) → k < length pages → x ≡ get_or pages k x
       → at ≤ length (f x) → f y ≡ insert (f x) at n
       → flat_map f (set pages k y) ≡ insert (flat_map f pages) (length (flat_map f (take k pages)) + at) n
   page_put pages k x y at n l is low e =
-      ap (flat_map f) (set_split pages k y l)
-      ∙ (flat_map-append f (take k pages) (y ∷ drop (suc k) pages)
-      ∙ (ap (λ m. flat_map f (take k pages) ++ (f y ++ flat_map f (drop m pages))) next
+      page_set pages k y l
       ∙ (ap (λ p. flat_map f (take k pages) ++ (p ++ flat_map f (drop (k + 1) pages))) e
       ∙ (sym (insert_inside (flat_map f (take k pages)) (f x) (flat_map f (drop (k + 1) pages)) at n low)
-      ∙ ap (λ l. insert l (length (flat_map f (take k pages)) + at) n) (sym (cut_at f pages k x l is))))))
-    where
-      next : suc k ≡ k + 1
-      next = omega arith
+      ∙ ap (λ l. insert l (length (flat_map f (take k pages)) + at) n) (sym (cut_at f pages k x l is))))
 
   -- a page that keeps its numbers keeps the numbers of all pages
   pub page_same : (pages : List A) (k : ℕ) (x y : A) → k < length pages → x ≡ get_or pages k x → f y ≡ f x
       → flat_map f (set pages k y) ≡ flat_map f pages
   page_same pages k x y l is e =
-      ap (flat_map f) (set_split pages k y l)
-      ∙ (flat_map-append f (take k pages) (y ∷ drop (suc k) pages)
-      ∙ (ap (λ m. flat_map f (take k pages) ++ (f y ++ flat_map f (drop m pages))) next
+      page_set pages k y l
       ∙ (ap (λ p. flat_map f (take k pages) ++ (p ++ flat_map f (drop (k + 1) pages))) e
-      ∙ sym (cut_at f pages k x l is))))
-    where
-      next : suc k ≡ k + 1
-      next = omega arith
+      ∙ sym (cut_at f pages k x l is))
 
 -- ---- a page that is cut in two
 

@@ -361,22 +361,19 @@ All_removed P t (e ∷ es) all =
 -- a search by sequences on a page, from the search by places in its slots
 module _ (base place from : ℕ) (now slots : List (Option ℕ)) (same : slots ≡ now) where
   module _ (is_from : from ≡ place - base) where
+    row_from : option_map (row_at base) (find (λ (r : ℕ × ℕ). nat_le from r.0) (slot_rows 0 slots))
+        ≡ find (λ (r : ℕ × ℕ). nat_lt place r.0) (slot_rows (base + 1) now)
+    row_from =
+        rw (same, is_from) (sym (first_row base place now))
+
     pub nothing_from : None ≡ find (λ (r : ℕ × ℕ). nat_le from r.0) (slot_rows 0 slots)
         → None ≡ find (λ (r : ℕ × ℕ). nat_lt place r.0) (slot_rows (base + 1) now)
-    nothing_from e =
-        sym (first_row base place now
-        ∙ ap (option_map (row_at base))
-        (ap (λ m. find (λ (r : ℕ × ℕ). nat_le m r.0) (slot_rows 0 now)) (sym is_from)
-        ∙ (ap (λ s. find (λ (r : ℕ × ℕ). nat_le from r.0) (slot_rows 0 s)) (sym same) ∙ sym e)))
+    nothing_from e = ap (option_map (row_at base)) e ∙ row_from
 
     pub found_from : (at d : ℕ) → Some (at, d) ≡ find (λ (r : ℕ × ℕ). nat_le from r.0) (slot_rows 0 slots)
         → Some (base + (at + 1), d) ≡ find (λ (r : ℕ × ℕ). nat_lt place r.0) (slot_rows (base + 1) now)
     found_from at d e =
-        ap (λ m. Some (m, d)) (omega arith)
-        ∙ sym (first_row base place now
-        ∙ ap (option_map (row_at base))
-        (ap (λ m. find (λ (r : ℕ × ℕ). nat_le m r.0) (slot_rows 0 now)) (sym is_from)
-        ∙ (ap (λ s. find (λ (r : ℕ × ℕ). nat_le from r.0) (slot_rows 0 s)) (sym same) ∙ sym e)))
+        ap (λ m. Some (m, d)) (omega arith) ∙ (ap (option_map (row_at base)) e ∙ row_from)
 
     pub fits_from : (at d n : ℕ) → All (λ (r : ℕ × ℕ). r.0 < n) (slot_rows (base + 1) now)
         → Some (at, d) ≡ find (λ (r : ℕ × ℕ). nat_le from r.0) (slot_rows 0 slots) → base + (at + 1) < n
@@ -385,32 +382,26 @@ module _ (base place from : ℕ) (now slots : List (Option ℕ)) (same : slots �
         (base + (at + 1), d) all (sym (found_from at d e))
 
   module _ (is_from : from ≡ place - (base + 1)) where
+    row_below : option_map (row_at base) (find (λ (r : ℕ × ℕ). nat_lt r.0 from) (reverse (slot_rows 0 slots)))
+        ≡ find (λ (r : ℕ × ℕ). nat_lt r.0 place) (reverse (slot_rows (base + 1) now))
+    row_below =
+        rw (same, is_from) (sym (last_row base place now))
+
     pub nothing_below : None ≡ find (λ (r : ℕ × ℕ). nat_lt r.0 from) (reverse (slot_rows 0 slots))
         → None ≡ find (λ (r : ℕ × ℕ). nat_lt r.0 place) (reverse (slot_rows (base + 1) now))
-    nothing_below e =
-        sym (last_row base place now
-        ∙ ap (option_map (row_at base))
-        (ap (λ m. find (λ (r : ℕ × ℕ). nat_lt r.0 m) (reverse (slot_rows 0 now))) (sym is_from)
-        ∙ (ap (λ s. find (λ (r : ℕ × ℕ). nat_lt r.0 from) (reverse (slot_rows 0 s))) (sym same) ∙ sym e)))
+    nothing_below e = ap (option_map (row_at base)) e ∙ row_below
 
     pub found_below : (at d : ℕ)
         → Some (at, d) ≡ find (λ (r : ℕ × ℕ). nat_lt r.0 from) (reverse (slot_rows 0 slots))
         → Some (base + (at + 1), d)
         ≡ find (λ (r : ℕ × ℕ). nat_lt r.0 place) (reverse (slot_rows (base + 1) now))
     found_below at d e =
-        ap (λ m. Some (m, d)) (omega arith)
-        ∙ sym (last_row base place now
-        ∙ ap (option_map (row_at base))
-        (ap (λ m. find (λ (r : ℕ × ℕ). nat_lt r.0 m) (reverse (slot_rows 0 now))) (sym is_from)
-        ∙ (ap (λ s. find (λ (r : ℕ × ℕ). nat_lt r.0 from) (reverse (slot_rows 0 s))) (sym same) ∙ sym e)))
+        ap (λ m. Some (m, d)) (omega arith) ∙ (ap (option_map (row_at base)) e ∙ row_below)
 
     pub fits_below : (at d : ℕ)
         → Some (at, d) ≡ find (λ (r : ℕ × ℕ). nat_lt r.0 from) (reverse (slot_rows 0 slots))
         → base + (at + 1) < place
     fits_below at d e =
-        last_passes place (reverse (slot_rows (base + 1) now)) (base + (at + 1), d) (sym (found_below at d e))
-      where
-        last_passes : (place : ℕ) (rows : List (ℕ × ℕ)) (r : ℕ × ℕ)
-            → find (λ (r : ℕ × ℕ). nat_lt r.0 place) rows ≡ Some r → r.0 < place
-        last_passes place rows r e =
-            ltb-true r.0 place (find_passes (λ (r : ℕ × ℕ). nat_lt r.0 place) rows r e)
+        ltb-true (base + (at + 1)) place
+        (find_passes (λ (r : ℕ × ℕ). nat_lt r.0 place) (reverse (slot_rows (base + 1) now)) (base + (at + 1), d)
+        (sym (found_below at d e)))

@@ -1,5 +1,7 @@
-use Rattle.std.proofs.Common.{◌≡◌, ◌++◌, ◌∷◌, [], ◌∙◌, refl, sym, ap, false, max, arith}
+use Rattle.std.proofs.Common.{◌≡◌, ℕ, Bool, List, ◌++◌, ◌∷◌, [], ◌∙◌, refl, sym, ap, false, max, arith}
 use Rattle.hub_model.proofs.Legal.{legal_more}
+use Rattle.hub_model.specs.Revision.{Revision}
+use Rattle.hub_revtree.specs.declared.stem.Standing.{Standing}
 use Rattle.hub_revtree.specs.Branch.{edits_in}
 use Rattle.hub_revtree.specs.Index.{IsNewestLine}
 use Rattle.hub_revtree.specs.Lookup.{IsMeeting}
@@ -72,17 +74,20 @@ new-requires-clause-stands c =
     c.standing_of-standing.ensures.parent c.kept-run.ensures.run c.standing_of-standing.ensures.reach
 
 -- the stem that comes to the stems
-abbrev stem_of : Joined-drop → Stem
-stem_of c = record {
-  revisions = c.kept-run.result.0;
-  parent = c.standing_of-standing.result.parent;
-  count = c.standing_of-standing.result.count;
-  reach = c.standing_of-standing.result.reach;
-  joins = c.standing_of-standing.result.joins;
-  deleted = c.args.deleted;
+abbrev stem_from : List Revision → Standing → Bool → List ℕ → Stem
+stem_from run standing deleted body = record {
+  revisions = run;
+  parent = standing.parent;
+  count = standing.count;
+  reach = standing.reach;
+  joins = standing.joins;
+  deleted = deleted;
   inner = false;
-  body = c.args.body;
+  body = body;
 }
+
+abbrev stem_of : Joined-drop → Stem
+stem_of c = stem_from c.kept-run.result.0 c.standing_of-standing.result c.args.deleted c.args.body
 
 brings : (c : Joined-drop) → Brings c.self.inside.stems.items c.args.path (stem_of c)
 brings c =
@@ -143,16 +148,7 @@ renewed-requires-clause-stems c =
     let legal = c.self.invariant.5 in
     let ok = rw (sym c.self.view_is) at c.requires.acceptable in
     let is = meets (goal.at.renewed-requires-clause-stems c).After-met_by-met in
-    let stem : Stem = record {
-      revisions = c.kept-run.result.0;
-      parent = c.standing_of-standing.result.parent;
-      count = c.standing_of-standing.result.count;
-      reach = c.standing_of-standing.result.reach;
-      joins = c.standing_of-standing.result.joins;
-      deleted = c.args.deleted;
-      inner = false;
-      body = c.args.body;
-    } in
+    let stem = stem_from c.kept-run.result.0 c.standing_of-standing.result c.args.deleted c.args.body in
     let path =
     met_brings xs c.self.invariant.0 legal c.args.path c.args.deleted
     c.args.body ok _ _ _ _ is stem c.kept-run.ensures.run c.standing_of-standing.ensures.parent
