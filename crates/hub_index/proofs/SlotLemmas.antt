@@ -403,5 +403,5 @@ module _ (base place from : ℕ) (now slots : List (Option ℕ)) (same : slots �
         → base + (at + 1) < place
     fits_below at d e =
         ltb-true (base + (at + 1)) place
-        (find_passes (λ (r : ℕ × ℕ). nat_lt r.0 place) (reverse (slot_rows (base + 1) now)) (base + (at + 1), d)
-        (sym (found_below at d e)))
+        (find_passes (λ (r : ℕ × ℕ). nat_lt r.0 place) (reverse (slot_rows (base + 1) now))
+        (base + (at + 1), d) (sym (found_below at d e)))

@@ -1,6 +1,6 @@
 -- The first of the leaves, one branch more at a time.
 use Rattle.std.proofs.Common.{◌≡◌, ℕ, suc, ◌-◌, ◌<◌, List, [], ◌∷◌, ◌++◌, length, reverse}
-use Rattle.std.proofs.Common.{Bool, true, false, ap, refl, sym, ◌∙◌, subst, arith}
+use Rattle.std.proofs.Common.{Bool, true, false, ap, refl, sym, ◌∙◌, arith}
 use Rattle.std.specs.Prelude.{Option, Some, None, option_and_then, option_map}
 use Rattle.std.specs.Prelude.{slice_get, drop, if◌then◌else◌, map}
 use Rattle.std.specs.List.{list_any}

@@ -24,7 +24,8 @@ returns-else-at-numbers g c =
     let read = below_read ids id here _ _ _ c.id.ensures c.cmp.ensures c.is_lt.ensures in
     record {
       yes =
-          OnTrue_from (not c.is_lt.result) (AllWithin (λ n. is_below ids id n ≡ false) numbers at (length numbers))
+          OnTrue_from (not c.is_lt.result)
+          (AllWithin (λ n. is_below ids id n ≡ false) numbers at (length numbers))
           (λ h. fails_from (is_below ids id) numbers at here parted is (read ∙ not_true c.is_lt.result h));
       within = OnFalse_from (not c.is_lt.result) (at < length numbers) (λ h. low);
       no =

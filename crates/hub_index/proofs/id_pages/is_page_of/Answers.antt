@@ -1,4 +1,5 @@
-use Rattle.std.proofs.Common.{rules, ◌≡◌, ℕ, ◌+◌, ◌<◌, ◌∙◌, List, length, Vec, Global, not, true, take, drop, ap, sym, arith}
+use Rattle.std.proofs.Common.{rules, ◌≡◌, ℕ, ◌+◌, ◌<◌, ◌∙◌}
+use Rattle.std.proofs.Common.{List, length, Vec, Global, not, true, take, drop, ap, sym, arith}
 use Rattle.std.specs.List.{All}
 use Rattle.std.specs.Ordering.{is_gt}
 use Rattle.std.proofs.lemmas.Bool.{OnTrue_from}
@@ -21,7 +22,8 @@ returns g c =
     record {
       within = search rules;
       below =
-          OnTrue_from (not c.begins_up_to-2.result) (All (λ n. is_below ids id n ≡ true) (numbers_of (take k pages)))
+          OnTrue_from (not c.begins_up_to-2.result)
+          (All (λ n. is_below ids id n ≡ true) (numbers_of (take k pages)))
           (λ h.
           below_page f ids id pages k x (omega (arith, c.if-page-pages.false)) c.index-pages-page.is
           c.requires.order.rising

@@ -1,4 +1,4 @@
-use Rattle.std.proofs.Common.{rules, ◌≡◌, ℕ, ◌-◌, ◌<◌, List, length, Vec, Global, ap, sym, ◌∙◌, arith}
+use Rattle.std.proofs.Common.{rules, ℕ, ◌-◌, ◌<◌, List, length, Vec, Global, ap, sym, ◌∙◌, arith}
 use Rattle.std.specs.List.{All}
 use Rattle.std.proofs.lemmas.List.Sorted.{IsPartitionPoint-from_clause}
 use Rattle.hub_index.specs.Order.{begins_up_to}

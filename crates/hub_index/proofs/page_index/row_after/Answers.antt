@@ -1,6 +1,6 @@
-use Rattle.std.proofs.Common.{◌≡◌, ℕ, ◌+◌, List, Option, Some, None, drop, find, nat_lt, ◌∙◌, sym, ap, ◌∷◌}
+use Rattle.std.proofs.Common.{ℕ, ◌+◌, List, Option, drop, find, nat_lt, ◌∙◌, sym, ap, ◌∷◌}
 use Rattle.std.proofs.lemmas.List.{drop_more}
-use Rattle.hub_index.specs.Pages.{rows_of, page_rows}
+use Rattle.hub_index.specs.Pages.{rows_of}
 use Rattle.hub_index.proofs.PageLemmas.{from_page, find_same, found_first, found_later}
 use Rattle.hub_index.proofs.page_index.row_after.Goals as goal
 

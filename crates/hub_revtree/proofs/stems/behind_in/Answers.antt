@@ -13,7 +13,8 @@ use Rattle.hub_revtree.proofs.stems.behind_in.Goals.{After-run-run}
 -- the stem of the number
 stem_of : (c : After-run-run) → slice_get c.args.stems.now c.args.number ≡ Some c.index-stems-number.result
 stem_of c =
-    read_stem c.args.stems.now c.args.number c.index-stems-number.result c.requires.within c.index-stems-number.is
+    read_stem c.args.stems.now c.args.number c.index-stems-number.result c.requires.within
+    c.index-stems-number.is
 
 pub overflow_add-result : goal.overflow_add-result
 overflow_add-result c = omega (arith, c.in_ok-at.ensures.low)
@@ -41,8 +42,9 @@ returns-then-from-len c =
     let stem = c.index-stems-number.result in
     let there = stem_of (goal.at.returns-then-from-len c).After-run-run in
     let at = rw c.run-run.ensures at c.in_ok-at.ensures.found in
+    let long = ap length c.run-run.ensures in
     let low : c.in_ok-at.at + 1 < length stem.revisions =
-    grind (arith, common_steps, c.if-from-len.true, c.from.ensures, c.len.ensures, ap length c.run-run.ensures) in
+    grind (arith, common_steps, c.if-from-len.true, c.from.ensures, c.len.ensures, long) in
     record {
       found =
           inner_brought xs c.requires.stems c.args.number stem there c.args.sought.now c.in_ok-at.at at
@@ -59,8 +61,9 @@ returns-else-from-len c =
     let stem = c.index-stems-number.result in
     let there = stem_of (goal.at.returns-else-from-len c).After-run-run in
     let at = rw c.run-run.ensures at c.in_ok-at.ensures.found in
+    let long = ap length c.run-run.ensures in
     let past : length stem.revisions ≤ c.in_ok-at.at + 1 =
-    grind (arith, common_steps, c.if-from-len.false, c.from.ensures, c.len.ensures, ap length c.run-run.ensures) in
+    grind (arith, common_steps, c.if-from-len.false, c.from.ensures, c.len.ensures, long) in
     rw c.parent.ensures (record {
       found =
           parent_brought xs c.requires.stems c.args.number stem there c.args.sought.now c.in_ok-at.at at past;

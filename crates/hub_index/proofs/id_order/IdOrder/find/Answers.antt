@@ -29,7 +29,8 @@ its_page g c =
     record {
       order =
           subst (IsOrder ids) (sym c.as_slice-list.ensures.value)
-          (page_order f ids id pages k x low is below above (subst (IsOrder ids) (sym c.self.view_is) c.requires.order));
+          (page_order f ids id pages k x low is below above
+          (subst (IsOrder ids) (sym c.self.view_is) c.requires.order));
       finds =
           ap (λ (l : List ℕ). number_in ids l id) c.as_slice-list.ensures.value
           ∙ (sym (page_finds f ids id pages k x low is below above)

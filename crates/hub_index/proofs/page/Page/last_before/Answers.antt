@@ -1,4 +1,4 @@
-use Rattle.std.proofs.Common.{ℕ, ◌+◌, ◌*◌, ◌<◌, ◌∙◌, arith}
+use Rattle.std.proofs.Common.{◌+◌, ◌*◌, ◌<◌, ◌∙◌, arith}
 use Rattle.hub_index.proofs.SlotLemmas.{nothing_below, found_below, fits_below}
 use Rattle.hub_index.proofs.page.Page.last_before.Goals as goal
 
@@ -6,8 +6,9 @@ pub returns-in_err-at : goal.returns-in_err-at
 returns-in_err-at c =
     rw (← c.self.view_is)
     (c.from_residual.ensures
-    ∙ nothing_below (256 * c.self.inside.number) c.args.place c.saturating_sub-end.result c.self.inside.slots.items
-    c.as_slice.result.now c.as_slice.ensures.value c.saturating_sub-end.ensures c.in_err-at.ensures)
+    ∙ nothing_below (256 * c.self.inside.number) c.args.place c.saturating_sub-end.result
+    c.self.inside.slots.items c.as_slice.result.now c.as_slice.ensures.value c.saturating_sub-end.ensures
+    c.in_err-at.ensures)
 
 -- the found row lies below the place
 fits : (c : goal.In_ok-at) → 256 * c.self.inside.number + (c.in_ok-at.at + 1) < c.args.place

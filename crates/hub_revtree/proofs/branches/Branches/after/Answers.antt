@@ -7,8 +7,8 @@ use Rattle.hub_revtree.proofs.branches.Branches.after.Goals.{After-index-stem}
 
 there : (c : After-index-stem) → slice_get c.args.self.now.stems c.args.place.stem ≡ Some c.index-stem.result.now
 there c =
-    stem_read c.self.inside.stems.items _ _ c.args.self.now c.args.place c.index-stem.result.now c.self.view_is refl
-    c.requires c.index-stem.ensures
+    stem_read c.self.inside.stems.items _ _ c.args.self.now c.args.place c.index-stem.result.now c.self.view_is
+    refl c.requires c.index-stem.ensures
 
 pub behind_last-requires : goal.behind_last-requires
 behind_last-requires c =

@@ -11,8 +11,8 @@ index-requires c =
 pub returns-then-is_inner-clause-inner : goal.returns-then-is_inner-clause-inner
 returns-then-is_inner-clause-inner c =
     let there =
-    listed_stem c.self.inside.stems.items _ c.args.self.now c.args.at c.index.result.now c.self.view_is c.requires
-    c.index.ensures in
+    listed_stem c.self.inside.stems.items _ c.args.self.now c.args.at c.index.result.now c.self.view_is
+    c.requires c.index.ensures in
     let inner = rw (c.is_inner.ensures, c.mark.ensures.inner) at c.if-is_inner.true in
     rw (sym c.self.view_is)
     (inner_head c.self.inside.stems.items c.self.invariant.0
@@ -21,8 +21,8 @@ returns-then-is_inner-clause-inner c =
 pub returns-clause-leaf : goal.returns-clause-leaf
 returns-clause-leaf c =
     let there =
-    listed_stem c.self.inside.stems.items _ c.args.self.now c.args.at c.index.result.now c.self.view_is c.requires
-    c.index.ensures in
+    listed_stem c.self.inside.stems.items _ c.args.self.now c.args.at c.index.result.now c.self.view_is
+    c.requires c.index.ensures in
     let leaf = rw (c.is_inner.ensures, c.mark.ensures.inner) at c.if-is_inner.false in
     let head = rw (sym c.self.view_is) at c.head.ensures in (
       c.head.ensures,

@@ -1,4 +1,4 @@
-use Rattle.std.proofs.Common.{◌≡◌, ◌<◌, ◌+◌, ◌-◌, ◌∙◌, ap, length, subst, arith}
+use Rattle.std.proofs.Common.{◌≡◌, ◌<◌, ◌+◌, ◌-◌, ◌∙◌, ap, length, arith}
 use Rattle.std.proofs.lemmas.List.{length-drop}
 use Rattle.std.specs.Prelude.{Some}
 use Rattle.hub_revtree.specs.Branch.{edits_in}
@@ -55,7 +55,7 @@ overflow_cast-result c =
 pub returns-then-generation-reach : goal.returns-then-generation-reach
 returns-then-generation-reach c = whole (goal.at.returns-then-generation-reach c).After-reach_from
 
--- the stem has a revision at the place, and those from there on and those behind them are the rest of the line
+-- the stem has a revision at the place, and from there on the rest of the line
 step : (c : After-from) → (c.from.result < c.len.result)
     × (c.loop-next.count + (c.len.result - c.from.result)
     + length (line_to (edits_in c.args.self.now.list) (rev_at c.args.self.now.stems c.after-next.result))
@@ -71,7 +71,8 @@ step c =
     let some = low s k c.in-Some.place w stem there in
     let size : length (own_from s.stems c.in-Some.place) ≡ length stem.revisions - c.in-Some.place.at =
     ap length (own_is s k c.in-Some.place w stem there) ∙ length-drop c.in-Some.place.at stem.revisions in
-    let long = line_long s k c.loop-next.next c.after-next.result c.in-Some.place c.in-Some.is w c.after-next.ensures in
+    let long =
+    line_long s k c.loop-next.next c.after-next.result c.in-Some.place c.in-Some.is w c.after-next.ensures in
     let many = ap length c.run-in-Some.ensures in (
       omega (arith, some, c.from.ensures, c.len.ensures, many),
       omega (arith, long, size, some, c.from.ensures, c.len.ensures, many, c.loop-next.invariant.whole),

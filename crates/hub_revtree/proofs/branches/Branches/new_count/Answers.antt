@@ -1,5 +1,5 @@
-use Rattle.std.proofs.Common.{◌≡◌, ◌-◌, ◌∙◌, ap, drop, get_or, length, refl, subst, sym, take, arith}
-use Rattle.std.specs.Prelude.{None, Some, is_some}
+use Rattle.std.proofs.Common.{◌≡◌, ◌-◌, ◌∙◌, ap, drop, length, refl, subst, sym, take, arith}
+use Rattle.std.specs.Prelude.{is_some}
 use Rattle.std.proofs.lemmas.Option.{slice_get_read}
 use Rattle.hub_model.specs.Path.{IsHistory}
 use Rattle.hub_revtree.specs.Common.{common}
@@ -73,7 +73,8 @@ returns-in_err-count-in-Some-clause-agrees c =
     let r = c.revisions-revisions.result.now in
     let legal = legal_in s k in
     let g = goes (goal.at.returns-in_err-count-in-Some-clause-agrees c).In-Some in
-    let one = own (goal.at.returns-in_err-count-in-Some-clause-agrees c).After-common ∙ c.in_err-count-in-Some.was in
+    let one = own (goal.at.returns-in_err-count-in-Some-clause-agrees c).After-common
+    ∙ c.in_err-count-in-Some.was in
     agrees_shown s k c.args.path.now r _ c.revisions-revisions.ensures
     (ap is_some c.from_residual.ensures
     ∙ differs s.stems k.stems legal r c.loop-at.at c.loop-at.told c.in-Some.place g
@@ -86,7 +87,8 @@ returns-then-count-revisions-clause-agrees c =
     let r = c.revisions-revisions.result.now in
     let legal = legal_in s k in
     let g = goes (goal.at.returns-then-count-revisions-clause-agrees c).In-Some in
-    let one = own (goal.at.returns-then-count-revisions-clause-agrees c).After-common ∙ c.in_ok-count-in-Some.was in
+    let one = own (goal.at.returns-then-count-revisions-clause-agrees c).After-common
+    ∙ c.in_ok-count-in-Some.was in
     agrees_shown s k c.args.path.now r _ c.revisions-revisions.ensures
     (agree_all s.stems k.stems legal r
     (all_agree s.stems k.stems legal r c.loop-at.at c.loop-at.told c.in-Some.place g

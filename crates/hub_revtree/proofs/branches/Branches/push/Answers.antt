@@ -16,7 +16,8 @@ use Rattle.hub_revtree.proofs.MarkLemmas.{branches_same, indexed_front, line_sam
 use Rattle.hub_revtree.proofs.MarkLemmas.{plain_more, stems_same, up_to_same, within_told}
 use Rattle.hub_revtree.proofs.RunLemmas.{newest_of}
 use Rattle.hub_revtree.proofs.branches.Branches.push.Goals as goal
-use Rattle.hub_revtree.proofs.branches.Branches.push.Goals.{After-met_by-met, Joined-drop, then-whole, else-whole}
+use Rattle.hub_revtree.proofs.branches.Branches.push.Goals.{After-met_by-met, Joined-drop}
+use Rattle.hub_revtree.proofs.branches.Branches.push.Goals.{then-whole, else-whole}
 
 -- where the path meets the stems
 meets : (c : After-met_by-met)

@@ -5,17 +5,20 @@ use Rattle.hub_revtree.proofs.run.Run.append_digests.Goals as goal
 
 pub offset_bounds-deref-at : goal.offset_bounds-deref-at
 offset_bounds-deref-at c =
-    let long = digest_length c.args.self.now c.in-Digests.field-0 _ (sym (ap kept_in c.in-Digests.is) ∙ c.self.view_is) in
+    let long =
+    digest_length c.args.self.now c.in-Digests.field-0 _ (sym (ap kept_in c.in-Digests.is) ∙ c.self.view_is) in
     omega (arith, c.requires, c.deref.type_inv.1, ap length c.deref.ensures.value, long)
 
 pub slice_bounds-extend_from_slice-count : goal.slice_bounds-extend_from_slice-count
 slice_bounds-extend_from_slice-count c =
-    let long = digest_length c.args.self.now c.in-Digests.field-0 _ (sym (ap kept_in c.in-Digests.is) ∙ c.self.view_is) in
+    let long =
+    digest_length c.args.self.now c.in-Digests.field-0 _ (sym (ap kept_in c.in-Digests.is) ∙ c.self.view_is) in
     omega (arith, c.requires, ap length c.deref.ensures.value, long)
 
 pub slice_bounds-extend_from_slice-start : goal.slice_bounds-extend_from_slice-start
 slice_bounds-extend_from_slice-start c =
-    let long = digest_length c.args.self.now c.in-Digests.field-0 _ (sym (ap kept_in c.in-Digests.is) ∙ c.self.view_is) in
+    let long =
+    digest_length c.args.self.now c.in-Digests.field-0 _ (sym (ap kept_in c.in-Digests.is) ∙ c.self.view_is) in
     omega (arith, c.requires, ap length c.deref.ensures.value, long)
 
 pub returns-in_ok-extend_from_slice-in-Digests : goal.returns-in_ok-extend_from_slice-in-Digests

@@ -22,7 +22,8 @@ overflow_sub-newest c =
 
 pub index-requires : goal.index-requires
 index-requires c =
-    let long = digest_length c.args.self.now c.in-Digests.newest _ (sym (ap kept_in c.in-Digests.is) ∙ c.self.view_is) in
+    let long =
+    digest_length c.args.self.now c.in-Digests.newest _ (sym (ap kept_in c.in-Digests.is) ∙ c.self.view_is) in
     omega (arith, c.requires, long, c.in-Digests.digests.ok.0)
 
 pub from_digest-requires-in-Digests : goal.from_digest-requires-in-Digests
@@ -35,7 +36,8 @@ from_digest-requires-in-Digests c =
 pub returns-in-Digests : goal.returns-in-Digests
 returns-in-Digests c =
     digest_read c.args.self.now c.in-Digests.newest c.in-Digests.digests.items
-    (sym (ap kept_in c.in-Digests.is) ∙ c.self.view_is) c.args.place c.index.result.now c.requires c.index.ensures
+    (sym (ap kept_in c.in-Digests.is) ∙ c.self.view_is) c.args.place c.index.result.now c.requires
+    c.index.ensures
     ∙ ap Some (sym c.from_digest-in-Digests.ensures)
 
 pub returns-in-Texts : goal.returns-in-Texts
@@ -75,5 +77,6 @@ from_digest-requires-in-Shared c =
 pub returns-in-Shared : goal.returns-in-Shared
 returns-in-Shared c =
     shared_read c.args.self.now c.in-Shared.newest c.in-Shared.field-1 c.in-Shared.digest c.in-Shared.line
-    (sym (ap kept_in c.in-Shared.is) ∙ c.self.view_is) c.args.place c.digest_at.result.now c.requires c.digest_at.ensures
+    (sym (ap kept_in c.in-Shared.is) ∙ c.self.view_is) c.args.place c.digest_at.result.now c.requires
+    c.digest_at.ensures
     ∙ ap Some (sym c.from_digest-in-Shared.ensures)

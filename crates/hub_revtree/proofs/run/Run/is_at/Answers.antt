@@ -20,14 +20,16 @@ overflow_sub-newest c =
 
 pub index-requires : goal.index-requires
 index-requires c =
-    let long = digest_length c.args.self.now c.in-Digests.newest _ (sym (ap kept_in c.in-Digests.is) ∙ c.self.view_is) in
+    let long =
+    digest_length c.args.self.now c.in-Digests.newest _ (sym (ap kept_in c.in-Digests.is) ∙ c.self.view_is) in
     omega (arith, c.requires, long, c.in-Digests.digests.ok.0)
 
 pub returns-in-Digests : goal.returns-in-Digests
 returns-in-Digests c =
     c.is_of-in-Digests.ensures
     ∙ sym (digest_first c.args.self.now c.in-Digests.newest c.in-Digests.digests.items
-    (sym (ap kept_in c.in-Digests.is) ∙ c.self.view_is) c.args.place c.index.result.now c.args.sought.now c.requires c.index.ensures)
+    (sym (ap kept_in c.in-Digests.is) ∙ c.self.view_is) c.args.place c.index.result.now
+    c.args.sought.now c.requires c.index.ensures)
 
 pub overflow_cast-place-in-Shared : goal.overflow_cast-place-in-Shared
 overflow_cast-place-in-Shared c =

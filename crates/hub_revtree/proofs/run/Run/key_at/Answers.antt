@@ -7,7 +7,8 @@ use Rattle.hub_revtree.proofs.run.Run.key_at.Goals as goal
 
 pub index-requires : goal.index-requires
 index-requires c =
-    let long = digest_length c.args.self.now c.in-Digests.field-0 _ (sym (ap kept_in c.in-Digests.is) ∙ c.self.view_is) in
+    let long =
+    digest_length c.args.self.now c.in-Digests.field-0 _ (sym (ap kept_in c.in-Digests.is) ∙ c.self.view_is) in
     omega (arith, c.requires, long, c.in-Digests.digests.ok.0)
 
 pub returns-in-One : goal.returns-in-One
