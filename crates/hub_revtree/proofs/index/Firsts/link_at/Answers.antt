@@ -1,26 +1,18 @@
-use Rattle.std.proofs.Common.{◌≡◌, ◌∙◌, ap, not, sym, refl, arith}
-use Rattle.std.specs.Prelude.{Some, slice_get}
+use Rattle.std.proofs.Common.{◌∙◌, ap, not, sym, refl, arith}
 use Rattle.std.proofs.lemmas.Bool.{both_ways}
 use Rattle.std.proofs.lemmas.Result.{on_ok_weaker}
 use Rattle.hub_revtree.specs.Index.{GoesOn, number_in}
-use Rattle.hub_revtree.specs.Stem.{revisions_at}
 use Rattle.hub_revtree.proofs.FirstLemmas.{has_any, has_there}
 use Rattle.hub_revtree.proofs.IndexLemmas.{read_there}
 use Rattle.hub_revtree.proofs.LinkLemmas.{link_put, link_same, none_if, some_if}
 use Rattle.hub_revtree.proofs.index.Firsts.link_at.Goals as goal
-use Rattle.hub_revtree.proofs.index.Firsts.link_at.Goals.{After-at-rev}
-
--- the revision that is read
-read : (c : After-at-rev)
-    → slice_get (revisions_at c.args.stems.now c.args.number) c.args.at ≡ Some c.at-rev.result
-read c =
-    read_there c.args.stems.now c.args.number c.args.at c.index-stems-number.result c.at-rev.result
-    (omega (arith, c.requires.last.newest)) c.index-stems-number.is (rw c.run.ensures at c.at-rev.ensures)
 
 pub returns-in_default : goal.returns-in_default
 returns-in_default c =
     let xs = c.args.stems.now in
-    let there = read (goal.at.returns-in_default c).After-at-rev in
+    let there =
+    read_there xs c.args.number c.args.at c.index-stems-number.result c.at-rev.result
+    (omega (arith, c.requires.last.newest)) c.index-stems-number.is (rw c.run.ensures at c.at-rev.ensures) in
     link_same xs c.args.number c.args.at c.at-rev.result there (number_in c.args.links.now)
     (number_in c.args.links.now) c.requires.linked (λ x. refl)
     (λ g. absurd (both_ways _ c.in_default.ensures.none
@@ -30,7 +22,9 @@ returns-in_default c =
 pub returns-then-is_some : goal.returns-then-is_some
 returns-then-is_some c =
     let xs = c.args.stems.now in
-    let there = read (goal.at.returns-then-is_some c).After-at-rev in
+    let there =
+    read_there xs c.args.number c.args.at c.index-stems-number.result c.at-rev.result
+    (omega (arith, c.requires.last.newest)) c.index-stems-number.is (rw c.run.ensures at c.at-rev.ensures) in
     link_same xs c.args.number c.args.at c.at-rev.result there (number_in c.args.links.now)
     (number_in c.args.links.now) c.requires.linked (λ x. refl)
     (λ g. (
@@ -43,7 +37,9 @@ returns-then-is_some c =
 pub returns-then-is_none : goal.returns-then-is_none
 returns-then-is_none c =
     let xs = c.args.stems.now in
-    let there = read (goal.at.returns-then-is_none c).After-at-rev in
+    let there =
+    read_there xs c.args.number c.args.at c.index-stems-number.result c.at-rev.result
+    (omega (arith, c.requires.last.newest)) c.index-stems-number.is (rw c.run.ensures at c.at-rev.ensures) in
     link_same xs c.args.number c.args.at c.at-rev.result there (number_in c.args.links.now)
     (number_in c.args.links.now) c.requires.linked (λ x. refl)
     (λ g. absurd (none_if c.behind_in-2.result (¬ GoesOn xs c.args.number c.at-rev.result)
@@ -52,7 +48,9 @@ returns-then-is_none c =
 pub returns : goal.returns
 returns c =
     let xs = c.args.stems.now in
-    let there = read (goal.at.returns c).After-at-rev in
+    let there =
+    read_there xs c.args.number c.args.at c.index-stems-number.result c.at-rev.result
+    (omega (arith, c.requires.last.newest)) c.index-stems-number.is (rw c.run.ensures at c.at-rev.ensures) in
     on_ok_weaker c.put_at.result
     (λ put. link_put xs c.args.number c.args.at c.at-rev.result there
     (number_in c.args.links.now) (number_in c.put_at.new.map) c.requires.linked put
