@@ -4,13 +4,17 @@ use Rattle.std.proofs.Common.{◌≤◌, ◌==◌, Bool, true, false, cond, List
 use Rattle.std.proofs.Common.{length, take, drop, refl, sym, ap, subst, ◌∙◌, arith}
 use Rattle.std.proofs.lemmas.Bool.Decides.{nat_tests}
 use Rattle.std.proofs.Common.{append_assoc, length-append, Result, OnOk}
-use Rattle.std.proofs.lemmas.List.{drop-set, drop-set-lt, take-set, take_more_set, take-append-drop, length-set}
+use Rattle.std.specs.List.{copy_within}
+use Rattle.std.proofs.lemmas.List.{drop-set, drop-set-lt, take-set, take_more_set, take-append-drop}
+use Rattle.std.proofs.lemmas.List.{take-append-le, take-take, drop-append-le, length-drop, length-set, length-take-le}
+use Rattle.std.proofs.lemmas.List.Edits.{take-paste}
 use Rattle.std.proofs.lemmas.Result.{on_ok_weaker}
 use Rattle.std.proofs.Math.ListN.{set}
 use Rattle.std.proofs.Math.Nat.{pow-succ'}
-use lib.Seq.{take-append_seam, drop-append-add}
+use lib.Seq.{take-append_seam, drop-append_seam, drop-append-add}
 use Rattle.std.specs.Fmt.{digit_glyph, digits, digits_onto}
 use Rattle.hub_document.specs.Appends.{Appends}
+use Rattle.hub_document.proofs.AppendLemmas.{lent_back}
 use Rattle.hub_document.proofs.WriteLemmas.{three_parts}
 use Rattle.hub_http.specs.Texts.{chunk_text}
 use Rattle.hub_http.specs.Chunks.{text_chunks}
@@ -129,6 +133,61 @@ ended text size e =
     ap (λ n. digits 16 false n ++ (13 ∷ 10 ∷ (text ++ 13 ∷ 10 ∷ []))) (sym e)
     ∙ sym (three_parts (digits 16 false (length text)) (13 ∷ 10 ∷ []) text (13 ∷ 10 ∷ []))
 
+-- the bytes in front of a place, where other bytes follow them
+front_kept : (at : ℕ) (bytes more : List ℕ) → at ≤ length bytes → take at (take at bytes ++ more) ≡ take at bytes
+front_kept at bytes more room = lent_back at (take at bytes) more (length-take-le at bytes room)
+
+-- the bytes behind four are moved to a place `count` bytes behind `at`, and what is behind them then is cut
+moved_behind : (bytes text ext cut : List ℕ) (at len : ℕ) → at + 4 ≤ len → len ≡ length bytes
+    → ext ≡ bytes ++ text
+    → cut ≡ take (len - 4 + length text) (copy_within ext (at + 4) len (at + length text))
+    → cut ≡ take (at + length text) ext ++ drop (at + 4) bytes
+moved_behind bytes text ext cut at len room long is after =
+    let rest : List ℕ = drop (at + 4) bytes in
+    let n : length rest ≡ len - (at + 4) = length-drop (at + 4) bytes ∙ ap (λ k. k - (at + 4)) (sym long) in
+    let from : drop (at + 4) ext ≡ rest ++ text =
+    ap (drop (at + 4)) is ∙ drop-append-le (at + 4) bytes text (omega arith) in
+    let size : length ext ≡ length bytes + length text = ap length is ∙ length-append bytes text in
+    let behind : length (drop (at + 4) ext) ≡ length rest + length text =
+    ap length from ∙ length-append rest text in
+    let e : len - 4 + length text ≡ at + length text + (len - (at + 4)) = omega arith in
+    after
+    ∙ ap (λ k. take k (copy_within ext (at + 4) len (at + length text))) e
+    ∙ take-paste ext (at + length text) (drop (at + 4) ext) (len - (at + 4)) (omega arith) (omega arith)
+    ∙ ap (λ l. take (at + length text) ext ++ l)
+    (ap (take (len - (at + 4))) from ∙ lent_back (len - (at + 4)) rest text n)
+
+-- a text in place of the four bytes from `at` on
+pub four_replaced : (bytes text ext cut new : List ℕ) (at len : ℕ) → at + 4 ≤ len → len ≡ length bytes
+    → ext ≡ bytes ++ text
+    → cut ≡ take (len - 4 + length text) (copy_within ext (at + 4) len (at + length text))
+    → new ≡ take at cut ++ (text ++ drop (at + length text) cut)
+    → new ≡ take at bytes ++ (text ++ drop (at + 4) bytes)
+four_replaced bytes text ext cut new at len room long is after now =
+    let front : List ℕ = take (at + length text) ext in
+    let rest : List ℕ = drop (at + 4) bytes in
+    let moved = moved_behind bytes text ext cut at len room long is after in
+    let size : length ext ≡ length bytes + length text = ap length is ∙ length-append bytes text in
+    let n : length front ≡ at + length text = length-take-le (at + length text) ext (omega arith) in
+    let before : take at cut ≡ take at bytes =
+    ap (take at) moved
+    ∙ take-append-le at front rest (omega arith)
+    ∙ take-take at (at + length text) ext (omega arith)
+    ∙ ap (take at) is
+    ∙ take-append-le at bytes text (omega arith) in
+    let behind : drop (at + length text) cut ≡ rest =
+    ap (drop (at + length text)) moved
+    ∙ ap (λ k. drop k (front ++ rest)) (sym n)
+    ∙ drop-append_seam front rest in
+    now
+    ∙ ap (λ l. l ++ (text ++ drop (at + length text) cut)) before
+    ∙ ap (λ l. take at bytes ++ (text ++ l)) behind
+
+-- and the bytes in front of it stay
+pub four_front : (bytes more new : List ℕ) (at len : ℕ) → at + 4 ≤ len → len ≡ length bytes
+    → new ≡ take at bytes ++ more → take at new ≡ take at bytes
+four_front bytes more new at len room long now = ap (take at) now ∙ front_kept at bytes more (omega arith)
+
 -- a number below 256 that has two digits
 pub two_digits : (n : ℕ) → 16 ≤ n → n < 256
     → digits 16 false n ≡ digit_glyph false (n / 16) ∷ digit_glyph false (n % 16) ∷ []
@@ -164,6 +223,30 @@ head_set bytes at size a b room behind big small high low =
     ∙ ap (λ x. take at bytes ++ (digit_glyph false (size / 16) ∷ x ∷ 13 ∷ 10 ∷ drop (at + 4) bytes)) low
     ∙ ap (λ l. take at bytes ++ (l ++ (13 ∷ 10 ∷ drop (at + 4) bytes))) (sym (two_digits size big small))
 
+-- old bytes, four bytes, a text, and CR and LF
+laid : (old text held whole : List ℕ) → held ≡ (old ++ 48 ∷ 48 ∷ 13 ∷ 10 ∷ []) ++ text
+    → whole ≡ held ++ 13 ∷ 10 ∷ [] → whole ≡ old ++ (48 ∷ 48 ∷ 13 ∷ 10 ∷ (text ++ 13 ∷ 10 ∷ []))
+laid old text held whole is end =
+    end
+    ∙ ap (λ l. l ++ 13 ∷ 10 ∷ []) is
+    ∙ three_parts old (48 ∷ 48 ∷ 13 ∷ 10 ∷ []) text (13 ∷ 10 ∷ [])
+
+laid_behind : (old text held whole : List ℕ) (start k : ℕ) → start ≡ length old
+    → held ≡ (old ++ 48 ∷ 48 ∷ 13 ∷ 10 ∷ []) ++ text → whole ≡ held ++ 13 ∷ 10 ∷ []
+    → drop (start + k) whole ≡ drop k (48 ∷ 48 ∷ 13 ∷ 10 ∷ (text ++ 13 ∷ 10 ∷ []))
+laid_behind old text held whole start k place is end =
+    ap (λ n. drop (n + k) whole) place
+    ∙ ap (drop (length old + k)) (laid old text held whole is end)
+    ∙ drop-append-add old (48 ∷ 48 ∷ 13 ∷ 10 ∷ (text ++ 13 ∷ 10 ∷ [])) k
+
+-- CR and LF stand in front of the text
+pub ends_stand : (old text held whole : List ℕ) (start : ℕ) → start ≡ length old
+    → held ≡ (old ++ 48 ∷ 48 ∷ 13 ∷ 10 ∷ []) ++ text → whole ≡ held ++ 13 ∷ 10 ∷ []
+    → drop (start + 2) whole ≡ 13 ∷ 10 ∷ drop (start + 4) whole
+ends_stand old text held whole start place is end =
+    laid_behind old text held whole start 2 place is end
+    ∙ ap (λ l. 13 ∷ 10 ∷ l) (sym (laid_behind old text held whole start 4 place is end))
+
 -- The head in place of the first four bytes behind the old bytes makes a chunk of the text behind them. The
 -- four bytes are `00`, CR and LF.
 pub chunk_made : {E : Type 0} (r : Result (Unit {0}) E) (old text held whole new : List ℕ)
@@ -172,13 +255,12 @@ pub chunk_made : {E : Type 0} (r : Result (Unit {0}) E) (old text held whole new
     → OnOk r (new ≡ take start whole ++ (digits 16 false size ++ (13 ∷ 10 ∷ drop (start + 4) whole)))
     → take start new ≡ take start whole → Appends (text_chunks text) r old new
 chunk_made r old text held whole new start size place long some is end ok front =
-    let all : whole ≡ old ++ (48 ∷ 48 ∷ 13 ∷ 10 ∷ (text ++ 13 ∷ 10 ∷ [])) =
-    end ∙ ap (λ l. l ++ 13 ∷ 10 ∷ []) is
-    ∙ three_parts old (48 ∷ 48 ∷ 13 ∷ 10 ∷ []) text (13 ∷ 10 ∷ []) in
     let before : take start whole ≡ old =
-    ap (λ n. take n whole) place ∙ ap (take (length old)) all ∙ take-append_seam old _ in
+    ap (λ n. take n whole) place
+    ∙ ap (take (length old)) (laid old text held whole is end)
+    ∙ take-append_seam old (48 ∷ 48 ∷ 13 ∷ 10 ∷ (text ++ 13 ∷ 10 ∷ [])) in
     let behind : drop (start + 4) whole ≡ text ++ 13 ∷ 10 ∷ [] =
-    ap (λ n. drop (n + 4) whole) place ∙ ap (drop (length old + 4)) all ∙ drop-append-add old _ 4 in
+    laid_behind old text held whole start 4 place is end in
     let n : length text ≡ size = omega (
       arith,
       long,

@@ -58,6 +58,16 @@ fn put_head(bytes: &mut [u8], size: usize) -> usize
 /// The length of a head with two digits, CR and LF.
 const SHORT: usize = 4;
 
+// Writes a text over the bytes from a place on.
+fn write_at(bytes: &mut [u8], at: usize, text: &[u8])
+    requires { at + length text.now ≤ length bytes.old }
+    ensures written { bytes.new
+        ≡ take at bytes.old ++ (text.now ++ drop (at + length text.now) bytes.old) }
+    ensures len { length bytes.new ≡ length bytes.old }
+{
+    bytes[at..at + text.len()].copy_from_slice(text);
+}
+
 // Puts a text in place of the four bytes from a place on, and moves the bytes behind them by the difference.
 fn replace_four(out: &mut Vec<u8>, start: usize, text: &[u8]) -> Result<(), AllocError>
     requires { start + 4 ≤ length out.old.items }
@@ -67,10 +77,9 @@ fn replace_four(out: &mut Vec<u8>, start: usize, text: &[u8]) -> Result<(), Allo
 {
     let len = out.len();
     out.extend_from_slice(text)?;
-    let end = start + text.len();
-    out.copy_within(start + SHORT..len, end);
-    out[start..end].copy_from_slice(text);
+    out.copy_within(start + SHORT..len, start + text.len());
     out.truncate(len - SHORT + text.len());
+    write_at(out.as_mut_slice(), start, text);
     Ok(())
 }
 
