@@ -6,7 +6,8 @@ use Rattle.std.proofs.lemmas.Bool.Decides.{nat_tests}
 use Rattle.std.proofs.Common.{append_assoc, length-append, Result, OnOk}
 use Rattle.std.specs.List.{copy_within}
 use Rattle.std.proofs.lemmas.List.{drop-set, drop-set-lt, take-set, take_more_set, take-append-drop}
-use Rattle.std.proofs.lemmas.List.{take-append-le, take-take, drop-append-le, length-drop, length-set, length-take-le}
+use Rattle.std.proofs.lemmas.List.{take-append-le, take-take, drop-append-le}
+use Rattle.std.proofs.lemmas.List.{length-drop, length-set, length-take-le}
 use Rattle.std.proofs.lemmas.List.Edits.{take-paste}
 use Rattle.std.proofs.lemmas.Result.{on_ok_weaker}
 use Rattle.std.proofs.Math.ListN.{set}
@@ -134,7 +135,8 @@ ended text size e =
     ∙ sym (three_parts (digits 16 false (length text)) (13 ∷ 10 ∷ []) text (13 ∷ 10 ∷ []))
 
 -- the bytes in front of a place, where other bytes follow them
-front_kept : (at : ℕ) (bytes more : List ℕ) → at ≤ length bytes → take at (take at bytes ++ more) ≡ take at bytes
+front_kept : (at : ℕ) (bytes more : List ℕ) → at ≤ length bytes
+    → take at (take at bytes ++ more) ≡ take at bytes
 front_kept at bytes more room = lent_back at (take at bytes) more (length-take-le at bytes room)
 
 -- the bytes behind four are moved to a place `count` bytes behind `at`, and what is behind them then is cut

@@ -83,8 +83,8 @@ fn replace_four(out: &mut Vec<u8>, start: usize, text: &[u8]) -> Result<(), Allo
     Ok(())
 }
 
-// Puts the head of a chunk of `size` bytes in place of the four bytes from a place on. The bytes behind them are
-// moved where the size has not two digits.
+// Puts the head of a chunk of `size` bytes in place of the four bytes from a place on. The bytes behind them
+// are moved where the size has not two digits.
 #[inline(never)]
 fn put_any_head(out: &mut Vec<u8>, start: usize, size: usize) -> Result<(), AllocError>
     requires { start + 4 ≤ length out.old.items }
@@ -113,9 +113,10 @@ fn set_head(out: &mut Vec<u8>, start: usize, size: usize) -> Result<(), AllocErr
     Ok(())
 }
 
-/// Appends the chunk of a text (RFC 9112, section 7.1), and nothing for an empty text. Out of memory, the vector
-/// keeps its old bytes, and a part of the chunk may follow them. The cost is the text's length. The text is made
-/// where its chunk lies, behind room for two digits of its size. It is moved where the size has not two digits.
+/// Appends the chunk of a text (RFC 9112, section 7.1), and nothing for an empty text. Out of memory, the
+/// vector keeps its old bytes, and a part of the chunk may follow them. The cost is the text's length. The
+/// text is made where its chunk lies, behind room for two digits of its size. It is moved where the size has
+/// not two digits.
 pub(crate) fn append_chunk<T: Text>(out: &mut Vec<u8>, text: &T) -> Result<(), AllocError>
     ensures { Appends (text_chunks (T.bytes text.now)) result out.old.items out.new.items }
 {
@@ -132,8 +133,8 @@ pub(crate) fn append_chunk<T: Text>(out: &mut Vec<u8>, text: &T) -> Result<(), A
 }
 
 /// Writes texts as chunks (RFC 9112, section 7.1). A writer may have a place of its own where a chunk is made
-/// (`Output::write_chunk`). For other writers the chunk is made in a buffer here, and written by one write where
-/// the writer takes all of it.
+/// (`Output::write_chunk`). For other writers the chunk is made in a buffer here, and written by one write
+/// where the writer takes all of it.
 #[derive(Debug, Drop)]
 pub struct ChunkWriter {
     buffer: Vec<u8>,
@@ -147,9 +148,9 @@ impl ChunkWriter {
         }
     }
 
-    /// Writes a text as one chunk. For an empty text, and out of memory, the writer stays as it is. Nothing is
-    /// flushed. The cost is the text's length. Memory is taken as the writer takes it for its own bytes, and for
-    /// another writer by the first text, and by a text that is longer than each before.
+    /// Writes a text as one chunk. For an empty text, and out of memory, the writer stays as it is. Nothing
+    /// is flushed. The cost is the text's length. Memory is taken as the writer takes it for its own bytes,
+    /// and for another writer by the first text, and by a text that is longer than each before.
     pub fn write<T: Text, W: Output>(&mut self, writer: &mut W, text: &T) -> Result<(), ChunkFault>
         ensures sent { WritesTo W.written W.fault_count W.failure_count result writer.old writer.new
             (text_chunks (T.bytes text.now)) }

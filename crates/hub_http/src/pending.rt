@@ -120,8 +120,8 @@ impl Pending {
         self.bytes.extend_from_slice(bytes)
     }
 
-    /// Puts the chunk of a text behind the bytes that are left, and nothing for an empty text. The text is made
-    /// where it lies. An error changes nothing.
+    /// Puts the chunk of a text behind the bytes that are left, and nothing for an empty text. The text is
+    /// made where it lies. An error changes nothing.
     pub(crate) fn put_chunk<T: Text>(&mut self, text: &T) -> Result<(), AllocError>
         ensures { AppendsWhole (text_chunks (T.bytes text.now)) result self.old self.new }
     {

@@ -10,8 +10,8 @@ pub trait Text {
     /// The bytes of the text.
     ghost bytes: { Self → List ℕ };
 
-    /// Appends the bytes. Out of memory, the buffer keeps its old bytes, and a part of the text may follow them. It
-    /// costs the text's length.
+    /// Appends the bytes. Out of memory, the buffer keeps its old bytes, and a part of the text may follow
+    /// them. It costs the text's length.
     fn append(&self, buffer: &mut Vec<u8>) -> Result<(), AllocError>
         ensures { Appends (bytes self.now) result buffer.old.items buffer.new.items };
 }
