@@ -191,7 +191,7 @@ pub four_front : (bytes more new : List ℕ) (at len : ℕ) → at + 4 ≤ len �
 four_front bytes more new at len room long now = ap (take at) now ∙ front_kept at bytes more (omega arith)
 
 -- a number below 256 that has two digits
-pub two_digits : (n : ℕ) → 16 ≤ n → n < 256
+two_digits : (n : ℕ) → 16 ≤ n → n < 256
     → digits 16 false n ≡ digit_glyph false (n / 16) ∷ digit_glyph false (n % 16) ∷ []
 unfolding digits
 two_digits n big small =
