@@ -3,7 +3,7 @@
 ghost use Rattle.std.specs.Prelude.{◌≡◌, [], OnOk};
 ghost use Rattle.std.specs.Io.KnownBytes.{Keeps};
 ghost use Rattle.std.specs.Prelude.{is_err};
-ghost use Rattle.hub_http.specs.Buffers.{bytes_of};
+ghost use Rattle.hub_http.specs.Buffers.{buffer_of, bytes_of, tally_of};
 ghost use Rattle.hub_http.specs.Counts.{one_more_if, call_failed};
 ghost use Rattle.hub_http.specs.Words.{faults_counted, failures_counted};
 
@@ -31,6 +31,9 @@ impl<W: Write> Buffered<W> {
     /// The writer, with an empty buffer and nothing counted. The buffer takes memory with the first text.
     pub fn new(alloc: Global, inner: W) -> Buffered<W>
         ensures written { bytes_of W.contents result ≡ W.contents inner }
+        ensures empty { buffer_of result ≡ [] }
+        ensures faults { faults_counted (tally_of result) ≡ 0 }
+        ensures failures { failures_counted (tally_of result) ≡ 0 }
     {
         Buffered {
             inner: Tally::new(inner),
@@ -42,11 +45,11 @@ impl<W: Write> Buffered<W> {
     #[inline(never)]
     fn drain(&mut self) -> io::Result<()>
         ensures bytes { Keeps (bytes_of W.contents self.old) (bytes_of W.contents self.new) }
-        ensures empty { OnOk result (self.new.pending ≡ []) }
-        ensures faults { faults_counted self.new.inner
-            ≡ one_more_if (is_err result) (faults_counted self.old.inner) }
-        ensures failures { failures_counted self.new.inner
-            ≡ one_more_if (call_failed result) (failures_counted self.old.inner) }
+        ensures empty { OnOk result (buffer_of self.new ≡ []) }
+        ensures faults { faults_counted (tally_of self.new)
+            ≡ one_more_if (is_err result) (faults_counted (tally_of self.old)) }
+        ensures failures { failures_counted (tally_of self.new)
+            ≡ one_more_if (call_failed result) (failures_counted (tally_of self.old)) }
     {
         while !self.pending.is_empty() {
             let count = self.inner.write(self.pending.as_slice())?;
@@ -84,7 +87,15 @@ impl<W: Write> Output for Buffered<W> {
         Some(self.pending.put_chunk(text))
     }
 
-    fn flush(&mut self) -> io::Result<()> {
+    /// The buffer is empty behind a flush. No clause says that the writer itself hands its bytes on.
+    fn flush(&mut self) -> io::Result<()>
+        ensures bytes { Keeps (bytes_of W.contents self.old) (bytes_of W.contents self.new) }
+        ensures empty { OnOk result (buffer_of self.new ≡ []) }
+        ensures faults { faults_counted (tally_of self.new)
+            ≡ one_more_if (is_err result) (faults_counted (tally_of self.old)) }
+        ensures failures { failures_counted (tally_of self.new)
+            ≡ one_more_if (call_failed result) (failures_counted (tally_of self.old)) }
+    {
         self.drain()?;
         self.inner.flush()
     }

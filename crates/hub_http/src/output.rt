@@ -46,10 +46,10 @@ pub trait Output {
         Some(bytes)
     }
 
-    /// Writes a text as one chunk that is made where the writer keeps its bytes, so that no byte is copied. `None`
-    /// says that nothing changed: the chunk is to be written as other bytes are. A writer without bytes of its own
-    /// answers so, as this body does. Out of memory nothing changes, and no fault is counted. For an empty text
-    /// nothing changes.
+    /// Writes a text as one chunk that is made where the writer keeps its bytes, so that no byte is copied. The
+    /// answer `None` says that nothing changed: the chunk is to be written as other bytes are. A writer without
+    /// bytes of its own answers so, as this body does. Out of memory nothing changes, and no fault is counted. For
+    /// an empty text nothing changes.
     fn write_chunk<T: Text>(&mut self, text: &T) -> Option<Result<(), AllocError>>
         ensures some { IfSome result (λ did. MatchResult did
             (λ _. Appends (written self.old) (written self.new) (text_chunks (T.bytes text.now)))

@@ -43,13 +43,14 @@ impl Write for Stopping {
 /// The chunk of a round.
 const CHUNK: &[u8] = b"3\r\ndef\r\n";
 
-/// Writers behind a buffer. Each command has a writer of its own. A round writes a text, and `def` as a chunk.
+/// Writers behind a buffer. Each command has a writer of its own. A round writes a text, and `def` as a
+/// chunk.
 ///
 /// - `flushed ROUNDS TEXT`: puts rounds, and flushes. Shows the count of bytes that the writer took, whether
 ///   they are the rounds, and whether the writer was called less than ten times.
-/// - `stopped ROUNDS TEXT`: puts rounds, and writes `gh`. The writer takes nothing of its first write. Shows the
-///   error, and the count of faults before and after. Then writes `gh` again, and flushes. Shows the count of
-///   faults, and whether the writer took the rounds and one `gh`.
+/// - `stopped ROUNDS TEXT`: puts rounds, and writes `gh`. The writer takes nothing of its first write. Shows
+///   the error, and the count of faults before and after. Then writes `gh` again, and flushes. Shows the
+///   count of faults, and whether the writer took the rounds and one `gh`.
 #[derive(Drop)]
 struct Filling {
     alloc: Global,
