@@ -51,7 +51,7 @@ fn revisions_of_rows(alloc: Global, rows: Vec<ChangeRow>) -> Result<Vec<Asked>, 
     for row in rows {
         asked.push(Asked {
             id: row.id.to_text(alloc)?,
-            revs: row.changes.into_revisions(alloc)?,
+            revs: row.changes.copy(alloc)?.into_revisions(alloc)?,
         })?;
     }
     Ok(asked)

@@ -50,7 +50,7 @@ fn listed(alloc: Global, changes: Changes) -> Result<Vec<Asked>, AllocError> {
     for row in changes.rows {
         asked.push(Asked {
             id: row.id.to_text(alloc)?,
-            revs: row.changes.into_revisions(alloc)?,
+            revs: row.changes.copy(alloc)?.into_revisions(alloc)?,
         })?;
     }
     Ok(asked)
