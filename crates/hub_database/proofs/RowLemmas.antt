@@ -25,7 +25,7 @@ use Rattle.hub_database.specs.declared.entry.Entry.{Entry}
 use Rattle.hub_database.specs.declared.document.Document.{Document}
 use Rattle.hub_database.specs.Filed.{FiledDocument, edit_with_id, edit_at, edit_in, journal_of, IsFiled}
 use Rattle.hub_database.specs.Indexed.{IsIndexed, latest_at, latest_of}
-use Rattle.hub_database.specs.Documents.{filed_document, files}
+use Rattle.hub_database.specs.Documents.{filed_document, files, made_row}
 use Rattle.hub_database.proofs.IndexedLemmas.{document_at}
 use Rattle.hub_database.proofs.NamedLemmas.{renamed, leaves_named, revisions_named, deleted_named}
 
@@ -42,14 +42,8 @@ doc_named true id (leaf ∷ leaves) = refl
 
 -- the row at this sequence, of a document with this id and these edits, made while there are so many edits
 abbrev row_as : ℕ → List ℕ → List Edit → Style → Bool → ℕ → ChangeRow
-row_as seq id edits style include_docs seen = record {
-  seq = seq;
-  id = id;
-  changes = changes_of style (leaves_of edits []);
-  deleted = is_deleted (leaves_of edits []);
-  doc = doc_of include_docs (leaves_of edits []);
-  seen = seen;
-}
+row_as seq id edits style include_docs seen =
+    made_row seq id edits style (doc_of include_docs (leaves_of edits [])) seen
 
 -- a document's row, by its tree
 row_by : (journal : List Edit) (style : Style) (include_docs : Bool) (row : Current) (edits : List Edit)

@@ -1,9 +1,10 @@
 -- Documents by number, and their count (own).
-use Rattle.std.specs.Prelude.{ℕ, List, [], map, count_by, Bool, true, false}
+use Rattle.std.specs.Prelude.{ℕ, List, [], map, count_by, Bool, true, false, Option}
 use Rattle.hub_model.specs.Current.{current}
 use Rattle.hub_model.specs.Journal.{Edit}
 use Rattle.hub_model.specs.Leaves.{leaves_of}
-use Rattle.hub_model.specs.Row.{is_deleted}
+use Rattle.hub_model.specs.Row.{ChangeRow, changes_of, is_deleted}
+use Rattle.hub_model.specs.declared.feeds.Style.{Style}
 use Rattle.hub_database.specs.Filed.{FiledDocument}
 use Rattle.hub_database.specs.Looked.{Setting}
 use Rattle.hub_database.specs.declared.document.Document.{Document}
@@ -34,3 +35,15 @@ setting_of number document entries rows =
 -- a document before its first edit
 abbrev pub unwritten_document : List ℕ → FiledDocument
 unwritten_document id = record { id = id; latest = 0; edits = [] }
+
+-- The row at this sequence of a document with this id and these edits, with these members, made while there
+-- are `seen` edits.
+abbrev pub made_row : ℕ → List ℕ → List Edit → Style → Option (List ℕ) → ℕ → ChangeRow
+made_row seq id edits style doc seen = record {
+  seq = seq;
+  id = id;
+  changes = changes_of style (leaves_of edits []);
+  deleted = is_deleted (leaves_of edits []);
+  doc = doc;
+  seen = seen;
+}

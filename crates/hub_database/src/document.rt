@@ -4,11 +4,11 @@ ghost use Rattle.std.specs.Prelude.{[], ◌∷◌, ◌++◌, false, true, None, 
 ghost use Rattle.std.specs.Prelude.{◌^◌, length, vec_len, vec_capacity, IfOk, OnErr, OnOk};
 ghost use Rattle.hub_model.specs.Journal.{IsAcceptable, head_of};
 ghost use Rattle.hub_model.specs.Leaves.{leaves_of};
-ghost use Rattle.hub_model.specs.Row.{changes_of, doc_of, is_deleted};
+ghost use Rattle.hub_model.specs.Row.{doc_of};
 ghost use Rattle.hub_revtree.specs.Tree.{IsRevTree};
 ghost use Rattle.hub_database.specs.Indexed.{IsMovable};
 ghost use Rattle.hub_database.specs.Looked.{IsLook, IsWritten, NeedsRoomFor, look_in, unless_full};
-ghost use Rattle.hub_database.specs.Documents.{filed_document, setting_of};
+ghost use Rattle.hub_database.specs.Documents.{filed_document, made_row, setting_of};
 ghost use Rattle.hub_database.specs.declared.document.Origin.TheVariants.{Elsewhere, Here};
 
 use crate::entry::Entry;
@@ -207,19 +207,10 @@ impl Document {
         }
     }
 
-    // The members of the winner's document, where documents are asked for. They may be made in the memory of
-    // a spare body.
-    fn row_doc(
-        &self,
-        alloc: Global,
-        include_docs: bool,
-        spare: Option<Body>,
-    ) -> Result<Option<Body>, AllocError>
-        ensures { IfOk result (λ body. body ≡ doc_of include_docs (leaves_of self.now.tree.edits [])) }
+    // The members of the winner's document, if it has one. They may be made in the memory of a spare body.
+    fn winner_members(&self, alloc: Global, spare: Option<Body>) -> Result<Option<Body>, AllocError>
+        ensures { IfOk result (λ body. body ≡ doc_of true (leaves_of self.now.tree.edits [])) }
     {
-        if !include_docs {
-            return Ok(None);
-        }
         let Some(body) = self.tree.winner_body() else {
             return Ok(None);
         };
@@ -230,27 +221,17 @@ impl Document {
         Ok(Some(copy))
     }
 
-    /// The row of the document at this sequence, made while there are `seen` edits. The cost is constant;
-    /// with every leaf it is that of `RevTree::leaves`, and with the document a copy of its members, which
-    /// may be made in the memory of a spare body.
-    pub(crate) fn row(
+    // The row of the document at this sequence, with these members.
+    #[inline(always)]
+    fn row_of_members(
         &self,
         alloc: Global,
         seq: u64,
         seen: u64,
         style: Style,
-        include_docs: bool,
-        spare: Option<Body>,
+        doc: Option<Body>,
     ) -> Result<ChangeRow, AllocError>
-        ensures row { let leaves = leaves_of self.now.tree.edits [] in
-            IfOk result (λ row. row ≡ record {
-              seq = seq;
-              id = self.now.id;
-              changes = changes_of style leaves;
-              deleted = is_deleted leaves;
-              doc = doc_of include_docs leaves;
-              seen = seen;
-            }) }
+        ensures row { IfOk result (λ row. row ≡ made_row seq self.now.id self.now.tree.edits style doc seen) }
         ensures tree { OnOk result (IsRevTree self.now.tree.edits) }
     {
         let changes = by_style!(style,
@@ -262,8 +243,65 @@ impl Document {
             id: self.id.copy()?,
             changes,
             deleted: self.tree.is_deleted(),
-            doc: self.row_doc(alloc, include_docs, spare)?,
+            doc,
             seen,
         })
+    }
+
+    // The row without the document. The call is never inlined: so it has no room for members.
+    #[inline(never)]
+    fn plain_row(
+        &self,
+        alloc: Global,
+        seq: u64,
+        seen: u64,
+        style: Style,
+    ) -> Result<ChangeRow, AllocError>
+        ensures row { IfOk result (λ row. row ≡ made_row seq self.now.id self.now.tree.edits style None seen) }
+        ensures tree { OnOk result (IsRevTree self.now.tree.edits) }
+    {
+        self.row_of_members(alloc, seq, seen, style, None)
+    }
+
+    // The row with the document, whose members may be made in the memory of a spare body.
+    #[inline(never)]
+    fn row_with_doc(
+        &self,
+        alloc: Global,
+        seq: u64,
+        seen: u64,
+        style: Style,
+        spare: Option<Body>,
+    ) -> Result<ChangeRow, AllocError>
+        ensures row { let edits = self.now.tree.edits in IfOk result (λ row. row
+            ≡ made_row seq self.now.id edits style (doc_of true (leaves_of edits [])) seen) }
+        ensures tree { OnOk result (IsRevTree self.now.tree.edits) }
+    {
+        let doc = self.winner_members(alloc, spare)?;
+        self.row_of_members(alloc, seq, seen, style, doc)
+    }
+
+    /// The row of the document at this sequence, made while there are `seen` edits. The cost is constant;
+    /// with every leaf it is that of `RevTree::leaves`, and with the document a copy of its members, which
+    /// may be made in the memory of a spare body.
+    #[inline(always)]
+    pub(crate) fn row(
+        &self,
+        alloc: Global,
+        seq: u64,
+        seen: u64,
+        style: Style,
+        include_docs: bool,
+        spare: Option<Body>,
+    ) -> Result<ChangeRow, AllocError>
+        ensures row { let edits = self.now.tree.edits in IfOk result (λ row. row
+            ≡ made_row seq self.now.id edits style (doc_of include_docs (leaves_of edits [])) seen) }
+        ensures tree { OnOk result (IsRevTree self.now.tree.edits) }
+    {
+        if include_docs {
+            self.row_with_doc(alloc, seq, seen, style, spare)
+        } else {
+            self.plain_row(alloc, seq, seen, style)
+        }
     }
 }

@@ -186,9 +186,8 @@ impl DbState {
     }
 
     /// The sequence of the first row in reach of the feed at this place of the list, if it is open. Where it
-    /// lists documents and its rows are kept, the cost is that of `Listing::first_between`. They may be found
-    /// where the feed lists fewer than twice as many documents as edits lie above its place: a find costs less
-    /// than half of a search of the list for an edit. Else the cost is that of `FeedState::first_of_open`.
+    /// lists documents and its rows are kept (`Listing::holds`), the cost is that of `Listing::first_between`. Else
+    /// it is that of `FeedState::first_of_open`.
     pub(crate) fn first_at(&mut self, feed: FeedId, at: usize) -> Option<u64>
         requires placed { Some at ≡ position (is_of feed.number) self.old.feeds }
         ensures same { self.new ≡ self.old }
@@ -196,12 +195,10 @@ impl DbState {
     {
         let state = self.feeds.state_at(feed, at);
         if let Some(ids) = state.listed() {
-            let half = state.place().saturating_add(ids.len() as u64 / 2);
-            let is_short = half < self.contents.length();
             if state.is_open()
                 && self
                     .listing
-                    .holds(feed.number, &self.contents, ids, is_short)
+                    .holds(feed.number, &self.contents, ids, state.place())
             {
                 return self.listing.first_between(state.place(), state.bound());
             }

@@ -15,7 +15,8 @@ use std::alloc::{AllocError, Global};
 /// steps until the next write.
 #[derive(Debug, Drop)]
 pub(crate) struct Listing {
-    /// The number of the feed for which `holds` was asked last, if nothing was written since.
+    /// The number of the feed for which `holds` was asked last, if its rows are not kept and nothing was written
+    /// since.
     asked: Option<u64>,
     /// The number of the feed whose rows are kept, if there is one.
     pub(crate) feed: Option<u64>,
@@ -48,14 +49,38 @@ fn gather(list: &mut Vec<u64>, contents: &Contents, ids: &[String]) -> Result<()
     Ok(())
 }
 
-// Sorts sequences, and leaves each once. It takes no memory.
+// Whether each sequence is above the one before it. It costs a look at each, up to the first that is not.
+fn is_rising(list: &[u64]) -> bool
+    ensures { IsTrue result → AllPairs (λ m n. m < n) list.now }
+{
+    let mut at = 1;
+    while at < list.len() {
+        if list[at - 1] >= list[at] {
+            return false;
+        }
+        at += 1;
+    }
+    true
+}
+
+// Sorts sequences, and leaves each once. It takes no memory. Ids are mostly listed in the order of their
+// documents' edits: then it costs a look at each sequence.
 fn arrange(list: &mut Vec<u64>)
     ensures rises { AllPairs (λ m n. m < n) list.new.items }
     ensures keeps { (n : ℕ) → Contains list.old.items n → Contains list.new.items n }
     ensures adds_none { (n : ℕ) → Contains list.new.items n → Contains list.old.items n }
 {
+    if is_rising(list.as_slice()) {
+        return;
+    }
     list.sort_unstable();
     list.dedup();
+}
+
+// Whether a list has fewer than twice as many ids as edits lie above a place: a find of an id costs less than half
+// of a search of the list for an edit.
+fn is_short(ids: &[String], place: u64, length: u64) -> bool {
+    place.saturating_add(ids.len() as u64 / 2) < length
 }
 
 impl Listing {
@@ -92,16 +117,16 @@ impl Listing {
         Ok(())
     }
 
-    /// Whether the rows of the feed of this number, which lists these ids, are kept. A short list's are found
-    /// where the feed asks twice with no write and no other such feed between: else feeds that ask by turns
-    /// would find theirs for one step alone. To find them costs a search for each id, and a sort of the rows.
-    /// Out of memory they are not kept. Once they are kept, the time is constant.
+    /// Whether the rows of the feed of this number, which lists these ids, are kept. They are found where the
+    /// list is short for the feed's place (`is_short`), and the feed asks twice with no write and no other such feed
+    /// between: else feeds that ask by turns would find theirs for one step alone. To find them costs a search for
+    /// each id, and a sort of the rows. Out of memory they are not kept. Once they are kept, the time is constant.
     pub(crate) fn holds(
         &mut self,
         number: u64,
         contents: &Contents,
         ids: &[String],
-        is_short: bool,
+        place: u64,
     ) -> bool
         requires kept { self.old.feed ≡ Some number
             → self.old.rows.items ≡ passing_sequences (DocIds (map string_bytes ids.now)) contents.now.journal }
@@ -110,9 +135,13 @@ impl Listing {
         ensures new { KeepsOrLists number (DocIds (map string_bytes ids.now)) contents.now.journal
             self.old self.new }
     {
-        let is_kept = self.feed == Some(number);
-        let asked = self.asked.replace(number);
-        is_kept || (is_short && asked == Some(number) && self.list(number, contents, ids).is_ok())
+        if self.feed == Some(number) {
+            self.asked = None;
+            return true;
+        }
+        self.asked.replace(number) == Some(number)
+            && is_short(ids, place, contents.length())
+            && self.list(number, contents, ids).is_ok()
     }
 
     // Whether no row before this index is above a place, and each from it on is. Constant time: the two rows

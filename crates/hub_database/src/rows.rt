@@ -122,6 +122,7 @@ impl Source for Contents {
             → r ≡ row_of self.now.journal style true c) }
     {
         let members = spare.doc.take();
+        drop(spare);
         self.row_at(seq, style, true, members)
     }
 

@@ -13,17 +13,27 @@ fn mixed(number: u64) -> u64 {
     product ^ (product >> 32)
 }
 
-/// A hash of the bytes of an id, of 32 bits. It takes a step for each eight bytes, and for each of up to seven
-/// bytes at the front. No contract rests on a hash: ids are compared. So ids that are made to collide cost
-/// comparisons alone, and the hash has no secret. Source: own.
+// The last eight bytes as a number, or all of fewer bytes.
+fn last_word(bytes: &[u8]) -> u64 {
+    if let Some(word) = bytes.last_chunk::<WORD>() {
+        return u64::from_le_bytes(*word);
+    }
+    let mut word = 0u64;
+    for byte in bytes {
+        word = (word << 8) ^ u64::from(*byte);
+    }
+    word
+}
+
+/// A hash of the bytes of an id, of 32 bits. It takes a step for each eight bytes, and one for the last eight. Of
+/// an id of fewer bytes it takes a step for each byte. No contract rests on a hash: ids are compared. So ids that are
+/// made to collide cost comparisons alone, and the hash has no secret. Source: own.
 pub(crate) fn hash_of(bytes: &[u8]) -> u32 {
-    let (front, words) = bytes.as_rchunks::<WORD>();
+    let (words, _) = bytes.as_chunks::<WORD>();
     let mut hash = bytes.len() as u64;
-    for byte in front {
-        hash = (hash << 8) ^ u64::from(*byte);
-    }
     for word in words {
-        hash = mixed(hash) ^ u64::from_be_bytes(*word);
+        hash = mixed(hash ^ u64::from_le_bytes(*word));
     }
-    (mixed(mixed(hash)) & 0xffff_ffff) as u32
+    hash = mixed(hash ^ last_word(bytes));
+    (mixed(hash) & 0xffff_ffff) as u32
 }

@@ -79,7 +79,7 @@ fn most_are_found_after_growth(rt: HostRuntime) -> Result<(), Fail> {
 }
 
 // Texts whose hashes all begin at the same one of 32 slots.
-const COLLIDING: &str = "00001 00007 00010 00015 00018 00020 00021 00027 00030 00033 00034 00039";
+const COLLIDING: &str = "00001 00007 00009 00010 00012 00014 00017 00024 00031 00032 00033 00038";
 
 #[test]
 fn of_ids_that_collide_each_place_has_one(rt: HostRuntime) -> Result<(), Fail> {
@@ -87,7 +87,7 @@ fn of_ids_that_collide_each_place_has_one(rt: HostRuntime) -> Result<(), Fail> {
     same(&rt, &found(&ids, &hints), &8);
     same(&rt, &hints.find(&ids, "00001"), &None);
     same(&rt, &hints.find(&ids, "00007"), &Some(1));
-    same(&rt, &hints.find(&ids, "00039"), &Some(11));
+    same(&rt, &hints.find(&ids, "00038"), &Some(11));
     Ok(())
 }
 
