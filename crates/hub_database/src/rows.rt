@@ -122,7 +122,6 @@ impl Source for Contents {
             → r ≡ row_of self.now.journal style true c) }
     {
         let members = spare.doc.take();
-        drop(spare);
         self.row_at(seq, style, true, members)
     }
 

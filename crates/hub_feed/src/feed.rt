@@ -146,8 +146,7 @@ fn end_at<S: Source>(source: &S, place: u64) -> Item<S::Row>
 }
 
 // The row of this sequence with its document, made in the memory of a spare item of the sink, if that is a row.
-// The call is never inlined: a row without a document would pay for the room of the spare item.
-#[inline(never)]
+#[inline(always)]
 fn row_over<S: Source, K: Sink<Item<S::Row>>>(
     source: &S,
     seq: u64,

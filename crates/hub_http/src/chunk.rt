@@ -150,7 +150,9 @@ impl ChunkWriter {
 
     /// Writes a text as one chunk. For an empty text, and out of memory, the writer stays as it is. Nothing
     /// is flushed. The cost is the text's length. Memory is taken as the writer takes it for its own bytes,
-    /// and for another writer by the first text, and by a text that is longer than each before.
+    /// and for another writer by the first text, and by a text that is longer than each before. The call is
+    /// inlined: a stream makes it for each item.
+    #[inline(always)]
     pub fn write<T: Text, W: Output>(&mut self, writer: &mut W, text: &T) -> Result<(), ChunkFault>
         ensures sent { WritesTo W.written W.fault_count W.failure_count result writer.old writer.new
             (text_chunks (T.bytes text.now)) }

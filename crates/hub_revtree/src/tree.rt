@@ -193,7 +193,9 @@ impl RevTree {
     }
 
     /// The revision of the best leaf, as a row lists it; an empty list in a tree with no edit. It takes
-    /// memory only where the revision's hash is no digest's text. Constant time.
+    /// memory only where the revision's hash is no digest's text. Constant time. The call is inlined: each row of
+    /// a feed makes it.
+    #[inline(always)]
     pub fn winner_alone(&self, alloc: Global) -> Result<Changes, AllocError>
         ensures ok { IfOk result (λ changes. changes ≡ take 1 (revisions_of (leaves_of self.now.edits []))) }
         ensures memory { OnErr result
